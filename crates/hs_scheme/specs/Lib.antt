@@ -1,0 +1,12 @@
+pub mod Tree
+pub mod Code
+pub mod Transition
+pub mod Key
+pub mod Automaton
+pub mod Replacement
+pub mod Cut
+pub mod Run
+pub mod Scheme
+pub mod Names
+pub mod Unsorted
+pub mod Steps

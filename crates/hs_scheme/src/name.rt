@@ -2,10 +2,11 @@
 
 ghost use Rattle.std.specs.Prelude.{◌≡◌, IfOk};
 
-use std::alloc::{AllocError, Global};
+use crate::memory::OutOfMemory;
+use std::alloc::Global;
 use std::marker::Model;
 
-/// A name, as its bytes. Contracts see it as the list of these bytes.
+/// A name, as its bytes. Contracts see the list of these bytes.
 #[derive(Drop, Debug)]
 pub struct Name {
     bytes: Vec<u8>,
@@ -20,8 +21,8 @@ impl Model for Name {
 }
 
 impl Name {
-    /// Makes a name of these bytes. Time and memory in proportion to their number.
-    pub fn of(alloc: Global, bytes: &[u8]) -> Result<Name, AllocError>
+    /// Makes a name of these bytes, in time and memory in proportion to their number.
+    pub fn of(alloc: Global, bytes: &[u8]) -> Result<Name, OutOfMemory>
         ensures { IfOk result (λ name. name ≡ bytes.now) }
     {
         let bytes = bytes.to_vec(alloc)?;

@@ -1,0 +1,37 @@
+-- The value tree of a term, cut off after n steps of outermost reduction on each branch.
+--     ValueTree         a tree of terminals, of which a node may be undefined
+--     unfolded          one replacement of a nonterminal at the front of a term
+--     cut rules n t     the tree of t, cut at n
+use Rattle.std.specs.Prelude.{ℕ, suc, zero, List, Option, Some, None, slice_get, length, nat_eq, if◌then◌else◌}
+use Rattle.std.specs.Option.{option_map_or}
+use Rattle.hs_scheme.specs.declared.term.Head.{Head}
+use Rattle.hs_scheme.specs.declared.term.Head.TheVariants.{Var, Nt, Tm}
+use Rattle.hs_scheme.specs.declared.term.Rule.{Rule}
+use Rattle.hs_scheme.specs.Tree.{Tree, node, none, children, each}
+use Rattle.hs_scheme.specs.Replacement.{subst}
+
+-- a terminal at each node, and nothing at an undefined one, which has no children
+abbrev pub CutTree : Type 0
+CutTree = Tree (Option ℕ)
+
+abbrev pub undefined : CutTree
+undefined = node None none
+
+-- a rule's body with these terms for its parameters, where there are as many
+abbrev pub body_with : Option Rule → List (Tree Head) → Option (Tree Head)
+body_with None ts = None
+body_with (Some rule) ts = if nat_eq (length ts) rule.params then Some (subst rule.body ts) else None
+
+-- what the nonterminal f with these arguments is replaced by, where it has the number of its parameters
+abbrev pub unfolded : List Rule → ℕ → List (Tree Head) → Option (Tree Head)
+unfolded rules f ts = body_with (slice_get rules f) ts
+
+-- the first step of a term; `go` says what comes below it
+abbrev pub step : List Rule → (Tree Head → CutTree) → Tree Head → CutTree
+step rules go (node (Var j) ts) = undefined
+step rules go (node (Nt f) ts) = option_map_or go (unfolded rules f (children ts)) undefined
+step rules go (node (Tm a) ts) = node (Some a) (each go ts)
+
+abbrev pub cut : List Rule → ℕ → Tree Head → CutTree
+cut rules zero t = undefined
+cut rules (suc n) t = step rules (cut rules n) t

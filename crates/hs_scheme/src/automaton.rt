@@ -1,0 +1,100 @@
+//! Deterministic trivial automata.
+
+ghost use Rattle.std.specs.Prelude.{◌≡◌, IfOk, option_copied};
+ghost use Rattle.hs_scheme.specs.Automaton.{AutomatonData, IsAutomaton, next};
+
+use crate::memory::OutOfMemory;
+use std::alloc::Global;
+use std::collections::HashMap;
+use std::marker::Model;
+
+/// A transition: in state `from`, at a node with this terminal, the children are read in the
+/// states `to`, in order.
+#[derive(Debug, Drop)]
+pub struct Transition {
+    pub from: u32,
+    pub terminal: u32,
+    pub to: Vec<u32>,
+}
+
+impl Model for Transition {
+    ghost use Rattle.hs_scheme.specs.Transition.{TransitionData, coded_transition};
+
+    ghost Value = { TransitionData };
+
+    ghost coded = { coded_transition };
+
+    ghost view = { λ a. record { from = a.from; terminal = a.terminal; to = a.to.items } };
+}
+
+/// A deterministic trivial automaton. State 0 is initial, and no state with a terminal has two
+/// transitions. It rejects a tree where it comes to a node for which it has no transition.
+#[derive(Drop)]
+pub struct Automaton {
+    states: u32,
+    transitions: Vec<Transition>,
+    /// The place of the transition of each state and terminal that have one.
+    index: HashMap<(u32, u32), usize>,
+}
+
+impl Model for Automaton {
+    ghost use Rattle.hs_scheme.specs.Automaton.{AutomatonData, coded_automaton, IsAutomaton, IsIndex};
+    ghost use Rattle.std.specs.HashMap.{get};
+    ghost use Rattle.std.specs.Prelude.{length};
+    ghost use Rattle.hs_scheme.specs.Key.{key_eq};
+
+    ghost Value = { AutomatonData };
+
+    ghost coded = { coded_automaton };
+
+    ghost view = { λ a. record { states = a.states; transitions = a.transitions.items } };
+
+    ghost invariant = { λ a. IsAutomaton (record { states = a.states; transitions = a.transitions.items })
+        × IsIndex (λ q t. get key_eq a.index (q, t)) a.transitions.items (length a.transitions.items) };
+}
+
+impl Automaton {
+    /// The automaton with these states and transitions. Time and memory are in proportion to the
+    /// transitions, on average over the hashes of their states and terminals.
+    pub fn of(
+        alloc: Global,
+        states: u32,
+        transitions: Vec<Transition>,
+    ) -> Result<Automaton, OutOfMemory>
+        requires { IsAutomaton (record { states = states; transitions = transitions.items }) }
+        ensures { IfOk result (λ automaton. automaton ≡ record { states = states; transitions = transitions.items }) }
+    {
+        let mut index = HashMap::new(alloc);
+        for (place, transition) in transitions.iter().enumerate() {
+            index.insert((transition.from, transition.terminal), place)?;
+        }
+        Ok(Automaton {
+            states,
+            transitions,
+            index,
+        })
+    }
+
+    /// The states in which the children of a node with this terminal are read in this state, or
+    /// `None` where there is no transition. Takes no memory, and constant time on average.
+    pub fn next(&self, state: u32, terminal: u32) -> Option<&[u32]>
+        ensures { option_copied result ≡ next self.now.transitions state terminal }
+    {
+        let place = *self.index.get(&(state, terminal))?;
+        Some(self.transitions[place].to.as_slice())
+    }
+
+    /// The number of states.
+    pub fn states(&self) -> u32
+        ensures { result ≡ self.now.states }
+    {
+        self.states
+    }
+
+    /// The transitions, in the order in which they were given.
+    pub fn transitions(&self) -> &[Transition]
+        ensures { result.now ≡ self.now.transitions }
+    {
+        self.transitions.as_slice()
+    }
+}
