@@ -1,13 +1,26 @@
-// A library with one function.
+//! Where bytes come from and where they go: a source that is read by name, and a sink.
+//!
+//! Both count their failures, so that a caller can say in a contract that it reports a fault only
+//! where there was one. `read_all` and `write_all` read and write the whole. `MemSource` and
+//! `MemSink` are kept in memory and fail at chosen calls; `FileSource` and `StdSink` are the
+//! system's files and standard streams.
 #![tactic(auto)]
 
-ghost use Rattle.std.specs.Prelude.{◌≡◌};
-ghost use Rattle.hs_edge.specs.Echo.{echo_of};
+mod errors;
+mod host;
+mod mem_sink;
+mod mem_source;
+mod sink;
+mod source;
+mod whole;
 
-// The `ensures` clause is the contract: what `echo` returns is `echo_of` of its argument, a definition
-// in `specs/Echo.antt`, which a caller's clause can cite too.
-pub fn echo(x: usize) -> usize
-    ensures { result ≡ echo_of x }
-{
-    x
-}
+pub use errors::{Failed, OutOfMemory, ReadAll, WriteFault};
+pub use host::{FileSource, StdSink};
+pub use mem_sink::MemSink;
+pub use mem_source::MemSource;
+pub use sink::Sink;
+pub use source::Source;
+pub use whole::{read_all, write_all};
+
+#[cfg(test)]
+mod tests;
