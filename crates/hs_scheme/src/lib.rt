@@ -14,6 +14,8 @@ mod name;
 mod plain;
 mod scheme;
 mod term;
+#[cfg(test)]
+mod tests;
 
 pub use automaton::{Automaton, Transition};
 pub use laws::{cuts_grow, refusals_have_a_first_step};
