@@ -1,3 +1,10 @@
 pub mod Index
 pub mod PlainLemmas
 pub mod Refusal
+pub mod PointLemmas
+pub mod FlowLemmas
+pub mod DemandLemmas
+pub mod CheckedLemmas
+pub mod SameLemmas
+pub mod Sortings
+pub mod Copies

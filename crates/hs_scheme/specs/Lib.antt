@@ -10,3 +10,10 @@ pub mod Scheme
 pub mod Names
 pub mod Unsorted
 pub mod Steps
+pub mod Points
+pub mod Flow
+pub mod Dependents
+pub mod Sorting
+pub mod Sorted
+pub mod Problem
+pub mod SortingExamples

@@ -27,6 +27,19 @@ impl Model for Transition {
     ghost view = { λ a. record { from = a.from; terminal = a.terminal; to = a.to.items } };
 }
 
+impl Transition {
+    /// An equal transition.
+    pub fn copy(&self, alloc: Global) -> Result<Transition, OutOfMemory>
+        ensures { IfOk result (λ copy. copy ≡ self.now) }
+    {
+        Ok(Transition {
+            from: self.from,
+            terminal: self.terminal,
+            to: self.to.to_vec(alloc)?,
+        })
+    }
+}
+
 /// A deterministic trivial automaton. State 0 is initial, and no state with a terminal has two
 /// transitions. It rejects a tree where it comes to a node for which it has no transition.
 #[derive(Drop)]
@@ -96,5 +109,16 @@ impl Automaton {
         ensures { result.now ≡ self.now.transitions }
     {
         self.transitions.as_slice()
+    }
+
+    /// An equal automaton, in time and memory in proportion to the transitions, on average.
+    pub fn copy(&self, alloc: Global) -> Result<Automaton, OutOfMemory>
+        ensures { IfOk result (λ copy. copy ≡ self.now) }
+    {
+        let mut transitions = Vec::with_capacity(alloc, self.transitions.len())?;
+        for transition in &self.transitions {
+            transitions.push(transition.copy(alloc)?)?;
+        }
+        Automaton::of(alloc, self.states, transitions)
     }
 }

@@ -7,21 +7,36 @@
 #![tactic(auto)]
 
 mod automaton;
+mod checked;
+mod flow;
+mod flow_laws;
 mod laws;
 mod limits;
 mod memory;
 mod name;
 mod plain;
+mod points;
+mod problem;
+mod same;
 mod scheme;
+mod sort;
+mod sorted;
 mod term;
 #[cfg(test)]
 mod tests;
 
 pub use automaton::{Automaton, Transition};
+pub use checked::scheme_of;
+pub use flow::{FlowPair, FlowTable, HeadPair, Pair};
+pub use flow_laws::flow_is_unique;
 pub use laws::{cuts_grow, refusals_have_a_first_step};
 pub use limits::{MAX_ARGUMENTS, MAX_PARAMETERS, MAX_RULES};
 pub use memory::OutOfMemory;
 pub use name::Name;
 pub use plain::{ValueTree, accepts_cut, cut, run, substitute};
+pub use points::{MAX_POINTS, Points, PointsFault};
+pub use problem::Problem;
 pub use scheme::{Names, Scheme, Unsorted};
+pub use sort::{Sort, least_sorting_is_first_order, least_sortings_are_equal};
+pub use sorted::Sorted;
 pub use term::{Head, Rule, Term};

@@ -35,4 +35,11 @@ impl Name {
     {
         self.bytes.as_slice()
     }
+
+    /// An equal name, in time and memory in proportion to its length.
+    pub fn copy(&self, alloc: Global) -> Result<Name, OutOfMemory>
+        ensures { IfOk result (λ copy. copy ≡ self.now) }
+    {
+        Name::of(alloc, self.bytes.as_slice())
+    }
 }

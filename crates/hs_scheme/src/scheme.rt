@@ -1,8 +1,12 @@
 //! Schemes.
 
+ghost use Rattle.std.specs.Prelude.{◌≡◌, IfOk};
+
 use crate::automaton::Automaton;
+use crate::memory::OutOfMemory;
 use crate::name::Name;
 use crate::term::Rule;
+use std::alloc::Global;
 use std::marker::Model;
 
 /// A recursion scheme: a rule for each nonterminal, of which rule 0 is that of the start, and the
@@ -30,6 +34,20 @@ impl Model for Scheme {
     ghost invariant = { λ a. IsScheme (record { rules = a.rules.items; ranks = a.ranks.items }) };
 }
 
+impl Scheme {
+    /// An equal scheme, in time and memory in proportion to its size.
+    pub fn copy(&self, alloc: Global) -> Result<Scheme, OutOfMemory>
+        ensures { IfOk result (λ copy. copy ≡ self.now) }
+    {
+        let mut rules = Vec::with_capacity(alloc, self.rules.len())?;
+        for rule in &self.rules {
+            rules.push(rule.copy(alloc)?)?;
+        }
+        let ranks = self.ranks.to_vec(alloc)?;
+        Ok(Scheme { rules, ranks })
+    }
+}
+
 /// The names of the parts of a scheme, by their numbers.
 #[derive(Debug, Drop)]
 pub struct Names {
@@ -54,6 +72,35 @@ impl Model for Names {
       terminals = a.terminals.items;
       states = a.states.items;
     } };
+}
+
+/// Equal names, in the same order.
+fn copied(alloc: Global, names: &[Name]) -> Result<Vec<Name>, OutOfMemory>
+    ensures { IfOk result (λ copies. copies.items ≡ names.now) }
+{
+    let mut copies = Vec::with_capacity(alloc, names.len())?;
+    for name in names {
+        copies.push(name.copy(alloc)?)?;
+    }
+    Ok(copies)
+}
+
+impl Names {
+    /// Equal names, in time and memory in proportion to their bytes.
+    pub fn copy(&self, alloc: Global) -> Result<Names, OutOfMemory>
+        ensures { IfOk result (λ copy. copy ≡ self.now) }
+    {
+        let mut params = Vec::with_capacity(alloc, self.params.len())?;
+        for names in &self.params {
+            params.push(copied(alloc, names.as_slice())?)?;
+        }
+        Ok(Names {
+            rules: copied(alloc, self.rules.as_slice())?,
+            params,
+            terminals: copied(alloc, self.terminals.as_slice())?,
+            states: copied(alloc, self.states.as_slice())?,
+        })
+    }
 }
 
 /// A scheme with its automaton and its names, before its sorts are known.

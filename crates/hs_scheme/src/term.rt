@@ -68,3 +68,15 @@ pub struct Rule {
     /// The right side.
     pub body: Term,
 }
+
+impl Rule {
+    /// An equal rule. Recurses as deep as its right side.
+    pub fn copy(&self, alloc: Global) -> Result<Rule, OutOfMemory>
+        ensures { IfOk result (λ copy. copy ≡ self.now) }
+    {
+        Ok(Rule {
+            params: self.params,
+            body: self.body.copy(alloc)?,
+        })
+    }
+}

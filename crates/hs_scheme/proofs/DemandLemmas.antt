@@ -1,0 +1,118 @@
+-- Membership by place, and what is demanded.
+use Rattle.std.proofs.Common.{◌≡◌, ◌≢◌, refl, sym, ◌∙◌, ap, subst, ℕ, zero, suc, ◌<◌, ◌≤◌, Bool, true, false, ◌&&◌, nat_eq, List, [], ◌∷◌, length, get_or, take, slice_get, Some, arith, Contains, AllPairs}
+use Rattle.std.specs.Bool.{Decides}
+use Rattle.std.specs.Cmp.{IsEquivalence}
+use Rattle.std.specs.List.{IsDistinct}
+use Rattle.std.proofs.lemmas.Bool.{eqb-true, eq-eqb}
+use Rattle.std.proofs.lemmas.Map.Keys.{IsDistinct-from_apart}
+use Rattle.std.proofs.lemmas.Map.Made.{length-le_from_is_member, is_member-Decides}
+use Rattle.std.proofs.lemmas.List.{get_or-take, length-take}
+use Rattle.hs_scheme.specs.declared.term.Head.{Head}
+use Rattle.hs_scheme.specs.declared.term.Head.TheVariants.{Var, Nt, Tm}
+use Rattle.hs_scheme.specs.declared.term.Rule.{Rule}
+use Rattle.hs_scheme.specs.declared.flow.FlowPair.{FlowPair}
+use Rattle.hs_scheme.specs.declared.flow.HeadPair.{HeadPair}
+use Rattle.hs_scheme.specs.declared.flow.Pair.{Pair}
+use Rattle.hs_scheme.specs.declared.flow.Pair.TheVariants.{OfFlow, OfHead}
+use Rattle.hs_scheme.specs.contracts.flow.PairPartialEq.TheImpl.{eq-value}
+use Rattle.hs_scheme.specs.Flow.{IsBase, Demands, IsClosed, IsSupported, IsFlow, pairs_of}
+
+pub some_same : {A : Type 0} (x y : A) → Some x ≡ Some y → x ≡ y
+some_same x y h = (cc)
+
+pub slice_get-read : {X : Type 0} (xs : List X) (k : ℕ) (x : X) → k < length xs → get_or xs k x ≡ x → slice_get xs k ≡ Some x
+slice_get-read [] k x h e = absurd (omega arith)
+slice_get-read (y ∷ ys) zero x h e = ap (λ z. Some z) e
+slice_get-read (y ∷ ys) (suc k) x h e = slice_get-read ys k x (omega arith) e
+
+pub read-slice_get : {X : Type 0} (xs : List X) (k : ℕ) (x : X) → slice_get xs k ≡ Some x → (k < length xs) × (get_or xs k x ≡ x)
+read-slice_get [] k x e = absurd (cc)
+read-slice_get (y ∷ ys) zero x e = (omega arith, some_same y x e)
+read-slice_get (y ∷ ys) (suc k) x e = let r = read-slice_get ys k x e in (omega (arith, r.0), r.1)
+
+pub Contains-at : {X : Type 0} (xs : List X) (k : ℕ) (x : X) → slice_get xs k ≡ Some x → Contains xs x
+Contains-at xs k x e = let r = read-slice_get xs k x e in (k, r.0, r.1)
+
+module _ (rules : List Rule) (found more : List Pair) (also : (q : Pair) → Contains found q → Contains more q) where
+  pub IsBase-more : (rule : ℕ) (h : Head) (base given : ℕ) → IsBase found rule h base given → IsBase more rule h base given
+  IsBase-more rule (Nt f) base given b = b
+  IsBase-more rule (Var x) base given (u, (flows, head)) = (u, (also _ flows, also _ head))
+  IsBase-more rule (Tm a) base given b = absurd b
+
+  pub Demands-more : (pair : Pair) → Demands rules found pair → Demands rules more pair
+  Demands-more pair d = record { point = d.point; of = d.of; base = d.base; given = d.given; at = d.at; is_base = IsBase-more d.of.rule d.of.head d.base d.given d.is_base; passes = d.passes }
+
+module _ (rules : List Rule) (order found : List Pair) (s : IsSupported rules order) (closed : IsClosed rules found) where
+  below : (n i : ℕ) (pair : Pair) → i < n → slice_get order i ≡ Some pair → Contains found pair
+  below zero i pair h at = absurd (omega arith)
+  below (suc n) i pair h at = closed pair (Demands-more rules (take i order) found (λ q (k, within, is).
+      let short : k < i = omega (arith, length-take i order) in
+      below n k q (omega arith) (slice_get-read order k q (omega (arith, length-take i order)) (sym (get_or-take i order k q short) ∙ is))) pair (s.demanded i pair at))
+
+  pub supported_within : (pair : Pair) → Contains order pair → Contains found pair
+  supported_within pair (k, within, is) = below (suc k) k pair (omega arith) (slice_get-read order k pair within is)
+
+pub flow_unique : (rules : List Rule) (flows others : List FlowPair) (heads rest : List HeadPair) → IsFlow rules flows heads → IsFlow rules others rest
+    → (pair : Pair) → Contains (pairs_of flows heads) pair → Contains (pairs_of others rest) pair
+flow_unique rules flows others heads rest a b pair h = supported_within rules a.order (pairs_of others rest) a.supported b.closed pair ((a.same pair).1 h)
+
+-- `==` of pairs decides whether they are equal
+abbrev pub triple_eq : ℕ → ℕ → ℕ → ℕ → ℕ → ℕ → Bool
+triple_eq a b c x y z = nat_eq a x && (nat_eq b y && nat_eq c z)
+
+and_true : (b c : Bool) → b && c ≡ true → (b ≡ true) × (c ≡ true)
+and_true true true h = (refl, refl)
+and_true true false h = absurd (cc)
+and_true false c h = absurd (cc)
+
+pub triple_true : (a b c x y z : ℕ) → triple_eq a b c x y z ≡ true → (a ≡ x) × ((b ≡ y) × (c ≡ z))
+triple_true a b c x y z h =
+    let p = and_true (nat_eq a x) (nat_eq b y && nat_eq c z) h in let q = and_true (nat_eq b y) (nat_eq c z) p.1 in
+    (eqb-true a x p.0, (eqb-true b y q.0, eqb-true c z q.1))
+
+pub triple_own : (a b c : ℕ) → triple_eq a b c a b c ≡ true
+triple_own a b c = rw (eq-eqb a a refl, eq-eqb b b refl, eq-eqb c c refl)
+
+pair_true : (a b : Pair) → eq-value.it a b ≡ true → a ≡ b
+pair_true (OfFlow a) (OfFlow b) h =
+    let p = triple_true a.rule a.param a.point b.rule b.param b.point h in λ i. OfFlow (record { rule = p.0 i; param = p.1.0 i; point = p.1.1 i })
+pair_true (OfFlow a) (OfHead b) h = absurd (cc)
+pair_true (OfHead a) (OfFlow b) h = absurd (cc)
+pair_true (OfHead a) (OfHead b) h =
+    let p = triple_true a.point a.rule a.given b.point b.rule b.given h in λ i. OfHead (record { point = p.0 i; rule = p.1.0 i; given = p.1.1 i })
+
+pair_own : (a : Pair) → eq-value.it a a ≡ true
+pair_own (OfFlow a) = triple_own a.rule a.param a.point
+pair_own (OfHead a) = triple_own a.point a.rule a.given
+
+pub pair_same : (a b : Pair) → Decides (eq-value.it a b) (a ≡ b)
+pair_same a b = (pair_true a b, λ e. subst (λ (c : Pair). eq-value.it a c ≡ true) e (pair_own a))
+
+-- a test that decides equality is an equivalence
+module _ {X : Type 0} (eq : X → X → Bool) (same : (a b : X) → Decides (eq a b) (a ≡ b)) where
+  both_ways : (s t : Bool) → (s ≡ true → t ≡ true) → (t ≡ true → s ≡ true) → s ≡ t
+  both_ways true t f g = sym (f refl)
+  both_ways false true f g = g refl
+  both_ways false false f g = refl
+
+  pub deciding : IsEquivalence eq
+  deciding = record {
+    refl = λ x. (same x x).1 refl;
+    symm = λ x y. both_ways (eq x y) (eq y x) (λ h. (same y x).1 (sym ((same x y).0 h))) (λ h. (same x y).1 (sym ((same y x).0 h)));
+    congr = λ x y z h. ap (λ w. eq w z) ((same x y).0 h);
+  }
+
+  apart : (xs : List X) → AllPairs (λ a b. a ≢ b) xs → IsDistinct eq xs
+  apart xs distinct = IsDistinct-from_apart eq xs (λ i j d less within. not_true (eq (get_or xs i d) (get_or xs j d)) (λ h. distinct i j d less within ((same (get_or xs i d) (get_or xs j d)).0 h)))
+    where
+      not_true : (b : Bool) → (b ≡ true → ⊥) → b ≡ false
+      not_true true f = absurd (f refl)
+      not_true false f = refl
+
+  -- a list without repeats is no longer than one that holds it
+  pub fewer_within : (xs ys : List X) → AllPairs (λ a b. a ≢ b) xs → ((x : X) → Contains xs x → Contains ys x) → length xs ≤ length ys
+  fewer_within xs ys distinct within =
+      length-le_from_is_member deciding xs ys (apart xs distinct) (λ q h. (is_member-Decides same ys q).1 (within q ((is_member-Decides same xs q).0 h)))
+
+pub fewer : (rules : List Rule) (order found : List Pair) → IsSupported rules order → IsClosed rules found → length order ≤ length found
+fewer rules order found s closed = fewer_within (λ a b. eq-value.it a b) pair_same order found s.distinct (supported_within rules order found s closed)

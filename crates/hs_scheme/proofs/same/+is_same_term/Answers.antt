@@ -1,0 +1,25 @@
+use Rattle.std.proofs.Common.{◌≡◌, ◌∙◌, ap, true, false, List, length, arith}
+use Rattle.hs_scheme.specs.declared.term.Head.{Head}
+use Rattle.hs_scheme.specs.Tree.{Tree}
+use Rattle.hs_scheme.proofs.SameLemmas.{same_item, below_same}
+use Rattle.hs_scheme.proofs.same.+is_same_term.Goals as goal
+
+never : false ≡ true → ⊥
+never e = (cc)
+
+pub returns-then-len : goal.returns-then-len
+returns-then-len t c = (
+  λ e. absurd (never e),
+  λ e.
+      let same = below_same c.args.a.now c.args.b.now c.a.inside.head c.b.inside.head c.a.inside.args.items c.b.inside.args.items c.a.view_is c.b.view_is e in
+      absurd (c.if-len.true (omega (arith, ap (λ (ts : List (Tree Head)). length ts) same, c.len.ensures, c.len-2.ensures, c.a.inside.args.ok.0, c.b.inside.args.ok.0))),
+)
+
+pub returns-then-not-is_same_term : goal.returns-then-not-is_same_term
+returns-then-not-is_same_term t c = (
+  λ e. absurd (never e),
+  λ e.
+      let same = below_same c.args.a.now c.args.b.now c.a.inside.head c.b.inside.head c.a.inside.args.items c.b.inside.args.items c.a.view_is c.b.view_is e in
+      c.if-not-is_same_term.ensures.1 (same_item c.deref-arg-items.result.now c.b.inside.args.items c.loop-place.place c.arg-item.result c.index.result.now c.arg-item.is c.index.ensures c.loop-place-test.true
+      (c.deref-arg-items.ensures.value ∙ same)),
+)

@@ -1,0 +1,171 @@
+//! Equality of what a problem is made of, part by part. Nothing here takes memory.
+
+ghost use Rattle.std.specs.Prelude.{◌≡◌, ◌↔◌, IsTrue, map};
+
+use crate::automaton::{Automaton, Transition};
+use crate::flow::FlowTable;
+use crate::name::Name;
+use crate::scheme::{Names, Scheme};
+use crate::sort::Sort;
+use crate::sorted::Sorted;
+use crate::term::{Rule, Term};
+
+/// Whether the terms are equal. Recurses as deep as the terms.
+fn is_same_term(a: &Term, b: &Term) -> bool
+    ensures { IsTrue result ↔ (a.now ≡ b.now) }
+{
+    if a.head != b.head {
+        return false;
+    }
+    if a.args.len() != b.args.len() {
+        return false;
+    }
+    for (place, arg) in a.args.iter().enumerate() {
+        if !is_same_term(arg, &b.args[place]) {
+            return false;
+        }
+    }
+    true
+}
+
+/// Whether the sorts are equal. Recurses as deep as the sorts.
+fn is_same_sort(a: &Sort, b: &Sort) -> bool
+    ensures { IsTrue result ↔ (a.now ≡ b.now) }
+{
+    if a.args.len() != b.args.len() {
+        return false;
+    }
+    for (place, arg) in a.args.iter().enumerate() {
+        if !is_same_sort(arg, &b.args[place]) {
+            return false;
+        }
+    }
+    true
+}
+
+fn is_same_rule(a: &Rule, b: &Rule) -> bool
+    ensures { IsTrue result ↔ (a.now ≡ b.now) }
+{
+    a.params == b.params && is_same_term(&a.body, &b.body)
+}
+
+fn is_same_transition(a: &Transition, b: &Transition) -> bool
+    ensures { IsTrue result ↔ (a.now ≡ b.now) }
+{
+    a.from == b.from && a.terminal == b.terminal && a.to.as_slice() == b.to.as_slice()
+}
+
+fn is_same_name(a: &Name, b: &Name) -> bool
+    ensures { IsTrue result ↔ (a.now ≡ b.now) }
+{
+    a.bytes() == b.bytes()
+}
+
+fn are_same_rules(a: &[Rule], b: &[Rule]) -> bool
+    ensures { IsTrue result ↔ (a.now ≡ b.now) }
+{
+    if a.len() != b.len() {
+        return false;
+    }
+    for (place, rule) in a.iter().enumerate() {
+        if !is_same_rule(rule, &b[place]) {
+            return false;
+        }
+    }
+    true
+}
+
+fn are_same_transitions(a: &[Transition], b: &[Transition]) -> bool
+    ensures { IsTrue result ↔ (a.now ≡ b.now) }
+{
+    if a.len() != b.len() {
+        return false;
+    }
+    for (place, transition) in a.iter().enumerate() {
+        if !is_same_transition(transition, &b[place]) {
+            return false;
+        }
+    }
+    true
+}
+
+fn are_same_names(a: &[Name], b: &[Name]) -> bool
+    ensures { IsTrue result ↔ (a.now ≡ b.now) }
+{
+    if a.len() != b.len() {
+        return false;
+    }
+    for (place, name) in a.iter().enumerate() {
+        if !is_same_name(name, &b[place]) {
+            return false;
+        }
+    }
+    true
+}
+
+fn are_same_sorts(a: &[Sort], b: &[Sort]) -> bool
+    ensures { IsTrue result ↔ (a.now ≡ b.now) }
+{
+    if a.len() != b.len() {
+        return false;
+    }
+    for (place, sort) in a.iter().enumerate() {
+        if !is_same_sort(sort, &b[place]) {
+            return false;
+        }
+    }
+    true
+}
+
+fn are_same_name_lists(a: &[Vec<Name>], b: &[Vec<Name>]) -> bool
+    ensures { IsTrue result ↔ (map (λ names. names.items) a.now ≡ map (λ names. names.items) b.now) }
+{
+    if a.len() != b.len() {
+        return false;
+    }
+    for (place, names) in a.iter().enumerate() {
+        if !are_same_names(names.as_slice(), b[place].as_slice()) {
+            return false;
+        }
+    }
+    true
+}
+
+fn are_all_names_same(a: &Names, b: &Names) -> bool
+    ensures { IsTrue result ↔ (a.now ≡ b.now) }
+{
+    are_same_names(a.rules.as_slice(), b.rules.as_slice())
+        && are_same_name_lists(a.params.as_slice(), b.params.as_slice())
+        && are_same_names(a.terminals.as_slice(), b.terminals.as_slice())
+        && are_same_names(a.states.as_slice(), b.states.as_slice())
+}
+
+fn is_same_scheme(a: &Scheme, b: &Scheme) -> bool
+    ensures { IsTrue result ↔ (a.now ≡ b.now) }
+{
+    are_same_rules(a.rules.as_slice(), b.rules.as_slice())
+        && a.ranks.as_slice() == b.ranks.as_slice()
+}
+
+fn is_same_automaton(a: &Automaton, b: &Automaton) -> bool
+    ensures { IsTrue result ↔ (a.now ≡ b.now) }
+{
+    a.states() == b.states() && are_same_transitions(a.transitions(), b.transitions())
+}
+
+/// Whether the sorted schemes are equal.
+pub(crate) fn is_same_sorted(a: &Sorted, b: &Sorted) -> bool
+    ensures { IsTrue result ↔ (a.now ≡ b.now) }
+{
+    is_same_scheme(&a.scheme, &b.scheme)
+        && is_same_automaton(&a.automaton, &b.automaton)
+        && are_all_names_same(&a.names, &b.names)
+        && are_same_sorts(a.sorts.as_slice(), b.sorts.as_slice())
+}
+
+/// Whether the flow tables are equal.
+pub(crate) fn is_same_flow(a: &FlowTable, b: &FlowTable) -> bool
+    ensures { IsTrue result ↔ (a.now ≡ b.now) }
+{
+    a.pairs.as_slice() == b.pairs.as_slice() && a.heads.as_slice() == b.heads.as_slice()
+}
