@@ -1,0 +1,7 @@
+pub mod Raw
+pub mod Tokens
+pub mod Grammar
+pub mod Limits
+pub mod Reading
+pub mod Faults
+pub mod Steps

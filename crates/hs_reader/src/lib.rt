@@ -1,0 +1,17 @@
+//! Reads the file of a recursion scheme and its automaton.
+#![tactic(auto)]
+
+mod cursor;
+mod fault;
+mod laws;
+mod raw;
+mod reader;
+mod token;
+
+pub use fault::{ReadFault, Which};
+pub use laws::{one_answer, one_cutting, one_file, one_offending_token, some_file_begins};
+pub use raw::{RawFile, RawName, RawRule, RawTerm, RawTransition};
+pub use reader::read_file;
+
+#[cfg(test)]
+mod tests;

@@ -1,0 +1,329 @@
+//! Reads a file, token by token.
+
+ghost use Rattle.std.specs.Prelude.{◌⊎◌, IfErr, Result, Err, ℕ, ◌≡◌, ◌<◌, ◌≤◌, ◌==◌, List, [], ◌∷◌, ◌++◌, length, Option, Some, None, OnOk, IfOk, Bool, reverse, Ok};
+ghost use Rattle.hs_scheme.specs.Tree.{Tree};
+ghost use Rattle.hs_reader.specs.declared.raw.RawName.{RawName};
+ghost use Rattle.hs_reader.specs.Raw.{Rule, Transition, File};
+ghost use Rattle.hs_reader.specs.Grammar.{begins_upper};
+ghost use Rattle.hs_reader.specs.declared.fault.ReadFault.{ReadFault};
+ghost use Rattle.hs_reader.specs.Faults.{IsFileWithin, IsFaultOf, IsAnswer};
+ghost use Rattle.hs_reader.specs.Reading.{tokens};
+ghost use Rattle.hs_reader.specs.Steps.{start, in_rules, in_head, in_body, between, in_transitions, in_transition, in_children, closed, added, is_full, named, run, read, Goes, GivesName, GivesCased, GivesTerm, with_rule, with_transition};
+
+use crate::cursor::Cursor;
+use crate::fault::{ReadFault, Which};
+use crate::raw::{RawFile, RawName, RawRule, RawTerm, RawTransition};
+use crate::token::Token;
+use hs_scheme::Name;
+use std::alloc::Global;
+
+// The bytes of a name.
+const MAX_NAME: usize = 200;
+
+const MAX_RULES: usize = 20_000;
+// The parameters of one rule.
+const MAX_PARAMETERS: usize = 64;
+// The parentheses that are open at a place.
+const MAX_DEPTH: usize = 200;
+// The arguments of one application.
+const MAX_ARGUMENTS: usize = 64;
+
+const MAX_TRANSITIONS: usize = 200_000;
+// The states on the right of one transition.
+const MAX_CHILDREN: usize = 64;
+
+fn is_upper(name: &[u8]) -> bool
+    ensures { result ≡ begins_upper name.now }
+{
+    match name {
+        [first, ..] => first.is_ascii_uppercase(),
+        [] => false,
+    }
+}
+
+fn short_name(alloc: Global, bytes: &[u8], line: u32) -> Result<RawName, ReadFault>
+    ensures { GivesName line bytes.now result }
+{
+    if bytes.len() > MAX_NAME {
+        return Err(ReadFault::Limit { which: Which::Name });
+    }
+    let text = Name::of(alloc, bytes)?;
+    Ok(RawName { text, line })
+}
+
+// A name that is to be upper, or lower.
+fn cased_name(alloc: Global, bytes: &[u8], line: u32, upper: bool) -> Result<RawName, ReadFault>
+    ensures { GivesCased upper line bytes.now result }
+{
+    if is_upper(bytes) != upper {
+        return Err(ReadFault::Syntax { line });
+    }
+    short_name(alloc, bytes, line)
+}
+
+// The parameters of a rule, up to its arrow.
+fn parameters(alloc: Global, cursor: &mut Cursor<'_>) -> Result<Vec<RawName>, ReadFault>
+    ensures value { (rs : List Rule) (n : RawName) → Goes
+        (λ ps. read (in_body rs n ps.items [] None) cursor.new.line cursor.new.rest.now)
+        result (read (in_head rs n []) cursor.old.line cursor.old.rest.now) }
+    ensures within { OnOk result (length cursor.new.rest.now ≤ length cursor.old.rest.now) }
+{
+    let mut params = Vec::new(alloc);
+    loop {
+        match cursor.next() {
+            Token::Name(bytes) => {
+                let param = cased_name(alloc, bytes, cursor.line, false)?;
+                if params.len() == MAX_PARAMETERS {
+                    return Err(ReadFault::Limit {
+                        which: Which::Parameters,
+                    });
+                }
+                params.push(param)?;
+            }
+            Token::Arrow => return Ok(params),
+            _ => return Err(ReadFault::Syntax { line: cursor.line }),
+        }
+    }
+}
+
+fn is_full(term: &Option<RawTerm>) -> bool
+    ensures { result ≡ is_full term.now }
+{
+    match term {
+        None => false,
+        Some(term) => term.args.len() == MAX_ARGUMENTS,
+    }
+}
+
+// The term begun, with one term more.
+fn added(begun: Option<RawTerm>, term: RawTerm) -> Result<RawTerm, ReadFault>
+    ensures { GivesTerm (added begun term) result }
+{
+    match begun {
+        None => Ok(term),
+        Some(RawTerm { head, mut args }) => {
+            args.push(term)?;
+            Ok(RawTerm { head, args })
+        }
+    }
+}
+
+// The right side of a rule, up to its dot. The terms begun before each open parenthesis wait in
+// `outer`, the innermost last.
+fn body(alloc: Global, cursor: &mut Cursor<'_>) -> Result<RawTerm, ReadFault>
+    ensures value { (rs : List Rule) (n : RawName) (ps : List RawName) → Goes
+        (λ t. read (in_rules (with_rule rs n ps t)) cursor.new.line cursor.new.rest.now)
+        result (read (in_body rs n ps [] None) cursor.old.line cursor.old.rest.now) }
+    ensures within { OnOk result (length cursor.new.rest.now ≤ length cursor.old.rest.now) }
+{
+    let mut outer = Vec::new(alloc);
+    let mut begun = None;
+    loop {
+        match cursor.next() {
+            Token::Name(bytes) => {
+                let head = short_name(alloc, bytes, cursor.line)?;
+                if is_full(&begun) {
+                    return Err(ReadFault::Limit {
+                        which: Which::Arguments,
+                    });
+                }
+                let args = Vec::new(alloc);
+                begun = Some(added(begun, RawTerm { head, args })?);
+            }
+            Token::Left => {
+                if outer.len() == MAX_DEPTH {
+                    return Err(ReadFault::Limit {
+                        which: Which::Depth,
+                    });
+                }
+                if is_full(&begun) {
+                    return Err(ReadFault::Limit {
+                        which: Which::Arguments,
+                    });
+                }
+                outer.push(begun)?;
+                begun = None;
+            }
+            Token::Right => {
+                let Some(term) = begun else {
+                    return Err(ReadFault::Syntax { line: cursor.line });
+                };
+                let Some(below) = outer.pop() else {
+                    return Err(ReadFault::Syntax { line: cursor.line });
+                };
+                begun = Some(added(below, term)?);
+            }
+            Token::Dot => {
+                let Some(term) = begun else {
+                    return Err(ReadFault::Syntax { line: cursor.line });
+                };
+                if !outer.is_empty() {
+                    return Err(ReadFault::Syntax { line: cursor.line });
+                }
+                return Ok(term);
+            }
+            _ => return Err(ReadFault::Syntax { line: cursor.line }),
+        }
+    }
+}
+
+// A rule behind its name.
+fn rule(alloc: Global, cursor: &mut Cursor<'_>, name: RawName) -> Result<RawRule, ReadFault>
+    ensures value { (rs : List Rule) → Goes
+        (λ r. read (in_rules (rs ++ r ∷ [])) cursor.new.line cursor.new.rest.now)
+        result (read (in_head rs name []) cursor.old.line cursor.old.rest.now) }
+    ensures within { OnOk result (length cursor.new.rest.now ≤ length cursor.old.rest.now) }
+{
+    let params = parameters(alloc, cursor)?;
+    let body = body(alloc, cursor)?;
+    Ok(RawRule { name, params, body })
+}
+
+// The rules, up to the marker behind them.
+fn rules(alloc: Global, cursor: &mut Cursor<'_>) -> Result<Vec<RawRule>, ReadFault>
+    ensures { Goes (λ rs. read (between rs.items) cursor.new.line cursor.new.rest.now)
+        result (read (in_rules []) cursor.old.line cursor.old.rest.now) }
+{
+    let mut rules = Vec::new(alloc);
+    loop {
+        match cursor.next() {
+            Token::Name(bytes) => {
+                let name = cased_name(alloc, bytes, cursor.line, true)?;
+                if rules.len() == MAX_RULES {
+                    return Err(ReadFault::Limit {
+                        which: Which::Rules,
+                    });
+                }
+                rules.push(rule(alloc, cursor, name)?)?;
+            }
+            Token::RulesEnd => {
+                if rules.is_empty() {
+                    return Err(ReadFault::Syntax { line: cursor.line });
+                }
+                return Ok(rules);
+            }
+            _ => return Err(ReadFault::Syntax { line: cursor.line }),
+        }
+    }
+}
+
+// The states behind an arrow, up to the dot.
+fn children(alloc: Global, cursor: &mut Cursor<'_>) -> Result<Vec<RawName>, ReadFault>
+    ensures value { (rs : List Rule) (us : List Transition) (q a : RawName) → Goes
+        (λ to. read (in_transitions rs (with_transition us q a to.items)) cursor.new.line cursor.new.rest.now)
+        result (read (in_children rs us q a []) cursor.old.line cursor.old.rest.now) }
+    ensures within { OnOk result (length cursor.new.rest.now ≤ length cursor.old.rest.now) }
+{
+    let mut to = Vec::new(alloc);
+    loop {
+        match cursor.next() {
+            Token::Name(bytes) => {
+                let child = short_name(alloc, bytes, cursor.line)?;
+                if to.len() == MAX_CHILDREN {
+                    return Err(ReadFault::Limit {
+                        which: Which::Children,
+                    });
+                }
+                to.push(child)?;
+            }
+            Token::Dot => return Ok(to),
+            _ => return Err(ReadFault::Syntax { line: cursor.line }),
+        }
+    }
+}
+
+// The terminal of a transition, and the arrow behind it.
+fn terminal(alloc: Global, cursor: &mut Cursor<'_>) -> Result<RawName, ReadFault>
+    ensures value { (rs : List Rule) (us : List Transition) (q : RawName) → Goes
+        (λ a. read (in_children rs us q a []) cursor.new.line cursor.new.rest.now)
+        result (read (in_transition rs us q) cursor.old.line cursor.old.rest.now) }
+    ensures within { OnOk result (length cursor.new.rest.now ≤ length cursor.old.rest.now) }
+{
+    let Token::Name(bytes) = cursor.next() else {
+        return Err(ReadFault::Syntax { line: cursor.line });
+    };
+    let terminal = cased_name(alloc, bytes, cursor.line, false)?;
+    let Token::Arrow = cursor.next() else {
+        return Err(ReadFault::Syntax { line: cursor.line });
+    };
+    Ok(terminal)
+}
+
+// A transition behind its state.
+fn transition(
+    alloc: Global,
+    cursor: &mut Cursor<'_>,
+    from: RawName,
+) -> Result<RawTransition, ReadFault>
+    ensures value { (rs : List Rule) (us : List Transition) → Goes
+        (λ t. read (in_transitions rs (us ++ t ∷ [])) cursor.new.line cursor.new.rest.now)
+        result (read (in_transition rs us from) cursor.old.line cursor.old.rest.now) }
+    ensures within { OnOk result (length cursor.new.rest.now ≤ length cursor.old.rest.now) }
+{
+    let terminal = terminal(alloc, cursor)?;
+    let to = children(alloc, cursor)?;
+    Ok(RawTransition { from, terminal, to })
+}
+
+// The transitions, up to the marker behind them.
+fn transitions(alloc: Global, cursor: &mut Cursor<'_>) -> Result<Vec<RawTransition>, ReadFault>
+    ensures { (rs : List Rule) → Goes
+        (λ us. read (closed rs us.items) cursor.new.line cursor.new.rest.now)
+        result (read (in_transitions rs []) cursor.old.line cursor.old.rest.now) }
+{
+    let mut transitions = Vec::new(alloc);
+    loop {
+        match cursor.next() {
+            Token::Name(bytes) => {
+                let state = short_name(alloc, bytes, cursor.line)?;
+                if transitions.len() == MAX_TRANSITIONS {
+                    return Err(ReadFault::Limit {
+                        which: Which::Transitions,
+                    });
+                }
+                transitions.push(transition(alloc, cursor, state)?)?;
+            }
+            Token::AutomatonEnd => {
+                if transitions.is_empty() {
+                    return Err(ReadFault::Syntax { line: cursor.line });
+                }
+                return Ok(transitions);
+            }
+            _ => return Err(ReadFault::Syntax { line: cursor.line }),
+        }
+    }
+}
+
+fn file(alloc: Global, bytes: &[u8]) -> Result<RawFile, ReadFault>
+    requires { length bytes.now ≤ 16777216 }
+    ensures { Goes (λ f. Ok f) result (read start 1 bytes.now) }
+{
+    let mut cursor = Cursor::new(bytes);
+    let Token::RulesBegin = cursor.next() else {
+        return Err(ReadFault::Syntax { line: cursor.line });
+    };
+    let rules = rules(alloc, &mut cursor)?;
+    let Token::AutomatonBegin = cursor.next() else {
+        return Err(ReadFault::Syntax { line: cursor.line });
+    };
+    let transitions = transitions(alloc, &mut cursor)?;
+    let Token::End = cursor.next() else {
+        return Err(ReadFault::Syntax { line: cursor.line });
+    };
+    Ok(RawFile { rules, transitions })
+}
+
+/// Reads the bytes of a file, in time and memory in proportion to their number.
+///
+/// `Syntax` has the line, counted from 1, of the first token after which no file continues. `Limit`
+/// says which limit the first offending token passes. `OutOfMemory` may come at any call.
+pub fn read_file(alloc: Global, bytes: &[u8]) -> Result<RawFile, ReadFault>
+    requires { length bytes.now ≤ 16777216 }
+    ensures file { IfOk result (λ raw. IsFileWithin bytes.now raw) }
+    ensures fault { IfErr result (IsFaultOf bytes.now) }
+    // There is one answer, and it is given unless memory runs out.
+    ensures only { (answer : Result File ReadFault) → IsAnswer bytes.now answer
+        → (result ≡ answer) ⊎ (result ≡ Err ReadFault.OutOfMemory) }
+{
+    file(alloc, bytes)
+}
