@@ -1,0 +1,102 @@
+-- Lists under a map: tests and places.
+use Rattle.std.proofs.Common.{◌≡◌, refl, sym, ◌∙◌, ap, ℕ, zero, suc, ◌+◌, ◌<◌, ◌≤◌, Bool, true, false, not, ◌||◌, cond, nat_lt, List, [], ◌∷◌, ◌++◌, length, map, slice_get, Option, Some, None, option_map, position, arith, take, add-one, append_assoc, is_some}
+use Rattle.std.specs.List.{list_any, position_or_len, prefix_len, flat_map}
+use Rattle.std.proofs.lemmas.Option.{slice_get-map}
+use Rattle.std.proofs.lemmas.Bool.{lt-ltb, le-ltb, ltb-true, ltb-false}
+
+pub any-map : {A B : Type 0} (p : B → Bool) (f : A → B) (xs : List A) → list_any p (map f xs) ≡ list_any (λ x. p (f x)) xs
+any-map p f [] = refl
+any-map p f (x ∷ xs) = ap (λ b. p (f x) || b) (any-map p f xs)
+
+pub len-map : {A B : Type 0} (f : A → B) (xs : List A) → length (map f xs) ≡ length xs
+len-map f [] = refl
+len-map f (x ∷ xs) = ap suc (len-map f xs)
+
+prefix-map : {A B : Type 0} (p : B → Bool) (f : A → B) (xs : List A) → prefix_len p (map f xs) ≡ prefix_len (λ x. p (f x)) xs
+prefix-map p f [] = refl
+prefix-map p f (x ∷ xs) = ap (λ n. cond (p (f x)) (1 + n) 0) (prefix-map p f xs)
+
+pub position-map : {A B : Type 0} (p : B → Bool) (f : A → B) (xs : List A) → position p (map f xs) ≡ position (λ x. p (f x)) xs
+position-map p f xs =
+    let e = prefix-map (λ y. not (p y)) f xs in
+    let l = len-map f xs in (λ i. cond (nat_lt (e i) (l i)) (Some (e i)) None)
+
+shift : (n m : ℕ) → cond (nat_lt (1 + n) (suc m)) (Some (1 + n)) None ≡ option_map suc (cond (nat_lt n m) (Some n) None)
+shift n m =
+    elim (nat_lt n m) as (λ b. nat_lt n m ≡ b → cond (nat_lt (1 + n) (suc m)) (Some (1 + n)) None ≡ option_map suc (cond b (Some n) None)) [
+      | true ↦ λ e. let l : n < m = ltb-true n m e in
+          let f : nat_lt (1 + n) (suc m) ≡ true = lt-ltb (1 + n) (suc m) (omega arith) in
+          let g : 1 + n ≡ suc n = omega arith in ap (λ b. cond b (Some (1 + n)) None) f ∙ ap (λ k. Some k) g
+      | false ↦ λ e. let l : m ≤ n = ltb-false n m e in
+          let f : nat_lt (1 + n) (suc m) ≡ false = le-ltb (1 + n) (suc m) (omega arith) in ap (λ b. cond b (Some (1 + n)) None) f
+    ] refl
+
+first : (m : ℕ) → cond {A = Option ℕ} (nat_lt 0 (suc m)) (Some 0) None ≡ Some 0
+first m =
+    let f : nat_lt 0 (suc m) ≡ true = lt-ltb 0 (suc m) (omega arith) in
+    let some : Option ℕ = Some 0 in ap (λ b. cond b some None) f
+
+pub position-cons : {A : Type 0} (p : A → Bool) (x : A) (xs : List A) → position p (x ∷ xs) ≡ cond (p x) (Some 0) (option_map suc (position p xs))
+position-cons p x xs =
+    elim (p x) as (λ b. cond (nat_lt (cond (not b) (1 + position_or_len p xs) 0) (suc (length xs))) (Some (cond (not b) (1 + position_or_len p xs) 0)) None ≡ cond b (Some 0) (option_map suc (position p xs))) [
+      | true ↦ first (length xs)
+      | false ↦ shift (position_or_len p xs) (length xs)
+    ]
+
+pub position-nil : {A : Type 0} (p : A → Bool) → position p [] ≡ None
+position-nil p = refl
+
+pub push-map : {A B : Type 0} (f : A → B) (xs : List A) (x : A) → map f (xs ++ x ∷ []) ≡ map f xs ++ f x ∷ []
+push-map f [] x = refl
+push-map f (y ∷ ys) x = ap (λ zs. f y ∷ zs) (push-map f ys x)
+
+pub pushed-map : {A B : Type 0} (f : A → B) (b c : Bool) (xs : List A) (x : A) → b ≡ c → map f (cond b xs (xs ++ x ∷ [])) ≡ cond c (map f xs) (map f xs ++ f x ∷ [])
+pushed-map f b c xs x e =
+    ap (λ d. map f (cond d xs (xs ++ x ∷ []))) e ∙ elim c as (λ d. map f (cond d xs (xs ++ x ∷ [])) ≡ cond d (map f xs) (map f xs ++ f x ∷ [])) [
+      | true ↦ refl
+      | false ↦ push-map f xs x
+    ]
+
+pub append-nil : {A : Type 0} (xs : List A) → xs ++ [] ≡ xs
+append-nil [] = refl
+append-nil (x ∷ xs) = ap (λ ys. x ∷ ys) (append-nil xs)
+
+pub same_some : {A : Type 0} (x y : A) → Some x ≡ Some y → x ≡ y
+same_some x y h = (cc)
+
+pub at_map : {A B : Type 0} (f : A → B) (xs : List A) (i : ℕ) (x : A) → slice_get xs i ≡ Some x → slice_get (map f xs) i ≡ Some (f x)
+at_map f xs i x at = slice_get-map f xs i ∙ ap (option_map f) at
+
+pub take-push_suc : {A : Type 0} (x : A) (ys : List A) (j : ℕ) → slice_get ys j ≡ Some x → take (suc j) ys ≡ take j ys ++ x ∷ []
+take-push_suc x [] j at = absurd (cc)
+take-push_suc x (y ∷ ys) zero at = ap (λ z. z ∷ []) (same_some y x at)
+take-push_suc x (y ∷ ys) (suc j) at = ap (λ zs. y ∷ zs) (take-push_suc x ys j at)
+
+pub take-push : {A : Type 0} (xs : List A) (i : ℕ) (x : A) → slice_get xs i ≡ Some x → take (i + 1) xs ≡ take i xs ++ x ∷ []
+take-push xs i x at = rw add-one (take-push_suc x xs i at)
+
+pub flat_map-push : {A B : Type 0} (f : A → List B) (xs : List A) (x : A) → flat_map f (xs ++ x ∷ []) ≡ flat_map f xs ++ f x
+flat_map-push f [] x = append-nil (f x)
+flat_map-push f (y ∷ ys) x = ap (λ zs. f y ++ zs) (flat_map-push f ys x) ∙ sym (append_assoc (f y) (flat_map f ys) (f x))
+
+pub is_some-position : {A : Type 0} (p : A → Bool) (xs : List A) → is_some (position p xs) ≡ list_any p xs
+is_some-position p [] = refl
+is_some-position p (x ∷ xs) =
+    ap is_some (position-cons p x xs) ∙ elim (p x) as (λ b. is_some (cond b (Some 0) (option_map suc (position p xs))) ≡ (b || list_any p xs)) [
+      | true ↦ refl
+      | false ↦ some-map (position p xs) ∙ is_some-position p xs
+    ]
+  where
+    some-map : (o : Option ℕ) → is_some (option_map suc o) ≡ is_some o
+    some-map None = refl
+    some-map (Some i) = refl
+
+pub map-map : {A B C : Type 0} (f : B → C) (g : A → B) (xs : List A) → map (λ x. f (g x)) xs ≡ map f (map g xs)
+map-map f g [] = refl
+map-map f g (x ∷ xs) = ap (λ ys. f (g x) ∷ ys) (map-map f g xs)
+
+-- one more element in a list that is made element by element
+pub pushed-more : {A B : Type 0} (f : A → B) (items : List A) (n : ℕ) (x : A) (old new : List B) (y : B) → slice_get items n ≡ Some x → old ≡ map f (take n items) → new ≡ old ++ y ∷ [] → y ≡ f x
+    → new ≡ map f (take (n + 1) items)
+pushed-more f items n x old new y at was e same =
+    e ∙ ((λ i. was i ++ same i ∷ []) ∙ sym (ap (map f) (take-push items n x at) ∙ push-map f (take n items) x))

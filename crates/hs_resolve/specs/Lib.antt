@@ -1,0 +1,9 @@
+pub mod Names
+pub mod Numbering
+pub mod LineFaults
+pub mod Answer
+pub mod Least
+pub mod Lengths
+pub mod Tables
+pub mod Choice
+pub mod Examples

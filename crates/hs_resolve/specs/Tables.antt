@@ -1,0 +1,37 @@
+-- What the passes over a file find.
+--     HasNumbers      numbers below 2 ^ 32 for these names
+--     scoped_rule     a rule with numbers for its names
+--     AreTables       the names of the file by number
+--     AreLines        the least line of each line fault
+use Rattle.std.specs.Prelude.{◌≡◌, ℕ, ◌<◌, ◌^◌, List, map, length}
+use Rattle.hs_reader.specs.Raw.{File, Rule}
+use Rattle.hs_scheme.specs.declared.term.Rule.{Rule as NumberedRule}
+use Rattle.hs_resolve.specs.declared.line.FaultLines.{FaultLines}
+use Rattle.hs_resolve.specs.declared.resolving.Tables.{Tables}
+use Rattle.hs_resolve.specs.Names.{texts, distinct}
+use Rattle.hs_resolve.specs.Numbering.{left_names, terminal_names, state_names, rank_of, head_of, numbered}
+use Rattle.hs_resolve.specs.Lengths.{length_of}
+use Rattle.hs_resolve.specs.Least.{IsLeast}
+use Rattle.hs_resolve.specs.LineFaults.{DuplicateRule, DuplicateParam, Undefined, StartHasParams, DuplicateTransition, RankClash}
+
+abbrev pub HasNumbers : List (List ℕ) → Type 0
+HasNumbers names = length names < 2 ^ 32
+
+-- the numbered rule, where the names of the parameters are looked up without repeats
+abbrev pub scoped_rule : (left terminals : List (List ℕ)) → Rule → NumberedRule
+scoped_rule left terminals r = record { params = length r.params; body = numbered (head_of left (distinct (texts r.params)) terminals) r.body }
+
+pub record AreLines (raw : File) (lines : FaultLines) : Type 0 where
+  pub duplicate_rule : IsLeast (DuplicateRule raw) lines.duplicate_rule
+  pub duplicate_param : IsLeast (DuplicateParam raw) lines.duplicate_param
+  pub undefined : IsLeast (Undefined raw) lines.undefined
+  pub start_has_params : IsLeast (StartHasParams raw) lines.start_has_params
+  pub duplicate_transition : IsLeast (DuplicateTransition raw) lines.duplicate_transition
+  pub rank_clash : IsLeast (RankClash raw) lines.rank_clash
+
+pub record AreTables (raw : File) (tables : Tables) : Type 0 where
+  pub left : tables.left ≡ distinct (left_names raw)
+  pub params : tables.params.items ≡ map (λ r. distinct (texts r.params)) raw.rules
+  pub terminals : tables.terminals ≡ terminal_names raw
+  pub states : tables.states ≡ state_names raw
+  pub lengths : (x : List ℕ) → length_of tables.lengths x ≡ rank_of raw.transitions x

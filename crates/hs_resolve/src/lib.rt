@@ -1,0 +1,17 @@
+//! Numbers the names of a file: from what a file says to the scheme and the automaton that it
+//! stands for.
+#![tactic(auto)]
+
+mod body;
+mod fault;
+mod index;
+mod line;
+mod numbering;
+mod resolving;
+mod seen;
+#[cfg(test)]
+mod tests;
+mod transitions;
+
+pub use fault::{MAX_STATES, NameFault};
+pub use resolving::resolve;

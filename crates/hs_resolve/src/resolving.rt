@@ -1,0 +1,126 @@
+//! From a file to the scheme that it stands for.
+
+ghost use Rattle.std.specs.Prelude.{◌≡◌, ◌⊎◌, IfOk, OnOk, IfErr, IsErrAnd};
+ghost use Rattle.hs_resolve.specs.Least.{IsLeast};
+ghost use Rattle.hs_resolve.specs.LineFaults.{StartHasParams};
+ghost use Rattle.hs_resolve.specs.Numbering.{unsorted_of};
+ghost use Rattle.hs_resolve.specs.Answer.{IsFaultless, IsAnswered};
+ghost use Rattle.hs_resolve.specs.Tables.{AreLines, AreTables};
+
+use crate::body::bodies_of;
+use crate::fault::{MAX_STATES, NameFault};
+use crate::index::Index;
+use crate::line::FaultLines;
+use crate::numbering::{params_of, rules_of, transitions_of};
+use crate::seen::{left_of, scopes_of};
+use crate::transitions::{add_transition_terminals, lengths_of, repeated_of, states_of};
+use hs_reader::RawFile;
+use hs_scheme::{Automaton, Names, OutOfMemory, Unsorted};
+use indexmap::IndexMap;
+use std::alloc::Global;
+
+/// The names of a file by number, and what was found on the way.
+#[derive(Drop)]
+struct Tables<'a> {
+    left: Index<'a>,
+    params: Vec<Index<'a>>,
+    terminals: Index<'a>,
+    states: Index<'a>,
+    lengths: IndexMap<&'a [u8], u32>,
+    lines: FaultLines,
+}
+
+/// The line of the first rule where it has a parameter.
+fn start_line(raw: &RawFile) -> Option<u32>
+    ensures { IsLeast (StartHasParams raw.now) result }
+{
+    let rule = raw.rules.first()?;
+    if rule.params.is_empty() {
+        return None;
+    }
+    Some(rule.name.line)
+}
+
+fn tables_of<'a>(alloc: Global, raw: &'a RawFile) -> Result<Tables<'a>, OutOfMemory>
+    ensures tables { IfOk result (λ t. AreTables raw.now t) }
+    ensures lines { IfOk result (λ t. AreLines raw.now t.lines) }
+{
+    let rules = raw.rules.as_slice();
+    let transitions = raw.transitions.as_slice();
+    let left = left_of(alloc, rules)?;
+    let scopes = scopes_of(alloc, rules)?;
+    let bodies = bodies_of(alloc, &left.index, scopes.params.as_slice(), rules)?;
+    let mut terminals = bodies.terminals;
+    add_transition_terminals(&mut terminals, transitions)?;
+    let states = states_of(alloc, transitions)?;
+    let repeated = repeated_of(alloc, transitions)?;
+    let lengths = lengths_of(alloc, transitions)?;
+    Ok(Tables {
+        left: left.index,
+        params: scopes.params,
+        terminals,
+        states,
+        lengths: lengths.first,
+        lines: FaultLines {
+            duplicate_rule: left.repeated,
+            duplicate_param: scopes.repeated,
+            undefined: bodies.undefined,
+            start_has_params: start_line(raw),
+            duplicate_transition: repeated,
+            rank_clash: lengths.clash,
+        },
+    })
+}
+
+/// The scheme of a file without faults.
+fn unsorted(alloc: Global, raw: &RawFile, tables: &Tables) -> Result<Unsorted, OutOfMemory>
+    requires tables { AreTables raw.now tables.now }
+    requires faultless { IsFaultless raw.now }
+    ensures { IfOk result (λ u. u ≡ unsorted_of raw.now) }
+{
+    let left = &tables.left;
+    let params = tables.params.as_slice();
+    let terminals = &tables.terminals;
+    let states = &tables.states;
+    let rules = rules_of(alloc, left, params, terminals, raw.rules.as_slice())?;
+    let transitions = transitions_of(alloc, states, terminals, raw.transitions.as_slice())?;
+    let automaton = Automaton::of(alloc, states.len() as u32, transitions)?;
+    let ranks = terminals.values_in(alloc, &tables.lengths)?;
+    let names = Names {
+        rules: left.copies(alloc)?,
+        params: params_of(alloc, params)?,
+        terminals: terminals.copies(alloc)?,
+        states: states.copies(alloc)?,
+    };
+    Ok(Unsorted {
+        rules,
+        ranks,
+        automaton,
+        names,
+    })
+}
+
+/// Numbers the names of a file.
+///
+/// Rules are numbered in file order, terminals by their first occurrence through the bodies and
+/// then the transitions, states by their first occurrence through the transitions; all are counted
+/// from 0. The fault on the least line is answered, on one line the first in the order of
+/// `NameFault`; `TooManyStates` comes where no line fault stands. Time and memory are in proportion
+/// to the file, on average over the hashes of its names. Recurses as deep as the terms.
+pub fn resolve(alloc: Global, raw: &RawFile) -> Result<Unsorted, NameFault>
+    ensures value { IfOk result (λ u. u ≡ unsorted_of raw.now) }
+    ensures faultless { OnOk result (IsFaultless raw.now) }
+    ensures fault { IfErr result (λ e. (e ≡ NameFault.OutOfMemory) ⊎ IsAnswered raw.now e) }
+    // Nothing but want of memory keeps a file without faults from its scheme, and one from its first fault.
+    ensures taken { IsFaultless raw.now → IfErr result (λ e. e ≡ NameFault.OutOfMemory) }
+    ensures refused { (fault : NameFault) → IsAnswered raw.now fault → IsErrAnd result (λ e. (e ≡ NameFault.OutOfMemory) ⊎ (e ≡ fault)) }
+{
+    let tables = tables_of(alloc, raw)?;
+    if let Some(fault) = tables.lines.first() {
+        return Err(fault);
+    }
+    if tables.states.len() > MAX_STATES {
+        return Err(NameFault::TooManyStates);
+    }
+    Ok(unsorted(alloc, raw, &tables)?)
+}
