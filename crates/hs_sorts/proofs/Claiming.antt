@@ -1,0 +1,165 @@
+-- Claims on the sorts of nodes, one after another.
+use Rattle.std.proofs.Common.{◌≡◌, refl, sym, ◌∙◌, ap, subst, ℕ, zero, suc, ◌+◌, ◌^◌, ◌<◌, ◌≤◌, List, [], ◌∷◌, ◌++◌, length, slice_get, replicate, length-append, Some, Bool, true, false, arith}
+use Rattle.std.proofs.lemmas.List.{length-replicate}
+use Rattle.hs_scheme.specs.Sorting.{SortTree, o, arrow, arrows}
+use Rattle.hs_sorts.specs.declared.store.Shape.TheVariants.{Base}
+use Rattle.hs_sorts.specs.declared.store.Node.{Node}
+use Rattle.hs_sorts.specs.declared.store.Node.TheVariants.{Root}
+use Rattle.hs_sorts.specs.Nodes.{Valuation, Respects, FitsNode, IsStore, Equates, IsEquation}
+use Rattle.hs_sorts.specs.Constraints.{Adds, Refutes, Claims, IsClaim, IsBase, HasArguments, IsRanked, Takes}
+use Rattle.hs_sorts.proofs.Lists.{get_right, get_replicate, get_of_replicate}
+use Rattle.hs_sorts.proofs.NodeLemmas.{agree_trans, over, over_agrees, over_later, respects_more, respects_fewer, one_place}
+
+-- a node is made o by a new node that is
+module _ (old : List Node) (i : ℕ) (is : IsStore old) (few : length old < 2 ^ 32) (below : i < length old) where
+  abbrev with_base : List Node
+  with_base = old ++ Root Base ∷ []
+
+  one_more : length with_base ≡ length old + 1
+  one_more = length-append old (Root Base ∷ [])
+
+  module _ (v : Valuation) (was : Respects v old) (base : IsBase i v) where
+    abbrev later : Valuation
+    later = over (length old) v (λ _. o)
+
+    at_base : later (length old) ≡ o
+    at_base = ap later (omega arith) ∙ over_later (length old) 0 v (λ _. o)
+
+    respects_base : Respects later with_base
+    respects_base = respects_more old (Root Base ∷ []) v later is (over_agrees (length old) v (λ _. o)) was (λ j n h.
+        subst (λ (m : Node). FitsNode later (later (length old + j)) m) (one_place (Root Base) n j h).1 (over_later (length old) j v (λ _. o)))
+
+    equal : later i ≡ later (length old)
+    equal = (over_agrees (length old) v (λ _. o)).at i below ∙ (base ∙ sym at_base)
+
+  pub based : (new : List Node) → Equates i (length old) with_base new → Claims old new (IsBase i)
+  based new e = record {
+    longer = omega (arith, e.as_long, one_more);
+    few = omega (arith, e.as_long, one_more);
+    sound = λ v r.
+        let b = e.back v r in
+        let fit : v (length old) ≡ o = b.0.fits (length old) (Root Base) (subst (λ (j : ℕ). slice_get with_base j ≡ Some (Root Base)) (omega arith) (get_right old (Root Base ∷ []) 0)) in
+        (respects_fewer old (Root Base ∷ []) v b.0, b.1 ∙ fit);
+    complete = λ v r b. record { valuation = later v r b; agrees = over_agrees (length old) v (λ _. o); respects = e.onward (later v r b) (respects_base v r b) (equal v r b) };
+  }
+
+  pub not_based : ((v : Valuation) → Respects v with_base → v i ≡ v (length old) → ⊥) → (v : Valuation) → Respects v old → IsBase i v → ⊥
+  not_based never v r b = never (later v r b) (respects_base v r b) (equal v r b)
+
+  pub is_based : (wide new : List Node) (node : ℕ) (answer : Bool) → node ≡ length old → wide ≡ old ++ Root Base ∷ [] → IsEquation i node wide new answer → IsClaim old new (IsBase i) answer
+  is_based wide new node true at widened e =
+      based new (subst (λ (j : ℕ). Equates i j with_base new) at (subst (λ (xs : List Node). Equates i node xs new) widened e))
+  is_based wide new node false at widened e =
+      not_based (subst (λ (j : ℕ). (v : Valuation) → Respects v with_base → v i ≡ v j → ⊥) at (subst (λ (xs : List Node). (v : Valuation) → Respects v xs → v i ≡ v node → ⊥) widened e))
+
+-- a node for a sort is made o
+pub ended : (old mid new : List Node) (sort : ℕ) (P : Valuation → SortTree → Type 0) (answer : Bool) → Adds old mid sort P → IsClaim mid new (IsBase sort) answer → IsClaim old new (λ v. P v o) answer
+ended old mid new sort P true a b = record {
+  longer = omega (arith, a.longer, b.longer);
+  few = b.few;
+  sound = λ v r. let m = b.sound v r in let p = a.sound v m.0 in (p.0, subst (P v) m.1 p.1);
+  complete = λ v r p.
+      let w = a.complete v o r p in
+      let z = b.complete w.valuation w.respects w.gives in
+      record { valuation = z.valuation; agrees = agree_trans (length old) (length mid) v w.valuation z.valuation a.longer w.agrees z.agrees; respects = z.respects };
+}
+ended old mid new sort P false a b = λ v r p. let w = a.complete v o r p in b w.valuation w.respects w.gives
+
+-- the sort with these arguments before those of k
+abbrev pub onto : ℕ → (ℕ → SortTree) → SortTree → SortTree
+onto zero args k = k
+onto (suc n) args k = arrow (args 0) (onto n (λ j. args (suc j)) k)
+
+onto-o : (n : ℕ) (args : ℕ → SortTree) → onto n args o ≡ arrows n args
+onto-o zero args = refl
+onto-o (suc n) args = ap (arrow (args 0)) (onto-o n (λ j. args (suc j)))
+
+onto_more : (n : ℕ) (args : ℕ → SortTree) (k : SortTree) → onto n args (arrow (args n) k) ≡ onto (suc n) args k
+onto_more zero args k = refl
+onto_more (suc n) args k = ap (arrow (args 0)) (onto_more n (λ j. args (suc j)) k)
+
+onto_split : (i n : ℕ) (args : ℕ → SortTree) → i < n → (r : SortTree) × (arrows n args ≡ onto i args (arrow (args i) r))
+onto_split i zero args h = absurd (omega arith)
+onto_split zero (suc n) args h = (arrows n (λ j. args (suc j)), refl)
+onto_split (suc i) (suc n) args h = let x = onto_split i n (λ j. args (suc j)) (omega arith) in (x.0, ap (arrow (args 0)) x.1)
+
+onto_same : (n : ℕ) (p q : ℕ → SortTree) (k : SortTree) → ((j : ℕ) → j < n → p j ≡ q j) → onto n p k ≡ onto n q k
+onto_same zero p q k h = refl
+onto_same (suc n) p q k h = (λ i. arrow (h 0 (omega arith) i) (onto n (λ j. p (suc j)) k)) ∙ ap (arrow (q 0)) (onto_same n (λ j. p (suc j)) (λ j. q (suc j)) k (λ j l. h (suc j) (omega arith)))
+
+pub arrows_same : (n : ℕ) (p q : ℕ → SortTree) → ((j : ℕ) → j < n → p j ≡ q j) → arrows n p ≡ arrows n q
+arrows_same n p q h = sym (onto-o n p) ∙ (onto_same n p q o h ∙ onto-o n q)
+
+-- a node's sort takes the first arguments of a row, and a node has what is left
+module _ (old : List Node) (i first count : ℕ) (within : first + count ≤ length old) where
+  abbrev pub Taken : ℕ → Valuation → SortTree → Type 0
+  Taken n v k = v i ≡ onto n (λ j. v (first + j)) k
+
+  pub taken_all : (new : List Node) (sort : ℕ) (n : ℕ) → n ≡ count → Adds old new sort (Taken n) → Adds old new sort (λ v k. v i ≡ onto count (λ j. v (first + j)) k)
+  taken_all new sort n e a = subst (λ (m : ℕ). Adds old new sort (Taken m)) e a
+
+  module _ (now next : List Node) (n sort rest : ℕ) (below : n < count) (so_far : Adds old now sort (Taken n)) where
+    pub taken_more : Adds now next rest (Takes sort (first + n)) → Adds old next rest (Taken (n + 1))
+    taken_more t = record {
+      longer = omega (arith, so_far.longer, t.longer);
+      few = t.few;
+      within = t.within;
+      sound = λ v r.
+          let s = t.sound v r in
+          let p = so_far.sound v s.0 in
+          let e : suc n ≡ n + 1 = omega arith in
+          (p.0, p.1 ∙ (ap (onto n (λ j. v (first + j))) s.1 ∙ (onto_more n (λ j. v (first + j)) (v rest) ∙ ap (λ m. onto m (λ j. v (first + j)) (v rest)) e)));
+      complete = λ v k r p.
+          let e : n + 1 ≡ suc n = omega arith in
+          let w = so_far.complete v (arrow (v (first + n)) k) r
+          (p ∙ (ap (λ m. onto m (λ j. v (first + j)) k) e ∙ sym (onto_more n (λ j. v (first + j)) k))) in
+          let z = t.complete w.valuation k w.respects (w.gives ∙ (λ j. arrow (sym (w.agrees.at (first + n) (omega arith)) j) k)) in
+          record { valuation = z.valuation; agrees = agree_trans (length old) (length now) v w.valuation z.valuation so_far.longer w.agrees z.agrees; respects = z.respects; gives = z.gives };
+    }
+
+    pub taken_no_more : Refutes now (Takes sort (first + n)) → (v : Valuation) → Respects v old → HasArguments i first count v → ⊥
+    taken_no_more never v r p =
+        let x = onto_split n count (λ j. v (first + j)) below in
+        let w = so_far.complete v (arrow (v (first + n)) x.0) r (p ∙ x.1) in
+        never w.valuation x.0 w.respects (w.gives ∙ (λ j. arrow (sym (w.agrees.at (first + n) (omega arith)) j) x.0))
+
+  pub arguments_ended : (mid new : List Node) (sort : ℕ) (answer : Bool) → Adds old mid sort (Taken count) → IsClaim mid new (IsBase sort) answer → IsClaim old new (HasArguments i first count) answer
+  arguments_ended mid new sort answer a b =
+      subst (λ (P : Valuation → Type 0). IsClaim old new P answer) (λ j v. v i ≡ onto-o count (λ m. v (first + m)) j) (ended old mid new sort (Taken count) answer a b)
+
+-- a row of nodes that are o, and then the arguments
+module _ (old : List Node) (i n : ℕ) (is : IsStore old) (below : i < length old) where
+  abbrev with_row : List Node
+  with_row = old ++ replicate n (Root Base)
+
+  row_long : length with_row ≡ length old + n
+  row_long = length-append old (replicate n (Root Base)) ∙ ap (λ m. length old + m) (length-replicate n (Root Base))
+
+  row_is_base : (v : Valuation) (j : ℕ) → Respects v with_row → j < n → v (length old + j) ≡ o
+  row_is_base v j r l = r.fits (length old + j) (Root Base) (get_right old (replicate n (Root Base)) j ∙ get_of_replicate n j (Root Base) l)
+
+  row_respects : (v : Valuation) → Respects v old → Respects (over (length old) v (λ _. o)) with_row
+  row_respects v r = respects_more old (replicate n (Root Base)) v (over (length old) v (λ _. o)) is (over_agrees (length old) v (λ _. o)) r (λ j m h.
+      subst (λ (x : Node). FitsNode (over (length old) v (λ _. o)) (over (length old) v (λ _. o) (length old + j)) x) (sym (get_replicate n j (Root Base) m h)) (over_later (length old) j v (λ _. o)))
+
+  pub ranked_by : (wide new : List Node) (first : ℕ) (answer : Bool) → first ≡ length old → wide ≡ with_row → IsClaim wide new (HasArguments i first n) answer → IsClaim old new (IsRanked i n) answer
+  ranked_by wide new first answer at widened e = by_answer answer
+      (subst (λ (j : ℕ). IsClaim with_row new (HasArguments i j n) answer) at (subst (λ (xs : List Node). IsClaim xs new (HasArguments i first n) answer) widened e))
+    where
+      by_answer : (b : Bool) → IsClaim with_row new (HasArguments i (length old) n) b → IsClaim old new (IsRanked i n) b
+      by_answer true b = record {
+        longer = omega (arith, b.longer, row_long);
+        few = b.few;
+        sound = λ v r.
+            let w = b.sound v r in
+            (respects_fewer old (replicate n (Root Base)) v w.0, w.1 ∙ arrows_same n (λ j. v (length old + j)) (λ _. o) (λ j l. row_is_base v j w.0 l));
+        complete = λ v r p.
+            let u = over (length old) v (λ _. o) in
+            let was = row_respects v r in
+            let z = b.complete u was ((over_agrees (length old) v (λ _. o)).at i below ∙ (p ∙ sym (arrows_same n (λ j. u (length old + j)) (λ _. o) (λ j l. row_is_base u j was l)))) in
+            record { valuation = z.valuation; agrees = agree_trans (length old) (length with_row) v u z.valuation (omega (arith, row_long)) (over_agrees (length old) v (λ _. o)) z.agrees; respects = z.respects };
+      }
+      by_answer false b = λ v r p.
+          let u = over (length old) v (λ _. o) in
+          let was = row_respects v r in
+          b u was ((over_agrees (length old) v (λ _. o)).at i below ∙ (p ∙ sym (arrows_same n (λ j. u (length old + j)) (λ _. o) (λ j l. row_is_base u j was l))))

@@ -1,0 +1,244 @@
+-- The least sorting that was found, and the faults.
+use Rattle.std.proofs.Common.{◌≡◌, refl, sym, ◌∙◌, ap, ℕ, zero, suc, ◌+◌, ◌<◌, ◌≤◌, List, ◌∷◌, length, slice_get, get_or, Option, Some, None, true, false, arith}
+use Rattle.std.specs.Prelude.{unwrap_or}
+use Rattle.std.specs.Option.{option_map, is_some}
+use Rattle.std.proofs.lemmas.List.Elements.{All-head, All-tail}
+use Rattle.std.proofs.lemmas.Option.{slice_get_within, slice_get-get_or, slice_get-map}
+use Rattle.hs_scheme.specs.declared.term.Head.{Head}
+use Rattle.hs_scheme.specs.declared.term.Head.TheVariants.{Var, Nt, Tm}
+use Rattle.hs_scheme.specs.declared.term.Rule.{Rule}
+use Rattle.hs_scheme.specs.Tree.{Trees, node, none, more, children}
+use Rattle.hs_scheme.specs.Scheme.{HeadInRange, TermInRange, AreRules}
+use Rattle.hs_scheme.specs.Sorting.{SortTree, o, arrow, arrows, ranked, size, arguments, IsFirstOrder, Sorts, heads, IsSorting, HasSorting, AreFirstOrder, IsLeastSorting}
+use Rattle.hs_scheme.specs.Sorted.{sort_at, sorts_of, known}
+use Rattle.hs_sorts.specs.declared.found.Found.{Found}
+use Rattle.hs_sorts.specs.declared.store.Node.{Node}
+use Rattle.hs_sorts.specs.declared.weights.Weight.{Weight}
+use Rattle.hs_sorts.specs.Nodes.{Valuation}
+use Rattle.hs_sorts.specs.Weights.{Describes}
+use Rattle.hs_sorts.specs.Reading.{size_at}
+use Rattle.hs_sorts.specs.Solving.{IsLayout, sorts_at}
+use Rattle.hs_sorts.specs.Finding.{Finds, IsFinding, IsFirstHigherOrder, IsFirstLarge, AreSorts, AreArities}
+use Rattle.hs_sorts.specs.Inference.{IsFirstHigherTerminal, IsFirstTooLarge}
+use Rattle.hs_sorts.specs.Least.{IsLeast}
+use Rattle.hs_sorts.proofs.Claiming.{arrows_same}
+use Rattle.hs_sorts.proofs.Solutions.{All_at, has_in_range}
+use Rattle.hs_sorts.proofs.Readings.{reading_respects, reading_least, counted}
+
+-- no rules have a sorting in which all parameters are o
+pub no_rules_sorted : (rules : List Rule) (ranks : List (Option ℕ)) → HasSorting rules ranks 0
+no_rules_sorted rules ranks = (
+  record { nonterminal = λ f. arrows (params_of (slice_get rules f)) (λ _. o); parameter = λ f j. o; terminal = λ a. ranked (rank_of (slice_get ranks a)) },
+  record {
+    nonterminals = λ f rule at. ap (λ r. arrows (params_of r) (λ _. o)) at;
+    bodies = λ f rule below at. absurd (omega arith);
+    terminals = λ a n at. ap (λ r. ranked (rank_of r)) at;
+  },
+)
+  where
+    params_of : Option Rule → ℕ
+    params_of None = 0
+    params_of (Some rule) = rule.params
+
+    rank_of : Option (Option ℕ) → ℕ
+    rank_of None = 0
+    rank_of (Some None) = 0
+    rank_of (Some (Some n)) = n
+
+-- what was found is a sorting
+pub found_sorting : (rules : List Rule) (ranks : List (Option ℕ)) (k : ℕ) (found : Found) → Finds rules ranks k found → HasSorting rules ranks k
+found_sorting rules ranks k found f = (
+  sorts_at found.solved.layout.rules found.solved.layout.firsts.items f.weighing.valuation,
+  f.solves.sound f.weighing.valuation (reading_respects f.weighing.valuation found.solved.store f.weighing.reading),
+)
+
+arguments-arrow : (a b : SortTree) → arguments (arrow a b) ≡ a ∷ arguments b
+arguments-arrow a (node u ks) = refl
+
+argument_at : (n : ℕ) (p : ℕ → SortTree) (j : ℕ) → j < n → slice_get (arguments (arrows n p)) j ≡ Some (p j)
+argument_at zero p j h = absurd (omega arith)
+argument_at (suc n) p zero h = ap (λ xs. slice_get xs 0) (arguments-arrow (p 0) (arrows n (λ j. p (suc j))))
+argument_at (suc n) p (suc j) h = ap (λ xs. slice_get xs (suc j)) (arguments-arrow (p 0) (arrows n (λ j. p (suc j)))) ∙ argument_at n (λ j. p (suc j)) j (omega arith)
+
+arity-ranked : (n : ℕ) → length (arguments (ranked n)) ≡ n
+arity-ranked zero = refl
+arity-ranked (suc n) = ap length (arguments-arrow o (ranked n)) ∙ ap suc (arity-ranked n)
+
+ranked_row : (ks : Trees (Unit {0})) → IsFirstOrder (node tt ks) → node tt ks ≡ ranked (length (children ks))
+ranked_row none h = refl
+ranked_row (more k ks) h =
+    (λ i. arrow (All-head (λ a. a ≡ o) k (children ks) h i) (node tt ks)) ∙ ap (arrow o) (ranked_row ks (All-tail (λ a. a ≡ o) k (children ks) h))
+
+first_order_ranked : (s : SortTree) → IsFirstOrder s → s ≡ ranked (length (arguments s))
+first_order_ranked (node u ks) h = ranked_row ks h
+
+-- a sorting with other sorts where they aren't asked for
+module _ (rules : List Rule) (ranks : List (Option ℕ)) (are : AreRules rules (length ranks)) (s t : Sorts)
+    (same_nonterminal : (f : ℕ) → f < length rules → t.nonterminal f ≡ s.nonterminal f)
+    (same_parameter : (f j : ℕ) (rule : Rule) → slice_get rules f ≡ Some rule → j < rule.params → t.parameter f j ≡ s.parameter f j)
+    (same_terminal : (a : ℕ) → a < length ranks → t.terminal a ≡ s.terminal a) where
+  same_head : (f : ℕ) (rule : Rule) → slice_get rules f ≡ Some rule → (h : Head) → HeadInRange rule.params (length rules) (length ranks) h → heads t f h ≡ heads s f h
+  same_head f rule at (Var j) l = same_parameter f j rule at l
+  same_head f rule at (Nt g) l = same_nonterminal g l
+  same_head f rule at (Tm a) l = same_terminal a l
+
+  pub same_sorting : (others : List (Option ℕ)) → IsSorting rules ranks (length rules) s → ((a n : ℕ) → slice_get others a ≡ Some (Some n) → t.terminal a ≡ ranked n) → IsSorting rules others (length rules) t
+  same_sorting others sorting terminals = record {
+    nonterminals = λ f rule at.
+        same_nonterminal f (slice_get_within rules f rule at)
+        ∙ (sorting.nonterminals f rule at
+        ∙ arrows_same rule.params (s.parameter f) (t.parameter f) (λ j l. sym (same_parameter f j rule at l)));
+    bodies = λ f rule below at.
+        has_in_range rule.params (length rules) (length ranks) (heads s f) (heads t f) (same_head f rule at) rule.body o
+        (All_at (λ r. TermInRange r.params (length rules) (length ranks) r.body) rules f rule are.bodies at) (sorting.bodies f rule below at);
+    terminals = terminals;
+  }
+
+  pub same_least : IsLeastSorting rules ranks s → IsLeastSorting rules ranks t
+  same_least l = record {
+    sorting = same_sorting ranks l.sorting (λ a n at. same_terminal a (slice_get_within ranks a (Some n) at) ∙ l.sorting.terminals a n at);
+    least = λ u us.
+        let m = l.least u us in
+        record {
+          nonterminals = λ f below. omega (arith, ap size (same_nonterminal f below), m.nonterminals f below);
+          parameters = λ f j rule at below. omega (arith, ap size (same_parameter f j rule at below), m.parameters f j rule at below);
+          terminals = λ a below. omega (arith, ap size (same_terminal a below), m.terminals a below);
+        };
+  }
+
+module _ (rules : List Rule) (ranks : List (Option ℕ)) (are : AreRules rules (length ranks)) (found : Found) (f : Finds rules ranks (length rules) found) where
+  abbrev nodes : List Node
+  nodes = found.solved.store
+
+  abbrev number : ℕ
+  number = found.solved.layout.rules
+
+  abbrev firsts : List ℕ
+  firsts = found.solved.layout.firsts.items
+
+  abbrev weights : List Weight
+  weights = found.weights.items
+
+  abbrev low : Valuation
+  low = f.weighing.valuation
+
+  abbrev pub least_sorts : Sorts
+  least_sorts = sorts_at number firsts low
+
+  layout : IsLayout rules (length ranks) (length nodes) number firsts (length rules)
+  layout = f.solves.layout
+
+  terminal_below : (a : ℕ) → a < length ranks → number + a < length nodes
+  terminal_below a h = omega (arith, layout.room, layout.numbered)
+
+  rule_below : (g : ℕ) → g < length rules → g < length nodes
+  rule_below g h = omega (arith, layout.room)
+
+  pub least_found : IsLeastSorting rules ranks least_sorts
+  least_found = record {
+    sorting = f.solves.sound low (reading_respects low nodes f.weighing.reading);
+    least = λ t ts.
+        let v = f.solves.complete t ts in
+        let smaller = reading_least nodes f.store low v.valuation f.weighing.reading v.respects in
+        record {
+          nonterminals = λ g below. omega (arith, smaller g (rule_below g below), ap size (v.realizes.nonterminals g below));
+          parameters = λ g j rule at below.
+              let in_rules = slice_get_within rules g rule at in
+              omega (arith, smaller (get_or firsts g 0 + j) (omega (arith, layout.parameters g rule in_rules at)), ap size (v.realizes.parameters g j rule in_rules at below));
+          terminals = λ a below.
+              omega (arith, smaller (number + a) (terminal_below a below), ap (λ n. size (v.valuation (n + a))) layout.numbered, ap size (v.realizes.terminals a below));
+        };
+  }
+
+  -- each node has a weight
+  pub record Weighed (i : ℕ) : Type 0 where
+    pub weight : Weight
+    pub at : slice_get weights i ≡ Some weight
+    pub describes : Describes weight (low i)
+
+  weighed : (i : ℕ) → i < length nodes → Weighed i
+  weighed i h =
+      let w = get_or weights i (record { size = 0; arity = 0; first_order = false }) in
+      let at = slice_get-get_or weights i (record { size = 0; arity = 0; first_order = false }) (omega (arith, f.weighing.as_long)) in
+      record { weight = w; at = at; describes = f.weighing.describes i w at }
+
+  pub higher_found : (a : ℕ) → IsFirstHigherOrder weights number (length ranks) (Some a) → IsFirstHigherTerminal rules ranks a
+  higher_found a (below, fails, before) = record {
+    sorts = least_sorts;
+    least = least_found;
+    in_range = below;
+    higher = let w = weighed (number + a) (terminal_below a below) in w.describes.higher_order (fails w.weight w.at);
+    before = λ b less. let w = weighed (number + b) (terminal_below b (omega arith)) in w.describes.first_order (before b w.weight less w.at);
+  }
+
+  pub all_first_order : IsFirstHigherOrder weights number (length ranks) None → AreFirstOrder ranks least_sorts
+  all_first_order all b less = let w = weighed (number + b) (terminal_below b less) in w.describes.first_order (all b w.weight less w.at)
+
+  pub large_found : (g : ℕ) → IsFirstHigherOrder weights number (length ranks) None → IsFirstLarge weights 0 number (Some g) → IsFirstTooLarge rules ranks g
+  large_found g all (below, fails, before) = record {
+    sorts = least_sorts;
+    least = least_found;
+    first_order = all_first_order all;
+    in_range = omega (arith, below, layout.numbered);
+    large =
+        let w = weighed g (rule_below g (omega (arith, below, layout.numbered))) in
+        let e : 0 + g ≡ g = omega arith in
+        omega (arith, fails w.weight (ap (slice_get weights) e ∙ w.at), w.describes.sized);
+    before = λ h less.
+        let w = weighed h (rule_below h (omega (arith, below, layout.numbered))) in
+        let e : 0 + h ≡ h = omega arith in
+        omega (arith, before h w.weight less (ap (slice_get weights) e ∙ w.at), w.describes.sized);
+  }
+
+  module _ (all : IsFirstHigherOrder weights number (length ranks) None) (small : IsFirstLarge weights 0 number None) where
+    small_at : (g : ℕ) → g < number → size (low g) ≤ 1000
+    small_at g below =
+        let w = weighed g (rule_below g (omega (arith, below, layout.numbered))) in
+        let e : 0 + g ≡ g = omega arith in
+        omega (arith, small g w.weight below (ap (slice_get weights) e ∙ w.at), w.describes.sized)
+
+    pub counted_small : (g : ℕ) → g < number → size_at weights g ≤ 1000
+    counted_small g below = omega (arith, counted nodes weights f.weighing g (rule_below g (omega (arith, below, layout.numbered))), small_at g below)
+
+    module _ (sorts : List SortTree) (arities : List ℕ) (are_sorts : AreSorts nodes number sorts) (are_arities : AreArities weights number (length ranks) arities) where
+      same_nonterminals : (g : ℕ) → g < length rules → sort_at sorts g ≡ low g
+      same_nonterminals g below =
+          let at = slice_get-get_or sorts g o (omega (arith, are_sorts.as_long, layout.numbered)) in
+          ap (λ k. unwrap_or k o) at ∙ are_sorts.reads low f.weighing.reading g (get_or sorts g o) at
+
+      same_parameters : (g j : ℕ) (rule : Rule) → slice_get rules g ≡ Some rule → j < rule.params → sort_at (arguments (sort_at sorts g)) j ≡ low (get_or firsts g 0 + j)
+      same_parameters g j rule at below =
+          let whole = same_nonterminals g (slice_get_within rules g rule at) ∙ least_found.sorting.nonterminals g rule at in
+          ap (λ k. sort_at (arguments k) j) whole ∙ ap (λ k. unwrap_or k o) (argument_at rule.params (least_sorts.parameter g) j below)
+
+      arity_of : (a : ℕ) → a < length ranks → slice_get arities a ≡ Some (length (arguments (low (number + a))))
+      arity_of a below =
+          let at = slice_get-get_or arities a 0 (omega (arith, are_arities.as_long)) in
+          let w = weighed (number + a) (terminal_below a below) in
+          at ∙ ap (λ n. Some n) (are_arities.at a (get_or arities a 0) w.weight at w.at ∙ w.describes.arity)
+
+      same_terminals : (a : ℕ) → a < length ranks → ranked (unwrap_or (slice_get arities a) 0) ≡ low (number + a)
+      same_terminals a below = ap (λ k. ranked (unwrap_or k 0)) (arity_of a below) ∙ sym (first_order_ranked (low (number + a)) (all_first_order all a below))
+
+      known_rank : (a n : ℕ) → slice_get (known arities) a ≡ Some (Some n) → ranked (unwrap_or (slice_get arities a) 0) ≡ ranked n
+      known_rank a n h = by_get (slice_get arities a) (sym (slice_get-map (λ m. Some m) arities a) ∙ h)
+        where
+          by_get : (got : Option ℕ) → option_map (λ m. Some m) got ≡ Some (Some n) → ranked (unwrap_or got 0) ≡ ranked n
+          by_get None e = absurd (cc)
+          by_get (Some m) e = let same : m ≡ n = cc in ap ranked same
+
+      pub is_least : IsLeast rules ranks sorts arities
+      is_least = record {
+        each_rule = are_sorts.as_long ∙ layout.numbered;
+        each_terminal = are_arities.as_long;
+        agrees = λ a n at.
+            let below = slice_get_within ranks a (Some n) at in
+            arity_of a below ∙ ap (λ m. Some m) (ap (λ k. length (arguments k)) (least_found.sorting.terminals a n at) ∙ arity-ranked n);
+        sorting = same_sorting rules ranks are least_sorts (sorts_of sorts arities) same_nonterminals same_parameters same_terminals (known arities) least_found.sorting known_rank;
+        least = same_least rules ranks are least_sorts (sorts_of sorts arities) same_nonterminals same_parameters same_terminals least_found;
+        small = λ g below. omega (arith, ap size (same_nonterminals g below), small_at g (omega (arith, below, layout.numbered)));
+      }
+
+pub found_if : (rules : List Rule) (ranks : List (Option ℕ)) (k : ℕ) (answer : Option Found) → IsFinding rules ranks k answer → true ≡ is_some answer → HasSorting rules ranks k
+found_if rules ranks k None f h = absurd (cc)
+found_if rules ranks k (Some found) f h = found_sorting rules ranks k found f

@@ -1,0 +1,16 @@
+pub mod Lists
+pub mod NodeLemmas
+pub mod Joining
+pub mod Applying
+pub mod Typing
+pub mod Claiming
+pub mod Laying
+pub mod Solutions
+pub mod Weighing
+pub mod Searching
+pub mod Readings
+pub mod Scanning
+pub mod Inferring
+pub mod Assembling
+pub mod Excluding
+pub mod Samples

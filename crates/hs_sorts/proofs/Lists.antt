@@ -1,0 +1,47 @@
+-- What stands where in a list that was lengthened or changed at a place.
+use Rattle.std.proofs.Common.{◌≡◌, ◌≢◌, refl, ◌∙◌, ap, ℕ, zero, suc, ◌+◌, ◌<◌, List, [], ◌∷◌, ◌++◌, length, set, slice_get, replicate, Some, ◌⊎◌, inl, inr, arith}
+
+-- where it stands in xs ++ ys
+pub record Later {A : Type 0} (xs ys : List A) (i : ℕ) (x : A) : Type 0 where
+  pub place : ℕ
+  pub is : i ≡ length xs + place
+  pub at : slice_get ys place ≡ Some x
+
+pub get_left : {A : Type 0} (xs ys : List A) (i : ℕ) (x : A) → slice_get xs i ≡ Some x → slice_get (xs ++ ys) i ≡ Some x
+get_left [] ys i x h = absurd (cc)
+get_left (z ∷ xs) ys zero x h = h
+get_left (z ∷ xs) ys (suc i) x h = get_left xs ys i x h
+
+pub get_right : {A : Type 0} (xs ys : List A) (j : ℕ) → slice_get (xs ++ ys) (length xs + j) ≡ slice_get ys j
+get_right [] ys j = ap (slice_get ys) (omega arith)
+get_right (z ∷ xs) ys j = let e : length (z ∷ xs) + j ≡ suc (length xs + j) = omega arith in ap (slice_get (z ∷ (xs ++ ys))) e ∙ get_right xs ys j
+
+pub get_append : {A : Type 0} (xs ys : List A) (i : ℕ) (x : A) → slice_get (xs ++ ys) i ≡ Some x → (slice_get xs i ≡ Some x) ⊎ Later xs ys i x
+get_append [] ys i x h = inr (record { place = i; is = omega arith; at = h })
+get_append (z ∷ xs) ys zero x h = inl h
+get_append (z ∷ xs) ys (suc i) x h = elim (get_append xs ys i x h) [
+  | inl e ↦ inl e
+  | inr l ↦ inr (record { place = l.place; is = omega (arith, l.is); at = l.at })
+]
+
+pub get_replicate : {A : Type 0} (n i : ℕ) (y x : A) → slice_get (replicate n y) i ≡ Some x → x ≡ y
+get_replicate zero i y x h = absurd (cc)
+get_replicate (suc n) zero y x h = cc
+get_replicate (suc n) (suc i) y x h = get_replicate n i y x h
+
+pub get_set_same : {A : Type 0} (xs : List A) (i : ℕ) (y : A) → i < length xs → slice_get (set xs i y) i ≡ Some y
+get_set_same [] i y h = absurd (omega arith)
+get_set_same (x ∷ xs) zero y h = refl
+get_set_same (x ∷ xs) (suc i) y h = get_set_same xs i y (omega arith)
+
+pub get_set_other : {A : Type 0} (xs : List A) (i j : ℕ) (y : A) → j ≢ i → slice_get (set xs i y) j ≡ slice_get xs j
+get_set_other [] i j y h = refl
+get_set_other (x ∷ xs) zero zero y h = absurd (h refl)
+get_set_other (x ∷ xs) zero (suc j) y h = refl
+get_set_other (x ∷ xs) (suc i) zero y h = refl
+get_set_other (x ∷ xs) (suc i) (suc j) y h = get_set_other xs i j y (λ e. h (ap suc e))
+
+pub get_of_replicate : {A : Type 0} (n i : ℕ) (y : A) → i < n → slice_get (replicate n y) i ≡ Some y
+get_of_replicate zero i y h = absurd (omega arith)
+get_of_replicate (suc n) zero y h = refl
+get_of_replicate (suc n) (suc i) y h = get_of_replicate n i y (omega arith)

@@ -1,0 +1,91 @@
+-- Sorts read from nodes: the least that respect them, argument by argument.
+use Rattle.std.proofs.Common.{◌≡◌, refl, sym, ◌∙◌, ap, subst, ℕ, zero, suc, ◌+◌, ◌*◌, ◌<◌, ◌≤◌, List, [], ◌∷◌, ◌++◌, length, slice_get, min, Option, Some, None, ◌⊎◌, inl, inr, arith}
+use Rattle.std.specs.Option.{option_map}
+use Rattle.std.specs.Prelude.{unwrap_or}
+use Rattle.std.proofs.lemmas.Option.{slice_get-get_or}
+use Rattle.hs_scheme.specs.Tree.{node, forest}
+use Rattle.hs_scheme.specs.Sorting.{SortTree, o, arrow, size}
+use Rattle.hs_sorts.specs.declared.store.Shape.TheVariants.{Open, Base, Arrow}
+use Rattle.hs_sorts.specs.declared.store.Node.{Node}
+use Rattle.hs_sorts.specs.declared.store.Node.TheVariants.{Root, Link}
+use Rattle.hs_sorts.specs.declared.weights.Weight.{Weight}
+use Rattle.hs_sorts.specs.Nodes.{Valuation, FitsNode, Respects, IsStore}
+use Rattle.hs_sorts.specs.Weights.{Reads, IsReading}
+use Rattle.hs_sorts.specs.Search.{rank, Weighing}
+use Rattle.hs_sorts.specs.Reading.{size_at, IsArrow}
+use Rattle.hs_sorts.proofs.Weighing.{size-arrow, size_positive}
+use Rattle.hs_sorts.proofs.Searching.{child_lower, child_below}
+
+read_fits : (v : Valuation) (s : SortTree) (n : Node) → Reads v s n → FitsNode v s n
+read_fits v s (Root Open) h = tt
+read_fits v s (Root Base) h = h
+read_fits v s (Root (Arrow a b)) h = h
+read_fits v s (Link up) h = h
+
+-- what is read from the nodes respects them
+pub reading_respects : (v : Valuation) (nodes : List Node) → IsReading v nodes → Respects v nodes
+reading_respects v nodes r = record { fits = λ i n h. read_fits v (v i) n (r.reads i n h) }
+
+-- no sort that is read is larger than one that respects the nodes
+module _ (nodes : List Node) (is : IsStore nodes) (low v : Valuation) (reading : IsReading low nodes) (respects : Respects v nodes) where
+  smaller_at : (i : ℕ) (n : Node) → slice_get nodes i ≡ Some n → ((j : ℕ) → j < length nodes → rank low (length nodes) j < rank low (length nodes) i → size (low j) ≤ size (v j)) → size (low i) ≤ size (v i)
+  smaller_at i (Root Open) at below = let e : low i ≡ o = reading.reads i (Root Open) at in omega (arith, ap size e, size_positive (v i))
+  smaller_at i (Root Base) at below = let e : low i ≡ o = reading.reads i (Root Base) at in omega (arith, ap size e, size_positive (v i))
+  smaller_at i (Root (Arrow a b)) at below =
+      let e : low i ≡ arrow (low a) (low b) = reading.reads i (Root (Arrow a b)) at in
+      let f : v i ≡ arrow (v a) (v b) = respects.fits i (Root (Arrow a b)) at in
+      let was = reading_respects low nodes reading in
+      let left = below a (child_below nodes i (Root (Arrow a b)) is at a (inl refl)) (child_lower nodes low i a (Root (Arrow a b)) is was at (inl refl)) in
+      let right = below b (child_below nodes i (Root (Arrow a b)) is at b (inr refl)) (child_lower nodes low i b (Root (Arrow a b)) is was at (inr refl)) in
+      omega (arith, ap size e, ap size f, size-arrow (low a) (low b), size-arrow (v a) (v b), left, right)
+  smaller_at i (Link up) at below =
+      let e : low i ≡ low up = reading.reads i (Link up) at in
+      let f : v i ≡ v up = respects.fits i (Link up) at in
+      let was = reading_respects low nodes reading in
+      let h = below up (child_below nodes i (Link up) is at up refl) (child_lower nodes low i up (Link up) is was at refl) in
+      omega (arith, ap size e, ap size f, h)
+
+  smaller_by : (fuel i : ℕ) → i < length nodes → rank low (length nodes) i < fuel → size (low i) ≤ size (v i)
+  smaller_by zero i within h = absurd (omega arith)
+  smaller_by (suc fuel) i within h =
+      smaller_at i (Rattle.std.proofs.Common.get_or nodes i (Root Open)) (slice_get-get_or nodes i (Root Open) within) (λ j inside lower. smaller_by fuel j inside (omega (arith, lower, h)))
+
+  pub reading_least : (i : ℕ) → i < length nodes → size (low i) ≤ size (v i)
+  reading_least i within = smaller_by (suc (rank low (length nodes) i)) i within (omega arith)
+
+-- the sort with these arguments before those of k
+abbrev pub with_arguments : List SortTree → SortTree → SortTree
+with_arguments [] k = k
+with_arguments (a ∷ args) k = arrow a (with_arguments args k)
+
+pub with_arguments_more : (args : List SortTree) (a k : SortTree) → with_arguments args (arrow a k) ≡ with_arguments (args ++ a ∷ []) k
+with_arguments_more [] a k = refl
+with_arguments_more (b ∷ args) a k = ap (arrow b) (with_arguments_more args a k)
+
+pub with_arguments-o : (args : List SortTree) → with_arguments args o ≡ node tt (forest args)
+with_arguments-o [] = refl
+with_arguments-o (a ∷ args) = ap (arrow a) (with_arguments-o args)
+
+-- the counted size of a sort that was weighed
+pub counted : (nodes : List Node) (weights : List Weight) (w : Weighing nodes weights) (i : ℕ) → i < length nodes → size_at weights i ≡ min 1001 (size (w.valuation i))
+counted nodes weights w i within = by_get (slice_get weights i) refl
+  where
+    by_get : (found : Option Weight) → slice_get weights i ≡ found → size_at weights i ≡ min 1001 (size (w.valuation i))
+    by_get None e = absurd (let at = slice_get-get_or weights i (record { size = 0; arity = 0; first_order = Rattle.std.proofs.Common.false }) (omega (arith, w.as_long)) in cc)
+    by_get (Some x) e = ap (λ f. unwrap_or (option_map (λ y. y.size) f) 0) e ∙ (w.describes i x e).sized
+
+-- the parts of a small arrow are smaller
+pub parts_smaller : (nodes : List Node) (weights : List Weight) (w : Weighing nodes weights) (i a b : ℕ) → i < length nodes → IsArrow nodes i a b → size_at weights i ≤ 1000
+    → (size_at weights a < size_at weights i) × (size_at weights b < size_at weights i)
+parts_smaller nodes weights w i a b within s small =
+    let e = s.reads w.valuation w.reading in
+    let whole = counted nodes weights w i within in
+    let left = counted nodes weights w a s.argument in
+    let right = counted nodes weights w b s.rest in
+    let sum = ap size e ∙ size-arrow (w.valuation a) (w.valuation b) in
+    (omega (arith, whole, left, right, sum, small, size_positive (w.valuation b)), omega (arith, whole, left, right, sum, small, size_positive (w.valuation a)))
+
+-- one more argument is read
+pub argument_read : (whole : SortTree) (args longer : List SortTree) (a k l m : SortTree) → whole ≡ with_arguments args k → k ≡ arrow l m → a ≡ l → longer ≡ args ++ a ∷ [] → whole ≡ with_arguments longer m
+argument_read whole args longer a k l m was split same pushed =
+    was ∙ (ap (with_arguments args) (split ∙ ap (λ b. arrow b m) (sym same)) ∙ (with_arguments_more args a m ∙ ap (λ (xs : List SortTree). with_arguments xs m) (sym pushed)))

@@ -1,0 +1,61 @@
+use Rattle.std.proofs.Common.{◌≡◌, sym, ◌∙◌, ap, subst, ℕ, List, length, arith, ◌+◌, ◌*◌, ◌<◌}
+use Rattle.hs_scheme.specs.declared.term.Head.{Head}
+use Rattle.hs_scheme.specs.Tree.{Tree, node, forest, height}
+use Rattle.hs_sorts.specs.Constraints.{node_of, NodesBelow, IsNodeFor, Takes, Has}
+use Rattle.hs_sorts.proofs.Typing.{height_at, nodes_wider, all_below_at, given_all, no_argument, not_taken, one_more, parts_below, adds_term, refutes_term}
+use Rattle.hs_sorts.proofs.constraints.+term_sort.Goals as goal
+
+pub returns : goal.returns
+returns t c =
+    let at : Head → ℕ = node_of c.args.layout.now.rules c.args.layout.now.firsts.items c.args.rule in
+    let ts = c.deref-arg-items.result.now in
+    let whole : node c.term.inside.head (forest ts) ≡ c.args.term.now = ap (λ (us : List (Tree Head)). node c.term.inside.head (forest us)) c.deref-arg-items.ensures.value ∙ c.term.view_is in
+    let parts = parts_below at c.args.term.now c.term.inside.head ts c.node_of-sort.result whole c.node_of-sort.ensures (length c.args.store.now) c.requires.nodes in
+    adds_term at c.args.term.now c.term.inside.head ts c.node_of-sort.result whole c.node_of-sort.ensures c.args.store.now c.loop-arg.store c.loop-arg.sort
+    (given_all at c.args.store.now c.node_of-sort.result ts parts.0 parts.1 c.loop-arg.store c.loop-arg.arg-index c.loop-arg.sort c.loop-arg-test.false c.loop-arg.invariant)
+
+pub returns-in_default : goal.returns-in_default
+returns-in_default t c =
+    let at : Head → ℕ = node_of c.args.layout.now.rules c.args.layout.now.firsts.items c.args.rule in
+    let ts = c.deref-arg-items.result.now in
+    let whole : node c.term.inside.head (forest ts) ≡ c.args.term.now = ap (λ (us : List (Tree Head)). node c.term.inside.head (forest us)) c.deref-arg-items.ensures.value ∙ c.term.view_is in
+    let parts = parts_below at c.args.term.now c.term.inside.head ts c.node_of-sort.result whole c.node_of-sort.ensures (length c.args.store.now) c.requires.nodes in
+    refutes_term at c.args.term.now c.term.inside.head ts c.node_of-sort.result whole c.node_of-sort.ensures c.args.store.now
+    (no_argument at c.args.store.now c.node_of-sort.result ts parts.0 parts.1 c.loop-arg.store c.loop-arg.store c.loop-arg.store c.loop-arg.arg-index c.loop-arg.sort 0 0 c.arg-item.result
+    c.loop-arg-test.true c.arg-item.is c.loop-arg.invariant
+    (subst (IsNodeFor c.loop-arg.store c.term_sort.new.store (Has at c.arg-item.result)) c.in_default.is c.in_ok-argument.ensures))
+
+pub returns-in_default-2 : goal.returns-in_default-2
+returns-in_default-2 t c =
+    let at : Head → ℕ = node_of c.args.layout.now.rules c.args.layout.now.firsts.items c.args.rule in
+    let ts = c.deref-arg-items.result.now in
+    let whole : node c.term.inside.head (forest ts) ≡ c.args.term.now = ap (λ (us : List (Tree Head)). node c.term.inside.head (forest us)) c.deref-arg-items.ensures.value ∙ c.term.view_is in
+    let parts = parts_below at c.args.term.now c.term.inside.head ts c.node_of-sort.result whole c.node_of-sort.ensures (length c.args.store.now) c.requires.nodes in
+    refutes_term at c.args.term.now c.term.inside.head ts c.node_of-sort.result whole c.node_of-sort.ensures c.args.store.now
+    (not_taken at c.args.store.now c.node_of-sort.result ts parts.0 parts.1 c.loop-arg.store c.term_sort.new.store c.term_sort.new.store c.loop-arg.arg-index c.loop-arg.sort c.in-Some.argument 0 c.arg-item.result
+    c.loop-arg-test.true c.arg-item.is c.loop-arg.invariant
+    (subst (IsNodeFor c.loop-arg.store c.term_sort.new.store (Has at c.arg-item.result)) c.in-Some.is c.in_ok-argument.ensures)
+    (subst (IsNodeFor c.term_sort.new.store c.apply.new.store (Takes c.loop-arg.sort c.in-Some.argument)) c.in_default-2.is c.in_ok-rest.ensures))
+
+pub loop-arg-preserved : goal.loop-arg-preserved
+loop-arg-preserved t c =
+    let at : Head → ℕ = node_of c.args.layout.now.rules c.args.layout.now.firsts.items c.args.rule in
+    let ts = c.deref-arg-items.result.now in
+    let whole : node c.term.inside.head (forest ts) ≡ c.args.term.now = ap (λ (us : List (Tree Head)). node c.term.inside.head (forest us)) c.deref-arg-items.ensures.value ∙ c.term.view_is in
+    let parts = parts_below at c.args.term.now c.term.inside.head ts c.node_of-sort.result whole c.node_of-sort.ensures (length c.args.store.now) c.requires.nodes in
+    one_more at c.args.store.now c.node_of-sort.result ts parts.0 parts.1 c.loop-arg.store c.term_sort.new.store c.apply.new.store c.loop-arg.arg-index c.loop-arg.sort c.in-Some.argument c.in-Some-2.rest c.arg-item.result
+    c.loop-arg-test.true c.arg-item.is c.loop-arg.invariant
+    (subst (IsNodeFor c.loop-arg.store c.term_sort.new.store (Has at c.arg-item.result)) c.in-Some.is c.in_ok-argument.ensures)
+    (subst (IsNodeFor c.term_sort.new.store c.apply.new.store (Takes c.loop-arg.sort c.in-Some.argument)) c.in-Some-2.is c.in_ok-rest.ensures)
+
+pub term_sort-requires : goal.term_sort-requires
+term_sort-requires t c =
+    let at : Head → ℕ = node_of c.args.layout.now.rules c.args.layout.now.firsts.items c.args.rule in
+    let ts = c.deref-arg-items.result.now in
+    let whole : node c.term.inside.head (forest ts) ≡ c.args.term.now = ap (λ (us : List (Tree Head)). node c.term.inside.head (forest us)) c.deref-arg-items.ensures.value ∙ c.term.view_is in
+    let parts = parts_below at c.args.term.now c.term.inside.head ts c.node_of-sort.result whole c.node_of-sort.ensures (length c.args.store.now) c.requires.nodes in
+    let below : NodesBelow at (length c.args.store.now) c.arg-item.result =
+    subst (NodesBelow at (length c.args.store.now)) (sym c.arg-item.is) (all_below_at at (length c.args.store.now) c.loop-arg.arg-index ts c.arg-item.result c.loop-arg-test.true parts.1) in
+    let lower = height_at c.loop-arg.arg-index ts c.arg-item.result c.loop-arg-test.true in
+    let smaller : 1 * (height c.arg-item.result + 1) + 0 < t = omega (arith, c.decreases, lower, ap height c.arg-item.is, ap height whole) in
+    (smaller, (c.requires.rule, (nodes_wider at (length c.args.store.now) (length c.loop-arg.store) c.arg-item.result c.loop-arg.invariant.longer below, c.loop-arg.invariant.few)))

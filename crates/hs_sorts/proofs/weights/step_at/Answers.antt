@@ -1,0 +1,20 @@
+use Rattle.std.proofs.Common.{refl, ◌∙◌, ap, subst, ◌<◌, length, Some}
+use Rattle.std.proofs.lemmas.Option.{slice_get-get_or}
+use Rattle.hs_sorts.specs.declared.weights.Mark.TheVariants.{New}
+use Rattle.hs_sorts.specs.Weights.{ChildrenBelow}
+use Rattle.hs_sorts.proofs.Weighing.{link_done, link_child}
+use Rattle.hs_sorts.proofs.weights.step_at.Goals as goal
+
+pub bounds : goal.bounds
+bounds c = subst (ChildrenBelow (length c.args.marks.now)) c.in-Link.is c.requires c.in-Link.up refl
+
+pub step_at_root-requires : goal.step_at_root-requires
+step_at_root-requires c = subst (ChildrenBelow (length c.args.marks.now)) c.in-Root.is c.requires
+
+pub returns-in-Weighed : goal.returns-in-Weighed
+returns-in-Weighed c =
+    let below : c.in-Link.up < length c.args.marks.now = subst (ChildrenBelow (length c.args.marks.now)) c.in-Link.is c.requires c.in-Link.up refl in
+    link_done c.args.marks.now c.args.node c.in-Link.up c.in-Weighed.weight c.in-Link.is (slice_get-get_or c.args.marks.now c.in-Link.up New below ∙ ap (λ m. Some m) c.in-Weighed.is)
+
+pub returns-in_default : goal.returns-in_default
+returns-in_default c = link_child c.args.marks.now c.args.node c.in-Link.up c.in-Link.is c.in_default.not-Weighed

@@ -1,0 +1,99 @@
+-- The nodes of a scheme's parts, and what a term asks of the sorts of nodes.
+--     node_of          the node of a head in the body of a rule
+--     Adds             a store gains a node whose sort is as is asked, and no valuation is lost
+use Rattle.std.specs.Prelude.{◌≡◌, ℕ, ◌+◌, ◌^◌, ◌<◌, ◌≤◌, List, length, slice_index, Option, Some, None, Bool, true, false}
+use Rattle.hs_scheme.specs.declared.term.Head.{Head}
+use Rattle.hs_scheme.specs.declared.term.Head.TheVariants.{Var, Nt, Tm}
+use Rattle.hs_scheme.specs.Tree.{Tree, Trees, node, none, more}
+use Rattle.hs_scheme.specs.Sorting.{SortTree, o, arrow, arrows, ranked, HasSort}
+use Rattle.hs_sorts.specs.declared.store.Node.{Node}
+use Rattle.hs_sorts.specs.Nodes.{Valuation, Respects}
+
+-- the nonterminals' nodes come first, by rule, then the terminals', then the parameters', of each rule in a row
+abbrev pub node_of : ℕ → List ℕ → ℕ → Head → ℕ
+node_of rules firsts f (Var j) = slice_index firsts f + j
+node_of rules firsts f (Nt g) = g
+node_of rules firsts f (Tm a) = rules + a
+
+-- each head's node is one of the first `count`
+abbrev mutual
+  pub NodesBelow : (Head → ℕ) → ℕ → Tree Head → Type 0
+  NodesBelow at count (node h ts) = (at h < count) × AllNodesBelow at count ts
+
+  pub AllNodesBelow : (Head → ℕ) → ℕ → Trees Head → Type 0
+  AllNodesBelow at count none = Unit {0}
+  AllNodesBelow at count (more t ts) = NodesBelow at count t × AllNodesBelow at count ts
+
+-- two valuations that agree on the first `count` nodes
+pub record Agree (count : ℕ) (v w : Valuation) : Type 0 where
+  pub at : (i : ℕ) → i < count → w i ≡ v i
+
+-- a valuation that goes on with the new nodes, and gives this sort to one of them
+pub record Extension (old new : List Node) (i : ℕ) (v : Valuation) (k : SortTree) : Type 0 where
+  pub valuation : Valuation
+  pub agrees : Agree (length old) v valuation
+  pub respects : Respects valuation new
+  pub gives : valuation i ≡ k
+
+-- The new store's valuations are those of the old one that have a sort k of which P holds, with that
+-- sort for the node i.
+pub record Adds (old new : List Node) (i : ℕ) (P : Valuation → SortTree → Type 0) : Type 0 where
+  pub longer : length old ≤ length new
+  pub few : length new ≤ 2 ^ 32
+  pub within : i < length new
+  pub sound : (v : Valuation) → Respects v new → Respects v old × P v (v i)
+  pub complete : (v : Valuation) (k : SortTree) → Respects v old → P v k → Extension old new i v k
+
+-- no valuation has a sort of which P holds
+abbrev pub Refutes : List Node → (Valuation → SortTree → Type 0) → Type 0
+Refutes old P = (v : Valuation) (k : SortTree) → Respects v old → P v k → ⊥
+
+abbrev pub IsNodeFor : List Node → List Node → (Valuation → SortTree → Type 0) → Option ℕ → Type 0
+IsNodeFor old new P (Some i) = Adds old new i P
+IsNodeFor old new P None = Refutes old P
+
+-- k is a sort that is left where the function takes the argument
+abbrev pub Takes : ℕ → ℕ → Valuation → SortTree → Type 0
+Takes function argument v k = v function ≡ arrow (v argument) k
+
+-- k is a sort of the term
+abbrev pub Has : (Head → ℕ) → Tree Head → Valuation → SortTree → Type 0
+Has at t v k = HasSort (λ h. v (at h)) t k
+
+-- a valuation that goes on with the new nodes
+pub record Continuation (old new : List Node) (v : Valuation) : Type 0 where
+  pub valuation : Valuation
+  pub agrees : Agree (length old) v valuation
+  pub respects : Respects valuation new
+
+-- the new store's valuations are those of the old one of which P holds
+pub record Claims (old new : List Node) (P : Valuation → Type 0) : Type 0 where
+  pub longer : length old ≤ length new
+  pub few : length new ≤ 2 ^ 32
+  pub sound : (v : Valuation) → Respects v new → Respects v old × P v
+  pub complete : (v : Valuation) → Respects v old → P v → Continuation old new v
+
+abbrev pub IsClaim : List Node → List Node → (Valuation → Type 0) → Bool → Type 0
+IsClaim old new P true = Claims old new P
+IsClaim old new P false = (v : Valuation) → Respects v old → P v → ⊥
+
+-- the node's sort is o
+abbrev pub IsBase : ℕ → Valuation → Type 0
+IsBase i v = v i ≡ o
+
+-- the node's sort has as its arguments those of `count` nodes in a row
+abbrev pub HasArguments : ℕ → ℕ → ℕ → Valuation → Type 0
+HasArguments i first count v = v i ≡ arrows count (λ j. v (first + j))
+
+-- the node's sort is that of a terminal of this rank
+abbrev pub IsRanked : ℕ → ℕ → Valuation → Type 0
+IsRanked i n v = v i ≡ ranked n
+
+-- where the rank is known
+abbrev pub IsRankedIf : ℕ → Option ℕ → Valuation → Type 0
+IsRankedIf i None v = Unit {0}
+IsRankedIf i (Some n) v = IsRanked i n v
+
+-- the term's sort is o
+abbrev pub HasBase : (Head → ℕ) → Tree Head → Valuation → Type 0
+HasBase at t v = HasSort (λ h. v (at h)) t o

@@ -1,0 +1,44 @@
+-- Weighed nodes whose sorts are the sortings of a scheme's first rules.
+use Rattle.std.specs.Prelude.{◌≡◌, ◌<◌, ◌≤◌, ℕ, ◌+◌, List, length, slice_get, Option, Some, None, true, false}
+use Rattle.hs_scheme.specs.declared.term.Rule.{Rule}
+use Rattle.hs_scheme.specs.Sorting.{SortTree, HasSorting}
+use Rattle.hs_sorts.specs.declared.found.Found.{Found}
+use Rattle.hs_sorts.specs.declared.store.Node.{Node}
+use Rattle.hs_sorts.specs.declared.weights.Weight.{Weight}
+use Rattle.hs_sorts.specs.Nodes.{Valuation, IsStore}
+use Rattle.hs_sorts.specs.Weights.{IsReading}
+use Rattle.hs_sorts.specs.Search.{Weighing}
+use Rattle.hs_sorts.specs.Solving.{Solves}
+
+pub record Finds (rules : List Rule) (ranks : List (Option ℕ)) (k : ℕ) (found : Found) : Type 0 where
+  pub store : IsStore found.solved.store
+  pub solves : Solves rules ranks k found.solved.store found.solved.layout.rules found.solved.layout.firsts.items
+  pub weighing : Weighing found.solved.store found.weights.items
+
+-- they are found exactly where the first k rules have a sorting
+abbrev pub IsFinding : List Rule → List (Option ℕ) → ℕ → Option Found → Type 0
+IsFinding rules ranks k (Some found) = Finds rules ranks k found
+IsFinding rules ranks k None = HasSorting rules ranks k → ⊥
+
+-- the first of `count` weights from the one at `start` on that fails, where the others pass
+abbrev pub IsFirst : (Weight → Type 0) → (Weight → Type 0) → List Weight → ℕ → ℕ → Option ℕ → Type 0
+IsFirst Fails Passes weights start count (Some i) =
+    (i < count) × ((w : Weight) → slice_get weights (start + i) ≡ Some w → Fails w) × ((j : ℕ) (w : Weight) → j < i → slice_get weights (start + j) ≡ Some w → Passes w)
+IsFirst Fails Passes weights start count None = (j : ℕ) (w : Weight) → j < count → slice_get weights (start + j) ≡ Some w → Passes w
+
+-- the first whose sort has an argument other than o, and the first whose sort is larger than 1,000
+abbrev pub IsFirstHigherOrder : List Weight → ℕ → ℕ → Option ℕ → Type 0
+IsFirstHigherOrder = IsFirst (λ w. w.first_order ≡ false) (λ w. w.first_order ≡ true)
+
+abbrev pub IsFirstLarge : List Weight → ℕ → ℕ → Option ℕ → Type 0
+IsFirstLarge = IsFirst (λ w. 1000 < w.size) (λ w. w.size ≤ 1000)
+
+-- the sorts that are read from the first nodes
+pub record AreSorts (nodes : List Node) (count : ℕ) (sorts : List SortTree) : Type 0 where
+  pub as_long : length sorts ≡ count
+  pub reads : (v : Valuation) → IsReading v nodes → (i : ℕ) (k : SortTree) → slice_get sorts i ≡ Some k → k ≡ v i
+
+-- the numbers of arguments from the one at `start` on
+pub record AreArities (weights : List Weight) (start count : ℕ) (arities : List ℕ) : Type 0 where
+  pub as_long : length arities ≡ count
+  pub at : (a n : ℕ) (w : Weight) → slice_get arities a ≡ Some n → slice_get weights (start + a) ≡ Some w → n ≡ w.arity

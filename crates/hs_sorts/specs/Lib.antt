@@ -1,0 +1,10 @@
+pub mod Nodes
+pub mod Constraints
+pub mod Solving
+pub mod Solution
+pub mod Weights
+pub mod Search
+pub mod Reading
+pub mod Finding
+pub mod Inference
+pub mod Least

@@ -1,0 +1,22 @@
+-- What is read from weighed nodes.
+use Rattle.std.specs.Prelude.{◌≡◌, ℕ, ◌<◌, List, length, Option, Some, None, slice_get, unwrap_or}
+use Rattle.std.specs.Option.{option_map}
+use Rattle.hs_scheme.specs.Sorting.{o, arrow}
+use Rattle.hs_sorts.specs.declared.store.Node.{Node}
+use Rattle.hs_sorts.specs.declared.weights.Weight.{Weight}
+use Rattle.hs_sorts.specs.Nodes.{Valuation}
+use Rattle.hs_sorts.specs.Weights.{IsReading}
+
+-- the counted size at a node
+abbrev pub size_at : List Weight → ℕ → ℕ
+size_at weights i = unwrap_or (option_map (λ w. w.size) (slice_get weights i)) 0
+
+-- the sort that is read from a node takes an argument, or is o
+pub record IsArrow (nodes : List Node) (i a b : ℕ) : Type 0 where
+  pub argument : a < length nodes
+  pub rest : b < length nodes
+  pub reads : (v : Valuation) → IsReading v nodes → v i ≡ arrow (v a) (v b)
+
+abbrev pub IsSplit : List Node → ℕ → Option (ℕ × ℕ) → Type 0
+IsSplit nodes i (Some p) = IsArrow nodes i p.0 p.1
+IsSplit nodes i None = (v : Valuation) → IsReading v nodes → v i ≡ o

@@ -1,0 +1,89 @@
+-- The walk that weighs the nodes: each node is new, on the path, or weighed after its children.
+--     rank        falls from a node to its children, whatever respects the nodes
+--     IsSearch    what holds between steps
+use Rattle.std.specs.Prelude.{◌≡◌, ◌≢◌, ℕ, ◌+◌, ◌*◌, ◌<◌, ◌≤◌, List, [], ◌∷◌, ◌++◌, length, slice_get, slice_set, sum_by, Option, Some, None, Bool, true, false}
+use Rattle.hs_scheme.specs.Sorting.{size}
+use Rattle.hs_sorts.specs.declared.store.Node.{Node}
+use Rattle.hs_sorts.specs.declared.weights.Weight.{Weight}
+use Rattle.hs_sorts.specs.declared.weights.Mark.{Mark}
+use Rattle.hs_sorts.specs.declared.weights.Mark.TheVariants.{New, Entered, Weighed}
+use Rattle.hs_sorts.specs.Nodes.{Valuation, Respects}
+use Rattle.hs_sorts.specs.Weights.{Reads, IsReading, DescribeAll, MarksDescribe, IsWeighed, ChildrenWeighed}
+
+abbrev pub rank : Valuation → ℕ → ℕ → ℕ
+rank v count i = size (v i) * (count + 1) + i
+
+-- 1 for a node that wasn't come to
+abbrev pub newness : Mark → ℕ
+newness New = 1
+newness Entered = 0
+newness (Weighed w) = 0
+
+abbrev pub new_count : List Mark → ℕ
+new_count marks = sum_by newness marks
+
+-- sorts for the weighed nodes, read from them
+pub record PartReading (nodes : List Node) (marks : List Mark) : Type 0 where
+  pub valuation : Valuation
+  pub describes : MarksDescribe marks valuation
+  pub reads : (i : ℕ) (n : Node) → IsWeighed marks i → slice_get nodes i ≡ Some n → Reads valuation (valuation i) n
+  pub children : (i : ℕ) (n : Node) → IsWeighed marks i → slice_get nodes i ≡ Some n → ChildrenWeighed marks n
+
+pub record IsSearch (nodes : List Node) (marks : List Mark) (path : List ℕ) : Type 0 where
+  pub as_long : length marks ≡ length nodes
+  pub entered : (p i : ℕ) → slice_get path p ≡ Some i → slice_get marks i ≡ Some Entered
+  pub on_path : (i : ℕ) → slice_get marks i ≡ Some Entered → (p : ℕ) × (slice_get path p ≡ Some i)
+  pub distinct : (p q i : ℕ) → slice_get path p ≡ Some i → slice_get path q ≡ Some i → p ≡ q
+  pub falling : (v : Valuation) → Respects v nodes → (p q i j : ℕ) → p ≤ q → slice_get path p ≡ Some i → slice_get path q ≡ Some j
+      → rank v (length nodes) j ≤ rank v (length nodes) i
+  pub reading : PartReading nodes marks
+
+-- the node was come to
+abbrev pub IsStarted : List Mark → ℕ → Type 0
+IsStarted marks i = slice_get marks i ≢ Some New
+
+-- the node is last on the path
+abbrev pub IsLast : List ℕ → ℕ → Type 0
+IsLast path at = (rest : List ℕ) × (path ≡ rest ++ at ∷ [])
+
+-- a step of the walk
+pub record Advances (nodes : List Node) (old : List Mark) (path : List ℕ) (new : List Mark) (longer : List ℕ) : Type 0 where
+  pub search : IsSearch nodes new longer
+  pub smaller : 2 * new_count new + length longer < 2 * new_count old + length path
+  pub kept : (i : ℕ) → IsStarted old i → IsStarted new i
+
+abbrev pub IsAdvance : List Node → List Mark → List ℕ → List Mark → List ℕ → Bool → Type 0
+IsAdvance nodes old path new longer true = Advances nodes old path new longer
+IsAdvance nodes old path new longer false = (v : Valuation) → Respects v nodes → ⊥
+
+-- a new node is put on the path, and nothing is done at another
+abbrev pub IsEntry : List Mark → List ℕ → ℕ → List Mark → List ℕ → Bool → Type 0
+IsEntry old path i new longer true = (slice_get old i ≡ Some New) × (new ≡ slice_set old i Entered) × (longer ≡ path ++ i ∷ [])
+IsEntry old path i new longer false = IsStarted old i × (new ≡ old) × (longer ≡ path)
+
+-- a whole walk from a node
+pub record Walks (nodes : List Node) (old new : List Mark) (path : List ℕ) (start : ℕ) : Type 0 where
+  pub search : IsSearch nodes new path
+  pub empty : path ≡ []
+  pub started : IsStarted new start
+  pub kept : (i : ℕ) → IsStarted old i → IsStarted new i
+
+abbrev pub IsWalk : List Node → List Mark → List Mark → List ℕ → ℕ → Bool → Type 0
+IsWalk nodes old new path start true = Walks nodes old new path start
+IsWalk nodes old new path start false = (v : Valuation) → Respects v nodes → ⊥
+
+-- all nodes' weights, where all are weighed
+abbrev pub AreWeights : List Mark → Option (List Weight) → Type 0
+AreWeights marks (Some weights) = (length weights ≡ length marks) × ((i : ℕ) (w : Weight) → slice_get weights i ≡ Some w → slice_get marks i ≡ Some (Weighed w))
+AreWeights marks None = ((i : ℕ) → i < length marks → IsWeighed marks i) → ⊥
+
+-- the sorts that are read from the nodes, with their weights
+pub record Weighing (nodes : List Node) (weights : List Weight) : Type 0 where
+  pub as_long : length weights ≡ length nodes
+  pub valuation : Valuation
+  pub reading : IsReading valuation nodes
+  pub describes : DescribeAll weights valuation
+
+abbrev pub IsWeighing : List Node → Option (List Weight) → Type 0
+IsWeighing nodes (Some weights) = Weighing nodes weights
+IsWeighing nodes None = (v : Valuation) → Respects v nodes → ⊥

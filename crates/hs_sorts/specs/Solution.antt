@@ -1,0 +1,10 @@
+-- What the solver gives: nodes whose sorts are the sortings of the first k rules, or none where there is no sorting.
+use Rattle.std.specs.Prelude.{ℕ, List, Option, Some, None}
+use Rattle.hs_scheme.specs.declared.term.Rule.{Rule}
+use Rattle.hs_scheme.specs.Sorting.{HasSorting}
+use Rattle.hs_sorts.specs.declared.solve.Solved.{Solved}
+use Rattle.hs_sorts.specs.Solving.{Solves}
+
+abbrev pub IsSolution : List Rule → List (Option ℕ) → ℕ → Option Solved → Type 0
+IsSolution rules ranks k (Some s) = Solves rules ranks k s.store s.layout.rules s.layout.firsts.items
+IsSolution rules ranks k None = HasSorting rules ranks k → ⊥

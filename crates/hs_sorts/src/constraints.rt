@@ -1,0 +1,157 @@
+//! What the terms of a scheme ask of the sorts of its parts.
+
+ghost use Rattle.std.specs.Prelude.{◌≡◌, ◌+◌, ◌<◌, ◌≤◌, ◌^◌, length, IfOk};
+ghost use Rattle.hs_sorts.specs.Constraints.{node_of, NodesBelow, IsNodeFor, Takes, Has, IsClaim, IsBase, HasArguments, IsRanked, IsRankedIf, HasBase};
+
+use crate::layout::Layout;
+use crate::store::{Shape, Store};
+use hs_scheme::{OutOfMemory, Term};
+use std::alloc::Global;
+
+/// The node of what is left where a function takes an argument, or `None` where it can't.
+pub fn apply(
+    alloc: Global,
+    store: &mut Store,
+    function: u32,
+    argument: u32,
+) -> Result<Option<u32>, OutOfMemory>
+    requires function { function < length store.old }
+    requires argument { argument < length store.old }
+    requires few { length store.old ≤ 2 ^ 32 }
+    ensures { IfOk result (λ rest. IsNodeFor store.old store.new (Takes function argument) rest) }
+{
+    let (_root, shape) = store.find(function);
+    match shape {
+        Shape::Arrow(expected, rest) => {
+            if !store.equate(alloc, expected, argument)? {
+                return Ok(None);
+            }
+            Ok(Some(rest))
+        }
+        _ => make_arrow(alloc, store, function, argument),
+    }
+}
+
+/// The same where it isn't known whether the function takes an argument.
+fn make_arrow(
+    alloc: Global,
+    store: &mut Store,
+    function: u32,
+    argument: u32,
+) -> Result<Option<u32>, OutOfMemory>
+    requires function { function < length store.old }
+    requires argument { argument < length store.old }
+    ensures { IfOk result (λ rest. IsNodeFor store.old store.new (Takes function argument) rest) }
+{
+    let rest = store.add(Shape::Open)?;
+    let arrow = store.add(Shape::Arrow(argument, rest))?;
+    if !store.equate(alloc, function, arrow)? {
+        return Ok(None);
+    }
+    Ok(Some(rest))
+}
+
+/// The node of a term's sort in the body of this rule, or `None` where it has none. Recurses as
+/// deep as the term.
+pub fn term_sort(
+    alloc: Global,
+    store: &mut Store,
+    layout: &Layout,
+    rule: usize,
+    term: &Term,
+) -> Result<Option<u32>, OutOfMemory>
+    requires rule { rule < length layout.now.firsts.items }
+    requires nodes { NodesBelow (node_of layout.now.rules layout.now.firsts.items rule) (length store.old) term.now }
+    requires few { length store.old ≤ 2 ^ 32 }
+    ensures { IfOk result (λ sort. IsNodeFor store.old store.new (Has (node_of layout.now.rules layout.now.firsts.items rule) term.now) sort) }
+{
+    let mut sort = layout.node_of(rule, term.head);
+    for arg in &term.args {
+        let Some(argument) = term_sort(alloc, store, layout, rule, arg)? else {
+            return Ok(None);
+        };
+        let Some(rest) = apply(alloc, store, sort, argument)? else {
+            return Ok(None);
+        };
+        sort = rest;
+    }
+    Ok(Some(sort))
+}
+
+/// Makes the sort of a node `o`. `false` where it can't be.
+fn make_base(alloc: Global, store: &mut Store, node: u32) -> Result<bool, OutOfMemory>
+    requires { node < length store.old }
+    ensures { IfOk result (λ yes. IsClaim store.old store.new (IsBase node) yes) }
+{
+    let base = store.add(Shape::Base)?;
+    store.equate(alloc, node, base)
+}
+
+/// Makes the sort of a node one that takes the nodes from `first` on as its arguments, and leaves
+/// `o`. `false` where it can't be.
+pub fn make_arrows(
+    alloc: Global,
+    store: &mut Store,
+    node: u32,
+    first: u32,
+    count: u32,
+) -> Result<bool, OutOfMemory>
+    requires node { node < length store.old }
+    requires arguments { first + count ≤ length store.old }
+    requires few { length store.old ≤ 2 ^ 32 }
+    ensures { IfOk result (λ yes. IsClaim store.old store.new (HasArguments node first count) yes) }
+{
+    let mut sort = node;
+    for place in 0..count {
+        let Some(rest) = apply(alloc, store, sort, first + place)? else {
+            return Ok(false);
+        };
+        sort = rest;
+    }
+    make_base(alloc, store, sort)
+}
+
+/// Makes the sort of a node that of a terminal of this rank. `false` where it can't be.
+fn make_ranked(alloc: Global, store: &mut Store, node: u32, rank: u32) -> Result<bool, OutOfMemory>
+    requires { node < length store.old }
+    ensures { IfOk result (λ yes. IsClaim store.old store.new (IsRanked node rank) yes) }
+{
+    let first = store.add_all(rank, Shape::Base)?;
+    make_arrows(alloc, store, node, first, rank)
+}
+
+/// The same where the rank is known, and nothing where it isn't.
+pub fn make_ranked_if(
+    alloc: Global,
+    store: &mut Store,
+    node: u32,
+    rank: Option<u32>,
+) -> Result<bool, OutOfMemory>
+    requires node { node < length store.old }
+    requires few { length store.old ≤ 2 ^ 32 }
+    ensures { IfOk result (λ yes. IsClaim store.old store.new (IsRankedIf node rank) yes) }
+{
+    match rank {
+        None => Ok(true),
+        Some(rank) => make_ranked(alloc, store, node, rank),
+    }
+}
+
+/// Makes the sort of a term in the body of this rule `o`. `false` where it can't be.
+pub fn make_body(
+    alloc: Global,
+    store: &mut Store,
+    layout: &Layout,
+    rule: usize,
+    body: &Term,
+) -> Result<bool, OutOfMemory>
+    requires rule { rule < length layout.now.firsts.items }
+    requires nodes { NodesBelow (node_of layout.now.rules layout.now.firsts.items rule) (length store.old) body.now }
+    requires few { length store.old ≤ 2 ^ 32 }
+    ensures { IfOk result (λ yes. IsClaim store.old store.new (HasBase (node_of layout.now.rules layout.now.firsts.items rule) body.now) yes) }
+{
+    let Some(body_sort) = term_sort(alloc, store, layout, rule, body)? else {
+        return Ok(false);
+    };
+    make_base(alloc, store, body_sort)
+}

@@ -1,0 +1,111 @@
+//! The least sorting of a scheme's first rules, where they have one.
+
+ghost use Rattle.std.specs.Prelude.{◌≡◌, ◌+◌, ◌≤◌, ◌<◌, ℕ, List, Option, length, IfOk};
+ghost use Rattle.hs_scheme.specs.declared.term.Rule.{Rule};
+ghost use Rattle.hs_scheme.specs.Scheme.{AreRules};
+ghost use Rattle.hs_sorts.specs.Nodes.{IsStore};
+ghost use Rattle.hs_sorts.specs.Search.{Weighing};
+ghost use Rattle.hs_sorts.specs.Reading.{size_at};
+ghost use Rattle.hs_sorts.specs.Finding.{IsFinding, IsFirstHigherOrder, IsFirstLarge, AreSorts, AreArities};
+
+use crate::reading::read_sort;
+use crate::search::weigh;
+use crate::solve::{Solved, solve};
+use crate::store::Node;
+use crate::weights::Weight;
+use hs_scheme::{OutOfMemory, Rule, Sort};
+use std::alloc::Global;
+
+/// The greatest size that a nonterminal's sort may have.
+pub const MAX_SORT_SIZE: u32 = 1_000;
+
+/// The nodes of a scheme's first rules, with the weights of their sorts.
+#[derive(Drop)]
+pub struct Found {
+    pub solved: Solved,
+    pub weights: Vec<Weight>,
+}
+
+/// The least sorting of the first `count` rules, as nodes, or `None` where they have no sorting.
+/// Time and memory are almost linear in the size of these rules.
+pub fn find(
+    alloc: Global,
+    rules: &[Rule],
+    ranks: &[Option<u32>],
+    count: usize,
+) -> Result<Option<Found>, OutOfMemory>
+    requires rules { AreRules rules.now (length ranks.now) }
+    requires count { count ≤ length rules.now }
+    ensures { IfOk result (λ found. IsFinding rules.now ranks.now count found) }
+{
+    let Some(solved) = solve(alloc, rules, ranks, count)? else {
+        return Ok(None);
+    };
+    let Some(weights) = weigh(alloc, solved.store.nodes())? else {
+        return Ok(None);
+    };
+    Ok(Some(Found { solved, weights }))
+}
+
+/// The first of `count` nodes from `start` on whose sort has an argument other than `o`.
+pub fn first_higher_order(weights: &[Weight], start: u32, count: u32) -> Option<u32>
+    requires { start + count ≤ length weights.now }
+    ensures { IsFirstHigherOrder weights.now start count result }
+{
+    for terminal in 0..count {
+        if !weights[start as usize + terminal as usize].first_order {
+            return Some(terminal);
+        }
+    }
+    None
+}
+
+/// The first of the first `count` nodes whose sort is larger than a nonterminal's sort may be.
+pub fn first_large(weights: &[Weight], count: u32) -> Option<u32>
+    requires { count ≤ length weights.now }
+    ensures { IsFirstLarge weights.now 0 count result }
+{
+    for rule in 0..count {
+        if weights[rule as usize].size > MAX_SORT_SIZE {
+            return Some(rule);
+        }
+    }
+    None
+}
+
+/// The sorts of the first `count` nodes.
+pub fn read_sorts(
+    alloc: Global,
+    nodes: &[Node],
+    weights: &[Weight],
+    count: u32,
+) -> Result<Vec<Sort>, OutOfMemory>
+    requires store { IsStore nodes.now }
+    requires weights { Weighing nodes.now weights.now }
+    requires count { count ≤ length nodes.now }
+    requires small { (i : ℕ) → i < count → size_at weights.now i ≤ 1000 }
+    ensures { IfOk result (λ sorts. AreSorts nodes.now count sorts.items) }
+{
+    let mut sorts = Vec::with_capacity(alloc, count as usize)?;
+    for node in 0..count {
+        sorts.push(read_sort(alloc, nodes, weights, node)?)?;
+    }
+    Ok(sorts)
+}
+
+/// The numbers of arguments of the sorts of `count` nodes from `start` on.
+pub fn arities(
+    alloc: Global,
+    weights: &[Weight],
+    start: u32,
+    count: usize,
+) -> Result<Vec<u32>, OutOfMemory>
+    requires { start + count ≤ length weights.now }
+    ensures { IfOk result (λ arities. AreArities weights.now start count arities.items) }
+{
+    let mut arities = Vec::with_capacity(alloc, count)?;
+    for place in 0..count {
+        arities.push(weights[start as usize + place].arity)?;
+    }
+    Ok(arities)
+}

@@ -1,0 +1,100 @@
+//! Sort inference.
+
+ghost use Rattle.std.specs.Prelude.{◌≡◌, ℕ, List, Option, length, IfOk, IfErr};
+ghost use Rattle.hs_scheme.specs.declared.term.Rule.{Rule};
+ghost use Rattle.hs_scheme.specs.Scheme.{AreRules};
+ghost use Rattle.hs_scheme.specs.Sorting.{HasSorting};
+ghost use Rattle.hs_sorts.specs.Inference.{IsInferred, IsFirstIllSorted, IsFaultOf, HasSmallSorts};
+ghost use Rattle.hs_sorts.specs.Least.{IsLeast};
+
+use crate::fault::SortFault;
+use crate::found::{arities, find, first_higher_order, first_large, read_sorts};
+use hs_scheme::{OutOfMemory, Rule, Scheme, Sort, Sorted, Unsorted};
+use std::alloc::Global;
+
+/// The least sorts of a scheme's nonterminals, and the ranks of its terminals.
+#[derive(Drop)]
+struct Least {
+    sorts: Vec<Sort>,
+    ranks: Vec<u32>,
+}
+
+/// The first rule up to which there is no sorting, by bisection: fewer rules ask for less.
+fn first_ill_sorted(
+    alloc: Global,
+    rules: &[Rule],
+    ranks: &[Option<u32>],
+) -> Result<u32, OutOfMemory>
+    requires rules { AreRules rules.now (length ranks.now) }
+    requires none { HasSorting rules.now ranks.now (length rules.now) → ⊥ }
+    ensures { IfOk result (λ rule. IsFirstIllSorted rules.now ranks.now rule) }
+{
+    let mut sorted = 0;
+    let mut unsorted = rules.len();
+    while unsorted - sorted > 1 {
+        let middle = sorted + (unsorted - sorted) / 2;
+        if find(alloc, rules, ranks, middle)?.is_some() {
+            sorted = middle;
+        } else {
+            unsorted = middle;
+        }
+    }
+    Ok(sorted as u32)
+}
+
+/// The least sorting of a scheme, or why there is none.
+fn find_least(alloc: Global, rules: &[Rule], ranks: &[Option<u32>]) -> Result<Least, SortFault>
+    requires { AreRules rules.now (length ranks.now) }
+    ensures ok { IfOk result (λ least. IsLeast rules.now ranks.now least.sorts.items least.ranks.items) }
+    ensures fault { IfErr result (λ fault. IsFaultOf rules.now ranks.now fault) }
+{
+    let Some(found) = find(alloc, rules, ranks, rules.len())? else {
+        let rule = first_ill_sorted(alloc, rules, ranks)?;
+        return Err(SortFault::IllSorted { rule });
+    };
+    let number = found.solved.layout.rules;
+    let weights = found.weights.as_slice();
+    if let Some(terminal) = first_higher_order(weights, number, ranks.len() as u32) {
+        return Err(SortFault::TerminalNotFirstOrder { terminal });
+    }
+    if let Some(rule) = first_large(weights, number) {
+        return Err(SortFault::SortTooLarge { rule });
+    }
+    let sorts = read_sorts(alloc, found.solved.store.nodes(), weights, number)?;
+    let ranks = arities(alloc, weights, number, ranks.len())?;
+    Ok(Least { sorts, ranks })
+}
+
+/// The sorts of a scheme by unification (Milner, "A Theory of Type Polymorphism in Programming",
+/// 1978, without polymorphism), over shared nodes (Huet, "Résolution d'équations dans des langages
+/// d'ordre 1, 2, ..., ω", 1976).
+///
+/// A terminal with transitions has the sort of its rank, and one without gets its rank from here. A
+/// sort that is left open is `o`. The input is consumed on every answer.
+///
+/// Memory is linear in the number of heads of the scheme, and time too, times the amortized cost of
+/// a look-up of a node, which is logarithmic at most. Where the scheme is ill-sorted, the time is
+/// multiplied by the logarithm of the number of rules. A sort that is exponentially large as a tree
+/// costs no more than its nodes. More than 2^32 nodes, a few for each head, are want of memory.
+pub fn infer(alloc: Global, unsorted: Unsorted) -> Result<Sorted, SortFault>
+    ensures ok { IfOk result (λ sorted. IsInferred unsorted sorted) }
+    ensures fault { IfErr result (λ fault. IsFaultOf unsorted.rules unsorted.ranks fault) }
+    ensures accepted { HasSmallSorts unsorted.rules unsorted.ranks → IfErr result (λ fault. fault ≡ SortFault.OutOfMemory) }
+{
+    let Unsorted {
+        rules,
+        ranks,
+        automaton,
+        names,
+    } = unsorted;
+    let least = find_least(alloc, rules.as_slice(), ranks.as_slice())?;
+    Ok(Sorted {
+        scheme: Scheme {
+            rules,
+            ranks: least.ranks,
+        },
+        automaton,
+        names,
+        sorts: least.sorts,
+    })
+}

@@ -1,0 +1,23 @@
+//! Sort inference: the least sorting of a recursion scheme.
+//!
+//! The sorts of nonterminals, parameters and terminals are found by unification over shared nodes,
+//! with one occurs check for all rules. What a sorting is, and which one is the least, stands in
+//! `hs_scheme`.
+#![tactic(auto)]
+
+mod constraints;
+mod fault;
+mod found;
+mod inference;
+mod layout;
+mod reading;
+mod search;
+mod solve;
+mod store;
+mod weights;
+
+pub use fault::SortFault;
+pub use inference::infer;
+
+#[cfg(test)]
+mod tests;

@@ -1,0 +1,56 @@
+//! The sorts that nodes stand for, as trees.
+
+ghost use Rattle.std.specs.Prelude.{◌≡◌, ◌<◌, ◌≤◌, length, IfOk};
+ghost use Rattle.hs_sorts.specs.Nodes.{Valuation, IsStore};
+ghost use Rattle.hs_sorts.specs.Weights.{IsReading};
+ghost use Rattle.hs_sorts.specs.Search.{Weighing};
+ghost use Rattle.hs_sorts.specs.Reading.{size_at, IsSplit};
+
+use crate::store::{Node, Shape};
+use crate::weights::Weight;
+use hs_scheme::{OutOfMemory, Sort};
+use std::alloc::Global;
+
+/// The nodes of the first argument and of what is left, or `None` where the sort is `o`.
+fn split(nodes: &[Node], node: u32) -> Option<(u32, u32)>
+    requires store { IsStore nodes.now }
+    requires node { node < length nodes.now }
+    ensures { IsSplit nodes.now node result }
+{
+    let mut at = node;
+    loop {
+        match nodes[at as usize] {
+            Node::Link(up) => at = up,
+            Node::Root(shape) => {
+                return match shape {
+                    Shape::Open => None,
+                    Shape::Base => None,
+                    Shape::Arrow(argument, rest) => Some((argument, rest)),
+                };
+            }
+        }
+    }
+}
+
+/// The sort that a node stands for, where an open node is `o`. Recurses as deep as the sort, which
+/// is at most 1,000 in size.
+pub fn read_sort(
+    alloc: Global,
+    nodes: &[Node],
+    weights: &[Weight],
+    node: u32,
+) -> Result<Sort, OutOfMemory>
+    requires store { IsStore nodes.now }
+    requires weights { Weighing nodes.now weights.now }
+    requires node { node < length nodes.now }
+    requires small { size_at weights.now node ≤ 1000 }
+    ensures { IfOk result (λ sort. (v : Valuation) → IsReading v nodes.now → sort ≡ v node) }
+{
+    let mut args = Vec::new(alloc);
+    let mut at = node;
+    while let Some((argument, rest)) = split(nodes, at) {
+        args.push(read_sort(alloc, nodes, weights, argument)?)?;
+        at = rest;
+    }
+    Ok(Sort { args })
+}

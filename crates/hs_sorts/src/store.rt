@@ -1,0 +1,193 @@
+//! Unknown sorts as shared nodes, and unification over them.
+
+ghost use Rattle.std.specs.Prelude.{◌≡◌, ◌++◌, ◌∷◌, [], ◌<◌, ◌≤◌, ◌^◌, IfOk, length, replicate, slice_get, Some, min, max};
+ghost use Rattle.hs_sorts.specs.declared.store.Node.TheVariants.{Root, Link};
+ghost use Rattle.hs_sorts.specs.Nodes.{IsStore, ShapeInRange, IsSameStore, AreRoots, linked, IsRootOf, IsMerge, IsJoin, IsEquation};
+
+use hs_scheme::OutOfMemory;
+use std::alloc::Global;
+use std::marker::Model;
+
+/// What is known of a sort: nothing, that it is `o`, or that it takes an argument. The numbers are
+/// those of the nodes of the argument and of the rest.
+#[derive(Clone, Copy, Debug, Drop)]
+pub enum Shape {
+    Open,
+    Base,
+    Arrow(u32, u32),
+}
+
+/// A node stands for a sort: either it says what is known of it, or it has the sort of another
+/// node, which has a smaller number.
+#[derive(Clone, Copy, Debug, Drop)]
+pub enum Node {
+    Root(Shape),
+    Link(u32),
+}
+
+/// Nodes by number, counted from 0, of which there are at most 2^32.
+#[derive(Drop)]
+pub struct Store {
+    nodes: Vec<Node>,
+}
+
+impl Model for Store {
+    ghost use Rattle.std.specs.Prelude.{List};
+    ghost use Rattle.hs_sorts.specs.declared.store.Node.{Node};
+    ghost use Rattle.hs_sorts.specs.Nodes.{IsStore};
+
+    ghost Value = { List Node };
+
+    ghost view = { λ s. s.nodes.items };
+
+    ghost invariant = { λ s. IsStore s.nodes.items };
+}
+
+impl Store {
+    /// A store without nodes. Takes no memory.
+    pub fn new(alloc: Global) -> Store
+        ensures { result ≡ [] }
+    {
+        Store {
+            nodes: Vec::new(alloc),
+        }
+    }
+
+    /// The nodes, by number.
+    pub fn nodes(&self) -> &[Node]
+        ensures nodes { result.now ≡ self.now }
+        ensures store { IsStore self.now }
+    {
+        self.nodes.as_slice()
+    }
+
+    /// Adds a node, and gives its number. More than 2^32 nodes are want of memory.
+    pub fn add(&mut self, shape: Shape) -> Result<u32, OutOfMemory>
+        requires { ShapeInRange (length self.old) shape }
+        ensures added { IfOk result (λ node. (node ≡ length self.old) × (self.new ≡ self.old ++ Root shape ∷ [])) }
+        ensures before { IfOk result (λ _. IsStore self.old) }
+        ensures few { IfOk result (λ _. length self.old < 2 ^ 32) }
+    {
+        let Ok(node) = u32::try_from(self.nodes.len()) else {
+            return Err(OutOfMemory);
+        };
+        self.nodes.push(Node::Root(shape))?;
+        Ok(node)
+    }
+
+    /// Adds nodes of the same shape, and gives the number of the first.
+    pub fn add_all(&mut self, count: u32, shape: Shape) -> Result<u32, OutOfMemory>
+        requires { ShapeInRange (length self.old) shape }
+        ensures added { IfOk result (λ first. (first ≡ length self.old) × (self.new ≡ self.old ++ replicate count (Root shape))) }
+        ensures before { IfOk result (λ _. IsStore self.old) }
+        ensures few { IfOk result (λ _. length self.new ≤ 2 ^ 32) }
+    {
+        let Ok(first) = u32::try_from(self.nodes.len()) else {
+            return Err(OutOfMemory);
+        };
+        for _added in 0..count {
+            self.add(shape)?;
+        }
+        Ok(first)
+    }
+
+    /// Turns the link from `at` to `up` to where the link from `up` leads, if there is one.
+    fn shorten(&mut self, at: u32, up: u32)
+        requires { slice_get self.old at ≡ Some (Link up) }
+        ensures { IsSameStore self.old self.new }
+    {
+        if let Node::Link(top) = self.nodes[up as usize] {
+            self.nodes[at as usize] = Node::Link(top);
+        }
+    }
+
+    /// The node at the end of the links from this one, and what is known of its sort. Each link on
+    /// the way is turned to the one after the next (path splitting).
+    pub fn find(&mut self, node: u32) -> (u32, Shape)
+        requires { node < length self.old }
+        ensures { IsRootOf self.old self.new node result.0 result.1 }
+    {
+        let mut at = node;
+        loop {
+            match self.nodes[at as usize] {
+                Node::Root(shape) => return (at, shape),
+                Node::Link(up) => {
+                    self.shorten(at, up);
+                    at = up;
+                }
+            }
+        }
+    }
+
+    /// Makes two roots one: the greater number gets a link to the smaller, which gets the shape.
+    fn link(&mut self, a: u32, b: u32, shape: Shape)
+        requires roots { AreRoots self.old a b }
+        requires in_range { ShapeInRange (length self.old) shape }
+        ensures { self.new ≡ linked self.old (min a b) (max a b) shape }
+    {
+        let first = a.min(b);
+        let second = a.max(b);
+        self.nodes[first as usize] = Node::Root(shape);
+        self.nodes[second as usize] = Node::Link(first);
+    }
+
+    /// Makes two nodes one, where no more than the pairs are to be one after it. `false` where the
+    /// two can't be one.
+    fn join(&mut self, pairs: &mut Vec<(u32, u32)>, a: u32, b: u32) -> Result<bool, OutOfMemory>
+        requires a { a < length self.old }
+        requires b { b < length self.old }
+        ensures { IfOk result (λ yes. IsJoin a b self.old self.new pairs.old.items pairs.new.items yes) }
+    {
+        let (a, left) = self.find(a);
+        let (b, right) = self.find(b);
+        if a == b {
+            return Ok(true);
+        }
+        let Some(shape) = merged(pairs, left, right)? else {
+            return Ok(false);
+        };
+        self.link(a, b, shape);
+        Ok(true)
+    }
+
+    /// Makes two nodes one, and whatever nodes then have to be one. `false` where no sorts respect
+    /// that. Almost linear in the number of nodes that become one.
+    pub fn equate(&mut self, alloc: Global, a: u32, b: u32) -> Result<bool, OutOfMemory>
+        requires a { a < length self.old }
+        requires b { b < length self.old }
+        ensures { IfOk result (λ yes. IsEquation a b self.old self.new yes) }
+    {
+        let mut pairs = Vec::new(alloc);
+        if !self.join(&mut pairs, a, b)? {
+            return Ok(false);
+        }
+        while let Some((a, b)) = pairs.pop() {
+            if !self.join(&mut pairs, a, b)? {
+                return Ok(false);
+            }
+        }
+        Ok(true)
+    }
+}
+
+/// The shape of the sorts that have both shapes, where there are any. Their parts have to be one,
+/// and are added to the pairs.
+fn merged(
+    pairs: &mut Vec<(u32, u32)>,
+    left: Shape,
+    right: Shape,
+) -> Result<Option<Shape>, OutOfMemory>
+    ensures { IfOk result (λ shape. IsMerge left right pairs.old.items pairs.new.items shape) }
+{
+    match (left, right) {
+        (Shape::Open, shape) => Ok(Some(shape)),
+        (shape, Shape::Open) => Ok(Some(shape)),
+        (Shape::Base, Shape::Base) => Ok(Some(Shape::Base)),
+        (Shape::Arrow(a, b), Shape::Arrow(c, d)) => {
+            pairs.push((a, c))?;
+            pairs.push((b, d))?;
+            Ok(Some(left))
+        }
+        _ => Ok(None),
+    }
+}

@@ -1,0 +1,110 @@
+//! The occurs check, with the sizes of the sorts that the nodes stand for.
+
+ghost use Rattle.std.specs.Prelude.{◌≡◌, ◌<◌, length, slice_get, Some, IfOk, IfSome};
+ghost use Rattle.hs_scheme.specs.Sorting.{SortTree, o, arrow};
+ghost use Rattle.hs_sorts.specs.declared.store.Node.{Node};
+ghost use Rattle.hs_sorts.specs.Nodes.{IsStore};
+ghost use Rattle.hs_sorts.specs.declared.store.Node.TheVariants.{Root};
+ghost use Rattle.hs_sorts.specs.declared.store.Shape.TheVariants.{Arrow};
+ghost use Rattle.hs_sorts.specs.Weights.{Describes, ChildrenBelow, IsStep};
+
+use crate::store::{Node, Shape};
+use hs_scheme::OutOfMemory;
+
+/// Sizes are counted to this number.
+pub const COUNTED_SIZE: u32 = 1_001;
+
+/// What is counted of a sort.
+#[derive(Clone, Copy, Debug, Drop)]
+pub struct Weight {
+    /// The size, or 1,001 where it is greater.
+    pub size: u32,
+    /// The number of arguments.
+    pub arity: u32,
+    /// Whether all arguments are `o`.
+    pub first_order: bool,
+}
+
+impl Weight {
+    /// The weight of `o`.
+    fn base() -> Weight
+        ensures { Describes result o }
+    {
+        Weight {
+            size: 1,
+            arity: 0,
+            first_order: true,
+        }
+    }
+
+    /// The weight of the sort with this argument before those of the rest.
+    fn arrow(argument: Weight, rest: Weight) -> Result<Weight, OutOfMemory>
+        ensures { IfOk result (λ w. (a b : SortTree) → Describes argument a → Describes rest b → Describes w (arrow a b)) }
+    {
+        let Some(arity) = rest.arity.checked_add(1) else {
+            return Err(OutOfMemory);
+        };
+        let parts = argument.size.saturating_add(rest.size);
+        Ok(Weight {
+            size: parts.saturating_add(1).min(COUNTED_SIZE),
+            arity,
+            first_order: argument.size == 1 && rest.first_order,
+        })
+    }
+}
+
+/// How far a node is: not yet come to, on the path, or weighed.
+#[derive(Clone, Copy, Debug, Drop)]
+pub enum Mark {
+    New,
+    Entered,
+    Weighed(Weight),
+}
+
+/// A node's weight, or a child that has to be weighed first.
+pub enum Step {
+    Done(Weight),
+    Child(u32),
+}
+
+/// What comes next at a node.
+pub fn step_at(marks: &[Mark], node: Node) -> Result<Step, OutOfMemory>
+    requires { ChildrenBelow (length marks.now) node }
+    ensures { IfOk result (λ step. IsStep marks.now node step) }
+{
+    match node {
+        Node::Link(up) => match marks[up as usize] {
+            Mark::Weighed(weight) => Ok(Step::Done(weight)),
+            _ => Ok(Step::Child(up)),
+        },
+        Node::Root(shape) => step_at_root(marks, shape),
+    }
+}
+
+/// The same where the node has no link.
+fn step_at_root(marks: &[Mark], shape: Shape) -> Result<Step, OutOfMemory>
+    requires { ChildrenBelow (length marks.now) (Root shape) }
+    ensures { IfOk result (λ step. IsStep marks.now (Root shape) step) }
+{
+    match shape {
+        Shape::Open => Ok(Step::Done(Weight::base())),
+        Shape::Base => Ok(Step::Done(Weight::base())),
+        Shape::Arrow(argument, rest) => step_at_arrow(marks, argument, rest),
+    }
+}
+
+/// The same at an arrow.
+fn step_at_arrow(marks: &[Mark], argument: u32, rest: u32) -> Result<Step, OutOfMemory>
+    requires argument { argument < length marks.now }
+    requires rest { rest < length marks.now }
+    ensures { IfOk result (λ step. IsStep marks.now (Root (Arrow argument rest)) step) }
+{
+    let Mark::Weighed(first) = marks[argument as usize] else {
+        return Ok(Step::Child(argument));
+    };
+    let Mark::Weighed(second) = marks[rest as usize] else {
+        return Ok(Step::Child(rest));
+    };
+    let weight = Weight::arrow(first, second)?;
+    Ok(Step::Done(weight))
+}
