@@ -1,0 +1,247 @@
+-- Lists of points that grow by one point at a time.
+use Rattle.std.proofs.Common.{◌≡◌, ◌≢◌, refl, sym, ◌∙◌, ap, subst, ℕ, zero, suc, ◌+◌, ◌-◌, ◌<◌, ◌≤◌, Bool, true, false, nat_eq, ◌&&◌, List, [], ◌∷◌, ◌++◌, length, get_or, take, slice_get, Some, length-append, arith, ◌⊎◌, inl, inr, Contains, ◌↔◌, cond, Vec, map, filter, option_map}
+use Rattle.std.specs.List.Sorted.{IsStrictlyIncreasing}
+use Rattle.std.specs.declared.alloc.Global.{Global}
+use Rattle.std.proofs.lemmas.Bool.{eqb-true, eq-eqb, cases_lt}
+use Rattle.std.proofs.lemmas.Option.{slice_get_within}
+use Rattle.std.proofs.lemmas.List.{take_more, get_or_append_left, get_or_push, get_or_default, length-map}
+use Rattle.std.proofs.lemmas.List.Elements.{All-append, All-cons, Contains-append_left, Contains-append_right, Contains-append_cases}
+use Rattle.hs_scheme.specs.declared.flow.FlowPair.{FlowPair}
+use Rattle.hs_scheme.specs.declared.term.Head.{Head}
+use Rattle.hs_scheme.specs.Points.{PointData, PointsData}
+use Rattle.hs_scheme.specs.Dependents.{HeadReads, IsDependent}
+use Rattle.hs_scheme.proofs.DemandLemmas.{some_same, read-slice_get, slice_get-read}
+use Rattle.hs_flow.specs.Rows.{row}
+use Rattle.hs_flow.specs.Dependents.{RisesTo, AddsTo, HasPoint, HasDependents, list_of}
+use Rattle.hs_flow.proofs.GainLemmas.{nothing_in, only_in, first_in}
+use Rattle.hs_flow.proofs.UserLemmas.{option_map-some}
+
+-- the point at the end of an ascending list, of which it isn't the last yet
+rises_push : (point : ℕ) (xs : List ℕ) → ((x : ℕ) → slice_get xs (length xs - 1) ≡ Some x → x ≡ point → ⊥) → RisesTo point xs → RisesTo point (xs ++ point ∷ [])
+rises_push point xs apart r = record {
+  ascending = λ k lt. elim (cases_lt (k + 1) (length xs)) [
+    | inl less ↦
+        let a : get_or (xs ++ point ∷ []) k 0 ≡ get_or xs k 0 = get_or_append_left xs (point ∷ []) 0 k (omega arith) in
+        let b : get_or (xs ++ point ∷ []) (k + 1) 0 ≡ get_or xs (k + 1) 0 = get_or_append_left xs (point ∷ []) 0 (k + 1) less in
+        omega (arith, a, b, r.ascending k less)
+    | inr more ↦
+        let long : length xs ≡ k + 1 = omega (arith, length-append xs (point ∷ [])) in
+        let a : get_or (xs ++ point ∷ []) k 0 ≡ get_or xs k 0 = get_or_append_left xs (point ∷ []) 0 k (omega arith) in
+        let b : get_or (xs ++ point ∷ []) (k + 1) 0 ≡ point = get_or_push xs point 0 (k + 1) long in
+        let last : length xs - 1 ≡ k = omega arith in
+        let at : slice_get xs (length xs - 1) ≡ Some (get_or xs k 0) = ap (slice_get xs) last ∙ slice_get-read xs k (get_or xs k 0) (omega arith) (get_or_default xs k (get_or xs k 0) 0 (omega arith)) in
+        let other : get_or xs k 0 ≢ point = apart (get_or xs k 0) at in
+        omega (arith, a, b, r.below k 0 (omega arith), other)
+  ];
+  below = All-append (λ x. x ≤ point) xs (point ∷ []) r.below (All-cons (λ x. x ≤ point) point [] (omega arith) (λ k d lt. absurd (omega arith)));
+}
+
+-- the point goes into the list of one number
+module _ (old new : List (Vec ℕ Global)) (number point : ℕ) (long : length new ≡ length old) (is : (k : ℕ) → row new k ≡ cond (nat_eq k number) (row old k ++ point ∷ []) (row old k)) where
+  abbrev grown : Bool → ℕ → List ℕ
+  grown b p = cond b (row old p ++ point ∷ []) (row old p)
+
+  pushed_only : (p d : ℕ) (b : Bool) → nat_eq p number ≡ b → Contains (grown b p) d → Contains (row old p) d ⊎ ((d ≡ point) × (p ≡ number))
+  pushed_only p d true here h = elim (Contains-append_cases (row old p) (point ∷ []) d h) [ inl was ↦ inl was | inr last ↦ inr (only_in point d last, eqb-true p number here) ]
+  pushed_only p d false elsewhere h = inl h
+
+  pushed_all : (p d : ℕ) (b : Bool) → nat_eq p number ≡ b → Contains (row old p) d ⊎ ((d ≡ point) × (p ≡ number)) → Contains (grown b p) d
+  pushed_all p d true here (inl was) = Contains-append_left (row old p) (point ∷ []) d was
+  pushed_all p d true here (inr (same, at)) = subst (λ e. Contains (row old p ++ point ∷ []) e) (sym same) (Contains-append_right (row old p) (point ∷ []) point (first_in point []))
+  pushed_all p d false elsewhere (inl was) = was
+  pushed_all p d false elsewhere (inr (same, at)) = let yes = eq-eqb p number at in absurd (cc)
+
+  pub pushed_adds : ((x : ℕ) → slice_get (row old number) (length (row old number) - 1) ≡ Some x → x ≡ point → ⊥) → AddsTo (λ p. p ≡ number) point old new
+  pushed_adds apart = record {
+    exact = λ p d. (
+      λ h. pushed_only p d (nat_eq p number) refl (subst (λ (xs : List ℕ). Contains xs d) (is p) h),
+      λ h. subst (λ (xs : List ℕ). Contains xs d) (sym (is p)) (pushed_all p d (nat_eq p number) refl h),
+    );
+    rises = λ p r. subst (λ (xs : List ℕ). RisesTo point xs) (sym (is p)) (by p (nat_eq p number) refl r);
+    len = long;
+  }
+    where
+      by : (p : ℕ) (b : Bool) → nat_eq p number ≡ b → RisesTo point (row old p) → RisesTo point (grown b p)
+      by p true here r = rises_push point (row old p) (subst (λ k. (x : ℕ) → slice_get (row old k) (length (row old k) - 1) ≡ Some x → x ≡ point → ⊥) (sym (eqb-true p number here)) apart) r
+      by p false elsewhere r = r
+
+-- it is the last there already
+pub kept_adds : (old : List (Vec ℕ Global)) (number point : ℕ) → slice_get (row old number) (length (row old number) - 1) ≡ Some point → AddsTo (λ p. p ≡ number) point old old
+kept_adds old number point last = record {
+  exact = λ p d. (
+    λ h. inl h,
+    λ h. elim h [
+      | inl was ↦ was
+      | inr new ↦ let r = read-slice_get (row old number) (length (row old number) - 1) point last in
+          subst (λ k. Contains (row old k) d) (sym new.1) (subst (λ e. Contains (row old number) e) (sym new.0) (length (row old number) - 1, r.0, r.1))
+    ],
+  );
+  rises = λ p r. r;
+  len = refl;
+}
+
+pub adds_nothing : (point : ℕ) (S : ℕ → Type 0) (old : List (Vec ℕ Global)) → ((p : ℕ) → S p → ⊥) → AddsTo S point old old
+adds_nothing point S old never = record {
+  exact = λ p d. (λ h. inl h, λ h. elim h [ inl was ↦ was | inr new ↦ absurd (never p new.1) ]);
+  rises = λ p r. r;
+  len = refl;
+}
+
+pub adds_then : (point : ℕ) (S T U : ℕ → Type 0) (a b c : List (Vec ℕ Global)) → ((p : ℕ) → (S p ⊎ T p) ↔ U p) → AddsTo S point a b → AddsTo T point b c → AddsTo U point a c
+adds_then point S T U a b c both f g = record {
+  exact = λ p d. (
+    λ h. elim ((g.exact p d).0 h) [
+      | inr late ↦ inr (late.0, (both p).0 (inr late.1))
+      | inl mid ↦ elim ((f.exact p d).0 mid) [ inl was ↦ inl was | inr early ↦ inr (early.0, (both p).0 (inl early.1)) ]
+    ],
+    λ h. elim h [
+      | inl was ↦ (g.exact p d).1 (inl ((f.exact p d).1 (inl was)))
+      | inr new ↦ elim ((both p).1 new.1) [ inl early ↦ (g.exact p d).1 (inl ((f.exact p d).1 (inr (new.0, early)))) | inr late ↦ (g.exact p d).1 (inr (new.0, late)) ]
+    ],
+  );
+  rises = λ p r. g.rises p (f.rises p r);
+  len = g.len ∙ f.len;
+}
+
+pub adds_same : (point : ℕ) (S T : ℕ → Type 0) (a b : List (Vec ℕ Global)) → ((p : ℕ) → S p ↔ T p) → AddsTo S point a b → AddsTo T point a b
+adds_same point S T a b same f = record {
+  exact = λ p d. (
+    λ h. elim ((f.exact p d).0 h) [ inl was ↦ inl was | inr new ↦ inr (new.0, (same p).0 new.1) ],
+    λ h. elim h [ inl was ↦ (f.exact p d).1 (inl was) | inr new ↦ (f.exact p d).1 (inr (new.0, (same p).1 new.1)) ],
+  );
+  rises = f.rises;
+  len = f.len;
+}
+
+-- one more argument
+pub argument_more : (args : List ℕ) (i : ℕ) → i < length args → (p : ℕ) → (Contains (take i args) p ⊎ (p ≡ get_or args i 0)) ↔ Contains (take (i + 1) args) p
+argument_more args i lt p =
+    let e : take (i + 1) args ≡ take i args ++ get_or args i 0 ∷ [] = take_more args i 0 lt in (
+      λ h. subst (λ (xs : List ℕ). Contains xs p) (sym e) (elim h [
+        | inl was ↦ Contains-append_left (take i args) (get_or args i 0 ∷ []) p was
+        | inr new ↦ Contains-append_right (take i args) (get_or args i 0 ∷ []) p (subst (λ q. Contains (get_or args i 0 ∷ []) q) (sym new) (first_in (get_or args i 0) []))
+      ]),
+      λ h. elim (Contains-append_cases (take i args) (get_or args i 0 ∷ []) p (subst (λ (xs : List ℕ). Contains xs p) e h)) [ inl was ↦ inl was | inr last ↦ inr (only_in (get_or args i 0) p last) ],
+    )
+
+-- one more flow pair
+pub flow_more : (flows : List FlowPair) (i : ℕ) (f : FlowPair) → i < length flows → f ≡ get_or flows i f → (p : ℕ) → (HasPoint (take i flows) p ⊎ (p ≡ f.point)) ↔ HasPoint (take (i + 1) flows) p
+flow_more flows i f lt is p =
+    let e : take (i + 1) flows ≡ take i flows ++ f ∷ [] = take_more flows i f lt ∙ ap (λ g. take i flows ++ g ∷ []) (sym is) in (
+      λ h. subst (λ (xs : List FlowPair). HasPoint xs p) (sym e) (elim h [
+        | inl was ↦ (was.0, (Contains-append_left (take i flows) (f ∷ []) was.0 was.1.0, was.1.1))
+        | inr new ↦ (f, (Contains-append_right (take i flows) (f ∷ []) f (first_in f []), sym new))
+      ]),
+      λ h. let g = subst (λ (xs : List FlowPair). HasPoint xs p) e h in elim (Contains-append_cases (take i flows) (f ∷ []) g.0 g.1.0) [
+        | inl was ↦ inl (g.0, (was, g.1.1))
+        | inr last ↦ inr (sym g.1.1 ∙ ap (λ (k : FlowPair). k.point) (only_in f g.0 last))
+      ],
+    )
+
+-- membership in a filter
+skip : {X : Type 0} (x y : X) (xs : List X) → Contains xs y → Contains (x ∷ xs) y
+skip x y xs (k, within, is) = (suc k, omega arith, is)
+
+module _ {X : Type 0} (m : X → Bool) where
+  from_step : (y : X) (ys : List X) (x : X) → (Contains (filter m ys) x → Contains ys x × (m x ≡ true)) → (t : Bool) → m y ≡ t → Contains (cond t (y ∷ filter m ys) (filter m ys)) x → Contains (y ∷ ys) x × (m x ≡ true)
+  from_step y ys x rest true e (zero, within, is) = ((0, omega arith, is), ap m (sym is) ∙ e)
+  from_step y ys x rest true e (suc k, within, is) = let r = rest (k, omega arith, is) in (skip y x ys r.0, r.1)
+  from_step y ys x rest false e there = let r = rest there in (skip y x ys r.0, r.1)
+
+  filter_from : (xs : List X) (x : X) → Contains (filter m xs) x → Contains xs x × (m x ≡ true)
+  filter_from [] x h = absurd (nothing_in x h)
+  filter_from (y ∷ ys) x h = from_step y ys x (filter_from ys x) (m y) refl h
+
+  to_step : (y : X) (ys : List X) (x : X) → (Contains ys x → Contains (filter m ys) x) → m x ≡ true → Contains (y ∷ ys) x → (t : Bool) → m y ≡ t → Contains (cond t (y ∷ filter m ys) (filter m ys)) x
+  to_step y ys x rest e (zero, within, is) true f = (0, omega arith, is)
+  to_step y ys x rest e (zero, within, is) false f = let g : m y ≡ true = ap m is ∙ e in absurd (cc)
+  to_step y ys x rest e (suc k, within, is) true f = skip y x (filter m ys) (rest (k, omega arith, is))
+  to_step y ys x rest e (suc k, within, is) false f = rest (k, omega arith, is)
+
+  filter_to : (xs : List X) (x : X) → Contains xs x → m x ≡ true → Contains (filter m xs) x
+  filter_to [] x h e = absurd (nothing_in x h)
+  filter_to (y ∷ ys) x h e = to_step y ys x (λ k. filter_to ys x k e) e h (m y) refl
+
+both : (b c : Bool) → b && c ≡ true → (b ≡ true) × (c ≡ true)
+both true true h = (refl, refl)
+both true false h = absurd (cc)
+both false c h = absurd (cc)
+
+-- the points of the pairs of a parameter
+pub flow_reads : (flows : List FlowPair) (rule param p : ℕ) → HasPoint (filter (λ f. nat_eq f.rule rule && nat_eq f.param param) flows) p ↔ Contains flows (record { rule = rule; param = param; point = p })
+flow_reads flows rule param p = (
+  λ h.
+      let r = filter_from (λ (f : FlowPair). nat_eq f.rule rule && nat_eq f.param param) flows h.0 h.1.0 in
+      let t = both (nat_eq h.0.rule rule) (nat_eq h.0.param param) r.1 in
+      subst (λ (f : FlowPair). Contains flows f) (λ i. record { rule = eqb-true h.0.rule rule t.0 i; param = eqb-true h.0.param param t.1 i; point = h.1.1 i }) r.0,
+  λ h. (
+    record { rule = rule; param = param; point = p },
+    (filter_to (λ (f : FlowPair). nat_eq f.rule rule && nat_eq f.param param) flows (record { rule = rule; param = param; point = p }) h (rw (eq-eqb rule rule refl, eq-eqb param param refl)), refl),
+  ),
+)
+
+pub body_reads : (bodies : List ℕ) (base body p : ℕ) → slice_get bodies base ≡ Some body → (p ≡ body) ↔ (slice_get bodies base ≡ Some p)
+body_reads bodies base body p at = (λ h. at ∙ ap (λ q. Some q) (sym h), λ h. some_same p body (sym h ∙ at))
+
+-- what a point reads, as its parts say
+pub point_reads : (points : PointsData) (flows : List FlowPair) (d rule : ℕ) (head : Head) (args : List ℕ)
+    → option_map (λ (o : PointData). o.args) (slice_get points.points d) ≡ Some args → option_map (λ (o : PointData). o.rule) (slice_get points.points d) ≡ Some rule
+    → option_map (λ (o : PointData). o.head) (slice_get points.points d) ≡ Some head
+    → (p : ℕ) → (Contains args p ⊎ HeadReads points.bodies flows rule head p) ↔ IsDependent points flows p d
+point_reads points flows d rule head args their_args their_rule their_head p =
+    let a = option_map-some (λ (o : PointData). o.args) (slice_get points.points d) args their_args in
+    let r = option_map-some (λ (o : PointData). o.rule) (slice_get points.points d) rule their_rule in
+    let h = option_map-some (λ (o : PointData). o.head) (slice_get points.points d) head their_head in
+    let same_rule : a.0.rule ≡ rule = ap (λ (o : PointData). o.rule) (some_same a.0 r.0 (sym a.1.0 ∙ r.1.0)) ∙ r.1.1 in
+    let same_head : a.0.head ≡ head = ap (λ (o : PointData). o.head) (some_same a.0 h.0 (sym a.1.0 ∙ h.1.0)) ∙ h.1.1 in (
+      λ e. record {
+        of = a.0;
+        at = a.1.0;
+        reads = elim e [
+          | inl arg ↦ inl (subst (λ (xs : List ℕ). Contains xs p) (sym a.1.1) arg)
+          | inr by_head ↦ inr (subst (λ q. HeadReads points.bodies flows q a.0.head p) (sym same_rule) (subst (λ (k : Head). HeadReads points.bodies flows rule k p) (sym same_head) by_head))
+        ];
+      },
+      λ e. let of_same : e.of ≡ a.0 = some_same e.of a.0 (sym e.at ∙ a.1.0) in elim e.reads [
+        | inl arg ↦ inl (subst (λ (xs : List ℕ). Contains xs p) (ap (λ (o : PointData). o.args) of_same ∙ a.1.1) arg)
+        | inr by_head ↦ inr (subst (λ q. HeadReads points.bodies flows q head p) (ap (λ (o : PointData). o.rule) of_same ∙ same_rule)
+            (subst (λ (k : Head). HeadReads points.bodies flows e.of.rule k p) (ap (λ (o : PointData). o.head) of_same ∙ same_head) by_head))
+      ],
+    )
+
+-- the lists, with the points so far and then all of them
+pub dependents_more : (points : PointsData) (flows : List FlowPair) (n : ℕ) (old new : List (Vec ℕ Global)) → AddsTo (λ p. IsDependent points flows p n) n old new
+    → ((p d : ℕ) → Contains (row old p) d ↔ ((d < n) × IsDependent points flows p d)) → (p d : ℕ) → Contains (row new p) d ↔ ((d < n + 1) × IsDependent points flows p d)
+dependents_more points flows n old new adds so_far p d = (
+  λ h. elim ((adds.exact p d).0 h) [
+    | inl was ↦ let w = (so_far p d).0 was in (omega (arith, w.0), w.1)
+    | inr now ↦ (omega (arith, now.0), subst (λ e. IsDependent points flows p e) (sym now.0) now.1)
+  ],
+  λ h. (adds.exact p d).1 (elim (cases_lt d n) [
+    | inl less ↦ inl ((so_far p d).1 (less, h.1))
+    | inr more ↦ let same : d ≡ n = omega (arith, h.0) in inr (same, subst (λ e. IsDependent points flows p e) same h.1)
+  ]),
+)
+
+pub rises_more : (points : PointsData) (flows : List FlowPair) (n : ℕ) (old new : List (Vec ℕ Global)) → AddsTo (λ p. IsDependent points flows p n) n old new
+    → ((p d : ℕ) → Contains (row old p) d ↔ ((d < n) × IsDependent points flows p d)) → ((p : ℕ) → IsStrictlyIncreasing (row old p)) → (p : ℕ) → IsStrictlyIncreasing (row new p)
+rises_more points flows n old new adds so_far up p = (adds.rises p (record {
+  ascending = up p;
+  below = λ k d lt.
+      let r = (so_far p (get_or (row old p) k d)).0 (k, lt, get_or_default (row old p) k (get_or (row old p) k d) d lt) in
+      omega (arith, r.0);
+})).ascending
+
+pub list_of-rows : (rows : List (Vec ℕ Global)) (p : ℕ) → list_of (map (λ v. v.items) rows) p ≡ row rows p
+list_of-rows [] p = refl
+list_of-rows (v ∷ rows) zero = refl
+list_of-rows (v ∷ rows) (suc p) = list_of-rows rows p
+
+pub has_dependents : (points : PointsData) (flows : List FlowPair) (n : ℕ) (rows : List (Vec ℕ Global)) → length rows ≡ length points.points → length points.points ≤ n
+    → ((p d : ℕ) → Contains (row rows p) d ↔ ((d < n) × IsDependent points flows p d)) → ((p : ℕ) → IsStrictlyIncreasing (row rows p)) → HasDependents points flows (map (λ v. v.items) rows)
+has_dependents points flows n rows long all exact up = record {
+  each = length-map rows (λ v. v.items) ∙ long;
+  ascending = λ p. subst (λ (xs : List ℕ). IsStrictlyIncreasing xs) (sym (list_of-rows rows p)) (up p);
+  exact = λ p d. subst (λ (xs : List ℕ). Contains xs d ↔ IsDependent points flows p d) (sym (list_of-rows rows p))
+      (λ h. ((exact p d).0 h).1, λ h. (exact p d).1 (omega (arith, slice_get_within points.points d h.of h.at), h));
+}

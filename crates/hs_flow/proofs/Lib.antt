@@ -1,0 +1,10 @@
+pub mod GainLemmas
+pub mod PassLemmas
+pub mod RowLemmas
+pub mod UserLemmas
+pub mod SpreadLemmas
+pub mod JoinLemmas
+pub mod SupportLemmas
+pub mod TableLemmas
+pub mod DependentLemmas
+pub mod BaseLemmas

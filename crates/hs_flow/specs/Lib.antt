@@ -1,0 +1,5 @@
+pub mod Gain
+pub mod Rows
+pub mod Users
+pub mod Index
+pub mod Dependents

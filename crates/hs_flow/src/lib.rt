@@ -1,0 +1,18 @@
+//! The flow analysis of recursion schemes: which points may stand for which parameters.
+#![tactic(auto)]
+
+mod analysis;
+mod dependents;
+mod fault;
+mod found;
+mod index;
+mod rows;
+mod spread;
+mod users;
+
+pub use analysis::analyse;
+pub use dependents::Dependents;
+pub use fault::FlowFault;
+
+#[cfg(test)]
+mod tests;
