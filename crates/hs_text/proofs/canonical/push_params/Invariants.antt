@@ -1,0 +1,7 @@
+-- the parameters so far stand behind what was there
+use Rattle.std.proofs.Common.{◌≡◌, ◌++◌, take}
+use Rattle.hs_text.specs.Canonical.{params_text}
+use Rattle.hs_text.proofs.canonical.push_params.Given as goal
+
+abbrev pub invariant-loop-param : goal.invariant-loop-param
+invariant-loop-param l = l.text.items ≡ l.initial.text.items ++ params_text (take l.param-index l.params)
