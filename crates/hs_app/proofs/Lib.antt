@@ -1,2 +1,10 @@
 pub mod PointLemmas
 pub mod SaturationLemmas
+pub mod OutcomeLemmas
+pub mod VerdictLemmas
+pub mod Relined
+pub mod RelinedFaults
+pub mod Pieces
+pub mod Parsed
+pub mod Written
+pub mod WithinLimits

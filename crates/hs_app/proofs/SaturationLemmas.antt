@@ -1,5 +1,5 @@
 -- The saturation over pairs decides acceptance.
-use Rattle.std.proofs.Common.{◌≡◌, ◌≢◌, refl, sym, ◌∙◌, ap, subst, ℕ, zero, suc, ◌+◌, ◌<◌, Bool, true, false, nat_eq, List, [], ◌∷◌, ◌++◌, length, slice_get, Option, Some, None, ◌⊎◌, inl, inr, IsTrue, All, cond, ◌&&◌, ◌||◌, append_assoc, append-nil, ◌≤◌, add-one, arith}
+use Rattle.std.proofs.Common.{◌≡◌, refl, sym, ◌∙◌, ap, subst, ℕ, zero, suc, ◌+◌, ◌<◌, Bool, true, false, nat_eq, List, [], ◌∷◌, ◌++◌, length, slice_get, Option, Some, None, ◌⊎◌, inl, inr, All, cond, ◌&&◌, ◌||◌, append_assoc, append-nil, ◌≤◌, add-one, arith}
 use Rattle.std.specs.List.{list_any}
 use Rattle.indexmap.specs.IndexSet.{insert_key}
 use Rattle.std.proofs.lemmas.Bool.{eqb-true}
@@ -16,7 +16,7 @@ use Rattle.hs_scheme.specs.Replacement.{replaced, applied}
 use Rattle.hs_scheme.specs.Replacement as replacement
 use Rattle.hs_scheme.specs.Cut.{cut, unfolded, body_with}
 use Rattle.hs_scheme.specs.Run.{run, start, Accepts}
-use Rattle.hs_scheme.specs.Steps.{IsChild, StepsTo, IsStuck, LeadsTo}
+use Rattle.hs_scheme.specs.Steps.{StepsTo, IsStuck}
 use Rattle.hs_scheme.proofs.Refusal.{stuck_refused, step_refused, refused_only}
 use Rattle.hs_app.specs.declared.points.Point.{Point}
 use Rattle.hs_app.specs.declared.pair.Pair.{Pair}

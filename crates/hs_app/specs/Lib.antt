@@ -1,2 +1,7 @@
 pub mod Points
 pub mod Saturation
+pub mod Words
+pub mod Refusal
+pub mod Verdict
+pub mod Outcome
+pub mod ReadAgain

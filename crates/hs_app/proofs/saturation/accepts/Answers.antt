@@ -1,8 +1,8 @@
-use Rattle.std.proofs.Common.{◌≡◌, refl, sym, ◌∙◌, ap, subst, ℕ, List, [], Bool, true, false, length, slice_get, Some, ◌<◌, arith}
+use Rattle.std.proofs.Common.{refl, ◌∙◌, ap, subst, ℕ, List, [], Bool, true, length, ◌<◌, arith}
 use Rattle.std.proofs.lemmas.Option.{slice_get_read}
 use Rattle.indexmap.specs.IndexSet.{insert_key}
 use Rattle.hs_app.specs.declared.pair.Pair.{Pair}
-use Rattle.hs_app.specs.Saturation.{Adds, Follows}
+use Rattle.hs_app.specs.Saturation.{Follows}
 use Rattle.hs_app.proofs.SaturationLemmas.{progress_first, progress_more, progress_stuck, progress_done, Adds_insert, pair_eq, stands_at, plain_at}
 use Rattle.hs_app.proofs.saturation.accepts.Goals as goal
 

@@ -1,6 +1,5 @@
 -- all that is reached is reached from the start, and what was taken leads on to what is reached
-use Rattle.std.proofs.Common.{◌≡◌, ℕ, ◌^◌, ◌-◌}
-use Rattle.hs_app.specs.Saturation.{Among}
+use Rattle.std.proofs.Common.{◌^◌, ◌-◌}
 use Rattle.hs_app.proofs.SaturationLemmas.{Progress}
 use Rattle.hs_app.proofs.saturation.accepts.Given as goal
 

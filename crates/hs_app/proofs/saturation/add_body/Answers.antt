@@ -1,9 +1,5 @@
-use Rattle.std.proofs.Common.{◌≡◌, refl, sym, ◌∙◌, ap, subst, ℕ, List, [], ◌∷◌, length, slice_get, Option, Some, None, true, ◌==◌}
-use Rattle.std.specs.Option.{option_copied}
-use Rattle.hs_scheme.specs.declared.term.Head.{Head}
-use Rattle.hs_scheme.specs.declared.term.Head.TheVariants.{Nt}
+use Rattle.std.proofs.Common.{refl, sym, length}
 use Rattle.hs_app.specs.declared.pair.Pair.{Pair}
-use Rattle.hs_app.specs.Saturation.{Adds, GoesFrom}
 use Rattle.hs_app.proofs.SaturationLemmas.{Adds_insert, Adds_body, Adds_no_body, nil_from}
 use Rattle.std.proofs.lemmas.Option.{slice_get_read, slice_get_past}
 use Rattle.std.proofs.lemmas.Bool.{eqb-true}

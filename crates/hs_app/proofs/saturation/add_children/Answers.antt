@@ -1,6 +1,5 @@
-use Rattle.std.proofs.Common.{◌≡◌, refl, sym, ◌∙◌, ap, subst, ℕ, List, [], ◌∷◌, ◌++◌, ◌+◌, length, take, get_or, ◌<◌, arith}
+use Rattle.std.proofs.Common.{◌≡◌, sym, ◌∙◌, subst, ℕ, List, [], ◌∷◌, ◌++◌, ◌+◌, length, take, get_or, ◌<◌, arith}
 use Rattle.std.proofs.lemmas.List.{take_more, length-take-le}
-use Rattle.hs_app.specs.declared.pair.Pair.{Pair}
 use Rattle.hs_app.specs.Saturation.{Adds, IsChildPair}
 use Rattle.hs_app.proofs.SaturationLemmas.{Adds_insert, Adds_then, child_more, child_front, child_last}
 use Rattle.hs_app.proofs.saturation.add_children.Goals as goal

@@ -1,4 +1,4 @@
-use Rattle.std.proofs.Common.{◌≡◌, refl, sym, ◌∙◌, ap, subst, ℕ, List, length, arith}
+use Rattle.std.proofs.Common.{sym, ◌∙◌, ap, subst, ℕ, List}
 use Rattle.std.specs.Option.{option_copied}
 use Rattle.hs_scheme.specs.declared.term.Head.{Head}
 use Rattle.hs_scheme.specs.declared.term.Head.TheVariants.{Nt}

@@ -1,5 +1,5 @@
-use Rattle.std.proofs.Common.{◌≡◌, refl, sym, ◌∙◌, ap, subst, List, ℕ, [], ◌∷◌, ◌++◌, ◌+◌, ◌<◌, take, length, length-append, arith}
-use Rattle.std.proofs.lemmas.List.{take_more, take_all, length-take-le}
+use Rattle.std.proofs.Common.{◌≡◌, sym, ◌∙◌, ap, subst, List, ℕ, [], ◌∷◌, ◌++◌, ◌+◌, take}
+use Rattle.std.proofs.lemmas.List.{take_more, take_all}
 use Rattle.hs_scheme.specs.declared.term.Rule.{Rule}
 use Rattle.hs_app.specs.Points.{StandFor}
 use Rattle.hs_app.proofs.PointLemmas.{bodies_push}

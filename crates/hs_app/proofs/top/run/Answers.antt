@@ -1,0 +1,27 @@
+use Rattle.std.proofs.Common.{subst, sym, ℕ}
+use Rattle.hs_app.specs.declared.top.Ending.TheVariants.{Refused}
+use Rattle.hs_app.specs.Words.{name_of}
+use Rattle.hs_app.specs.Outcome.{Rows}
+use Rattle.hs_app.proofs.OutcomeLemmas.{rows}
+use Rattle.hs_app.proofs.top.run.Goals as goal
+
+pub returns-in-Refused : goal.returns-in-Refused
+returns-in-Refused g c =
+    let named = name_of c.args.words.now in
+    let file = g.S.Source.file c.args.source.now in
+    let source_before = g.S.Source.faults c.args.source.now in
+    let source_after = g.S.Source.faults c.end.new.source in
+    let left = g.S.Source.left c.end.new.source in
+    let out_old = g.O.Sink.taken c.args.out.now in
+    let out_new = g.O.Sink.taken c.end.new.out in
+    let out_before = g.O.Sink.faults c.args.out.now in
+    let out_after = g.O.Sink.faults c.end.new.out in
+    let err_old = g.E.Sink.taken c.args.err.now in
+    let err_new = g.E.Sink.taken c.end.new.err in
+    let err_before = g.E.Sink.faults c.args.err.now in
+    let err_after = g.E.Sink.faults c.end.new.err in
+    record {
+      rows =
+          subst (λ (status : ℕ). Rows named file source_before source_after left out_old out_new out_before out_after err_old err_new err_before err_after status) (sym c.status.ensures)
+          (rows named file source_before source_after left out_old out_new out_before out_after err_old err_new err_before err_after (Refused c.in-Refused.refusal) c.in-Refused.ensures);
+    }

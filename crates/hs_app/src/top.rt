@@ -1,0 +1,124 @@
+//! The top call.
+
+ghost use Rattle.std.specs.Prelude.{◌≡◌, ◌≤◌, ◌↔◌, ℕ, [], None, Some, length, OnOk, IfOk, IsErrOf, IfSome, IfErr};
+ghost use Rattle.std.specs.Io.KnownBytes.{append_known};
+ghost use Rattle.hs_edge.specs.Count.{Rose};
+ghost use Rattle.hs_app.specs.Words.{name_of};
+ghost use Rattle.hs_app.specs.Outcome as outcome;
+
+use crate::limits::MAX_BYTES;
+use crate::refusal::{Refusal, message, status};
+use crate::verdict::{Verdict, decide};
+use crate::words::file_name;
+use hs_edge::{ReadAll, Sink, Source, read_all, write_all};
+use hs_text::{OUT_OF_MEMORY, message_line};
+use std::alloc::Global;
+
+/// Reads the file that the words name, and gives the verdict on it.
+fn answer<S: Source>(alloc: Global, words: &[&str], source: &mut S) -> Result<Verdict, Refusal>
+    ensures { outcome.IsAnswer (name_of words.now) (S.file source.old) (S.faults source.old) (S.faults source.new) (S.left source.new) result }
+{
+    let Some(name) = file_name(words) else {
+        return Err(Refusal::Usage);
+    };
+    if source.start(name).is_err() {
+        return Err(Refusal::Source);
+    }
+    let bytes = match read_all(alloc, source, MAX_BYTES) {
+        Ok(bytes) => bytes,
+        Err(ReadAll::ReadFault) => return Err(Refusal::Source),
+        Err(ReadAll::TooLong) => return Err(Refusal::FileTooLong),
+        Err(ReadAll::OutOfMemory) => return Err(Refusal::OutOfMemory),
+    };
+    decide(alloc, bytes.as_slice())
+}
+
+/// Writes a line to standard error. A fault there changes nothing else.
+fn tell<E: Sink>(err: &mut E, text: &[u8])
+    ensures { outcome.Gains (E.taken err.old) (E.taken err.new) (E.faults err.old) (E.faults err.new) text.now }
+{
+    let _ = write_all(err, text);
+}
+
+/// Writes the line of a refusal, and answers the refusal that was told: want of memory, where it is
+/// refused while the line is formed.
+fn refuse<E: Sink>(alloc: Global, err: &mut E, refusal: Refusal) -> Refusal
+    ensures { outcome.Tells refusal (E.taken err.old) (E.taken err.new) (E.faults err.old) (E.faults err.new) result }
+{
+    match message_line(alloc, message(&refusal)) {
+        Ok(line) => {
+            tell(err, line.bytes());
+            refusal
+        }
+        Err(_) => {
+            tell(err, OUT_OF_MEMORY.as_bytes());
+            Refusal::OutOfMemory
+        }
+    }
+}
+
+/// The report of a verdict.
+fn report(verdict: Verdict) -> &'static [u8]
+    ensures { result.now ≡ outcome.report verdict }
+{
+    match verdict {
+        Verdict::Accepted => b"accepted\n",
+        Verdict::Rejected => b"rejected\n",
+    }
+}
+
+/// How a run ends.
+#[derive(Drop)]
+pub(crate) enum Ending {
+    Reported(Verdict),
+    Refused(Refusal),
+}
+
+/// The run, up to its exit status.
+fn end<S: Source, O: Sink, E: Sink>(
+    alloc: Global,
+    words: &[&str],
+    source: &mut S,
+    out: &mut O,
+    err: &mut E,
+) -> Ending
+    ensures { outcome.Ends (name_of words.now) (S.file source.old) (S.faults source.old) (S.faults source.new) (S.left source.new)
+        (O.taken out.old) (O.taken out.new) (O.faults out.old) (O.faults out.new)
+        (E.taken err.old) (E.taken err.new) (E.faults err.old) (E.faults err.new) result }
+{
+    match answer(alloc, words, source) {
+        Ok(verdict) => match write_all(out, report(verdict)) {
+            Ok(()) => Ending::Reported(verdict),
+            Err(_) => Ending::Refused(refuse(alloc, err, Refusal::Sink)),
+        },
+        Err(refusal) => Ending::Refused(refuse(alloc, err, refusal)),
+    }
+}
+
+/// Runs the program: reads the file that the words name, writes the verdict to `out`, or a line to
+/// `err` that says why there is none, and answers the exit status.
+///
+/// `words` has the program's name first, which isn't looked at, and then at most one word, the name
+/// of the file, which doesn't begin with `-`. Without it the source is started with the name `-`.
+/// The report is formed before the first write. A fault of `err` changes no status.
+///
+/// Time and memory are linear in the file, and in the pairs of a point and a state that the
+/// automaton reaches. Nothing runs in threads yet, so `rt` isn't used.
+pub fn run<R, S: Source, O: Sink, E: Sink>(
+    _rt: &R,
+    alloc: Global,
+    words: &[&str],
+    source: &mut S,
+    out: &mut O,
+    err: &mut E,
+) -> u8
+    ensures rows { outcome.Rows (name_of words.now) (S.file source.old) (S.faults source.old) (S.faults source.new) (S.left source.new)
+        (O.taken out.old) (O.taken out.new) (O.faults out.old) (O.faults out.new)
+        (E.taken err.old) (E.taken err.new) (E.faults err.old) (E.faults err.new) result }
+{
+    match end(alloc, words, source, out, err) {
+        Ending::Reported(Verdict::Accepted) => 0,
+        Ending::Reported(Verdict::Rejected) => 1,
+        Ending::Refused(refusal) => status(&refusal),
+    }
+}
