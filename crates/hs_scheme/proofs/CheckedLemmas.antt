@@ -1,7 +1,6 @@
 -- Terms in range, argument by argument.
 use Rattle.std.proofs.Common.{◌≡◌, sym, ◌∙◌, ap, subst, ℕ, zero, suc, ◌+◌, ◌<◌, ◌≤◌, List, [], ◌∷◌, ◌++◌, length, get_or, take, arith}
 use Rattle.std.proofs.lemmas.List.{take_more, take_all}
-use Rattle.hs_scheme.specs.declared.limits.TheConstants.{MAX_ARGUMENTS}
 use Rattle.hs_scheme.specs.declared.term.Head.{Head}
 use Rattle.hs_scheme.specs.Tree.{Tree, node, forest, children-forest}
 use Rattle.hs_scheme.specs.Scheme.{HeadInRange, TermInRange, TermsInRange}
@@ -29,12 +28,12 @@ module _ (params rules terminals : ℕ) where
     pub head_of : TermInRange params rules terminals term → HeadInRange params rules terminals h
     head_of r = (opened r).0
 
-    pub few_of : TermInRange params rules terminals term → length us ≤ MAX_ARGUMENTS
-    few_of r = subst (λ (vs : List (Tree Head)). length vs ≤ MAX_ARGUMENTS) (children-forest us) (opened r).1
+    pub few_of : TermInRange params rules terminals term → length us ≤ 64
+    few_of r = subst (λ (vs : List (Tree Head)). length vs ≤ 64) (children-forest us) (opened r).1
 
     pub arg_of : (i : ℕ) (u : Tree Head) → i < length us → u ≡ get_or us i u → TermInRange params rules terminals term → TermInRange params rules terminals u
     arg_of i u lt same r = row_at us i u lt same (opened r).2
 
-    pub whole : (i : ℕ) → length us ≤ i → HeadInRange params rules terminals h → length us ≤ MAX_ARGUMENTS → TermsInRange params rules terminals (forest (take i us)) → TermInRange params rules terminals term
+    pub whole : (i : ℕ) → length us ≤ i → HeadInRange params rules terminals h → length us ≤ 64 → TermsInRange params rules terminals (forest (take i us)) → TermInRange params rules terminals term
     whole i all head few row = subst (TermInRange params rules terminals) is
-        (head, subst (λ (vs : List (Tree Head)). length vs ≤ MAX_ARGUMENTS) (sym (children-forest us)) few, subst (λ (vs : List (Tree Head)). TermsInRange params rules terminals (forest vs)) (take_all i us all) row)
+        (head, subst (λ (vs : List (Tree Head)). length vs ≤ 64) (sym (children-forest us)) few, subst (λ (vs : List (Tree Head)). TermsInRange params rules terminals (forest vs)) (take_all i us all) row)

@@ -2,7 +2,6 @@
 use Rattle.std.proofs.Common.{◌≡◌, refl, sym, ◌∙◌, ap, subst, ℕ, zero, suc, ◌+◌, ◌<◌, ◌≤◌, List, [], ◌∷◌, ◌++◌, length, get_or, set, take, append_assoc, add_assoc, length-append, All, arith}
 use Rattle.std.proofs.lemmas.List.{take_more, set_at, get_or_at, append-nil, length-take-le}
 use Rattle.std.proofs.lemmas.List.Elements.{All-cons, All-append, All-tail}
-use Rattle.hs_scheme.specs.declared.points.TheConstants.{MAX_POINTS}
 use Rattle.hs_scheme.specs.declared.term.Head.{Head}
 use Rattle.hs_scheme.specs.declared.term.Head.TheVariants.{Var, Nt, Tm}
 use Rattle.hs_scheme.specs.declared.term.Rule.{Rule}
@@ -191,7 +190,7 @@ each_within rules = rules_within (length (bodies 0 rules)) (length (rules_points
 pub args_within : (rules : List Rule) → All (λ d. All (λ a. a < length (points_of rules).points) d.args) (points_of rules).points
 args_within rules = λ k d l. (each_within rules k d l).args
 
-pub are_points : (rules : List Rule) (terminals : ℕ) → AreRules rules terminals → length (rules_points 0 0 rules) ≤ MAX_POINTS → IsPoints (points_of rules)
+pub are_points : (rules : List Rule) (terminals : ℕ) → AreRules rules terminals → length (rules_points 0 0 rules) ≤ 500000 → IsPoints (points_of rules)
 are_points rules terminals are few = record {
   few = few;
   rules = λ k d l. (each_within rules k d l).rule;

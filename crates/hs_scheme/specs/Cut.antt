@@ -1,5 +1,5 @@
 -- The value tree of a term, cut off after n steps of outermost reduction on each branch.
---     ValueTree         a tree of terminals, of which a node may be undefined
+--     CutTree           a tree of terminals, of which a node may be undefined
 --     unfolded          one replacement of a nonterminal at the front of a term
 --     cut rules n t     the tree of t, cut at n
 use Rattle.std.specs.Prelude.{ℕ, suc, zero, List, Option, Some, None, slice_get, length, nat_eq, if◌then◌else◌}

@@ -8,7 +8,6 @@ use Rattle.std.specs.Coded.{Coded, code_by, coded×, coded_ℕ, coded_list}
 use Rattle.hs_scheme.specs.declared.term.Head.{Head}
 use Rattle.hs_scheme.specs.declared.term.Head.TheVariants.{Var, Nt, Tm}
 use Rattle.hs_scheme.specs.declared.term.Rule.{Rule}
-use Rattle.hs_scheme.specs.declared.points.TheConstants.{MAX_POINTS}
 use Rattle.hs_scheme.specs.Tree.{Tree, Trees, node, none, more}
 use Rattle.hs_scheme.specs.Code.{coded_head}
 
@@ -38,9 +37,9 @@ NonterminalWithin rules (Var x) = Unit {0}
 NonterminalWithin rules (Nt f) = f < rules
 NonterminalWithin rules (Tm a) = Unit {0}
 
--- there are at most `MAX_POINTS`, and their rules, nonterminals, arguments and bodies are in range
+-- there are at most 500,000, and their rules, nonterminals, arguments and bodies are in range
 pub record IsPoints (p : PointsData) : Type 0 where
-  pub few : length p.points ≤ MAX_POINTS
+  pub few : length p.points ≤ 500000
   pub rules : All (λ d. d.rule < length p.bodies) p.points
   pub heads : All (λ d. NonterminalWithin (length p.bodies) d.head) p.points
   pub args : All (λ d. All (λ a. a < length p.points) d.args) p.points

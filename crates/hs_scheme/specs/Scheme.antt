@@ -4,7 +4,6 @@ use Rattle.std.specs.Coded.{Coded, code_by, coded×, coded_ℕ, coded_list}
 use Rattle.hs_scheme.specs.declared.term.Head.{Head}
 use Rattle.hs_scheme.specs.declared.term.Head.TheVariants.{Var, Nt, Tm}
 use Rattle.hs_scheme.specs.declared.term.Rule.{Rule}
-use Rattle.hs_scheme.specs.declared.limits.TheConstants.{MAX_RULES, MAX_PARAMETERS, MAX_ARGUMENTS}
 use Rattle.hs_scheme.specs.Tree.{Tree, Trees, node, none, more, children, tree_code}
 use Rattle.hs_scheme.specs.Code.{coded_head}
 
@@ -28,7 +27,7 @@ HeadInRange params rules terminals (Tm a) = a < terminals
 -- so is each head of the term, and each has at most 64 arguments
 abbrev mutual
   pub TermInRange : ℕ → ℕ → ℕ → Tree Head → Type 0
-  TermInRange params rules terminals (node h ts) = HeadInRange params rules terminals h × (length (children ts) ≤ MAX_ARGUMENTS) × TermsInRange params rules terminals ts
+  TermInRange params rules terminals (node h ts) = HeadInRange params rules terminals h × (length (children ts) ≤ 64) × TermsInRange params rules terminals ts
 
   pub TermsInRange : ℕ → ℕ → ℕ → Trees Head → Type 0
   TermsInRange params rules terminals none = Unit {0}
@@ -38,8 +37,8 @@ abbrev mutual
 pub record AreRules (rules : List Rule) (terminals : ℕ) : Type 0 where
   pub start : (rule : Rule) × ((slice_get rules 0 ≡ Some rule) × (rule.params ≡ 0))
   pub bodies : All (λ r. TermInRange r.params (length rules) terminals r.body) rules
-  pub few_rules : length rules ≤ MAX_RULES
-  pub few_params : All (λ r. r.params ≤ MAX_PARAMETERS) rules
+  pub few_rules : length rules ≤ 20000
+  pub few_params : All (λ r. r.params ≤ 64) rules
 
 abbrev pub IsScheme : SchemeData → Type 0
 IsScheme s = AreRules s.rules (length s.ranks)

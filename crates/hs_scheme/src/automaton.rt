@@ -67,8 +67,11 @@ impl Model for Automaton {
 }
 
 impl Automaton {
-    /// The automaton with these states and transitions. Time and memory are in proportion to the
-    /// transitions, on average over the hashes of their states and terminals.
+    /// The automaton with these states and transitions, where there is at least one state, the states
+    /// in the transitions are in range, and no two transitions are of one state and terminal.
+    ///
+    /// Time and memory are in proportion to the transitions, on average over the hashes of their
+    /// states and terminals.
     pub fn of(
         alloc: Global,
         states: u32,

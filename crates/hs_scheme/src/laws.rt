@@ -15,7 +15,8 @@ pub fn cuts_grow()
         run ts q (cut rules n t) ≡ false → run ts q (cut rules (n + 1) t) ≡ false }
 {}
 
-/// A cut is refused exactly where its term is stuck, or leads to one whose shorter cut is refused.
+/// A cut at one step or more is refused exactly where its term is stuck, or leads to one whose cut
+/// at one step less is refused. A cut at no step never is.
 pub fn refusals_have_a_first_step()
     ensures stuck { (rules : List Rule) (ts : List TransitionData) (n q : ℕ) (t : Tree Head) →
         IsStuck ts q t → run ts q (cut rules (n + 1) t) ≡ false }

@@ -56,7 +56,7 @@ fn replaced(alloc: Global, head: Head, with: &[Term]) -> Result<Term, OutOfMemor
 }
 
 /// The term with these terms for its parameters. Where a parameter has arguments, they come after
-/// those of the term that stands for it. Recurses as deep as the term.
+/// those of the term that stands for it. Recurses as deep as the term, and as the terms put in.
 pub fn substitute(alloc: Global, term: &Term, with: &[Term]) -> Result<Term, OutOfMemory>
     ensures { IfOk result (λ t. t ≡ replacement.subst term.now with.now) }
 {
@@ -86,7 +86,7 @@ fn unfolded(
 }
 
 /// The value tree of a term, cut off after n steps of outermost reduction on each branch. Recurses
-/// n deep.
+/// n deep, and as deep as the terms on the way, which may grow at each step.
 pub fn cut(alloc: Global, rules: &[Rule], n: u8, term: &Term) -> Result<ValueTree, OutOfMemory>
     ensures { IfOk result (λ tree. tree ≡ definition.cut rules.now n term.now) }
 {

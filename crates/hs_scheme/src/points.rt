@@ -98,10 +98,10 @@ fn add_term(
     rule: u32,
     term: &Term,
 ) -> Result<(), PointsFault>
-    requires { length points.old.items ≤ MAX_POINTS }
+    requires { length points.old.items ≤ 500000 }
     ensures added { OnOk result (points.new.items ≡ points.old.items ++ term_points rule (length points.old.items) term.now) }
-    ensures few { OnOk result (length points.new.items ≤ MAX_POINTS) }
-    ensures many { IsErrOf result TooMany → MAX_POINTS < length points.old.items + size term.now }
+    ensures few { OnOk result (length points.new.items ≤ 500000) }
+    ensures many { IsErrOf result TooMany → 500000 < length points.old.items + size term.now }
 {
     if points.len() >= MAX_POINTS {
         return Err(PointsFault::TooMany);
@@ -127,8 +127,8 @@ impl Points {
     /// exactly where there are more than `MAX_POINTS`.
     pub fn of(alloc: Global, scheme: &Scheme) -> Result<Points, PointsFault>
         ensures points { IfOk result (λ points. points ≡ points_of scheme.now.rules) }
-        ensures few { IfOk result (λ points. length points.points ≤ MAX_POINTS) }
-        ensures many { IsErrOf result TooMany → MAX_POINTS < length (points_of scheme.now.rules).points }
+        ensures few { IfOk result (λ points. length points.points ≤ 500000) }
+        ensures many { IsErrOf result TooMany → 500000 < length (points_of scheme.now.rules).points }
     {
         let mut points = Vec::new(alloc);
         let mut bodies = Vec::with_capacity(alloc, scheme.rules.len())?;
@@ -142,12 +142,12 @@ impl Points {
     /// The number of points. Takes no memory.
     pub fn count(&self) -> u32
         ensures points { result ≡ length self.now.points }
-        ensures few { result ≤ MAX_POINTS }
+        ensures few { result ≤ 500000 }
     {
         self.points.len() as u32
     }
 
-    /// The rule in which this point stands. Takes no memory.
+    /// The rule in which this point stands, which is less than `count`. Takes no memory.
     pub fn rule_of(&self, p: u32) -> u32
         requires { p < length self.now.points }
         ensures rule { option_map (λ (point : PointData). point.rule) (slice_get self.now.points p) ≡ Some result }
@@ -156,7 +156,7 @@ impl Points {
         self.points[p as usize].rule
     }
 
-    /// The head of this point. Takes no memory.
+    /// The head of this point, which is less than `count`. Takes no memory.
     pub fn head_of(&self, p: u32) -> Head
         requires { p < length self.now.points }
         ensures head { option_map (λ (point : PointData). point.head) (slice_get self.now.points p) ≡ Some result }
@@ -165,7 +165,8 @@ impl Points {
         self.points[p as usize].head
     }
 
-    /// The points of this point's arguments, in order. Takes no memory.
+    /// The points of the arguments of this point, which is less than `count`, in order. Takes no
+    /// memory.
     pub fn args_of(&self, p: u32) -> &[u32]
         requires { p < length self.now.points }
         ensures args { option_map (λ (point : PointData). point.args) (slice_get self.now.points p) ≡ Some result.now }
@@ -174,7 +175,7 @@ impl Points {
         self.points[p as usize].args.as_slice()
     }
 
-    /// The point of this rule's body. Takes no memory.
+    /// The point of the body of this rule, which is one of the scheme's. Takes no memory.
     pub fn body_of(&self, rule: u32) -> u32
         requires { rule < length self.now.bodies }
         ensures body { slice_get self.now.bodies rule ≡ Some result }

@@ -34,7 +34,8 @@ impl Model for Problem {
 }
 
 impl Problem {
-    /// The problem of these parts. Takes no memory.
+    /// The problem of these parts. The points are those of the scheme, and the flow names points,
+    /// rules and parameters of it, as `analyse` in `hs_flow` answers it. Takes no memory.
     pub fn new(sorted: Sorted, points: Points, flow: FlowTable) -> Problem
         requires { IsProblem (record { sorted = sorted; points = points; flow = flow }) }
         ensures { result ≡ record { sorted = sorted; points = points; flow = flow } }

@@ -112,7 +112,8 @@ impl Names {
 pub struct Unsorted {
     /// The rules, by the number of their nonterminal.
     pub rules: Vec<Rule>,
-    /// The ranks, by the number of the terminal; `None` for one that has no transition.
+    /// The ranks, by the number of the terminal: `Some` where the rank is known, as it is of every
+    /// terminal that has transitions.
     pub ranks: Vec<Option<u32>>,
     pub automaton: Automaton,
     pub names: Names,

@@ -159,3 +159,11 @@ fn transitions_are_found_by_state_and_terminal(rt: HostRuntime) -> Result<(), Fa
     assert_eq!(rt; automaton.next(1, 0), None);
     Ok(())
 }
+
+#[test]
+fn copies_have_the_same_transitions(rt: HostRuntime) -> Result<(), Fail> {
+    let automaton = one_transition(rt.alloc())?;
+    let copy = automaton.copy(rt.alloc())?;
+    assert_eq!(rt; copy.next(0, 0), Some([0].as_slice()));
+    Ok(())
+}

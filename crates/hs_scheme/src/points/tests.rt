@@ -130,3 +130,20 @@ fn rules_that_are_no_scheme(rt: HostRuntime) -> Result<(), Fail> {
     assert!(rt; scheme_of(rules, Vec::new(alloc)).is_none());
     Ok(())
 }
+
+#[test]
+fn faults_are_printed(rt: HostRuntime) -> Result<(), Fail> {
+    let rows = [
+        (PointsFault::TooMany, "more than 500000 points"),
+        (PointsFault::OutOfMemory, "out of memory"),
+    ];
+    for (fault, expected) in rows {
+        assert_eq!(rt; format!(in rt.alloc(); "{fault}")?.as_str(), expected);
+    }
+    let refused = OutOfMemory;
+    assert_eq!(rt;
+        format!(in rt.alloc(); "{refused}")?.as_str(),
+        "out of memory"
+    );
+    Ok(())
+}

@@ -1,7 +1,6 @@
 use Rattle.std.proofs.Common.{◌≡◌, ◌∙◌, ap, ℕ, ◌+◌, ◌≤◌, List, [], ◌∷◌, ◌++◌, length, arith}
 use Rattle.std.proofs.lemmas.Result.{err_from_is_err_and}
 use Rattle.std.proofs.lemmas.List.{take_all, length_push}
-use Rattle.hs_scheme.specs.declared.points.TheConstants.{MAX_POINTS}
 use Rattle.hs_scheme.specs.declared.term.Head.{Head}
 use Rattle.hs_scheme.specs.Tree.{Tree, node, forest}
 use Rattle.hs_scheme.specs.Points.{PointData, size, numbers, terms_points}
@@ -20,7 +19,7 @@ returns-in_err-add_term-clause-many t c =
     let us = c.deref-arg-items.result.now in
     let long : length c.push.new.self.items ≡ c.len-number.result + 1 = ap length c.in_ok-push.ensures.items ∙ (length_push c.args.points.now.items _ ∙ omega arith) in
     λ h. row_many c.args.rule (c.len-number.result + 1) c.loop-arg.arg-index c.push.new.self.items c.loop-arg.points.items us c.arg-item.result c.loop-arg-test.true c.arg-item.is long c.loop-arg.invariant.points
-    MAX_POINTS c.args.points.now.items c.term.inside.head c.args.term.now (omega arith) (ap (λ vs. node c.term.inside.head (forest vs)) c.deref-arg-items.ensures.value ∙ c.term.view_is)
+    500000 c.args.points.now.items c.term.inside.head c.args.term.now (omega arith) (ap (λ vs. node c.term.inside.head (forest vs)) c.deref-arg-items.ensures.value ∙ c.term.view_is)
     (c.in_err-add_term.ensures.many (cc (p.1, p.2, h)))
 
 pub loop-arg-preserved : goal.loop-arg-preserved
