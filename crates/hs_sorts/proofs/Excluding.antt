@@ -1,12 +1,17 @@
--- A scheme with small sorts has no fault but want of memory.
-use Rattle.std.proofs.Common.{◌≡◌, refl, ℕ, ◌+◌, List, length, Option, Result, Ok, Err, IfErr, arith}
+-- A scheme has one fault of its sorts at most, want of memory aside, and with small sorts none.
+use Rattle.std.proofs.Common.{◌≡◌, refl, ap, subst, ℕ, zero, suc, ◌+◌, ◌≤◌, List, length, slice_get, unwrap_or, Option, Result, Ok, Err, IfErr, ◌⊎◌, inl, inr, arith}
 use Rattle.std.proofs.lemmas.Option.{slice_get_within}
+use Rattle.std.proofs.lemmas.Bool.{cases_lt}
+use Rattle.std.proofs.lemmas.List.Elements.{All-nil}
 use Rattle.hs_scheme.specs.declared.term.Rule.{Rule}
-use Rattle.hs_scheme.specs.Sorting.{HasSorting}
-use Rattle.hs_scheme.proofs.Sortings.{least_first_order}
+use Rattle.hs_scheme.specs.Sorting.{SortTree, o, ranked, size, HasSorting, IsFirstOrder, AreEqual}
+use Rattle.hs_scheme.specs.Sorted.{SortedData}
+use Rattle.hs_scheme.specs.Unsorted.{UnsortedData}
+use Rattle.hs_scheme.proofs.Sortings.{least_first_order, least_unique}
 use Rattle.hs_sorts.specs.declared.fault.SortFault.{SortFault}
 use Rattle.hs_sorts.specs.declared.fault.SortFault.TheVariants.{IllSorted, TerminalNotFirstOrder, SortTooLarge, OutOfMemory}
-use Rattle.hs_sorts.specs.Inference.{HasSmallSorts, IsFaultOf}
+use Rattle.hs_sorts.specs.Inference.{HasSmallSorts, IsInferred, IsFirstIllSorted, IsFirstHigherTerminal, IsFirstTooLarge, IsFaultOf}
+use Rattle.hs_sorts.proofs.Weighing.{first_order_more}
 
 -- a sorting of all rules is one of the first k
 fewer : (rules : List Rule) (ranks : List (Option ℕ)) (k : ℕ) → HasSorting rules ranks (length rules) → HasSorting rules ranks k
@@ -21,3 +26,76 @@ only_memory rules ranks OutOfMemory h f = refl
 pub only_memory_in : {A : Type 0} (rules : List Rule) (ranks : List (Option ℕ)) (r : Result A SortFault) → HasSmallSorts rules ranks → IfErr r (IsFaultOf rules ranks) → IfErr r (λ fault. fault ≡ OutOfMemory)
 only_memory_in rules ranks (Ok x) h f = tt
 only_memory_in rules ranks (Err fault) h f = only_memory rules ranks fault h f
+
+-- the first k rules of a sorting of more
+fewer_rules : (rules : List Rule) (ranks : List (Option ℕ)) (k m : ℕ) → k ≤ m → HasSorting rules ranks m → HasSorting rules ranks k
+fewer_rules rules ranks k m le (s, p) = (s, record { nonterminals = p.nonterminals; bodies = λ f rule below at. p.bodies f rule (omega (arith, below, le)) at; terminals = p.terminals })
+
+module _ (rules : List Rule) (ranks : List (Option ℕ)) where
+  -- no sorting, beside one of all rules
+  no_sorting : (rule : ℕ) → IsFirstIllSorted rules ranks rule → HasSorting rules ranks (length rules) → ⊥
+  no_sorting rule f h = f.with_it (fewer rules ranks (rule + 1) h)
+
+  one_ill_sorted : (a b : ℕ) → IsFirstIllSorted rules ranks a → IsFirstIllSorted rules ranks b → a ≡ b
+  one_ill_sorted a b p q =
+      elim (cases_lt a b) [
+        | inl less ↦ absurd (p.with_it (fewer_rules rules ranks (a + 1) b (omega (arith, less)) q.before))
+        | inr more ↦ elim (cases_lt b a) [
+          | inl less ↦ absurd (q.with_it (fewer_rules rules ranks (b + 1) a (omega (arith, less)) p.before))
+          | inr same ↦ omega (arith, more, same)
+        ]
+      ]
+
+  -- the fault at the lesser of two terminals
+  lesser_higher : (a b : ℕ) → IsFirstHigherTerminal rules ranks a → IsFirstHigherTerminal rules ranks b → b ≤ a
+  lesser_higher a b p q =
+      elim (cases_lt a b) [
+        | inl less ↦
+            let same : AreEqual rules ranks q.sorts p.sorts = least_unique rules ranks q.sorts p.sorts q.least p.least in
+            absurd (p.higher (subst IsFirstOrder (same.terminals a p.in_range) (q.before a less)))
+        | inr more ↦ more
+      ]
+
+  lesser_large : (a b : ℕ) → IsFirstTooLarge rules ranks a → IsFirstTooLarge rules ranks b → b ≤ a
+  lesser_large a b p q =
+      elim (cases_lt a b) [
+        | inl less ↦
+            let same : AreEqual rules ranks q.sorts p.sorts = least_unique rules ranks q.sorts p.sorts q.least p.least in
+            let small : size (p.sorts.nonterminal a) ≤ 1000 = subst (λ (k : SortTree). size k ≤ 1000) (same.nonterminals a p.in_range) (q.before a less) in
+            absurd (omega (arith, small, p.large))
+        | inr more ↦ more
+      ]
+
+  higher_not_large : (a b : ℕ) → IsFirstHigherTerminal rules ranks a → IsFirstTooLarge rules ranks b → ⊥
+  higher_not_large a b p q =
+      let same : AreEqual rules ranks q.sorts p.sorts = least_unique rules ranks q.sorts p.sorts q.least p.least in
+      p.higher (subst IsFirstOrder (same.terminals a p.in_range) (q.first_order a p.in_range))
+
+  pub one_fault_is : (a b : SortFault) → IsFaultOf rules ranks a → IsFaultOf rules ranks b → (a ≡ OutOfMemory) ⊎ ((b ≡ OutOfMemory) ⊎ (a ≡ b))
+  one_fault_is OutOfMemory b p q = inl refl
+  one_fault_is (IllSorted r) OutOfMemory p q = inr (inl refl)
+  one_fault_is (TerminalNotFirstOrder a) OutOfMemory p q = inr (inl refl)
+  one_fault_is (SortTooLarge r) OutOfMemory p q = inr (inl refl)
+  one_fault_is (IllSorted r) (IllSorted s) p q = inr (inr (ap (λ (k : ℕ). IllSorted k) (one_ill_sorted r s p q)))
+  one_fault_is (IllSorted r) (TerminalNotFirstOrder b) p q = absurd (no_sorting r p (q.sorts, q.least.sorting))
+  one_fault_is (IllSorted r) (SortTooLarge s) p q = absurd (no_sorting r p (q.sorts, q.least.sorting))
+  one_fault_is (TerminalNotFirstOrder a) (IllSorted s) p q = absurd (no_sorting s q (p.sorts, p.least.sorting))
+  one_fault_is (TerminalNotFirstOrder a) (TerminalNotFirstOrder b) p q =
+      let e : a ≡ b = omega (arith, lesser_higher a b p q, lesser_higher b a q p) in inr (inr (ap (λ (k : ℕ). TerminalNotFirstOrder k) e))
+  one_fault_is (TerminalNotFirstOrder a) (SortTooLarge s) p q = absurd (higher_not_large a s p q)
+  one_fault_is (SortTooLarge r) (IllSorted s) p q = absurd (no_sorting s q (p.sorts, p.least.sorting))
+  one_fault_is (SortTooLarge r) (TerminalNotFirstOrder b) p q = absurd (higher_not_large b r q p)
+  one_fault_is (SortTooLarge r) (SortTooLarge s) p q =
+      let e : r ≡ s = omega (arith, lesser_large r s p q, lesser_large s r q p) in inr (inr (ap (λ (k : ℕ). SortTooLarge k) e))
+
+ranked_is_first_order : (n : ℕ) → IsFirstOrder (ranked n)
+ranked_is_first_order zero = All-nil (λ (a : SortTree). a ≡ o)
+ranked_is_first_order (suc n) = first_order_more o (ranked n) refl (ranked_is_first_order n)
+
+pub inferred_small : (u : UnsortedData) (s : SortedData) → IsInferred u s → HasSmallSorts u.rules u.ranks
+inferred_small u s h = record {
+  well_sorted = (_, h.least.sorting, λ a below. ranked_is_first_order (unwrap_or (slice_get s.scheme.ranks a) 0));
+  small = λ t least f below.
+      let same : AreEqual u.rules u.ranks _ t = least_unique u.rules u.ranks _ t h.least least in
+      subst (λ (k : SortTree). size k ≤ 1000) (same.nonterminals f below) (h.small f below);
+}

@@ -3,7 +3,6 @@ use Rattle.std.proofs.Common.{◌≡◌, refl, sym, ◌∙◌, ap, subst, ℕ, s
 use Rattle.std.proofs.Math.Nat.{eq-or-lt_of_le}
 use Rattle.std.proofs.lemmas.List.{get_or_default}
 use Rattle.hs_scheme.specs.declared.term.Head.{Head}
-use Rattle.hs_scheme.specs.declared.limits.TheConstants.{MAX_ARGUMENTS}
 use Rattle.hs_scheme.specs.Tree.{Tree, node, forest, children-forest}
 use Rattle.hs_scheme.specs.Scheme.{HeadInRange, TermInRange, TermsInRange}
 
@@ -20,7 +19,7 @@ pub terms_in_range : (params rules terminals : ℕ) (ts : List (Tree Head)) → 
 terms_in_range params rules terminals [] h = tt
 terms_in_range params rules terminals (t ∷ ts) h = (h 0 t (omega arith), terms_in_range params rules terminals ts (λ i d l. h (suc i) d (omega arith)))
 
-pub whole_in_range : (params rules terminals : ℕ) (term : Tree Head) (head : Head) (ts : List (Tree Head)) → node head (forest ts) ≡ term → HeadInRange params rules terminals head → length ts ≤ MAX_ARGUMENTS
+pub whole_in_range : (params rules terminals : ℕ) (term : Tree Head) (head : Head) (ts : List (Tree Head)) → node head (forest ts) ≡ term → HeadInRange params rules terminals head → length ts ≤ 64
     → ((i : ℕ) (d : Tree Head) → i < length ts → TermInRange params rules terminals (get_or ts i d)) → TermInRange params rules terminals term
 whole_in_range params rules terminals term head ts is h few each =
     subst (TermInRange params rules terminals) is (h, omega (arith, ap length (children-forest ts), few), terms_in_range params rules terminals ts each)

@@ -8,15 +8,15 @@ use thiserror::Error;
 pub enum SortFault {
     /// No sorting exists. The rules up to `rule`, counted from 0, have none, and those before it
     /// have one.
-    #[error("rule {}: ill-sorted", rule)]
+    #[error("rule {} counted from 0: ill-sorted", rule)]
     IllSorted { rule: u32 },
     /// A sorting exists, but this terminal's least sort has an argument other than `o`. It is the
     /// least such terminal, counted from 0.
-    #[error("terminal {}: not first order", terminal)]
+    #[error("terminal {} counted from 0: not first order", terminal)]
     TerminalNotFirstOrder { terminal: u32 },
     /// The least sort of this rule's nonterminal has a size above 1,000. It is the first such
     /// rule, counted from 0.
-    #[error("rule {}: sort too large", rule)]
+    #[error("rule {} counted from 0: sort too large", rule)]
     SortTooLarge { rule: u32 },
     /// Memory was refused.
     #[error("out of memory")]

@@ -27,7 +27,7 @@ pub struct Found {
 }
 
 /// The least sorting of the first `count` rules, as nodes, or `None` where they have no sorting.
-/// Time and memory are almost linear in the size of these rules.
+/// Time is almost linear in the number of nodes, and memory linear.
 pub fn find(
     alloc: Global,
     rules: &[Rule],

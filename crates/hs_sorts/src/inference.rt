@@ -69,13 +69,17 @@ fn find_least(alloc: Global, rules: &[Rule], ranks: &[Option<u32>]) -> Result<Le
 /// 1978, without polymorphism), over shared nodes (Huet, "Résolution d'équations dans des langages
 /// d'ordre 1, 2, ..., ω", 1976).
 ///
-/// A terminal with transitions has the sort of its rank, and one without gets its rank from here. A
-/// sort that is left open is `o`. The input is consumed on every answer.
+/// A terminal whose rank is known, as it is where it has transitions, has the sort of its rank, and
+/// any other gets its rank from here. A sort that is left open is `o`. The input is consumed on every
+/// answer.
 ///
-/// Memory is linear in the number of heads of the scheme, and time too, times the amortized cost of
-/// a look-up of a node, which is logarithmic at most. Where the scheme is ill-sorted, the time is
-/// multiplied by the logarithm of the number of rules. A sort that is exponentially large as a tree
-/// costs no more than its nodes. More than 2^32 nodes, a few for each head, are want of memory.
+/// There is a node or a few for each head, for each parameter, and for each terminal and each
+/// argument that a known rank gives it. Memory is linear in the number of nodes, and in the sizes of
+/// the sorts answered, which are at most 1,000 for each rule. Time is linear in the same, times the
+/// amortized cost of a look-up of a node, which is logarithmic at most. Where the scheme is
+/// ill-sorted, the time is multiplied by the logarithm of the number of rules. A sort that is
+/// exponentially large as a tree costs no more than its nodes. More than 2^32 nodes are want of
+/// memory.
 pub fn infer(alloc: Global, unsorted: Unsorted) -> Result<Sorted, SortFault>
     ensures ok { IfOk result (λ sorted. IsInferred unsorted sorted) }
     ensures fault { IfErr result (λ fault. IsFaultOf unsorted.rules unsorted.ranks fault) }

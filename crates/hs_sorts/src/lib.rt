@@ -9,6 +9,7 @@ mod constraints;
 mod fault;
 mod found;
 mod inference;
+mod laws;
 mod layout;
 mod reading;
 mod search;
@@ -18,6 +19,7 @@ mod weights;
 
 pub use fault::SortFault;
 pub use inference::infer;
+pub use laws::one_fault;
 
 #[cfg(test)]
 mod tests;

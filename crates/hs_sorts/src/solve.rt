@@ -20,8 +20,8 @@ pub struct Solved {
     pub layout: Layout,
 }
 
-/// The nodes of the first `count` rules, or `None` where they have no sorting. Time and memory are
-/// almost linear in the size of these rules.
+/// The nodes of a scheme and what its first `count` rules ask of them, or `None` where they have no
+/// sorting. Time is almost linear in the number of nodes, and memory linear.
 pub fn solve(
     alloc: Global,
     rules: &[Rule],

@@ -184,7 +184,7 @@ fn doubling(alloc: Global) -> Result<Vec<Rule>, OutOfMemory> {
     Ok(rules)
 }
 
-/// The rules `S -> c` and `R1 x -> x R2`, .., `R5 x -> x R1`.
+/// The rules `S -> c` and `F1 x -> x F2`, .., `F5 x -> x F1`.
 fn cycle(alloc: Global) -> Result<Vec<Rule>, OutOfMemory> {
     let mut rules = start(alloc)?;
     for next in [2, 3, 4, 5, 1] {
@@ -331,5 +331,28 @@ fn a_sort_that_doubles_sixty_times_is_too_large(rt: HostRuntime) -> Result<(), F
         fault(alloc, doubling(alloc)?, ranks)?,
         Some(SortFault::SortTooLarge { rule: 1 })
     );
+    Ok(())
+}
+
+#[test]
+fn faults_are_printed(rt: HostRuntime) -> Result<(), Fail> {
+    let rows = [
+        (
+            SortFault::IllSorted { rule: 0 },
+            "rule 0 counted from 0: ill-sorted",
+        ),
+        (
+            SortFault::TerminalNotFirstOrder { terminal: 7 },
+            "terminal 7 counted from 0: not first order",
+        ),
+        (
+            SortFault::SortTooLarge { rule: 20 },
+            "rule 20 counted from 0: sort too large",
+        ),
+        (SortFault::OutOfMemory, "out of memory"),
+    ];
+    for (fault, expected) in rows {
+        assert_eq!(rt; format!(in rt.alloc(); "{fault}")?.as_str(), expected);
+    }
     Ok(())
 }

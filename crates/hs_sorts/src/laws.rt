@@ -1,0 +1,19 @@
+//! Laws of the answers, each the contract of a function that does nothing.
+
+ghost use Rattle.std.specs.Prelude.{◌≡◌, ◌⊎◌, ℕ, List, Option};
+ghost use Rattle.hs_scheme.specs.declared.term.Rule.{Rule};
+ghost use Rattle.hs_scheme.specs.Unsorted.{UnsortedData};
+ghost use Rattle.hs_scheme.specs.Sorted.{SortedData};
+ghost use Rattle.hs_sorts.specs.declared.fault.SortFault.{SortFault};
+ghost use Rattle.hs_sorts.specs.declared.fault.SortFault.TheVariants as sorts;
+ghost use Rattle.hs_sorts.specs.Inference.{HasSmallSorts, IsInferred, IsFaultOf};
+
+/// A scheme has at most one fault of its sorts, want of memory aside, and none where its least
+/// sorting is small.
+pub fn one_fault()
+    ensures one { (rules : List Rule) (ranks : List (Option ℕ)) (a b : SortFault) → IsFaultOf rules ranks a → IsFaultOf rules ranks b
+        → (a ≡ sorts.OutOfMemory) ⊎ ((b ≡ sorts.OutOfMemory) ⊎ (a ≡ b)) }
+    ensures small { (u : UnsortedData) (s : SortedData) → IsInferred u s → HasSmallSorts u.rules u.ranks }
+    ensures none { (rules : List Rule) (ranks : List (Option ℕ)) (fault : SortFault) → HasSmallSorts rules ranks → IsFaultOf rules ranks fault
+        → fault ≡ sorts.OutOfMemory }
+{}
