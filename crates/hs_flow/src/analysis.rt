@@ -77,9 +77,12 @@ fn table(alloc: Global, found: &[Pair]) -> Result<FlowTable, OutOfMemory>
 /// "Saturation-based model checking of higher-order recursion schemes" (CSL 2013), restrict
 /// saturation by such an analysis.
 ///
-/// `FlowLimit` comes exactly where there are more than `max` pairs of both kinds together. Memory is
-/// in proportion to the pairs. Time is in proportion to the pairs and to the meetings of a flow pair
-/// and a head pair of one point, each of which is one look-up, on average over the hashes.
+/// The points are those of the scheme. `FlowLimit` comes exactly where there are more than `max` pairs
+/// of both kinds together.
+///
+/// Memory is in proportion to the points and the pairs. Time is in proportion to these and to the
+/// meetings of a flow pair and a head pair of one point, each of which is one look-up, on average
+/// over the hashes; the sorting at the end adds the pairs times their logarithm.
 pub fn analyse(
     alloc: Global,
     scheme: &Scheme,

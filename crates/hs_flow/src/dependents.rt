@@ -119,14 +119,17 @@ pub(crate) fn lists_of(
 }
 
 impl Dependents {
-    /// The dependents of each point, in time and memory in proportion to their number.
+    /// The dependents of each point. Memory is in proportion to the points and the dependents, and
+    /// so is time, but for a look-up at each point with a parameter at its head, which takes the
+    /// logarithm of the number of flow pairs.
     pub fn of(alloc: Global, problem: &Problem) -> Result<Dependents, OutOfMemory>
         ensures { IfOk result (HasDependents problem.now.points problem.now.flow.pairs) }
     {
         lists_of(alloc, &problem.points, &problem.flow)
     }
 
-    /// The dependents of this point, ascending and each once. Takes no memory.
+    /// The dependents of this point, which is one of the problem's, ascending and each once. Takes
+    /// no memory.
     pub fn list(&self, p: u32) -> &[u32]
         requires { p < length self.now }
         ensures { slice_get self.now p ≡ Some result.now }

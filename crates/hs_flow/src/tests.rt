@@ -196,3 +196,15 @@ fn four_million_pairs_are_too_many(rt: HostRuntime) -> Result<(), Fail> {
     assert_eq!(rt; refused.err(), Some(FlowFault::FlowLimit));
     Ok(())
 }
+
+#[test]
+fn faults_are_printed(rt: HostRuntime) -> Result<(), Fail> {
+    let rows = [
+        (FlowFault::FlowLimit, "too many flow pairs"),
+        (FlowFault::OutOfMemory, "out of memory"),
+    ];
+    for (fault, expected) in rows {
+        assert_eq!(rt; format!(in rt.alloc(); "{fault}")?.as_str(), expected);
+    }
+    Ok(())
+}
