@@ -44,9 +44,9 @@ impl Model for MemSink {
 }
 
 impl MemSink {
-    /// A sink that takes `room` bytes in all and `step` bytes at a write, at most. `failing` has the
-    /// numbers of the calls that fail. Each call looks through all of them. The memory for all of
-    /// `room` is taken here.
+    /// A sink that takes `room` bytes in all and `step` bytes at a write, at most; `step` is 1 or
+    /// more. `failing` has the numbers of the calls that fail. Each call looks through all of them.
+    /// The memory for all of `room` is taken here.
     pub fn new(
         alloc: Global,
         room: usize,

@@ -52,8 +52,8 @@ impl Model for MemSource {
 }
 
 impl MemSource {
-    /// A file with this name and these bytes, of which one read gives `step` at most. `failing` has
-    /// the numbers of the calls that fail. Each call looks through all of them.
+    /// A file with this name and these bytes, of which one read gives `step` at most, 1 or more.
+    /// `failing` has the numbers of the calls that fail. Each call looks through all of them.
     pub fn new(
         alloc: Global,
         name: &str,

@@ -12,7 +12,7 @@ const PIECE: usize = 8192;
 
 /// Reads all that is left of a started source, up to a read that gives nothing. `limit` is the most
 /// that it may be, in bytes. After an error the source has lost what was read of it, and can be read
-/// on or started anew. A source that was never started gives no bytes.
+/// on or started anew. Of the sources of this crate, one that was never started gives no bytes.
 ///
 /// The cost is linear in the bytes that are read.
 pub fn read_all<S: Source>(alloc: Global, source: &mut S, limit: usize) -> Result<Vec<u8>, ReadAll>

@@ -75,8 +75,9 @@ impl Model for RawTransition {
 
 /// The rules and the transitions of a file, each list in the order of the file.
 ///
-/// There is at least one of each. A rule's name is upper, parameters and terminals are lower, and the
-/// limits of [`Which`](crate::Which) hold, depth apart.
+/// There is at least one of each. Each name is one of the format: name bytes, one or more. A rule's
+/// name is upper, parameters and terminals are lower, and the limits of [`Which`](crate::Which) hold,
+/// depth apart. The names are 16,777,216 at most, each occurrence counted.
 #[derive(Debug, Drop)]
 pub struct RawFile {
     pub rules: Vec<RawRule>,

@@ -313,10 +313,11 @@ fn file(alloc: Global, bytes: &[u8]) -> Result<RawFile, ReadFault>
     Ok(RawFile { rules, transitions })
 }
 
-/// Reads the bytes of a file, in time and memory in proportion to their number.
+/// Reads the bytes of a file, at most 16,777,216, in time and memory in proportion to their number.
 ///
-/// `Syntax` has the line, counted from 1, of the first token after which no file continues. `Limit`
-/// says which limit the first offending token passes. `OutOfMemory` may come at any call.
+/// The first token that offends is answered: `Syntax` with its line, counted from 1, where no file
+/// begins with the tokens up to it, and else `Limit` with the first limit that it passes, in the
+/// order of [`Which`]. `OutOfMemory` may come at any call.
 pub fn read_file(alloc: Global, bytes: &[u8]) -> Result<RawFile, ReadFault>
     requires { length bytes.now ≤ 16777216 }
     ensures file { IfOk result (λ raw. IsFileWithin bytes.now raw) }
