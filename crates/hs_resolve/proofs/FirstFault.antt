@@ -1,5 +1,5 @@
 -- The fault that is chosen is the first.
-use Rattle.std.proofs.Common.{◌≡◌, refl, sym, ◌∙◌, ap, subst, ℕ, ◌≤◌, true, false, cond, nat_eq, Option, Some, None, inl, inr, arith}
+use Rattle.std.proofs.Common.{◌≡◌, refl, sym, ◌∙◌, subst, ℕ, zero, suc, ◌<◌, ◌≤◌, ◌⊎◌, true, false, cond, nat_eq, Option, Some, None, inl, inr, arith}
 use Rattle.std.proofs.lemmas.Bool.{eqb-true, eq-eqb, cases_lt}
 use Rattle.hs_reader.specs.Raw.{File}
 use Rattle.hs_resolve.specs.declared.fault.NameFault.{NameFault}
@@ -97,81 +97,101 @@ lines_meet raw a b ha fa hb fb =
       | inr more ↦ elim (cases_lt b a) [ inl less ↦ absurd (fa b less hb) | inr same ↦ omega arith ]
     ]
 
-stays : (P : ℕ → Type 0) (o : Option ℕ) (line : ℕ) → IsLeast P o → ((other : ℕ) → P other → line ≤ other) → P line → is_at o line ≡ true
-stays P o line h bound p =
-    elim (is_at o line) as (λ b. is_at o line ≡ b → b ≡ true) [
-      | true ↦ λ e. refl
-      | false ↦ λ e. absurd (not_at P o line h bound e p)
-    ] refl
+-- the faults of lines, in their order
+abbrev Stands : File → ℕ → ℕ → Type 0
+Stands raw zero line = DuplicateRule raw line
+Stands raw (suc zero) line = DuplicateParam raw line
+Stands raw (suc (suc zero)) line = Undefined raw line
+Stands raw (suc (suc (suc zero))) line = StartHasParams raw line
+Stands raw (suc (suc (suc (suc zero)))) line = DuplicateTransition raw line
+Stands raw (suc (suc (suc (suc (suc k))))) line = RankClash raw line
 
-gone : (P : ℕ → Type 0) (o : Option ℕ) (line : ℕ) → IsLeast P o → (P line → ⊥) → is_at o line ≡ false
-gone P o line h absent =
-    elim (is_at o line) as (λ b. is_at o line ≡ b → b ≡ false) [
-      | true ↦ λ e. absurd (absent (at_line P o line h e))
-      | false ↦ λ e. refl
-    ] refl
+abbrev of_order : ℕ → ℕ → NameFault
+of_order zero line = fault.DuplicateRule line
+of_order (suc zero) line = fault.DuplicateParam line
+of_order (suc (suc zero)) line = fault.Undefined line
+of_order (suc (suc (suc zero))) line = fault.StartHasParams line
+of_order (suc (suc (suc (suc zero)))) line = fault.DuplicateTransition line
+of_order (suc (suc (suc (suc (suc k))))) line = fault.RankClash line
 
-module _ (raw : File) (l : FaultLines) (a : AreLines raw l) (line : ℕ) (here : LineFault raw line) (bound : (other : ℕ) → LineFault raw other → line ≤ other) where
-  meets : (m : ℕ) → LineFault raw m → IsFirstLine raw m → m ≡ line
-  meets m h first = lines_meet raw m line h first here (λ earlier less e. omega (arith, bound earlier e))
+line_fault : (raw : File) (k line : ℕ) → Stands raw k line → LineFault raw line
+line_fault raw zero line h = inl h
+line_fault raw (suc zero) line h = inr (inl h)
+line_fault raw (suc (suc zero)) line h = inr (inr (inl h))
+line_fault raw (suc (suc (suc zero))) line h = inr (inr (inr (inl h)))
+line_fault raw (suc (suc (suc (suc zero)))) line h = inr (inr (inr (inr (inl h))))
+line_fault raw (suc (suc (suc (suc (suc k))))) line h = inr (inr (inr (inr (inr h))))
 
-  pub only-on : (f : NameFault) → IsAnswered raw f → f ≡ fault_on l line
-  only-on (fault.DuplicateRule m) h =
-      let e : m ≡ line = meets m (inl h.0) h.1 in
-      let r = (stays (DuplicateRule raw) l.duplicate_rule line a.duplicate_rule (λ o p. bound o (inl p)) (subst (DuplicateRule raw) e h.0)) in
-      ap (λ n. fault.DuplicateRule n) e
-      ∙ sym (λ i. cond (r i) (fault.DuplicateRule line) (cond (is_at l.duplicate_param line) (fault.DuplicateParam line)
-      (cond (is_at l.undefined line) (fault.Undefined line) (cond (is_at l.start_has_params line) (fault.StartHasParams line) (cond (is_at l.duplicate_transition line) (fault.DuplicateTransition line) (fault.RankClash line))))))
-  only-on (fault.DuplicateParam m) h =
-      let e : m ≡ line = meets m (inr (inl h.0)) h.1 in
-      let r = gone (DuplicateRule raw) l.duplicate_rule line a.duplicate_rule (λ p. h.2 (subst (DuplicateRule raw) (sym e) p)) in
-      let p = stays (DuplicateParam raw) l.duplicate_param line a.duplicate_param (λ o q. bound o (inr (inl q))) (subst (DuplicateParam raw) e h.0) in
-      ap (λ n. fault.DuplicateParam n) e
-      ∙ sym (λ i. cond (r i) (fault.DuplicateRule line) (cond (p i) (fault.DuplicateParam line)
-      (cond (is_at l.undefined line) (fault.Undefined line) (cond (is_at l.start_has_params line) (fault.StartHasParams line) (cond (is_at l.duplicate_transition line) (fault.DuplicateTransition line) (fault.RankClash line))))))
-  only-on (fault.Undefined m) h =
-      let e : m ≡ line = meets m (inr (inr (inl h.0))) h.1 in
-      let r = gone (DuplicateRule raw) l.duplicate_rule line a.duplicate_rule (λ p. h.2 (subst (DuplicateRule raw) (sym e) p)) in
-      let p = gone (DuplicateParam raw) l.duplicate_param line a.duplicate_param (λ q. h.3 (subst (DuplicateParam raw) (sym e) q)) in
-      let u = stays (Undefined raw) l.undefined line a.undefined (λ o q. bound o (inr (inr (inl q)))) (subst (Undefined raw) e h.0) in
-      ap (λ n. fault.Undefined n) e
-      ∙ sym (λ i. cond (r i) (fault.DuplicateRule line) (cond (p i) (fault.DuplicateParam line)
-      (cond (u i) (fault.Undefined line) (cond (is_at l.start_has_params line) (fault.StartHasParams line) (cond (is_at l.duplicate_transition line) (fault.DuplicateTransition line) (fault.RankClash line))))))
-  only-on (fault.StartHasParams m) h =
-      let e : m ≡ line = meets m (inr (inr (inr (inl h.0)))) h.1 in
-      let r = gone (DuplicateRule raw) l.duplicate_rule line a.duplicate_rule (λ p. h.2 (subst (DuplicateRule raw) (sym e) p)) in
-      let p = gone (DuplicateParam raw) l.duplicate_param line a.duplicate_param (λ q. h.3 (subst (DuplicateParam raw) (sym e) q)) in
-      let u = gone (Undefined raw) l.undefined line a.undefined (λ q. h.4 (subst (Undefined raw) (sym e) q)) in
-      let s = stays (StartHasParams raw) l.start_has_params line a.start_has_params (λ o q. bound o (inr (inr (inr (inl q))))) (subst (StartHasParams raw) e h.0) in
-      ap (λ n. fault.StartHasParams n) e
-      ∙ sym (λ i. cond (r i) (fault.DuplicateRule line) (cond (p i) (fault.DuplicateParam line)
-      (cond (u i) (fault.Undefined line) (cond (s i) (fault.StartHasParams line) (cond (is_at l.duplicate_transition line) (fault.DuplicateTransition line) (fault.RankClash line))))))
-  only-on (fault.DuplicateTransition m) h =
-      let e : m ≡ line = meets m (inr (inr (inr (inr (inl h.0))))) h.1 in
-      let r = gone (DuplicateRule raw) l.duplicate_rule line a.duplicate_rule (λ p. h.2 (subst (DuplicateRule raw) (sym e) p)) in
-      let p = gone (DuplicateParam raw) l.duplicate_param line a.duplicate_param (λ q. h.3 (subst (DuplicateParam raw) (sym e) q)) in
-      let u = gone (Undefined raw) l.undefined line a.undefined (λ q. h.4 (subst (Undefined raw) (sym e) q)) in
-      let s = gone (StartHasParams raw) l.start_has_params line a.start_has_params (λ q. h.5 (subst (StartHasParams raw) (sym e) q)) in
-      let t = stays (DuplicateTransition raw) l.duplicate_transition line a.duplicate_transition (λ o q. bound o (inr (inr (inr (inr (inl q)))))) (subst (DuplicateTransition raw) e h.0) in
-      ap (λ n. fault.DuplicateTransition n) e
-      ∙ sym (λ i. cond (r i) (fault.DuplicateRule line) (cond (p i) (fault.DuplicateParam line)
-      (cond (u i) (fault.Undefined line) (cond (s i) (fault.StartHasParams line) (cond (t i) (fault.DuplicateTransition line) (fault.RankClash line))))))
-  only-on (fault.RankClash m) h =
-      let e : m ≡ line = meets m (inr (inr (inr (inr (inr h.0))))) h.1 in
-      let r = gone (DuplicateRule raw) l.duplicate_rule line a.duplicate_rule (λ p. h.2 (subst (DuplicateRule raw) (sym e) p)) in
-      let p = gone (DuplicateParam raw) l.duplicate_param line a.duplicate_param (λ q. h.3 (subst (DuplicateParam raw) (sym e) q)) in
-      let u = gone (Undefined raw) l.undefined line a.undefined (λ q. h.4 (subst (Undefined raw) (sym e) q)) in
-      let s = gone (StartHasParams raw) l.start_has_params line a.start_has_params (λ q. h.5 (subst (StartHasParams raw) (sym e) q)) in
-      let t = gone (DuplicateTransition raw) l.duplicate_transition line a.duplicate_transition (λ q. h.6 (subst (DuplicateTransition raw) (sym e) q)) in
-      ap (λ n. fault.RankClash n) e
-      ∙ sym (λ i. cond (r i) (fault.DuplicateRule line) (cond (p i) (fault.DuplicateParam line)
-      (cond (u i) (fault.Undefined line) (cond (s i) (fault.StartHasParams line) (cond (t i) (fault.DuplicateTransition line) (fault.RankClash line))))))
-  only-on fault.TooManyStates h = absurd (h.0 line here)
-  only-on fault.OutOfMemory h = absurd h
+-- none of the first k stands on the line
+abbrev NoneBelow : File → ℕ → ℕ → Type 0
+NoneBelow raw k line = (j : ℕ) → j < k → Stands raw j line → ⊥
 
-pub first-only : (raw : File) (l : FaultLines) (line : ℕ) → AreLines raw l → least_line l ≡ Some line → (f : NameFault) → IsAnswered raw f → fault_on l line ≡ f
-first-only raw l line a e f h =
-    let b : IsLeast (LineFault raw) (Some line) = subst (λ o. IsLeast (LineFault raw) o) e (least-of_all raw l a) in sym (only-on raw l a line b.0 b.1 f h)
+record IsFirst (raw : File) (k line : ℕ) : Type 0 where
+  stands : Stands raw k line
+  first : IsFirstLine raw line
+  none : NoneBelow raw k line
+
+none_below_0 : (raw : File) (line : ℕ) → NoneBelow raw 0 line
+none_below_0 raw line j less = absurd (omega arith)
+
+one_more : (raw : File) (line k : ℕ) → NoneBelow raw k line → (Stands raw k line → ⊥) → NoneBelow raw (suc k) line
+one_more raw line k none absent j less h =
+    elim (cases_lt j k) [
+      | inl below ↦ none j below h
+      | inr above ↦ let e : j ≡ k = omega arith in absent (subst (λ i. Stands raw i line) e h)
+    ]
+
+-- the fault of a line that is answered has a place in the order
+module _ (raw : File) where
+  placed : (f : NameFault) → IsAnswered raw f → ((k : ℕ) × (line : ℕ) × (of_order k line ≡ f) × IsFirst raw k line) ⊎ (f ≡ fault.TooManyStates)
+  placed (fault.DuplicateRule m) h = inl (0, m, refl, record { stands = h.0; first = h.1; none = none_below_0 raw m })
+  placed (fault.DuplicateParam m) h = inl (1, m, refl, record { stands = h.0; first = h.1; none = one_more raw m 0 (none_below_0 raw m) h.2 })
+  placed (fault.Undefined m) h =
+      inl (2, m, refl, record { stands = h.0; first = h.1; none = one_more raw m 1 (one_more raw m 0 (none_below_0 raw m) h.2) h.3 })
+  placed (fault.StartHasParams m) h =
+      inl (3, m, refl, record { stands = h.0; first = h.1; none = one_more raw m 2 (one_more raw m 1 (one_more raw m 0 (none_below_0 raw m) h.2) h.3) h.4 })
+  placed (fault.DuplicateTransition m) h =
+      inl (4, m, refl, record { stands = h.0; first = h.1; none = one_more raw m 3 (one_more raw m 2 (one_more raw m 1 (one_more raw m 0 (none_below_0 raw m) h.2) h.3) h.4) h.5 })
+  placed (fault.RankClash m) h =
+      inl (
+        5,
+        m,
+        refl,
+        record {
+          stands = h.0;
+          first = h.1;
+          none = one_more raw m 4 (one_more raw m 3 (one_more raw m 2 (one_more raw m 1 (one_more raw m 0 (none_below_0 raw m) h.2) h.3) h.4) h.5) h.6;
+        },
+      )
+  placed fault.TooManyStates h = inr refl
+  placed fault.OutOfMemory h = absurd h
+
+  same_first : (k m j n : ℕ) → IsFirst raw k m → IsFirst raw j n → of_order k m ≡ of_order j n
+  same_first k m j n p q =
+      let on : m ≡ n = lines_meet raw m n (line_fault raw k m p.stands) p.first (line_fault raw j n q.stands) q.first in
+      elim (cases_lt k j) [
+        | inl below ↦ absurd (q.none k below (subst (Stands raw k) on p.stands))
+        | inr more ↦ elim (cases_lt j k) [
+          | inl below ↦ absurd (p.none j below (subst (Stands raw j) (sym on) q.stands))
+          | inr less ↦ let e : k ≡ j = omega arith in λ i. of_order (e i) (on i)
+        ]
+      ]
+
+  no_line_fault : (k line : ℕ) → IsFirst raw k line → IsAnswered raw fault.TooManyStates → ⊥
+  no_line_fault k line p h = h.0 line (line_fault raw k line p.stands)
+
+  pub one_fault_is : (f g : NameFault) → IsAnswered raw f → IsAnswered raw g → f ≡ g
+  one_fault_is f g hf hg =
+      elim (placed f hf) [
+        | inl (k, m, is, p) ↦ elim (placed g hg) [
+          | inl (j, n, is', q) ↦ sym is ∙ (same_first k m j n p q ∙ is')
+          | inr many ↦ absurd (no_line_fault k m p (subst (IsAnswered raw) many hg))
+        ]
+        | inr many ↦ elim (placed g hg) [
+          | inl (j, n, is', q) ↦ absurd (no_line_fault j n q (subst (IsAnswered raw) many hf))
+          | inr many' ↦ many ∙ sym many'
+        ]
+      ]
 
 -- where no line fault stands, there are too many states
 pub no_line : (raw : File) (f : NameFault) → HasNoLineFault raw → IsAnswered raw f → f ≡ fault.TooManyStates

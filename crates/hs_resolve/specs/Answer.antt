@@ -5,7 +5,6 @@ use Rattle.std.specs.Prelude.{ℕ, ◌<◌, ◌≤◌, length}
 use Rattle.hs_reader.specs.Raw.{File}
 use Rattle.hs_resolve.specs.declared.fault.NameFault.{NameFault}
 use Rattle.hs_resolve.specs.declared.fault.NameFault.TheVariants as fault
-use Rattle.hs_resolve.specs.declared.fault.TheConstants.{MAX_STATES}
 use Rattle.hs_resolve.specs.Numbering.{state_names}
 use Rattle.hs_resolve.specs.LineFaults.{DuplicateRule, DuplicateParam, Undefined, StartHasParams, DuplicateTransition, RankClash, LineFault}
 
@@ -14,7 +13,7 @@ HasNoLineFault raw = (line : ℕ) → LineFault raw line → ⊥
 
 pub record IsFaultless (raw : File) : Type 0 where
   pub lines : HasNoLineFault raw
-  pub states : length (state_names raw) ≤ MAX_STATES
+  pub states : length (state_names raw) ≤ 10000
 
 -- no line fault stands on an earlier line
 abbrev pub IsFirstLine : File → ℕ → Type 0
@@ -30,5 +29,5 @@ IsAnswered raw (fault.DuplicateTransition line) =
     DuplicateTransition raw line × IsFirstLine raw line × (¬ DuplicateRule raw line) × (¬ DuplicateParam raw line) × (¬ Undefined raw line) × (¬ StartHasParams raw line)
 IsAnswered raw (fault.RankClash line) =
     RankClash raw line × IsFirstLine raw line × (¬ DuplicateRule raw line) × (¬ DuplicateParam raw line) × (¬ Undefined raw line) × (¬ StartHasParams raw line) × (¬ DuplicateTransition raw line)
-IsAnswered raw fault.TooManyStates = HasNoLineFault raw × (MAX_STATES < length (state_names raw))
+IsAnswered raw fault.TooManyStates = HasNoLineFault raw × (10000 < length (state_names raw))
 IsAnswered raw fault.OutOfMemory = ⊥

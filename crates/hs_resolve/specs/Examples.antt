@@ -1,9 +1,9 @@
 -- The definitions at small files.
 use Rattle.std.specs.Prelude.{◌≡◌, refl, ℕ, List, [], ◌∷◌, codes, Some, None}
 use Rattle.hs_scheme.specs.declared.term.Head.TheVariants.{Var, Nt, Tm}
-use Rattle.hs_scheme.specs.Tree.{Tree, node, none, more}
+use Rattle.hs_scheme.specs.Tree.{node, none, more}
 use Rattle.hs_reader.specs.declared.raw.RawName.{RawName}
-use Rattle.hs_reader.specs.Raw.{Rule, Transition, File}
+use Rattle.hs_reader.specs.Raw.{File}
 use Rattle.hs_resolve.specs.Names.{number_of, distinct}
 use Rattle.hs_resolve.specs.Numbering.{head_of, terminal_names, state_names, rank_of}
 use Rattle.hs_resolve.specs.LineFaults.{DuplicateRule, Undefined, RankClash}

@@ -5,6 +5,7 @@
 mod body;
 mod fault;
 mod index;
+mod laws;
 mod line;
 mod numbering;
 mod resolving;
@@ -14,4 +15,5 @@ mod tests;
 mod transitions;
 
 pub use fault::{MAX_STATES, NameFault};
+pub use laws::one_first_fault;
 pub use resolving::resolve;

@@ -73,7 +73,6 @@ impl FaultLines {
     /// The fault on the least line, and there the first in the order of the fields.
     pub(crate) fn first(&self) -> Option<NameFault>
         ensures fault { (raw : File) → AreLines raw self.now → IfSome result (λ e. IsAnswered raw e) }
-        ensures only { (raw : File) → AreLines raw self.now → IfSome result (λ e. (f : NameFault) → IsAnswered raw f → e ≡ f) }
         ensures none { (raw : File) → AreLines raw self.now → IfNone result (HasNoLineFault raw) }
     {
         let line = self.least()?;

@@ -2,7 +2,7 @@ use Rattle.std.proofs.Common.{◌∙◌, ap, sym, subst, length, List, ℕ, Opti
 use Rattle.std.proofs.lemmas.Result.{err_from_is_err_and}
 use Rattle.hs_resolve.specs.declared.fault.NameFault.{NameFault}
 use Rattle.hs_resolve.specs.Answer.{HasNoLineFault}
-use Rattle.hs_resolve.proofs.FirstFault.{no_line, not_both}
+use Rattle.hs_resolve.proofs.FirstFault.{no_line, not_both, one_fault_is}
 use Rattle.hs_resolve.proofs.resolving.resolve.Goals as goal
 
 pub returns-in-Some-clause-fault : goal.returns-in-Some-clause-fault
@@ -12,7 +12,7 @@ pub returns-in-Some-clause-taken : goal.returns-in-Some-clause-taken
 returns-in-Some-clause-taken c = λ clean. absurd (not_both c.args.raw.now c.in-Some.fault clean (c.in-Some.ensures.fault c.args.raw.now c.in_ok-tables.ensures.lines))
 
 pub returns-in-Some-clause-refused : goal.returns-in-Some-clause-refused
-returns-in-Some-clause-refused c = λ f h. inr (c.in-Some.ensures.only c.args.raw.now c.in_ok-tables.ensures.lines f h)
+returns-in-Some-clause-refused c = λ f h. inr (one_fault_is c.args.raw.now c.in-Some.fault f (c.in-Some.ensures.fault c.args.raw.now c.in_ok-tables.ensures.lines) h)
 
 pub returns-then-len-gt-MAX_STATES-clause-fault : goal.returns-then-len-gt-MAX_STATES-clause-fault
 returns-then-len-gt-MAX_STATES-clause-fault c =

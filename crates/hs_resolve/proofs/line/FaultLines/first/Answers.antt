@@ -1,7 +1,7 @@
 use Rattle.std.proofs.Common.{◌∙◌, sym, subst, Option, IfNone}
 use Rattle.hs_resolve.specs.declared.fault.NameFault.{NameFault}
 use Rattle.hs_resolve.specs.Answer.{HasNoLineFault, IsAnswered}
-use Rattle.hs_resolve.proofs.FirstFault.{first-answered, first-only, first-none}
+use Rattle.hs_resolve.proofs.FirstFault.{first-answered, first-none}
 use Rattle.hs_resolve.proofs.line.FaultLines.first.Goals as goal
 
 pub returns-in_err-line-clause-none : goal.returns-in_err-line-clause-none
@@ -11,6 +11,3 @@ returns-in_err-line-clause-none c = λ raw a.
 pub returns-clause-fault : goal.returns-clause-fault
 returns-clause-fault c = λ raw a.
     subst (IsAnswered raw) (sym c.on.ensures) (first-answered raw c.args.self.now c.in_ok-line.line a (sym c.least.ensures ∙ c.in_ok-line.was))
-
-pub returns-clause-only : goal.returns-clause-only
-returns-clause-only c = λ raw a f h. c.on.ensures ∙ first-only raw c.args.self.now c.in_ok-line.line a (sym c.least.ensures ∙ c.in_ok-line.was) f h
