@@ -1,5 +1,6 @@
 pub mod PointLemmas
 pub mod SaturationLemmas
+pub mod AnswerLemmas
 pub mod OutcomeLemmas
 pub mod VerdictLemmas
 pub mod Relined

@@ -3,9 +3,8 @@ use Rattle.std.specs.Prelude.{◌≡◌, ℕ, ◌<◌, ◌≤◌, List, [], Opti
 use Rattle.std.specs.Io.KnownBytes.{append_known}
 use Rattle.hs_edge.specs.Bytes.{AddsPart}
 use Rattle.hs_text.specs.Messages.{ended}
-use Rattle.hs_app.specs.Refusal.{line_of, HasFixedLine}
+use Rattle.hs_app.specs.Refusal.{line_of, names_status, status_of, HasFixedLine}
 use Rattle.hs_edge.specs.Count.{Rose}
-use Rattle.hs_app.specs.declared.limits.TheConstants.{MAX_BYTES}
 use Rattle.hs_app.specs.declared.refusal.Refusal.{Refusal}
 use Rattle.hs_app.specs.declared.refusal.Refusal.TheVariants.{Usage, Source, FileTooLong, Syntax, Limit, Names, IllSorted, NotFirstOrder, SortTooLarge, NotYet, Sink, OutOfMemory}
 use Rattle.hs_reader.specs.declared.fault.Which.{Which}
@@ -15,26 +14,42 @@ use Rattle.hs_app.specs.declared.top.Ending.{Ending}
 use Rattle.hs_app.specs.declared.top.Ending.TheVariants.{Reported, Refused}
 use Rattle.hs_app.specs.declared.verdict.Verdict.{Verdict}
 use Rattle.hs_app.specs.declared.verdict.Verdict.TheVariants.{Accepted, Rejected}
-use Rattle.hs_app.specs.Verdict.{IsAccepted, IsRejected}
-use Rattle.hs_app.specs.Verdict as verdict
+use Rattle.hs_app.specs.Verdict.{max_bytes, Has, IsPlainFile}
 
 -- a fact about the bytes of the file that the words name, where they are told
 abbrev pub OfFile : Option (List ℕ) → (List ℕ → Option (List ℕ)) → (List ℕ → Type 0) → Type 0
 OfFile name file P = IsSomeAnd name (λ n. IfSome (file n) P)
 
+-- the same, where they are told only
+abbrev pub OfToldFile : Option (List ℕ) → (List ℕ → Option (List ℕ)) → (List ℕ → Type 0) → Type 0
+OfToldFile name file P = IsSomeAnd name (λ n. IsSomeAnd (file n) P)
+
 -- why there is no verdict: the words, a count that rose, or the bytes
 abbrev pub HasCause : Option (List ℕ) → (List ℕ → Option (List ℕ)) → (before after : List ℕ → ℕ) → Refusal → Type 0
 HasCause name file before after Usage = name ≡ None
 HasCause name file before after Source = IsSomeAnd name (λ n. Rose (before n) (after n))
-HasCause name file before after FileTooLong = OfFile name file (λ bytes. MAX_BYTES < length bytes)
+HasCause name file before after FileTooLong = OfFile name file (λ bytes. max_bytes < length bytes)
 HasCause name file before after Sink = ⊥
-HasCause name file before after refusal = OfFile name file (λ bytes. verdict.Refused bytes refusal)
+HasCause name file before after OutOfMemory = OfFile name file (λ bytes. Unit {0})
+HasCause name file before after refusal = OfFile name file (Has (Err refusal))
 
 -- the verdict is that on the file's bytes, which were read to their end, or the reason has its cause
 abbrev pub IsAnswer : Option (List ℕ) → (List ℕ → Option (List ℕ)) → (before after : List ℕ → ℕ) → Option (List ℕ) → Result Verdict Refusal → Type 0
-IsAnswer name file before after left (Ok Accepted) = OfFile name file (λ bytes. IsAccepted bytes × (left ≡ Some []))
-IsAnswer name file before after left (Ok Rejected) = OfFile name file (λ bytes. IsRejected bytes × (left ≡ Some []))
+IsAnswer name file before after left (Ok verdict) = OfFile name file (λ bytes. Has (Ok verdict) bytes × (left ≡ Some []))
 IsAnswer name file before after left (Err refusal) = HasCause name file before after refusal
+
+-- what the words and the file's bytes come to, memory and faults of reading and writing aside
+abbrev pub IsDue : Option (List ℕ) → (List ℕ → Option (List ℕ)) → Result Verdict Refusal → Type 0
+IsDue name file (Err Usage) = name ≡ None
+IsDue name file (Err FileTooLong) = OfToldFile name file (λ bytes. max_bytes < length bytes)
+IsDue name file (Err OutOfMemory) = ⊥
+IsDue name file answer = OfToldFile name file (Has answer)
+
+-- the exit status of what is due
+abbrev pub status_due : Result Verdict Refusal → ℕ
+status_due (Ok Accepted) = 0
+status_due (Ok Rejected) = 1
+status_due (Err refusal) = status_of refusal
 
 -- the bytes were taken, or a part of them beside a fault
 abbrev pub Gains : Option (List ℕ) → Option (List ℕ) → (before after : ℕ) → List ℕ → Type 0
@@ -80,23 +95,30 @@ module _ (name : Option (List ℕ)) (file : List ℕ → Option (List ℕ)) (bef
 
   -- a name or a sort is wrong
   abbrev pub RefusesNamesOrSorts : Type 0
-  RefusesNamesOrSorts = ((fault : NameFault) × Refuses (Names fault)) ⊎ (((rule : ℕ) × Refuses (IllSorted rule)) ⊎ ((terminal : List ℕ) × Refuses (NotFirstOrder terminal)))
+  RefusesNamesOrSorts = ((fault : NameFault) × (names_status fault ≡ 6) × Refuses (Names fault)) ⊎ (((rule : ℕ) × Refuses (IllSorted rule)) ⊎ ((terminal : List ℕ) × Refuses (NotFirstOrder terminal)))
 
   -- a size limit was passed
   abbrev pub RefusesSize : Type 0
   RefusesSize = Refuses FileTooLong ⊎ (((which : Which) × Refuses (Limit which)) ⊎ (Refuses (Names TooManyStates) ⊎ ((rule : ℕ) × Refuses (SortTooLarge rule))))
 
-  -- The rows of the exit statuses.
+  -- the exit statuses, each with what comes with it
+  abbrev pub Row : ℕ → Type 0
+  Row status =
+      ((status ≡ 0) × Reports Accepted)
+      ⊎ (((status ≡ 1) × Reports Rejected)
+      ⊎ (((status ≡ 4) × Refuses Usage)
+      ⊎ (((status ≡ 5) × (line : ℕ) × Refuses (Syntax line))
+      ⊎ (((status ≡ 6) × RefusesNamesOrSorts)
+      ⊎ (((status ≡ 7) × RefusesSize)
+      ⊎ (((status ≡ 8) × Refuses Source)
+      ⊎ (((status ≡ 9) × IsCutOff)
+      ⊎ (((status ≡ 10) × Refuses OutOfMemory)
+      ⊎ ((status ≡ 11) × Refuses NotYet)))))))))
+
+  -- What is answered has its row, and what is due is answered, unless reading, writing or memory fails.
   pub record Rows (status : ℕ) : Type 0 where
-    pub known : (status ≤ 1) ⊎ ((4 ≤ status) × (status ≤ 11))
-    pub accepted : status ≡ 0 → Reports Accepted
-    pub rejected : status ≡ 1 → Reports Rejected
-    pub usage : status ≡ 4 → Refuses Usage
-    pub usage_only : name ≡ None → status ≡ 4
-    pub syntax : status ≡ 5 → (line : ℕ) × Refuses (Syntax line)
-    pub names_or_sorts : status ≡ 6 → RefusesNamesOrSorts
-    pub size : status ≡ 7 → RefusesSize
-    pub read_fault : status ≡ 8 → Refuses Source
-    pub write_fault : status ≡ 9 → IsCutOff
-    pub memory : status ≡ 10 → Refuses OutOfMemory
-    pub not_yet : status ≡ 11 → Refuses NotYet
+    pub row : Row status
+    pub usage : name ≡ None → status ≡ 4
+    pub due : (answer : Result Verdict Refusal) → IsDue name file answer
+        → (status ≡ status_due answer) ⊎ ((status ≡ 8) ⊎ (((status ≡ 9) × (verdict : Verdict) × (answer ≡ Ok verdict)) ⊎ (status ≡ 10)))
+    pub complete : OfToldFile name file IsPlainFile → (status ≤ 1) ⊎ ((status ≡ 8) ⊎ ((status ≡ 9) ⊎ (status ≡ 10)))

@@ -1,7 +1,9 @@
 -- What the bytes of a file are answered with.
 --     IsAccepted, IsRejected    the bytes are a file without faults whose rules have no parameters, and which is accepted, or isn't
 --     Answers                   the verdict, or the reason why there is none
-use Rattle.std.specs.Prelude.{◌≡◌, ◌≢◌, ℕ, List, All, slice_get, Some, Result, Ok, Err}
+--     max_bytes, Has            the most bytes of a file; the answer of a file that isn't longer
+--     IsPlainFile               the bytes have a verdict
+use Rattle.std.specs.Prelude.{◌≡◌, ◌≢◌, ◌≤◌, ℕ, List, All, length, slice_get, Some, Result, Ok, Err}
 use Rattle.hs_scheme.specs.declared.term.Rule.{Rule}
 use Rattle.hs_scheme.specs.Transition.{TransitionData}
 use Rattle.hs_scheme.specs.Unsorted.{UnsortedData}
@@ -19,6 +21,10 @@ use Rattle.hs_app.specs.declared.refusal.Refusal.TheVariants.{Usage, Source, Fil
 use Rattle.hs_app.specs.declared.verdict.Verdict.{Verdict}
 use Rattle.hs_app.specs.declared.verdict.Verdict.TheVariants.{Accepted, Rejected}
 use Rattle.hs_app.specs.Saturation.{Rejects}
+
+-- 16 MiB
+abbrev pub max_bytes : ℕ
+max_bytes = 16777216
 
 -- the bytes are a file without faults in its names, and this is its scheme
 pub record IsScheme (bytes : List ℕ) (scheme : UnsortedData) : Type 0 where
@@ -111,3 +117,13 @@ abbrev pub Answers : List ℕ → Result Verdict Refusal → Type 0
 Answers bytes (Ok Accepted) = IsAccepted bytes
 Answers bytes (Ok Rejected) = IsRejected bytes
 Answers bytes (Err refusal) = Refused bytes refusal
+
+abbrev pub Has : Result Verdict Refusal → List ℕ → Type 0
+Has answer bytes = (length bytes ≤ max_bytes) × Answers bytes answer
+
+-- a file within the size, without faults, and no rule has a parameter
+pub record IsPlainFile (bytes : List ℕ) : Type 0 where
+  pub within : length bytes ≤ max_bytes
+  pub scheme : UnsortedData
+  pub sound : IsSound bytes scheme
+  pub plain : NoParameters scheme.rules

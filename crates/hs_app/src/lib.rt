@@ -5,6 +5,8 @@ mod laws;
 mod limits;
 mod pair;
 mod points;
+#[cfg(test)]
+mod problem_tests;
 mod refusal;
 mod saturation;
 #[cfg(test)]

@@ -90,6 +90,18 @@ fn files_get_their_verdict_or_the_line_of_their_fault(rt: HostRuntime) -> Result
             "rule 1: ill-sorted\n",
         ),
         (
+            "%BEGING\nS -> F.\nF x -> c.\n%ENDG\n%BEGINA\nq0 c -> .\n%ENDA\n",
+            6,
+            "",
+            "rule 1: ill-sorted\n",
+        ),
+        (
+            "%BEGING\nS -> Tw a (a c).\nTw f x -> f (f x).\n%ENDG\n%BEGINA\nq0 a -> q0. q0 c -> .\n%ENDA\n",
+            11,
+            "",
+            "not yet\n",
+        ),
+        (
             "%BEGING\nS -> c. F -> a a.\n%ENDG\n%BEGINA\nq0 a -> q0.\n%ENDA\n",
             6,
             "",

@@ -1,8 +1,9 @@
-use Rattle.std.proofs.Common.{subst, sym, ℕ}
-use Rattle.hs_app.specs.declared.top.Ending.TheVariants.{Refused}
+use Rattle.std.proofs.Common.{subst, sym, ap, ℕ}
+use Rattle.hs_app.specs.declared.top.Ending.TheVariants.{Reported, Refused}
+use Rattle.hs_app.specs.declared.verdict.Verdict.TheVariants.{Accepted, Rejected}
 use Rattle.hs_app.specs.Words.{name_of}
 use Rattle.hs_app.specs.Outcome.{Rows}
-use Rattle.hs_app.proofs.OutcomeLemmas.{rows}
+use Rattle.hs_app.proofs.OutcomeLemmas.{rows, rows_of}
 use Rattle.hs_app.proofs.top.run.Goals as goal
 
 pub returns-in-Refused : goal.returns-in-Refused
@@ -25,3 +26,9 @@ returns-in-Refused g c =
           subst (λ (status : ℕ). Rows named file source_before source_after left out_old out_new out_before out_after err_old err_new err_before err_after status) (sym c.status.ensures)
           (rows named file source_before source_after left out_old out_new out_before out_after err_old err_new err_before err_after (Refused c.in-Refused.refusal) c.in-Refused.ensures);
     }
+
+pub returns-in-Reported-Accepted : goal.returns-in-Reported-Accepted
+returns-in-Reported-Accepted g c = record { rows = rows_of _ _ _ _ _ _ _ _ _ _ _ _ _ (Reported c.in-Reported-Accepted.field-0) (Reported Accepted) (ap Reported c.in-Reported-Accepted.field-0-is) c.in-Reported-Accepted.ensures }
+
+pub returns-in-Reported-Rejected : goal.returns-in-Reported-Rejected
+returns-in-Reported-Rejected g c = record { rows = rows_of _ _ _ _ _ _ _ _ _ _ _ _ _ (Reported c.in-Reported-Rejected.field-0) (Reported Rejected) (ap Reported c.in-Reported-Rejected.field-0-is) c.in-Reported-Rejected.ensures }
