@@ -30,8 +30,11 @@ def plain(rules):
 
 
 def pairs(states):
-    """One loop that is met in every state: as many reached pairs as rules times states."""
-    rules = [f"F{i} -> a F{(i + 1) % 100}.\n" for i in range(100)]
+    """A loop of 101 rules, each met in every state, since 101 divides no size of the family.
+
+    A rule and a state give two pairs: of its body, and of the nonterminal below.
+    """
+    rules = [f"F{i} -> a F{(i + 1) % 101}.\n" for i in range(101)]
     return framed(rules, [f"q{i} a -> q{(i + 1) % states}.\n" for i in range(states)])
 
 
@@ -73,12 +76,15 @@ def transitions(count):
     return framed(["S -> t0 S.\n"], lines)
 
 
-def flow_many(rules):
-    """Functions that are all handed to all: twice as many pairs as the square of the rules."""
+def flow_many(functions):
+    """Functions that are all handed to as many others, in three rules each and one more.
+
+    The flow has about twice as many pairs as the square of the functions.
+    """
     lines = ["S -> c.\n"]
-    for i in range(rules):
+    for i in range(functions):
         lines.append(f"G{i} x -> x.\nR{i} -> A0 G{i}.\n")
-        lines.append(f"A{i} f -> b (f c) (A{i + 1} f).\n" if i + 1 < rules else f"A{i} f -> f c.\n")
+        lines.append(f"A{i} f -> b (f c) (A{i + 1} f).\n" if i + 1 < functions else f"A{i} f -> f c.\n")
     return framed(lines, ["q0 c -> .\n"])
 
 
@@ -98,13 +104,23 @@ FAMILIES = {
     "nested": (nested, [4 * MEBIBYTE, 8 * MEBIBYTE, 15 * MEBIBYTE], "bytes", "horsat"),
     "comment": (comment, [4 * MEBIBYTE, 8 * MEBIBYTE, 15 * MEBIBYTE], "bytes", "horsat"),
     "transitions": (transitions, [50_000, 100_000, 200_000], "transitions", "horsat"),
-    "flow_many": (flow_many, [500, 700, 1_000, 1_400], "rules", "flow_pairs"),
+    "flow_many": (flow_many, [500, 700, 1_000, 1_400], "functions", "flow_pairs"),
     "flow_few": (flow_few, [5_000, 10_000, 20_000], "rules", "flow_pairs"),
 }
 
 
 def program(name):
     return os.path.join(TOP, "crates", name, "out", name)
+
+
+def write(make, size, path):
+    """Writes a file in a process of its own, since a run's peak memory is no less than this process's."""
+    child = os.fork()
+    if child == 0:
+        with open(path, "w") as file:
+            file.write(make(size))
+        os._exit(0)
+    os.waitpid(child, 0)
 
 
 def run(name, path):
@@ -129,14 +145,12 @@ def main():
             before = None
             for size in sizes:
                 path = os.path.join(folder, "file.hrs")
-                text = make(size)
-                with open(path, "w") as file:
-                    file.write(text)
+                write(make, size, path)
                 seconds, memory, status, answer = min(run(name, path) for _ in range(3))
                 growth = f"{seconds / before:6.2f}" if before else "      "
                 before = seconds
                 print(
-                    f"{family:<12} {size:>10} {unit:<12} {len(text) / MEBIBYTE:>8.2f} {seconds:>8.3f} {growth} "
+                    f"{family:<12} {size:>10} {unit:<12} {os.path.getsize(path) / MEBIBYTE:>8.2f} {seconds:>8.3f} {growth} "
                     f"{memory:>8.0f}  {status} {answer}",
                     flush=True,
                 )
