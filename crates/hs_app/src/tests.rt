@@ -234,6 +234,26 @@ fn faults_outside_have_their_status(rt: HostRuntime) -> Result<(), Fail> {
     Ok(())
 }
 
+#[test]
+fn late_faults_and_faults_of_err_change_no_status(rt: HostRuntime) -> Result<(), Fail> {
+    let alloc = rt.alloc();
+    let words = ["horsat", "f"];
+    let behind = run_on(alloc, &words, ONE_LOOP.as_bytes(), 4096, &[4], &[])?;
+    assert_eq!(rt; behind.status, 0, "a read behind the last");
+    let first = run_on(alloc, &words, ONE_LOOP.as_bytes(), 4096, &[], &[1])?;
+    assert_eq!(rt; first.status, 9, "the first write");
+    assert_eq!(rt; first.out.bytes().len(), 0);
+    assert_eq!(rt; first.err.bytes(), b"write fault\n".as_slice());
+    let mut source = MemSource::new(alloc, "f", &[], 4096, &[])?;
+    let mut out = MemSink::new(alloc, ROOM, 4096, &[])?;
+    let mut err = MemSink::new(alloc, ROOM, 4096, &[1])?;
+    let status = run(&(), alloc, &words, &mut source, &mut out, &mut err);
+    assert_eq!(rt; status, 5, "an empty file, and a write to err that fails");
+    assert_eq!(rt; out.bytes().len(), 0);
+    assert_eq!(rt; err.bytes().len(), 0);
+    Ok(())
+}
+
 /// A file whose start has a term of this many nested applications.
 fn nested(alloc: Global, depth: usize) -> Result<Vec<u8>, AllocError> {
     let mut file = Vec::new(alloc);

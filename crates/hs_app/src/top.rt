@@ -14,13 +14,10 @@ use hs_edge::{ReadAll, Sink, Source, read_all, write_all};
 use hs_text::{OUT_OF_MEMORY, message_line};
 use std::alloc::Global;
 
-/// Reads the file that the words name, and gives the verdict on it.
-fn answer<S: Source>(alloc: Global, words: &[&str], source: &mut S) -> Result<Verdict, Refusal>
-    ensures { outcome.IsAnswer (name_of words.now) (S.file source.old) (S.faults source.old) (S.faults source.new) (S.left source.new) result }
+/// Reads the file of this name, and gives the verdict on it.
+fn verdict_on<S: Source>(alloc: Global, name: &str, source: &mut S) -> Result<Verdict, Refusal>
+    ensures { outcome.IsAnswer (Some name.now) (S.file source.old) (S.faults source.old) (S.faults source.new) (S.left source.new) result }
 {
-    let Some(name) = file_name(words) else {
-        return Err(Refusal::Usage);
-    };
     if source.start(name).is_err() {
         return Err(Refusal::Source);
     }
@@ -31,6 +28,17 @@ fn answer<S: Source>(alloc: Global, words: &[&str], source: &mut S) -> Result<Ve
         Err(ReadAll::OutOfMemory) => return Err(Refusal::OutOfMemory),
     };
     decide(alloc, bytes.as_slice())
+}
+
+/// Reads the file that the words name, and gives the verdict on it.
+fn answer<S: Source>(alloc: Global, words: &[&str], source: &mut S) -> Result<Verdict, Refusal>
+    ensures verdict { outcome.IsAnswer (name_of words.now) (S.file source.old) (S.faults source.old) (S.faults source.new) (S.left source.new) result }
+    ensures untouched { name_of words.now ≡ None → source.new ≡ source.old }
+{
+    match file_name(words) {
+        Some(name) => verdict_on(alloc, name, source),
+        None => Err(Refusal::Usage),
+    }
 }
 
 /// Writes a line to standard error. A fault there changes nothing else.
@@ -82,9 +90,10 @@ fn end<S: Source, O: Sink, E: Sink>(
     out: &mut O,
     err: &mut E,
 ) -> Ending
-    ensures { outcome.Ends (name_of words.now) (S.file source.old) (S.faults source.old) (S.faults source.new) (S.left source.new)
+    ensures ends { outcome.Ends (name_of words.now) (S.file source.old) (S.faults source.old) (S.faults source.new) (S.left source.new)
         (O.taken out.old) (O.taken out.new) (O.faults out.old) (O.faults out.new)
         (E.taken err.old) (E.taken err.new) (E.faults err.old) (E.faults err.new) result }
+    ensures untouched { name_of words.now ≡ None → source.new ≡ source.old }
 {
     match answer(alloc, words, source) {
         Ok(verdict) => match write_all(out, report(verdict)) {
@@ -115,6 +124,8 @@ pub fn run<R, S: Source, O: Sink, E: Sink>(
     ensures rows { outcome.Rows (name_of words.now) (S.file source.old) (S.faults source.old) (S.faults source.new) (S.left source.new)
         (O.taken out.old) (O.taken out.new) (O.faults out.old) (O.faults out.new)
         (E.taken err.old) (E.taken err.new) (E.faults err.old) (E.faults err.new) result }
+    // Where the words are refused, nothing is started or read.
+    ensures untouched { name_of words.now ≡ None → source.new ≡ source.old }
 {
     match end(alloc, words, source, out, err) {
         Ending::Reported(Verdict::Accepted) => 0,

@@ -24,11 +24,12 @@ returns-in-Refused g c =
     record {
       rows =
           subst (λ (status : ℕ). Rows named file source_before source_after left out_old out_new out_before out_after err_old err_new err_before err_after status) (sym c.status.ensures)
-          (rows named file source_before source_after left out_old out_new out_before out_after err_old err_new err_before err_after (Refused c.in-Refused.refusal) c.in-Refused.ensures);
+          (rows named file source_before source_after left out_old out_new out_before out_after err_old err_new err_before err_after (Refused c.in-Refused.refusal) c.in-Refused.ensures.ends);
+      untouched = c.end.ensures.untouched;
     }
 
 pub returns-in-Reported-Accepted : goal.returns-in-Reported-Accepted
-returns-in-Reported-Accepted g c = record { rows = rows_of _ _ _ _ _ _ _ _ _ _ _ _ _ (Reported c.in-Reported-Accepted.field-0) (Reported Accepted) (ap Reported c.in-Reported-Accepted.field-0-is) c.in-Reported-Accepted.ensures }
+returns-in-Reported-Accepted g c = record { rows = rows_of _ _ _ _ _ _ _ _ _ _ _ _ _ (Reported c.in-Reported-Accepted.field-0) (Reported Accepted) (ap Reported c.in-Reported-Accepted.field-0-is) c.in-Reported-Accepted.ensures.ends; untouched = c.end.ensures.untouched }
 
 pub returns-in-Reported-Rejected : goal.returns-in-Reported-Rejected
-returns-in-Reported-Rejected g c = record { rows = rows_of _ _ _ _ _ _ _ _ _ _ _ _ _ (Reported c.in-Reported-Rejected.field-0) (Reported Rejected) (ap Reported c.in-Reported-Rejected.field-0-is) c.in-Reported-Rejected.ensures }
+returns-in-Reported-Rejected g c = record { rows = rows_of _ _ _ _ _ _ _ _ _ _ _ _ _ (Reported c.in-Reported-Rejected.field-0) (Reported Rejected) (ap Reported c.in-Reported-Rejected.field-0-is) c.in-Reported-Rejected.ensures.ends; untouched = c.end.ensures.untouched }
