@@ -1,0 +1,4 @@
+pub mod PrefixLemmas
+pub mod SeatLemmas
+pub mod EventLemmas
+pub mod KindLemmas

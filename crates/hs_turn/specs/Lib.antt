@@ -1,0 +1,5 @@
+pub mod Story
+pub mod Views
+pub mod Seats
+pub mod Rule
+pub mod Steps
