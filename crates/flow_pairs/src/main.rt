@@ -55,9 +55,9 @@ fn main(rt: HostRuntime) -> ExitCode {
     let mut out = StdSink::out(&rt);
     let text = match flow(rt.alloc(), &mut source) {
         Ok(table) => {
-            let pairs = table.pairs;
-            let heads = table.heads;
-            format!(in rt.alloc(); "{} flow pairs, {} head pairs\n", pairs.len(), heads.len())
+            let pairs = table.pairs.len();
+            let heads = table.heads.len();
+            format!(in rt.alloc(); "{pairs} flow pairs, {heads} head pairs\n")
         }
         Err(Fault::TooManyPairs) => format!(in rt.alloc(); "more than {MOST_PAIRS} pairs\n"),
         Err(Fault::NoScheme) => return ExitCode::from(1),

@@ -15,15 +15,14 @@ use Rattle.hs_resolve.specs.Answer.{IsFaultless, IsAnswered}
 use Rattle.hs_resolve.proofs.FirstFault.{not_both, one_fault_is as one_name_fault}
 use Rattle.hs_sorts.specs.declared.fault.SortFault.{SortFault}
 use Rattle.hs_sorts.specs.declared.fault.SortFault.TheVariants as sorts
-use Rattle.hs_sorts.specs.Inference.{HasSmallSorts, IsFaultOf}
-use Rattle.hs_sorts.proofs.Excluding.{only_memory, inferred_small, one_fault_is as one_sort_fault}
+use Rattle.hs_sorts.specs.Inference.{IsInferable, IsFaultOf}
+use Rattle.hs_sorts.proofs.Excluding.{only_memory, inferred_inferable, one_fault_is as one_sort_fault}
 use Rattle.hs_app.specs.declared.refusal.Refusal.{Refusal}
-use Rattle.hs_app.specs.declared.refusal.Refusal.TheVariants.{Usage, Source, FileTooLong, Syntax, Limit, Names, IllSorted, NotFirstOrder, SortTooLarge, NotYet, Sink, OutOfMemory}
+use Rattle.hs_app.specs.declared.refusal.Refusal.TheVariants.{Usage, Source, FileTooLong, Syntax, Limit, Names, IllSorted, NotFirstOrder, SortTooLarge, RuleTooLong, NotYet, Sink, OutOfMemory}
 use Rattle.hs_app.specs.declared.verdict.Verdict.{Verdict}
 use Rattle.hs_app.specs.declared.verdict.Verdict.TheVariants.{Accepted, Rejected}
 use Rattle.hs_app.specs.Saturation.{Rejects}
-use Rattle.hs_app.proofs.SaturationLemmas.{plain_at}
-use Rattle.hs_app.specs.Verdict.{IsScheme, IsSound, NoParameters, HasParameters, Decides, Answers}
+use Rattle.hs_app.specs.Verdict.{IsScheme, IsSound, AreTrees, HasFunction, Decides, DecidesScheme, Answers}
 
 -- ---- what an answer says of each layer
 
@@ -31,16 +30,17 @@ abbrev TellsSort : UnsortedData → SortFault → Result Verdict Refusal → Typ
 TellsSort u (sorts.IllSorted rule) r = r ≡ Err (IllSorted rule)
 TellsSort u (sorts.TerminalNotFirstOrder a) r = (name : List ℕ) × (slice_get u.names.terminals a ≡ Some name) × (r ≡ Err (NotFirstOrder name))
 TellsSort u (sorts.SortTooLarge rule) r = r ≡ Err (SortTooLarge rule)
+TellsSort u (sorts.RuleTooLong rule) r = r ≡ Err (RuleTooLong rule)
 TellsSort u sorts.OutOfMemory r = ⊥
 
 abbrev Wants : Result Verdict Refusal → Type 0
 Wants r = r ≡ Err OutOfMemory
 
 abbrev AtSorted : UnsortedData → Result Verdict Refusal → Type 0
-AtSorted u r = Decides u.rules u.automaton.transitions r
+AtSorted u r = DecidesScheme u r
 
 abbrev AtScheme : UnsortedData → Result Verdict Refusal → Type 0
-AtScheme u r = ((f : SortFault) × IsFaultOf u.rules u.ranks f × TellsSort u f r) ⊎ (HasSmallSorts u.rules u.ranks × AtSorted u r)
+AtScheme u r = ((f : SortFault) × IsFaultOf u.rules u.ranks f × TellsSort u f r) ⊎ (IsInferable u.rules u.ranks × AtSorted u r)
 
 abbrev AtFile : File → Result Verdict Refusal → Type 0
 AtFile file r = ((f : NameFault) × IsAnswered file f × (r ≡ Err (Names f))) ⊎ (IsFaultless file × AtScheme (unsorted_of file) r)
@@ -61,7 +61,7 @@ module _ (bytes : List ℕ) where
   of_scheme u r s h = record { answer = Ok s.file; is = s.reads; at = inr (s.faultless, subst (λ (v : UnsortedData). AtScheme v r) s.is h) }
 
   of_sound : (u : UnsortedData) (r : Result Verdict Refusal) → IsSound bytes u → AtSorted u r → Layered bytes r
-  of_sound u r s h = of_scheme u r s.of_bytes (inr (inferred_small u s.sorted s.inferred, h))
+  of_sound u r s h = of_scheme u r s.of_bytes (inr (inferred_inferable u s.sorted s.inferred, h))
 
   layered : (r : Result Verdict Refusal) → Answers bytes r → Wants r ⊎ Layered bytes r
   layered (Ok Accepted) h = inr (of_sound h.scheme (Ok Accepted) h.sound (h.plain, h.accepts))
@@ -76,7 +76,8 @@ module _ (bytes : List ℕ) where
   layered (Err (NotFirstOrder terminal)) h =
       inr (of_scheme h.scheme (Err (NotFirstOrder terminal)) h.of_bytes (inl (sorts.TerminalNotFirstOrder h.fault.number, h.fault.fault, (terminal, h.fault.named, refl))))
   layered (Err (SortTooLarge rule)) h = inr (of_scheme h.scheme (Err (SortTooLarge rule)) h.of_bytes (inl (sorts.SortTooLarge rule, h.fault, refl)))
-  layered (Err NotYet) h = inr (of_sound h.scheme (Err NotYet) h.sound h.parameters)
+  layered (Err (RuleTooLong rule)) h = inr (of_scheme h.scheme (Err (RuleTooLong rule)) h.of_bytes (inl (sorts.RuleTooLong rule, h.fault, refl)))
+  layered (Err NotYet) h = inr (of_sound h.scheme (Err NotYet) h.sound h.function)
   layered (Err Sink) h = absurd h
   layered (Err OutOfMemory) h = inl refl
 
@@ -85,50 +86,51 @@ module _ (bytes : List ℕ) where
 not_accepted : (rules : List Rule) (ts : List TransitionData) → Accepts rules ts → Rejects rules ts → ⊥
 not_accepted rules ts accepted (n, refused) = let e : true ≡ false = sym (accepted n) ∙ refused in (cc)
 
-not_plain : (rules : List Rule) → NoParameters rules → HasParameters rules → ⊥
-not_plain rules none h = h.has (plain_at rules none h.number h.rule h.stands)
+not_plain : (u : UnsortedData) → AreTrees u → HasFunction u → ⊥
+not_plain u trees h = h.takes (trees h.sorts h.least h.number h.in_range)
 
--- what is answered on rules with sorts
-abbrev Decided : List Rule → List TransitionData → Result Verdict Refusal → Type 0
-Decided rules ts a =
-    ((a ≡ Ok Accepted) × NoParameters rules × Accepts rules ts)
-    ⊎ (((a ≡ Ok Rejected) × NoParameters rules × Rejects rules ts)
-    ⊎ ((a ≡ Err NotYet) × HasParameters rules))
+-- what is answered on a scheme with sorts
+abbrev Decided : UnsortedData → Result Verdict Refusal → Type 0
+Decided u a =
+    ((a ≡ Ok Accepted) × AreTrees u × Accepts u.rules u.automaton.transitions)
+    ⊎ (((a ≡ Ok Rejected) × AreTrees u × Rejects u.rules u.automaton.transitions)
+    ⊎ ((a ≡ Err NotYet) × HasFunction u))
 
-decided_as : (rules : List Rule) (ts : List TransitionData) (a : Result Verdict Refusal) → Decides rules ts a → Wants a ⊎ Decided rules ts a
-decided_as rules ts (Ok Accepted) p = inr (inl (refl, p.0, p.1))
-decided_as rules ts (Ok Rejected) p = inr (inr (inl (refl, p.0, p.1)))
-decided_as rules ts (Err NotYet) p = inr (inr (inr (refl, p)))
-decided_as rules ts (Err OutOfMemory) p = inl refl
-decided_as rules ts (Err Usage) p = absurd p
-decided_as rules ts (Err Source) p = absurd p
-decided_as rules ts (Err FileTooLong) p = absurd p
-decided_as rules ts (Err (Syntax line)) p = absurd p
-decided_as rules ts (Err (Limit which)) p = absurd p
-decided_as rules ts (Err (Names fault)) p = absurd p
-decided_as rules ts (Err (IllSorted rule)) p = absurd p
-decided_as rules ts (Err (NotFirstOrder terminal)) p = absurd p
-decided_as rules ts (Err (SortTooLarge rule)) p = absurd p
-decided_as rules ts (Err Sink) p = absurd p
+decided_as : (u : UnsortedData) (a : Result Verdict Refusal) → DecidesScheme u a → Wants a ⊎ Decided u a
+decided_as u (Ok Accepted) p = inr (inl (refl, p.0, p.1))
+decided_as u (Ok Rejected) p = inr (inr (inl (refl, p.0, p.1)))
+decided_as u (Err NotYet) p = inr (inr (inr (refl, p)))
+decided_as u (Err OutOfMemory) p = inl refl
+decided_as u (Err Usage) p = absurd p
+decided_as u (Err Source) p = absurd p
+decided_as u (Err FileTooLong) p = absurd p
+decided_as u (Err (Syntax line)) p = absurd p
+decided_as u (Err (Limit which)) p = absurd p
+decided_as u (Err (Names fault)) p = absurd p
+decided_as u (Err (IllSorted rule)) p = absurd p
+decided_as u (Err (NotFirstOrder terminal)) p = absurd p
+decided_as u (Err (SortTooLarge rule)) p = absurd p
+decided_as u (Err (RuleTooLong rule)) p = absurd p
+decided_as u (Err Sink) p = absurd p
 
-same_decision : (rules : List Rule) (ts : List TransitionData) (a b : Result Verdict Refusal) → Decided rules ts a → Decided rules ts b → a ≡ b
-same_decision rules ts a b (inl (e, plain, reads)) (inl (d, plain', reads')) = e ∙ sym d
-same_decision rules ts a b (inl (e, plain, reads)) (inr (inl (d, plain', refused))) = absurd (not_accepted rules ts reads refused)
-same_decision rules ts a b (inl (e, plain, reads)) (inr (inr (d, has))) = absurd (not_plain rules plain has)
-same_decision rules ts a b (inr (inl (e, plain, refused))) (inl (d, plain', reads)) = absurd (not_accepted rules ts reads refused)
-same_decision rules ts a b (inr (inl (e, plain, refused))) (inr (inl (d, plain', refused'))) = e ∙ sym d
-same_decision rules ts a b (inr (inl (e, plain, refused))) (inr (inr (d, has))) = absurd (not_plain rules plain has)
-same_decision rules ts a b (inr (inr (e, has))) (inl (d, plain, reads)) = absurd (not_plain rules plain has)
-same_decision rules ts a b (inr (inr (e, has))) (inr (inl (d, plain, refused))) = absurd (not_plain rules plain has)
-same_decision rules ts a b (inr (inr (e, has))) (inr (inr (d, has'))) = e ∙ sym d
+same_decision : (u : UnsortedData) (a b : Result Verdict Refusal) → Decided u a → Decided u b → a ≡ b
+same_decision u a b (inl (e, plain, reads)) (inl (d, plain', reads')) = e ∙ sym d
+same_decision u a b (inl (e, plain, reads)) (inr (inl (d, plain', refused))) = absurd (not_accepted u.rules u.automaton.transitions reads refused)
+same_decision u a b (inl (e, plain, reads)) (inr (inr (d, has))) = absurd (not_plain u plain has)
+same_decision u a b (inr (inl (e, plain, refused))) (inl (d, plain', reads)) = absurd (not_accepted u.rules u.automaton.transitions reads refused)
+same_decision u a b (inr (inl (e, plain, refused))) (inr (inl (d, plain', refused'))) = e ∙ sym d
+same_decision u a b (inr (inl (e, plain, refused))) (inr (inr (d, has))) = absurd (not_plain u plain has)
+same_decision u a b (inr (inr (e, has))) (inl (d, plain, reads)) = absurd (not_plain u plain has)
+same_decision u a b (inr (inr (e, has))) (inr (inl (d, plain, refused))) = absurd (not_plain u plain has)
+same_decision u a b (inr (inr (e, has))) (inr (inr (d, has'))) = e ∙ sym d
 
-decided_once : (rules : List Rule) (ts : List TransitionData) (a b : Result Verdict Refusal) → Decides rules ts a → Decides rules ts b → Wants a ⊎ (Wants b ⊎ (a ≡ b))
-decided_once rules ts a b p q =
-    elim (decided_as rules ts a p) [
+decided_once : (u : UnsortedData) (a b : Result Verdict Refusal) → DecidesScheme u a → DecidesScheme u b → Wants a ⊎ (Wants b ⊎ (a ≡ b))
+decided_once u a b p q =
+    elim (decided_as u a p) [
       | inl e ↦ inl e
-      | inr d ↦ elim (decided_as rules ts b q) [
+      | inr d ↦ elim (decided_as u b q) [
         | inl e ↦ inr (inl e)
-        | inr d' ↦ inr (inr (same_decision rules ts a b d d'))
+        | inr d' ↦ inr (inr (same_decision u a b d d'))
       ]
     ]
 
@@ -137,6 +139,7 @@ told_once u (sorts.IllSorted rule) a b p q = p ∙ sym q
 told_once u (sorts.TerminalNotFirstOrder t) a b (m, at, is) (n, at', is') =
     let e : m ≡ n = cc in is ∙ (ap (λ (name : List ℕ). Err (NotFirstOrder name)) e ∙ sym is')
 told_once u (sorts.SortTooLarge rule) a b p q = p ∙ sym q
+told_once u (sorts.RuleTooLong rule) a b p q = p ∙ sym q
 told_once u sorts.OutOfMemory a b p q = absurd p
 
 told_of_memory : (u : UnsortedData) (f : SortFault) (a : Result Verdict Refusal) → f ≡ sorts.OutOfMemory → TellsSort u f a → ⊥
@@ -151,7 +154,7 @@ scheme_once u a b (inl (f, is, tells)) (inl (g, is', tells')) =
     ]
 scheme_once u a b (inl (f, is, tells)) (inr (small, at)) = absurd (told_of_memory u f a (only_memory u.rules u.ranks f small is) tells)
 scheme_once u a b (inr (small, at)) (inl (g, is, tells)) = absurd (told_of_memory u g b (only_memory u.rules u.ranks g small is) tells)
-scheme_once u a b (inr (small, at)) (inr (small', at')) = decided_once u.rules u.automaton.transitions a b at at'
+scheme_once u a b (inr (small, at)) (inr (small', at')) = decided_once u a b at at'
 
 file_once : (file : File) (a b : Result Verdict Refusal) → AtFile file a → AtFile file b → Wants a ⊎ (Wants b ⊎ (a ≡ b))
 file_once file a b (inl (f, is, e)) (inl (g, is', e')) = inr (inr (e ∙ (ap (λ (k : NameFault). Err (Names k)) (one_name_fault file f g is is') ∙ sym e')))
@@ -178,16 +181,16 @@ answered_once bytes a b p q =
 
 -- ---- the answer on bytes without faults
 
-verdict_of : (u : UnsortedData) (r : Result Verdict Refusal) → NoParameters u.rules → AtSorted u r → Wants r ⊎ ((v : Verdict) × (r ≡ Ok v))
+verdict_of : (u : UnsortedData) (r : Result Verdict Refusal) → AreTrees u → AtSorted u r → Wants r ⊎ ((v : Verdict) × (r ≡ Ok v))
 verdict_of u r plain h =
-    elim (decided_as u.rules u.automaton.transitions r h) [
+    elim (decided_as u r h) [
       | inl e ↦ inl e
       | inr (inl (e, plain', reads)) ↦ inr (Accepted, e)
       | inr (inr (inl (e, plain', refused))) ↦ inr (Rejected, e)
-      | inr (inr (inr (e, has))) ↦ absurd (not_plain u.rules plain has)
+      | inr (inr (inr (e, has))) ↦ absurd (not_plain u plain has)
     ]
 
-at_scheme : (u : UnsortedData) (r : Result Verdict Refusal) → HasSmallSorts u.rules u.ranks → AtScheme u r → AtSorted u r
+at_scheme : (u : UnsortedData) (r : Result Verdict Refusal) → IsInferable u.rules u.ranks → AtScheme u r → AtSorted u r
 at_scheme u r small (inl (f, is, tells)) = absurd (told_of_memory u f r (only_memory u.rules u.ranks f small is) tells)
 at_scheme u r small (inr (small', at)) = at
 
@@ -195,7 +198,7 @@ at_file : (file : File) (r : Result Verdict Refusal) → IsFaultless file → At
 at_file file r clean (inl (f, is, e)) = absurd (not_both file f clean is)
 at_file file r clean (inr (clean', at)) = at
 
-pub sound_has_verdict : (bytes : List ℕ) (u : UnsortedData) (r : Result Verdict Refusal) → IsSound bytes u → NoParameters u.rules → Answers bytes r
+pub sound_has_verdict : (bytes : List ℕ) (u : UnsortedData) (r : Result Verdict Refusal) → IsSound bytes u → AreTrees u → Answers bytes r
     → Wants r ⊎ ((v : Verdict) × (r ≡ Ok v))
 sound_has_verdict bytes u r s plain h =
     elim (layered bytes r h) [
@@ -204,5 +207,5 @@ sound_has_verdict bytes u r s plain h =
           let of = s.of_bytes in
           let at = subst (λ (a : Result File ReadFault). AtBytes a r) (one_answer_is bytes l.answer (Ok of.file) l.is of.reads) l.at in
           let here : AtScheme u r = subst (λ (v : UnsortedData). AtScheme v r) (sym of.is) (at_file of.file r of.faultless at) in
-          verdict_of u r plain (at_scheme u r (inferred_small u s.sorted s.inferred) here)
+          verdict_of u r plain (at_scheme u r (inferred_inferable u s.sorted s.inferred) here)
     ]

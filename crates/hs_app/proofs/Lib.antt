@@ -1,5 +1,7 @@
 pub mod PointLemmas
 pub mod SaturationLemmas
+pub mod BareLemmas
+pub mod FullLemmas
 pub mod AnswerLemmas
 pub mod OutcomeLemmas
 pub mod VerdictLemmas

@@ -1,13 +1,13 @@
 -- The tokens of the canonical file are those of a file.
 use Rattle.std.proofs.Common.{◌≡◌, refl, sym, ◌∙◌, ap, subst, ℕ, ◌+◌, List, [], ◌∷◌, ◌++◌, map, append_assoc}
 use Rattle.std.specs.List.{flat_map, AllByRecursion}
+use Rattle.std.proofs.lemmas.List.{append-nil}
 use Rattle.hs_scheme.specs.Tree.{Tree, Trees, node, none, more, join}
 use Rattle.hs_reader.specs.declared.raw.RawName.{RawName}
 use Rattle.hs_reader.specs.Raw.{Rule, Transition, File}
 use Rattle.hs_reader.specs.Tokens.{Token, word, rules_begin, rules_end, automaton_begin, arrow, dot, left, right, end_of_file, Placed, Piece, blank, comment, token, token_bytes, line_ends, placed}
 use Rattle.hs_reader.specs.Grammar.{IsUpper, IsLower, with_last, IsAtom, name, enclosed, IsTerm, first, then, IsRule, IsTransition, Sequence, IsFile}
 use Rattle.hs_reader.specs.Limits.{IsRaw}
-use Rattle.hs_resolve.proofs.Lists.{append-nil}
 use Rattle.hs_app.proofs.Pieces.{opened, closed, term_pieces, args_pieces, params_pieces, rule_pieces, rules_pieces, each_state, states_pieces, transition_pieces, transitions_pieces, end_pieces, middle_pieces, file_pieces}
 
 abbrev tokens_of : List Piece → List Token

@@ -2,14 +2,14 @@
 use Rattle.std.proofs.Common.{◌≡◌, refl, sym, ◌∙◌, ap, subst, ℕ, zero, suc, ◌+◌, ◌≤◌, Bool, true, false, cond, ◌||◌, List, [], ◌∷◌, ◌++◌, length, take, map, filter, slice_get, Some, option_map}
 use Rattle.std.specs.List.{flat_map, list_any, AllByRecursion}
 use Rattle.std.specs.Str.{bytes_eq}
-use Rattle.std.proofs.lemmas.List.{map-append}
+use Rattle.std.proofs.lemmas.List.{map-append, length-map}
 use Rattle.hs_scheme.specs.Tree.{Tree, Trees, node, none, more, children}
 use Rattle.hs_reader.specs.declared.raw.RawName.{RawName}
 use Rattle.hs_reader.specs.Raw.{Rule, Transition, File}
 use Rattle.hs_reader.specs.Limits.{term_names, terms_names, HasFewArguments, HaveFewArguments}
 use Rattle.hs_resolve.specs.Names.{texts, distinct, number}
 use Rattle.hs_resolve.specs.Numbering.{left_names, is_terminal, terminals_in, terminal_names, states_in, state_names, head_of, numbered, numbered_each, rule_of, transition_of, first_of, rank_of, unsorted_of}
-use Rattle.hs_resolve.proofs.Lists.{map-map, len-map}
+use Rattle.hs_resolve.proofs.Lists.{map-map}
 
 abbrev pub reline : ℕ → RawName → RawName
 reline line name = record { text = name.text; line = line }
@@ -110,7 +110,7 @@ states_in-same line t = ap (λ ts. t.from.text ∷ ts) (texts-reline line t.to)
 
 rule_of-same : (rules terminals : List (List ℕ)) (line : ℕ) (r : Rule) → rule_of rules terminals (reline_rule line r) ≡ rule_of rules terminals r
 rule_of-same rules terminals line r =
-    (λ i. record { params = len-map (reline line) r.params i; body = numbered (head_of rules (texts-reline line r.params i) terminals) (reline_tree line r.body) })
+    (λ i. record { params = length-map r.params (reline line) i; body = numbered (head_of rules (texts-reline line r.params i) terminals) (reline_tree line r.body) })
     ∙ ap (λ b. record { params = length r.params; body = b }) (numbered-tree rules (texts r.params) terminals line r.body)
 
 transition_of-same : (states terminals : List (List ℕ)) (line : ℕ) (t : Transition) → transition_of states terminals (reline_transition line t) ≡ transition_of states terminals t
@@ -122,7 +122,7 @@ pub rank-same : (line : ℕ) (ts : List Transition) (x : List ℕ) → rank_of (
 rank-same line [] x = refl
 rank-same line (t ∷ ts) x =
     elim (bytes_eq x t.terminal.text) as (λ b. option_map (λ u. length u.to) (cond b (Some (reline_transition line t)) (first_of (lined reline_transition (line + 1) ts) x)) ≡ option_map (λ u. length u.to) (cond b (Some t) (first_of ts x))) [
-      | true ↦ ap (λ n. Some n) (len-map (reline line) t.to)
+      | true ↦ ap (λ n. Some n) (length-map t.to (reline line))
       | false ↦ rank-same (line + 1) ts x
     ]
 

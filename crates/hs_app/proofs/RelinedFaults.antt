@@ -1,8 +1,8 @@
 -- A file with other lines has no other faults, and is within the same limits.
 use Rattle.std.proofs.Common.{◌≡◌, ◌≢◌, refl, sym, ◌∙◌, ap, subst, ℕ, ◌+◌, ◌<◌, ◌≤◌, true, false, List, [], ◌∷◌, ◌++◌, length, take, map, slice_get, Option, Some, None, option_map, IsTrue, inl, inr, arith}
 use Rattle.std.specs.List.{flat_map, list_any, list_all, AllByRecursion}
-use Rattle.std.proofs.lemmas.List.{map-append}
-use Rattle.std.proofs.lemmas.Option.{slice_get-map}
+use Rattle.std.proofs.lemmas.List.{map-append, length-map}
+use Rattle.std.proofs.lemmas.Option.{slice_get-map, same_Some}
 use Rattle.hs_reader.specs.declared.raw.RawName.{RawName}
 use Rattle.hs_reader.specs.Raw.{Rule, Transition, File}
 use Rattle.hs_reader.specs.Tokens.{is_name_byte}
@@ -12,12 +12,12 @@ use Rattle.hs_resolve.specs.Names.{texts, is_among}
 use Rattle.hs_resolve.specs.Numbering.{left, first_of, rank_of}
 use Rattle.hs_resolve.specs.LineFaults.{Repeats, same_left}
 use Rattle.hs_resolve.specs.Answer.{HasNoLineFault, IsFaultless}
-use Rattle.hs_resolve.proofs.Lists.{at_map, len-map, same_some}
+use Rattle.hs_resolve.proofs.Lists.{at_map}
 use Rattle.hs_app.proofs.Relined.{reline, reline_rule, reline_transition, lined, relined, len-lined, flat_map-lined, any-lined, take-lined, all-lined, at-lined, texts-reline, texts-tree, few-tree, rank-same, left-same, states-same}
 
 image-of : {A B : Type 0} (f : A → B) (o : Option A) (y : B) → option_map f o ≡ Some y → (x : A) × ((o ≡ Some x) × (f x ≡ y))
 image-of f None y h = absurd (cc)
-image-of f (Some x) y h = (x, (refl, same_some (f x) y h))
+image-of f (Some x) y h = (x, (refl, same_Some (f x) y h))
 
 -- the name at the same place of a list with the same texts
 name-at : (xs ys : List RawName) (i : ℕ) (n : RawName) → texts xs ≡ texts ys → slice_get xs i ≡ Some n → (m : RawName) × ((slice_get ys i ≡ Some m) × (m.text ≡ n.text))
@@ -56,7 +56,7 @@ module _ (raw : File) (clean : IsFaultless raw) where
       }))))
   no_line line (inr (inr (inr (inl h)))) =
       let a = at-lined reline_rule 2 raw.rules 0 h.0 h.1 in
-      let e : length h.0.params ≡ length a.0.params = ap (λ (s : Rule). length s.params) (sym a.1.1.1) ∙ len-map (reline a.1.1.0) a.0.params in
+      let e : length h.0.params ≡ length a.0.params = ap (λ (s : Rule). length s.params) (sym a.1.1.1) ∙ length-map a.0.params (reline a.1.1.0) in
       clean.lines a.0.name.line (inr (inr (inr (inl (a.0, a.1.0, refl, subst (λ n. 0 < n) e h.3)))))
   no_line line (inr (inr (inr (inr (inl h))))) =
       let first = length raw.rules + 4 in
@@ -73,7 +73,7 @@ module _ (raw : File) (clean : IsFaultless raw) where
       sym (rank-same begin raw.transitions a.0.terminal.text)
       ∙ (ap (λ (v : Transition). rank_of (relined raw).transitions v.terminal.text) a.1.1.1 ∙ ap (option_map (λ u. length u.to)) h.holds.2) in
       let first = image-of (λ u. length u.to) (first_of raw.transitions a.0.terminal.text) (length longer.to) known in
-      let len : length h.item.to ≡ length a.0.to = ap (λ (v : Transition). length v.to) (sym a.1.1.1) ∙ len-map (reline a.1.1.0) a.0.to in
+      let len : length h.item.to ≡ length a.0.to = ap (λ (v : Transition). length v.to) (sym a.1.1.1) ∙ length-map a.0.to (reline a.1.1.0) in
       clean.lines a.0.from.line (inr (inr (inr (inr (inr (record {
         place = h.place;
         item = a.0;
@@ -128,7 +128,7 @@ raw-same raw old =
     let rules = len-lined reline_rule 2 raw.rules in
     let transitions = len-lined reline_transition first raw.transitions in
     let count : length (names (relined raw)) ≡ length (names raw) =
-    sym (len-map (λ (n : RawName). n.text) (names (relined raw))) ∙ (ap (λ ts. length ts) (names-same raw) ∙ len-map (λ (n : RawName). n.text) (names raw)) in
+    sym (length-map (names (relined raw)) (λ (n : RawName). n.text)) ∙ (ap (λ ts. length ts) (names-same raw) ∙ length-map (names raw) (λ (n : RawName). n.text)) in
     record {
       has_rule = λ e. old.has_rule (lined-empty reline_rule 2 raw.rules e);
       has_transition = λ e. old.has_transition (lined-empty reline_transition first raw.transitions e);
@@ -140,10 +140,10 @@ raw-same raw old =
       within = record {
         names = all-texts (λ t. length t ≤ 200) (names (relined raw)) (names raw) (names-same raw) old.within.names;
         rules = omega (arith, rules, old.within.rules);
-        parameters = all-lined reline_rule (λ r. length r.params ≤ 64) (λ line r h. subst (λ n. n ≤ 64) (sym (len-map (reline line) r.params)) h) 2 raw.rules old.within.parameters;
+        parameters = all-lined reline_rule (λ r. length r.params ≤ 64) (λ line r h. subst (λ n. n ≤ 64) (sym (length-map r.params (reline line))) h) 2 raw.rules old.within.parameters;
         arguments = all-lined reline_rule (λ r. HasFewArguments r.body) (λ line r h. few-tree line r.body h) 2 raw.rules old.within.arguments;
         transitions = omega (arith, transitions, old.within.transitions);
-        children = all-lined reline_transition (λ t. length t.to ≤ 64) (λ line t h. subst (λ n. n ≤ 64) (sym (len-map (reline line) t.to)) h) first raw.transitions old.within.children;
+        children = all-lined reline_transition (λ t. length t.to ≤ 64) (λ line t h. subst (λ n. n ≤ 64) (sym (length-map t.to (reline line))) h) first raw.transitions old.within.children;
       };
       count = omega (arith, count, old.count);
     }

@@ -1,9 +1,8 @@
 -- The saturation over pairs decides acceptance.
-use Rattle.std.proofs.Common.{◌≡◌, refl, sym, ◌∙◌, ap, subst, ℕ, zero, suc, ◌+◌, ◌<◌, Bool, true, false, nat_eq, List, [], ◌∷◌, ◌++◌, length, slice_get, Option, Some, None, ◌⊎◌, inl, inr, All, cond, ◌&&◌, ◌||◌, append_assoc, append-nil, ◌≤◌, add-one, arith}
+use Rattle.std.proofs.Common.{◌≡◌, refl, sym, ◌∙◌, ap, subst, ℕ, zero, suc, ◌+◌, ◌<◌, Bool, true, false, nat_eq, nat_le, List, [], ◌∷◌, ◌++◌, length, take, drop, slice_get, Some, None, ◌⊎◌, inl, inr, All, cond, ◌&&◌, ◌||◌, append_assoc, append-nil, ◌≤◌, add-one, arith}
 use Rattle.std.specs.List.{list_any}
 use Rattle.indexmap.specs.IndexSet.{insert_key}
 use Rattle.std.proofs.lemmas.Bool.{eqb-true}
-use Rattle.std.proofs.Math.Dec.{eqb-suc-zero}
 use Rattle.std.proofs.lemmas.Option.{slice_get_within, slice_get_cases, get_or_from_slice_get}
 use Rattle.std.proofs.Math.Nat.{eq-or-lt_of_le}
 use Rattle.hs_scheme.specs.declared.term.Head.{Head}
@@ -11,17 +10,17 @@ use Rattle.hs_scheme.specs.declared.term.Head.TheVariants.{Var, Nt, Tm}
 use Rattle.hs_scheme.specs.declared.term.Rule.{Rule}
 use Rattle.hs_scheme.specs.Transition.{TransitionData}
 use Rattle.hs_scheme.specs.Automaton.{next}
-use Rattle.hs_scheme.specs.Tree.{Tree, Trees, node, none, more, children}
+use Rattle.hs_scheme.specs.Tree.{Tree, Trees, node, none, more, join, children, forest}
 use Rattle.hs_scheme.specs.Replacement.{replaced, applied}
 use Rattle.hs_scheme.specs.Replacement as replacement
-use Rattle.hs_scheme.specs.Cut.{cut, unfolded, body_with}
+use Rattle.hs_scheme.specs.Cut.{cut, unfolded, body_of, body_with}
 use Rattle.hs_scheme.specs.Run.{run, start, Accepts}
-use Rattle.hs_scheme.specs.Steps.{StepsTo, IsStuck}
-use Rattle.hs_scheme.proofs.Refusal.{stuck_refused, step_refused, refused_only}
+use Rattle.hs_scheme.specs.Steps.{Path, StepsTo, IsStuck}
+use Rattle.hs_steps.proofs.Refusal.{stuck_refused, step_refused, refused_only}
 use Rattle.hs_app.specs.declared.points.Point.{Point}
 use Rattle.hs_app.specs.declared.pair.Pair.{Pair}
 use Rattle.hs_app.specs.Points.{Stands, StandInRow, StandFor}
-use Rattle.hs_app.specs.Saturation.{Among, Adds, IsChildPair, IsStuckAt, GoesFrom, IsStuckPair, GoesTo, Rejects}
+use Rattle.hs_app.specs.Saturation.{IsBare, AreBare, Among, Adds, IsChildPair, IsStuckAt, GoesFrom, IsStuckPair, GoesTo, Rejects}
 use Rattle.hs_app.proofs.PointLemmas.{same_some, slice_get-front, slice_get-last, slice_get-more, slice_get-back, row_length, row_at_term, row_at_point}
 
 alone : (h : Head) → replaced h [] ≡ node h none
@@ -159,74 +158,94 @@ Adds_body bodies args f p q old new nil at adds = Adds_as old new (λ y. y ≡ r
 pub Adds_no_body : (bodies args : List ℕ) (f q : ℕ) (old : List Pair) → slice_get bodies f ≡ None → Adds old old (GoesFrom bodies [] args q (Nt f))
 Adds_no_body bodies args f q old at = Adds_none old (GoesFrom bodies [] args q (Nt f)) (λ y goes. none_some y.point (sym at ∙ goes.1.0))
 
+join-none : (us : Trees Head) → join us none ≡ us
+join-none none = refl
+join-none (more u us) = ap (more u) (join-none us)
+
+applied-none : (t : Tree Head) → applied t none ≡ t
+applied-none (node h us) = ap (node h) (join-none us)
+
+-- a child of a row without arguments of nonterminals has none of them either
+bare_child : (us : Trees Head) (i : ℕ) (u : Tree Head) → AreBare us → slice_get (children us) i ≡ Some u → IsBare u
+bare_child none i u bare at = absurd (cc)
+bare_child (more v us) zero u bare at = subst IsBare (same_some v u at) bare.0
+bare_child (more v us) (suc i) u bare at = bare_child us i u bare.1 at
+
 -- what a point stands for steps on where the point's pair goes on, and the other way round
-module _ (rules : List Rule) (ts : List TransitionData) (points : List Point) (bodies : List ℕ) (stand : StandFor points bodies rules) (plain : (f : ℕ) (rule : Rule) → slice_get rules f ≡ Some rule → rule.params ≡ 0) where
+module _ (rules : List Rule) (ts : List TransitionData) (points : List Point) (bodies : List ℕ) (stand : StandFor points bodies rules) (plain : (f : ℕ) (rule : Rule) → slice_get rules f ≡ Some rule → (rule.params ≡ 0) × IsBare rule.body) where
+  whole_body : (f : ℕ) (rule : Rule) → slice_get rules f ≡ Some rule → body_of rule [] ≡ rule.body
+  whole_body f rule at =
+      ap (λ n. applied (replacement.subst rule.body (take n [])) (forest (drop n []))) (plain f rule at).0
+      ∙ (applied-none (replacement.subst rule.body []) ∙ subst-nil rule.body)
+
   -- a nonterminal without arguments is replaced by its rule's body
   unfolds : (f : ℕ) (rule : Rule) → slice_get rules f ≡ Some rule → unfolded rules f [] ≡ Some rule.body
-  unfolds f rule at = ap (λ o. body_with o []) at ∙ (ap (λ n. cond (nat_eq 0 n) (Some (replacement.subst rule.body [])) None) (plain f rule at) ∙ ap (λ t. Some t) (subst-nil rule.body))
+  unfolds f rule at =
+      ap (λ o. body_with o []) at
+      ∙ (ap (λ n. cond (nat_le n 0) (Some (body_of rule [])) None) (plain f rule at).0 ∙ ap (λ t. Some t) (whole_body f rule at))
 
-  -- and only one without arguments is
-  unfolds_only : (f : ℕ) (us : List (Tree Head)) (u : Tree Head) → unfolded rules f us ≡ Some u → (rule : Rule) × ((slice_get rules f ≡ Some rule) × ((us ≡ []) × (u ≡ rule.body)))
-  unfolds_only f us u e = by_rule (slice_get rules f) refl e
-    where
-      by_rule : (o : Option Rule) → slice_get rules f ≡ o → body_with o us ≡ Some u → (rule : Rule) × ((slice_get rules f ≡ Some rule) × ((us ≡ []) × (u ≡ rule.body)))
-      by_rule None at h = absurd (cc)
-      by_rule (Some rule) at h = (rule, (at, by_args us (ap (λ n. cond (nat_eq (length us) n) (Some (replacement.subst rule.body us)) None) (sym (plain f rule at)) ∙ h)))
-        where
-          by_args : (vs : List (Tree Head)) → cond (nat_eq (length vs) 0) (Some (replacement.subst rule.body vs)) None ≡ Some u → (vs ≡ []) × (u ≡ rule.body)
-          by_args [] g = (refl, same_some u rule.body (sym g ∙ ap (λ t. Some t) (subst-nil rule.body)))
-          by_args (v ∷ vs) g = absurd (none_some u (sym (ap (λ b. cond b (Some (replacement.subst rule.body (v ∷ vs))) None) (eqb-suc-zero (length vs))) ∙ g))
+  unfolds_only : (f : ℕ) (us : List (Tree Head)) (u : Tree Head) → us ≡ [] → unfolded rules f us ≡ Some u → (rule : Rule) × ((slice_get rules f ≡ Some rule) × (u ≡ rule.body))
+  unfolds_only f us u nil e = elim (slice_get_cases rules f).1 [
+    | inl (rule, _, at, _) ↦ (rule, (at, same_some u rule.body (sym e ∙ (ap (unfolded rules f) nil ∙ unfolds f rule at))))
+    | inr (_, at) ↦ absurd (none_some u (sym (ap (λ o. body_with o us) at) ∙ e))
+  ]
 
   -- a step from the term is a step from its point
-  step_of : (args : List ℕ) (h : Head) (us : Trees Head) (q r : ℕ) (u : Tree Head) → StandInRow points args us → StepsTo rules ts q (node h us) r u
-      → (y : Pair) × (GoesFrom bodies ts args q h y × ((y.state ≡ r) × Stands points y.point u))
-  step_of args (Var j) us q r u row s = absurd s
-  step_of args (Nt f) us q r u row (same, goes) =
-      let only = unfolds_only f (children us) u goes in
+  step_of : (args : List ℕ) (h : Head) (us : Trees Head) (q r : ℕ) (u : Tree Head) (label : Path) → IsBare (node h us) → StandInRow points args us → StepsTo rules ts q (node h us) label r u
+      → (y : Pair) × (GoesFrom bodies ts args q h y × ((y.state ≡ r) × (Stands points y.point u × IsBare u)))
+  step_of args (Var j) us q r u label bare row s = absurd s
+  step_of args (Nt f) us q r u label bare row (silent, same, goes) =
+      let no_terms : children us ≡ [] = ap children bare in
+      let only = unfolds_only f (children us) u no_terms goes in
       let b = stand.each f only.0 only.1.0 in
-      let nil = nil_from args (row_length points args us row ∙ ap (λ xs. length xs) only.1.1.0) in
-      (record { point = b.0; state = r }, ((nil, (b.1.0, same)), (refl, subst (λ (t : Tree Head). Stands points b.0 t) (sym only.1.1.1) b.1.1)))
-  step_of args (Tm a) us q r u row (qs, (e, child)) =
+      let nil = nil_from args (row_length points args us row ∙ ap (λ xs. length xs) no_terms) in (
+        record { point = b.0; state = r },
+        (
+          (nil, (b.1.0, same)),
+          (refl, (subst (λ (t : Tree Head). Stands points b.0 t) (sym only.1.1) b.1.1, subst IsBare (sym only.1.1) (plain f only.0 only.1.0).1)),
+        ),
+      )
+  step_of args (Tm a) us q r u label bare row (qs, e, child) =
       let b = row_at_term points args us child.place u row child.term in
-      (record { point = b.0; state = r }, ((qs, (e, (child.place, (b.1.0, child.state)))), (refl, b.1.1)))
+      (record { point = b.0; state = r }, ((qs, (e, (child.place, (b.1.0, child.state)))), (refl, (b.1.1, bare_child us child.place u bare child.term))))
 
   -- and the other way round
-  of_step : (args : List ℕ) (h : Head) (us : Trees Head) (q : ℕ) (y : Pair) → StandInRow points args us → GoesFrom bodies ts args q h y
-      → (u : Tree Head) × (StepsTo rules ts q (node h us) y.state u × Stands points y.point u)
-  of_step args (Var j) us q y row g = absurd g
-  of_step args (Nt f) us q y row (nil, (at, same)) = elim (slice_get_cases rules f).1 [
+  of_step : (args : List ℕ) (h : Head) (us : Trees Head) (q : ℕ) (y : Pair) → IsBare (node h us) → StandInRow points args us → GoesFrom bodies ts args q h y
+      → (u : Tree Head) × ((label : Path) × (StepsTo rules ts q (node h us) label y.state u × (Stands points y.point u × IsBare u)))
+  of_step args (Var j) us q y bare row g = absurd g
+  of_step args (Nt f) us q y bare row (nil, (at, same)) = elim (slice_get_cases rules f).1 [
     | inl (rule, lt, there, _) ↦
         let b = stand.each f rule there in
-        let no_terms : children us ≡ [] = nil_from (children us) (sym (row_length points args us row) ∙ ap (λ xs. length xs) nil) in
-        (rule.body, ((same, ap (unfolded rules f) no_terms ∙ unfolds f rule there), subst (λ k. Stands points k rule.body) (same_some b.0 y.point (sym b.1.0 ∙ at)) b.1.1))
+        let goes : unfolded rules f (children us) ≡ Some rule.body = ap (λ vs. unfolded rules f (children vs)) bare ∙ unfolds f rule there in
+        (rule.body, ([], ((refl, same, goes), (subst (λ k. Stands points k rule.body) (same_some b.0 y.point (sym b.1.0 ∙ at)) b.1.1, (plain f rule there).1))))
     | inr (past, _) ↦ absurd (omega (arith, slice_get_within bodies f y.point at, stand.long, past))
   ]
-  of_step args (Tm a) us q y row (qs, (e, (i, (at_arg, at_state)))) =
+  of_step args (Tm a) us q y bare row (qs, (e, (i, (at_arg, at_state)))) =
       let b = row_at_point points args us i y.point row at_arg in
-      (b.0, ((qs, (e, record { place = i; state = at_state; term = b.1.0 })), b.1.1))
+      (b.0, ((a, i + 1) ∷ [], ((qs, e, record { place = i; labelled = refl; state = at_state; term = b.1.0 }), (b.1.1, bare_child us i b.0 bare b.1.0))))
 
   stuck_of : (args : List ℕ) (h : Head) (us : Trees Head) (q : ℕ) → StandInRow points args us → IsStuck ts q (node h us) → IsStuckAt ts args q h
   stuck_of args (Var j) us q row s = absurd s
   stuck_of args (Nt f) us q row s = absurd s
   stuck_of args (Tm a) us q row (inl e) = inl e
-  stuck_of args (Tm a) us q row (inr (qs, (e, other))) = inr (qs, (e, λ same. other (same ∙ row_length points args us row)))
+  stuck_of args (Tm a) us q row (inr (qs, e, other)) = inr (qs, (e, λ same. other (same ∙ row_length points args us row)))
 
   of_stuck : (args : List ℕ) (h : Head) (us : Trees Head) (q : ℕ) → StandInRow points args us → IsStuckAt ts args q h → IsStuck ts q (node h us)
   of_stuck args (Var j) us q row s = absurd s
   of_stuck args (Nt f) us q row s = absurd s
   of_stuck args (Tm a) us q row (inl e) = inl e
-  of_stuck args (Tm a) us q row (inr (qs, (e, other))) = inr (qs, (e, λ same. other (same ∙ sym (row_length points args us row))))
+  of_stuck args (Tm a) us q row (inr (qs, (e, other))) = inr (qs, e, λ same. other (same ∙ sym (row_length points args us row)))
 
   -- where nothing that is reached is stuck and all that it goes to is reached, no cut is refused
   never_refused : (reached : List Pair) → ((x : Pair) → Among reached x → (IsStuckPair points ts x → ⊥) × ((y : Pair) → GoesTo points bodies ts x y → Among reached y))
-      → (n : ℕ) (x : Pair) (t : Tree Head) → Among reached x → Stands points x.point t → run ts x.state (cut rules n t) ≡ false → ⊥
-  never_refused reached closed zero x t among s h = true_false h
-  never_refused reached closed (suc n) x (node h us) among (p, (at, (head, row))) refused =
+      → (n : ℕ) (x : Pair) (t : Tree Head) → Among reached x → IsBare t → Stands points x.point t → run ts x.state (cut rules n t) ≡ false → ⊥
+  never_refused reached closed zero x t among bare s h = true_false h
+  never_refused reached closed (suc n) x (node h us) among bare (p, (at, (head, row))) refused =
       elim (refused_only rules ts n x.state (node h us) (rw add-one refused)) [
         | inl stuck ↦ (closed x among).0 (p, (at, subst (IsStuckAt ts p.args.items x.state) (sym head) (stuck_of p.args.items h us x.state row stuck)))
-        | inr l ↦
-            let s = step_of p.args.items h us x.state l.state l.term row l.step in
-            never_refused reached closed n s.0 l.term ((closed x among).1 s.0 (p, (at, subst (λ (k : Head). GoesFrom bodies ts p.args.items x.state k s.0) (sym head) s.1.0))) s.1.1.1
+        | inr (path, l) ↦
+            let s = step_of p.args.items h us x.state l.state l.term l.label bare row l.step in
+            never_refused reached closed n s.0 l.term ((closed x among).1 s.0 (p, (at, subst (λ (k : Head). GoesFrom bodies ts p.args.items x.state k s.0) (sym head) s.1.0))) s.1.1.1.1 s.1.1.1.0
             (subst (λ q. run ts q (cut rules n l.term) ≡ false) (sym s.1.1.0) l.holds)
       ]
 
@@ -234,10 +253,10 @@ module _ (rules : List Rule) (ts : List TransitionData) (points : List Point) (b
 pub record Progress (rules : List Rule) (ts : List TransitionData) (points : List Point) (bodies : List ℕ) (reached : List Pair) (taken : ℕ) : Type 0 where
   pub first : (p : ℕ) × ((slice_get bodies 0 ≡ Some p) × Among reached (record { point = p; state = 0 }))
   -- a refusal from a reached pair on is one from the start on
-  pub sound : (x : Pair) → Among reached x → (t : Tree Head) × (Stands points x.point t × ((n : ℕ) → run ts x.state (cut rules n t) ≡ false → Rejects rules ts))
+  pub sound : (x : Pair) → Among reached x → (t : Tree Head) × (Stands points x.point t × (IsBare t × ((n : ℕ) → run ts x.state (cut rules n t) ≡ false → Rejects rules ts)))
   pub closed : (i : ℕ) (x : Pair) → i < taken → slice_get reached i ≡ Some x → (IsStuckPair points ts x → ⊥) × ((y : Pair) → GoesTo points bodies ts x y → Among reached y)
 
-module _ (rules : List Rule) (ts : List TransitionData) (points : List Point) (bodies : List ℕ) (stand : StandFor points bodies rules) (plain : (f : ℕ) (rule : Rule) → slice_get rules f ≡ Some rule → rule.params ≡ 0) where
+module _ (rules : List Rule) (ts : List TransitionData) (points : List Point) (bodies : List ℕ) (stand : StandFor points bodies rules) (plain : (f : ℕ) (rule : Rule) → slice_get rules f ≡ Some rule → (rule.params ≡ 0) × IsBare rule.body) where
   -- at first the start's body in the initial state is reached
   pub progress_first : (reached : List Pair) (p : ℕ) → 0 < length rules → slice_get bodies 0 ≡ Some p → Adds [] reached (λ y. y ≡ record { point = p; state = 0 }) → Progress rules ts points bodies reached 0
   progress_first reached p some at adds = record {
@@ -250,7 +269,10 @@ module _ (rules : List Rule) (ts : List TransitionData) (points : List Point) (b
               rule.body,
               (
                 subst (λ k. Stands points k rule.body) (same_some b.0 p (sym b.1.0 ∙ at) ∙ ap (λ (z : Pair). z.point) (sym same)) b.1.1,
-                λ n refused. (n + 1, step_refused rules ts n 0 0 start rule.body (refl, unfolds rules ts points bodies stand plain 0 rule there) (subst (λ q. run ts q (cut rules n rule.body) ≡ false) (ap (λ (z : Pair). z.state) same) refused)),
+                (
+                  (plain 0 rule there).1,
+                  λ n refused. (n + 1, step_refused rules ts n 0 0 start rule.body [] (refl, refl, unfolds rules ts points bodies stand plain 0 rule there) (subst (λ q. run ts q (cut rules n rule.body) ≡ false) (ap (λ (z : Pair). z.state) same) refused)),
+                ),
               ),
             )
         | inr (past, _) ↦ absurd (omega (arith, past, some))
@@ -292,21 +314,21 @@ module _ (rules : List Rule) (ts : List TransitionData) (points : List Point) (b
           (subst (λ (w : Pair). GoesFrom bodies ts o.args.items w.state o.head z) (sym e) goes)
 
       reached_from : (y : Pair) → GoesFrom bodies ts p.args.items x.state p.head y
-          → (t : Tree Head) × (Stands points y.point t × ((n : ℕ) → run ts y.state (cut rules n t) ≡ false → Rejects rules ts))
-      reached_from y goes = let s = was.sound x (taken, at) in from_term s.0 s.1.0 s.1.1
+          → (t : Tree Head) × (Stands points y.point t × (IsBare t × ((n : ℕ) → run ts y.state (cut rules n t) ≡ false → Rejects rules ts)))
+      reached_from y goes = let s = was.sound x (taken, at) in from_term s.0 s.1.0 s.1.1.0 s.1.1.1
         where
-          from_term : (t : Tree Head) → Stands points x.point t → ((n : ℕ) → run ts x.state (cut rules n t) ≡ false → Rejects rules ts)
-              → (u : Tree Head) × (Stands points y.point u × ((n : ℕ) → run ts y.state (cut rules n u) ≡ false → Rejects rules ts))
-          from_term (node h us) (o, (at_o, (head, row))) back =
+          from_term : (t : Tree Head) → Stands points x.point t → IsBare t → ((n : ℕ) → run ts x.state (cut rules n t) ≡ false → Rejects rules ts)
+              → (u : Tree Head) × (Stands points y.point u × (IsBare u × ((n : ℕ) → run ts y.state (cut rules n u) ≡ false → Rejects rules ts)))
+          from_term (node h us) (o, (at_o, (head, row))) bare back =
               let here : GoesFrom bodies ts o.args.items x.state o.head y =
               subst (λ (r : Point). GoesFrom bodies ts r.args.items x.state r.head y) (same_some p o (sym at_point ∙ at_o)) goes in
-              let b = of_step rules ts points bodies stand plain o.args.items h us x.state y row (subst (λ (k : Head). GoesFrom bodies ts o.args.items x.state k y) head here) in
-              (b.0, (b.1.1, λ n refused. back (n + 1) (step_refused rules ts n x.state y.state (node h us) b.0 b.1.0 refused)))
+              let b = of_step rules ts points bodies stand plain o.args.items h us x.state y bare row (subst (λ (k : Head). GoesFrom bodies ts o.args.items x.state k y) head here) in
+              (b.0, (b.1.1.1.0, (b.1.1.1.1, λ n refused. back (n + 1) (step_refused rules ts n x.state y.state (node h us) b.0 b.1.0 b.1.1.0 refused))))
 
   -- a stuck pair is a refusal
   pub progress_stuck : (reached : List Pair) (taken : ℕ) (x : Pair) (p : Point) → Progress rules ts points bodies reached taken → slice_get reached taken ≡ Some x → slice_get points x.point ≡ Some p
       → IsStuckAt ts p.args.items x.state p.head → Rejects rules ts
-  progress_stuck reached taken x p was at at_point stuck = let s = was.sound x (taken, at) in from_term s.0 s.1.0 s.1.1
+  progress_stuck reached taken x p was at at_point stuck = let s = was.sound x (taken, at) in from_term s.0 s.1.0 s.1.1.1
     where
       from_term : (t : Tree Head) → Stands points x.point t → ((n : ℕ) → run ts x.state (cut rules n t) ≡ false → Rejects rules ts) → Rejects rules ts
       from_term (node h us) (o, (at_o, (head, row))) back =
@@ -325,12 +347,13 @@ module _ (rules : List Rule) (ts : List TransitionData) (points : List Point) (b
       from_start zero h = true_false h
       from_start (suc m) h = elim (refused_only rules ts m 0 start (rw add-one h)) [
         | inl stuck ↦ stuck
-        | inr l ↦
-            let only = unfolds_only rules ts points bodies stand plain 0 [] l.term l.step.1 in
+        | inr (path, l) ↦
+            let only = unfolds_only rules ts points bodies stand plain 0 [] l.term refl l.step.2 in
             let b = stand.each 0 only.0 only.1.0 in
             never_refused rules ts points bodies stand plain reached closed m (record { point = was.first.0; state = 0 }) l.term was.first.1.1
-            (subst (λ k. Stands points k l.term) (same_some b.0 was.first.0 (sym b.1.0 ∙ was.first.1.0)) (subst (λ (t : Tree Head). Stands points b.0 t) (sym only.1.1.1) b.1.1))
-            (subst (λ q. run ts q (cut rules m l.term) ≡ false) l.step.0 l.holds)
+            (subst IsBare (sym only.1.1) (plain 0 only.0 only.1.0).1)
+            (subst (λ k. Stands points k l.term) (same_some b.0 was.first.0 (sym b.1.0 ∙ was.first.1.0)) (subst (λ (t : Tree Head). Stands points b.0 t) (sym only.1.1) b.1.1))
+            (subst (λ q. run ts q (cut rules m l.term) ≡ false) l.step.1 l.holds)
       ]
 
 -- a reached pair has a point
@@ -338,5 +361,7 @@ pub stands_at : (points : List Point) (p : ℕ) (t : Tree Head) → Stands point
 stands_at points p (node h us) (x, (at, more_facts)) = slice_get_within points p x at
 
 -- what holds of each rule, at a place
-pub plain_at : (rules : List Rule) → All (λ r. r.params ≡ 0) rules → (f : ℕ) (rule : Rule) → slice_get rules f ≡ Some rule → rule.params ≡ 0
-plain_at rules h f rule at = ap (λ (r : Rule). r.params) (sym (get_or_from_slice_get rules f rule rule at)) ∙ h f rule (slice_get_within rules f rule at)
+pub plain_at : (rules : List Rule) → All (λ r. r.params ≡ 0) rules → All (λ r. IsBare r.body) rules → (f : ℕ) (rule : Rule) → slice_get rules f ≡ Some rule → (rule.params ≡ 0) × IsBare rule.body
+plain_at rules h bare f rule at =
+    let same = get_or_from_slice_get rules f rule rule at in let lt = slice_get_within rules f rule at in
+    (ap (λ (r : Rule). r.params) (sym same) ∙ h f rule lt, subst (λ (r : Rule). IsBare r.body) same (bare f rule lt))

@@ -3,17 +3,18 @@ use Rattle.std.proofs.Common.{refl, subst, ap, List, ℕ, Result, Ok, Err}
 use Rattle.hs_scheme.specs.declared.term.Rule.{Rule}
 use Rattle.hs_scheme.specs.Transition.{TransitionData}
 use Rattle.hs_scheme.specs.Automaton.{AutomatonData}
-use Rattle.hs_scheme.specs.Sorted.{SortedData}
+use Rattle.hs_scheme.specs.Sorted.{SortedData, IsSorted}
 use Rattle.hs_reader.specs.Raw.{File}
 use Rattle.hs_reader.specs.Faults.{IsFileWithin}
 use Rattle.hs_resolve.specs.Numbering.{unsorted_of}
 use Rattle.hs_resolve.specs.Answer.{IsFaultless}
 use Rattle.hs_sorts.specs.Inference.{IsInferred}
 use Rattle.hs_app.specs.declared.refusal.Refusal.{Refusal}
-use Rattle.hs_app.specs.declared.refusal.Refusal.TheVariants.{Usage, Source, FileTooLong, Syntax, Limit, Names, IllSorted, NotFirstOrder, SortTooLarge, NotYet, Sink, OutOfMemory}
+use Rattle.hs_app.specs.declared.refusal.Refusal.TheVariants.{Usage, Source, FileTooLong, Syntax, Limit, Names, IllSorted, NotFirstOrder, SortTooLarge, RuleTooLong, NotYet, Sink, OutOfMemory}
 use Rattle.hs_app.specs.declared.verdict.Verdict.{Verdict}
 use Rattle.hs_app.specs.declared.verdict.Verdict.TheVariants.{Accepted, Rejected}
-use Rattle.hs_app.specs.Verdict.{IsScheme, IsSound, IsSortRefusal, Decides, Refused, Answers}
+use Rattle.hs_app.specs.Verdict.{IsScheme, IsSound, IsSortRefusal, DecidesRules, DecidesScheme, Refused, Answers}
+use Rattle.hs_app.proofs.FullLemmas.{decides_scheme}
 
 module _ (bytes : List ℕ) (file : File) (reads : IsFileWithin bytes file) (faultless : IsFaultless file) where
   of_file : IsScheme bytes (unsorted_of file)
@@ -29,6 +30,7 @@ module _ (bytes : List ℕ) (file : File) (reads : IsFileWithin bytes file) (fau
   refused (IllSorted rule) h = record { scheme = unsorted_of file; of_bytes = of_file; fault = h }
   refused (NotFirstOrder terminal) h = record { scheme = unsorted_of file; of_bytes = of_file; fault = h }
   refused (SortTooLarge rule) h = record { scheme = unsorted_of file; of_bytes = of_file; fault = h }
+  refused (RuleTooLong rule) h = record { scheme = unsorted_of file; of_bytes = of_file; fault = h }
   refused NotYet h = absurd h
   refused Sink h = absurd h
   refused OutOfMemory h = tt
@@ -37,10 +39,10 @@ module _ (bytes : List ℕ) (file : File) (reads : IsFileWithin bytes file) (fau
     sound : IsSound bytes (unsorted_of file)
     sound = record { of_bytes = of_file; sorted = sorted; inferred = inferred }
 
-    answered : (r : Result Verdict Refusal) → Decides (unsorted_of file).rules (unsorted_of file).automaton.transitions r → Answers bytes r
+    answered : (r : Result Verdict Refusal) → DecidesScheme (unsorted_of file) r → Answers bytes r
     answered (Ok Accepted) h = record { scheme = unsorted_of file; sound = sound; plain = h.0; accepts = h.1 }
     answered (Ok Rejected) h = record { scheme = unsorted_of file; sound = sound; plain = h.0; rejects = h.1 }
-    answered (Err NotYet) h = record { scheme = unsorted_of file; sound = sound; parameters = h }
+    answered (Err NotYet) h = record { scheme = unsorted_of file; sound = sound; function = h }
     answered (Err OutOfMemory) h = tt
     answered (Err Usage) h = absurd h
     answered (Err Source) h = absurd h
@@ -51,10 +53,8 @@ module _ (bytes : List ℕ) (file : File) (reads : IsFileWithin bytes file) (fau
     answered (Err (IllSorted rule)) h = absurd h
     answered (Err (NotFirstOrder terminal)) h = absurd h
     answered (Err (SortTooLarge rule)) h = absurd h
+    answered (Err (RuleTooLong rule)) h = absurd h
     answered (Err Sink) h = absurd h
 
-    pub decided : (r : Result Verdict Refusal) → Decides sorted.scheme.rules sorted.automaton.transitions r → Answers bytes r
-    decided r h =
-        answered r
-        (subst (λ (rules : List Rule). Decides rules (unsorted_of file).automaton.transitions r) inferred.rules
-        (subst (λ (ts : List TransitionData). Decides sorted.scheme.rules ts r) (ap (λ (a : AutomatonData). a.transitions) inferred.automaton) h))
+    pub decided : IsSorted sorted → (r : Result Verdict Refusal) → DecidesRules sorted.scheme.rules sorted.automaton.transitions r → Answers bytes r
+    decided is r h = answered r (decides_scheme (unsorted_of file) sorted inferred is r h)

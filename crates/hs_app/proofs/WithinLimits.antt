@@ -2,6 +2,7 @@
 use Rattle.std.proofs.Common.{◌≡◌, refl, sym, ◌∙◌, ap, subst, ◌+◌, ◌<◌, ◌≤◌, Bool, true, false, nat_eq, List, [], ◌∷◌, ◌++◌, length, Option, Some, None, length-append, arith}
 use Rattle.std.specs.List.{AllByRecursion}
 use Rattle.std.proofs.lemmas.Bool.{le-ltb, eqb-true}
+use Rattle.std.proofs.lemmas.Option.{same_Some}
 use Rattle.hs_scheme.specs.Tree.{Tree, Trees, node, none, more, children}
 use Rattle.hs_reader.specs.declared.raw.RawName.{RawName}
 use Rattle.hs_reader.specs.declared.fault.Which.{Which}
@@ -10,13 +11,12 @@ use Rattle.hs_reader.specs.Raw.{Rule, Transition, File}
 use Rattle.hs_reader.specs.Tokens.{Token, word, rules_end, automaton_begin, automaton_end, arrow, dot, left, right, end_of_file}
 use Rattle.hs_reader.specs.Grammar.{begins_upper, with_last, IsFile}
 use Rattle.hs_reader.specs.Limits.{HasFewArguments, HaveFewArguments, IsShort, IsRaw}
-use Rattle.hs_reader.specs.Faults.{arguments, Passes, NoLimit}
-use Rattle.hs_reader.specs.Steps.{Stage, start, in_rules, in_head, in_body, between, in_transitions, in_transition, before_arrow, in_children, closed, finished, leaf, when, any, added, closes, ends, step, which_if, first_of, is_full, is_long, at_word, at_left, passed, steps}
+use Rattle.hs_reader.specs.Faults.{arguments, PassesLimit, NoLimit}
+use Rattle.hs_reader.specs.ReadingStages.{Stage, start, in_rules, in_head, in_body, between, in_transitions, in_transition, before_arrow, in_children, closed, finished, leaf, when, any, added, closes, ends, step, which_if, first_of, is_full, is_long, at_word, at_left, passed, steps}
 use Rattle.hs_reader.proofs.Stages.{steps_split, steps_rest}
 use Rattle.hs_reader.proofs.Completeness.{file_steps}
 use Rattle.hs_reader.proofs.Passing.{passes_passed, passed_passes}
 use Rattle.hs_reader.proofs.Names.{words, words_append, file_words}
-use Rattle.hs_resolve.proofs.Lists.{same_some}
 use Rattle.hs_resolve.proofs.Members.{all-append}
 
 -- a term begun is within the limit, and one argument more is too
@@ -52,7 +52,7 @@ Fits (closed rs us) = Fit rs × (length us ≤ 200000) × Children us
 Fits (finished f) = Fit f.rules × (length f.transitions ≤ 200000) × Children f.transitions
 
 came : (s next : Stage) → Some s ≡ Some next → Fits next → Fits s
-came s next e h = subst Fits (sym (same_some s next e)) h
+came s next e h = subst Fits (sym (same_Some s next e)) h
 
 came_when : (b : Bool) (s next : Stage) → when b s ≡ Some next → Fits next → Fits s
 came_when true s next e h = came s next e h
@@ -170,7 +170,7 @@ no-pass_word (finished f) n next e h w p = (cc)
 
 -- a parenthesis passes at most the limit on the depth
 left-pass : (b c : Bool) (w : Which) → (c ≡ true → ⊥) → first_of (which_if b which.Depth) (which_if c which.Arguments) ≡ Some w → w ≡ which.Depth
-left-pass true c w off e = sym (same_some which.Depth w e)
+left-pass true c w off e = sym (same_Some which.Depth w e)
 left-pass false c w off e = absurd (if-off c which.Arguments w off e)
 
 no-pass_left : (s next : Stage) → step s left ≡ Some next → Fits next → (w : Which) → at_left s ≡ Some w → w ≡ which.Depth
@@ -201,7 +201,7 @@ finished-fits f inside = ((inside.within.rules, each f.rules inside.within.param
     each (r ∷ rs) p a = ((p.0, a.0), each rs p.1 a.1)
 
 pub no-limit : (tokens : List Token) (f : File) → IsFile tokens f → IsRaw f
-    → ((before : List Token) (t : Token) (after : List Token) → tokens ≡ before ++ t ∷ after → Passes which.Depth before t → ⊥) → NoLimit tokens
+    → ((before : List Token) (t : Token) (after : List Token) → tokens ≡ before ++ t ∷ after → PassesLimit which.Depth before t → ⊥) → NoLimit tokens
 no-limit tokens f is inside shallow before t after e w p =
     let all : steps start (before ++ t ∷ after) ≡ Some (finished f) = ap (steps start) (sym e) ∙ file_steps tokens f is in
     let parts = steps_split before (t ∷ after) start (finished f) all in
@@ -210,4 +210,4 @@ no-limit tokens f is inside shallow before t after e w p =
     let short = short-word before t after (subst (λ ts. AllByRecursion IsShort (words ts)) e (subst (AllByRecursion IsShort) (sym (file_words tokens f is)) inside.within.names)) in
     let over = passes_passed w before t parts.0 rest.0 parts.1 rest.1 p in
     let deep = no-pass parts.0 t rest.0 rest.1 fits short over.other over.is in
-    shallow before t after e (subst (λ v. Passes v before t) deep (passed_passes t parts.0 over.other before parts.1 over.is))
+    shallow before t after e (subst (λ v. PassesLimit v before t) deep (passed_passes t parts.0 over.other before parts.1 over.is))

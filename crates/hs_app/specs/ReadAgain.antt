@@ -6,13 +6,13 @@ use Rattle.hs_reader.specs.declared.fault.Which.TheVariants.{Depth}
 use Rattle.hs_reader.specs.Tokens.{Token, Placed, Lexes}
 use Rattle.hs_reader.specs.Grammar.{IsFile}
 use Rattle.hs_reader.specs.Limits.{IsRaw}
-use Rattle.hs_reader.specs.Faults.{kinds, Passes, IsAnswer}
+use Rattle.hs_reader.specs.Faults.{kinds, PassesLimit, IsAnswer}
 use Rattle.hs_resolve.specs.Numbering.{unsorted_of}
 use Rattle.hs_resolve.specs.Answer.{IsFaultless}
 
 -- nowhere are more than 200 parentheses open
 abbrev pub IsShallow : List Token → Type 0
-IsShallow tokens = (before : List Token) (t : Token) (after : List Token) → tokens ≡ before ++ t ∷ after → Passes Depth before t → ⊥
+IsShallow tokens = (before : List Token) (t : Token) (after : List Token) → tokens ≡ before ++ t ∷ after → PassesLimit Depth before t → ⊥
 
 -- The bytes are cut into the tokens of a file, and this file is read unless they are too deep. It
 -- is within the other limits, its names have no fault, and it is resolved to this scheme.

@@ -1,18 +1,18 @@
 -- How a refusal shows: the exit status and the line on standard error.
-use Rattle.std.specs.Prelude.{ℕ, List}
-use Rattle.hs_text.specs.declared.message.Limit.{Limit as Bound}
-use Rattle.hs_text.specs.declared.message.Limit.TheVariants as limit
-use Rattle.hs_text.specs.declared.message.LineFault.TheVariants as fault
-use Rattle.hs_text.specs.declared.message.Message.TheVariants as message
-use Rattle.hs_text.specs.Messages.{message_text, not_first_order_text}
+--     refusal_of_read, refusal_of_names    the refusal for a fault
+--     status_of                            its exit status
+--     line_of                              its line, in which rules are counted from 1
+--     HasFixedLine                         the line is the same at each such refusal
+use Rattle.std.specs.Prelude.{ℕ, ◌+◌, List, codes}
 use Rattle.hs_reader.specs.declared.fault.Which.{Which}
 use Rattle.hs_reader.specs.declared.fault.Which.TheVariants as which
 use Rattle.hs_reader.specs.declared.fault.ReadFault.{ReadFault}
 use Rattle.hs_reader.specs.declared.fault.ReadFault.TheVariants as read
 use Rattle.hs_resolve.specs.declared.fault.NameFault.{NameFault}
 use Rattle.hs_resolve.specs.declared.fault.NameFault.TheVariants as name
+use Rattle.hs_app.specs.Line.{ended, line_with_name, line_with_number, on_line}
 use Rattle.hs_app.specs.declared.refusal.Refusal.{Refusal}
-use Rattle.hs_app.specs.declared.refusal.Refusal.TheVariants.{Usage, Source, FileTooLong, Syntax, Limit, Names, IllSorted, NotFirstOrder, SortTooLarge, NotYet, Sink, OutOfMemory}
+use Rattle.hs_app.specs.declared.refusal.Refusal.TheVariants.{Usage, Source, FileTooLong, Syntax, Limit, Names, IllSorted, NotFirstOrder, SortTooLarge, RuleTooLong, NotYet, Sink, OutOfMemory}
 
 abbrev pub refusal_of_read : ReadFault → Refusal
 refusal_of_read (read.Syntax line) = Syntax line
@@ -35,6 +35,7 @@ status_of (Names fault) = names_status fault
 status_of (IllSorted rule) = 6
 status_of (NotFirstOrder terminal) = 6
 status_of (SortTooLarge rule) = 7
+status_of (RuleTooLong rule) = 7
 status_of FileTooLong = 7
 status_of (Limit which) = 7
 status_of Source = 8
@@ -42,44 +43,47 @@ status_of Sink = 9
 status_of OutOfMemory = 10
 status_of NotYet = 11
 
-abbrev pub limit_of : Which → Bound
-limit_of which.Name = limit.Name
-limit_of which.Rules = limit.Rules
-limit_of which.Parameters = limit.Parameters
-limit_of which.Depth = limit.Depth
-limit_of which.Arguments = limit.Arguments
-limit_of which.Transitions = limit.Transitions
-limit_of which.Children = limit.Children
+-- the line for a limit of the text
+abbrev pub limit_line : Which → List ℕ
+limit_line which.Name = ended (codes "limit: name")
+limit_line which.Rules = ended (codes "limit: rules")
+limit_line which.Parameters = ended (codes "limit: parameters")
+limit_line which.Depth = ended (codes "limit: depth")
+limit_line which.Arguments = ended (codes "limit: arguments")
+limit_line which.Transitions = ended (codes "limit: transitions")
+limit_line which.Children = ended (codes "limit: children")
 
+-- the line for a fault in the names
 abbrev pub names_line : NameFault → List ℕ
-names_line (name.DuplicateRule line) = message_text (message.Line line fault.RuleTwice)
-names_line (name.DuplicateParam line) = message_text (message.Line line fault.ParameterTwice)
-names_line (name.Undefined line) = message_text (message.Line line fault.UndefinedNonterminal)
-names_line (name.StartHasParams line) = message_text (message.Line line fault.StartHasParameters)
-names_line (name.DuplicateTransition line) = message_text (message.Line line fault.TransitionTwice)
-names_line (name.RankClash line) = message_text (message.Line line fault.RankClash)
-names_line name.TooManyStates = message_text (message.Limit limit.States)
-names_line name.OutOfMemory = message_text message.OutOfMemory
+names_line (name.DuplicateRule line) = on_line line (codes ": rule twice")
+names_line (name.DuplicateParam line) = on_line line (codes ": parameter twice")
+names_line (name.Undefined line) = on_line line (codes ": undefined nonterminal")
+names_line (name.StartHasParams line) = on_line line (codes ": start has parameters")
+names_line (name.DuplicateTransition line) = on_line line (codes ": transition twice")
+names_line (name.RankClash line) = on_line line (codes ": rank clash")
+names_line name.TooManyStates = ended (codes "limit: states")
+names_line name.OutOfMemory = ended (codes "out of memory")
 
 abbrev pub line_of : Refusal → List ℕ
-line_of Usage = message_text message.Usage
-line_of (Syntax line) = message_text (message.Line line fault.Syntax)
+line_of Usage = ended (codes "usage: horsat [--workers N] [--entries N] [--steps N] [--table] [--simplify] [--gen K] [FILE]")
+line_of Source = ended (codes "read fault")
+line_of FileTooLong = ended (codes "limit: file")
+line_of (Syntax line) = on_line line (codes ": syntax")
+line_of (Limit which) = limit_line which
 line_of (Names fault) = names_line fault
-line_of (IllSorted rule) = message_text (message.IllSorted rule)
-line_of (NotFirstOrder terminal) = not_first_order_text terminal
-line_of (SortTooLarge rule) = message_text (message.SortTooLarge rule)
-line_of FileTooLong = message_text (message.Limit limit.File)
-line_of (Limit which) = message_text (message.Limit (limit_of which))
-line_of Source = message_text message.ReadFault
-line_of Sink = message_text message.WriteFault
-line_of OutOfMemory = message_text message.OutOfMemory
-line_of NotYet = message_text message.NotYet
+line_of (IllSorted rule) = line_with_number (codes "rule ") (rule + 1) (codes ": ill-sorted")
+line_of (NotFirstOrder terminal) = line_with_name (codes "terminal ") terminal (codes ": not first order")
+line_of (SortTooLarge rule) = line_with_number (codes "limit: sort of rule ") (rule + 1) (codes "")
+line_of (RuleTooLong rule) = line_with_number (codes "limit: length of rule ") (rule + 1) (codes "")
+line_of NotYet = ended (codes "not yet")
+line_of Sink = ended (codes "write fault")
+line_of OutOfMemory = ended (codes "out of memory")
 
--- the line is the same at each such refusal
 abbrev pub HasFixedLine : Refusal → Type 0
 HasFixedLine (Syntax line) = ⊥
 HasFixedLine (Names fault) = ⊥
 HasFixedLine (IllSorted rule) = ⊥
 HasFixedLine (NotFirstOrder terminal) = ⊥
 HasFixedLine (SortTooLarge rule) = ⊥
+HasFixedLine (RuleTooLong rule) = ⊥
 HasFixedLine refusal = Unit {0}

@@ -1,5 +1,6 @@
 -- Pairs of a point and a state, and the steps between them.
 --     IsStuckPair     the point's terminal has no transition for its children in the state
+--     IsBare          no nonterminal in the term has arguments
 --     GoesTo          the step from a pair to the next: to the body of the nonterminal in front, or to a child
 use Rattle.std.specs.Prelude.{◌≡◌, ◌≢◌, ℕ, List, [], ◌++◌, length, slice_get, Some, None, ◌⊎◌, Bool, true, false}
 use Rattle.hs_scheme.specs.declared.term.Head.{Head}
@@ -7,10 +8,21 @@ use Rattle.hs_scheme.specs.declared.term.Head.TheVariants.{Var, Nt, Tm}
 use Rattle.hs_scheme.specs.declared.term.Rule.{Rule}
 use Rattle.hs_scheme.specs.Transition.{TransitionData}
 use Rattle.hs_scheme.specs.Automaton.{next}
+use Rattle.hs_scheme.specs.Tree.{Tree, Trees, node, none, more}
 use Rattle.hs_scheme.specs.Cut.{cut}
 use Rattle.hs_scheme.specs.Run.{run, start}
 use Rattle.hs_app.specs.declared.points.Point.{Point}
 use Rattle.hs_app.specs.declared.pair.Pair.{Pair}
+
+abbrev mutual
+  pub IsBare : Tree Head → Type 0
+  IsBare (node (Var j) us) = AreBare us
+  IsBare (node (Nt f) us) = us ≡ none
+  IsBare (node (Tm a) us) = AreBare us
+
+  pub AreBare : Trees Head → Type 0
+  AreBare none = Unit {0}
+  AreBare (more u us) = IsBare u × AreBare us
 
 -- the pair stands in the list
 abbrev pub Among : List Pair → Pair → Type 0

@@ -2,11 +2,15 @@
 #![tactic(auto)]
 
 mod laws;
-mod limits;
+mod line;
+#[cfg(test)]
+mod outside_tests;
 mod pair;
 mod points;
 #[cfg(test)]
 mod problem_tests;
+#[cfg(test)]
+mod reading_tests;
 mod refusal;
 mod saturation;
 #[cfg(test)]
@@ -15,6 +19,6 @@ mod top;
 mod verdict;
 mod words;
 
+pub use hs_reader::MAX_BYTES;
 pub use laws::canonical_file_is_read_again;
-pub use limits::MAX_BYTES;
 pub use top::run;

@@ -1,14 +1,15 @@
 //! Why a run ends without a verdict.
 
-ghost use Rattle.std.specs.Prelude.{◌≡◌};
-ghost use Rattle.hs_text.specs.Messages as messages;
+ghost use Rattle.std.specs.Prelude.{◌≡◌, IfOk, IsOk};
+ghost use Rattle.hs_app.specs.Line.{bytes_of, on_line};
 ghost use Rattle.hs_app.specs.Refusal.{refusal_of_read, refusal_of_names};
 ghost use Rattle.hs_app.specs.Refusal as defined;
 
+use crate::line::{Line, OUT_OF_MEMORY, line_with_name, line_with_number};
 use hs_reader::{ReadFault, Which};
 use hs_resolve::NameFault;
 use hs_scheme::{Name, OutOfMemory};
-use hs_text::{Limit, LineFault, Message};
+use std::alloc::Global;
 
 /// Why a run ends without a verdict. Lines are counted from 1.
 #[derive(Debug, Drop)]
@@ -31,6 +32,8 @@ pub(crate) enum Refusal {
     NotFirstOrder { terminal: Name },
     /// The sort of the rule, counted from 0, is too large.
     SortTooLarge { rule: u32 },
+    /// The rule, counted from 0, has too many parameters or arguments once it is lengthened.
+    RuleTooLong { rule: u32 },
     /// The scheme is of a kind that isn't decided yet.
     NotYet,
     /// The sink failed.
@@ -90,6 +93,7 @@ pub(crate) fn status(refusal: &Refusal) -> u8
         Refusal::IllSorted { rule: _ } => 6,
         Refusal::NotFirstOrder { terminal: _ } => 6,
         Refusal::SortTooLarge { rule: _ } => 7,
+        Refusal::RuleTooLong { rule: _ } => 7,
         Refusal::FileTooLong => 7,
         Refusal::Limit { which: _ } => 7,
         Refusal::Source => 8,
@@ -99,60 +103,75 @@ pub(crate) fn status(refusal: &Refusal) -> u8
     }
 }
 
-/// The message of the fault in the names.
-fn names_message(fault: &NameFault) -> Message<'static>
-    ensures { messages.message_text result ≡ defined.names_line fault.now }
-{
-    let (line, fault) = match fault {
-        NameFault::DuplicateRule { line } => (*line, LineFault::RuleTwice),
-        NameFault::DuplicateParam { line } => (*line, LineFault::ParameterTwice),
-        NameFault::Undefined { line } => (*line, LineFault::UndefinedNonterminal),
-        NameFault::StartHasParams { line } => (*line, LineFault::StartHasParameters),
-        NameFault::DuplicateTransition { line } => (*line, LineFault::TransitionTwice),
-        NameFault::RankClash { line } => (*line, LineFault::RankClash),
-        NameFault::TooManyStates => return Message::Limit(Limit::States),
-        NameFault::OutOfMemory => return Message::OutOfMemory,
-    };
-    Message::Line { line, fault }
-}
-
-/// The limit that was passed.
-fn limit(which: Which) -> Limit
-    ensures { result ≡ defined.limit_of which }
+/// The line for a limit of the text.
+fn limit_line(which: Which) -> &'static [u8]
+    ensures { result.now ≡ defined.limit_line which }
 {
     match which {
-        Which::Name => Limit::Name,
-        Which::Rules => Limit::Rules,
-        Which::Parameters => Limit::Parameters,
-        Which::Depth => Limit::Depth,
-        Which::Arguments => Limit::Arguments,
-        Which::Transitions => Limit::Transitions,
-        Which::Children => Limit::Children,
+        Which::Name => b"limit: name\n",
+        Which::Rules => b"limit: rules\n",
+        Which::Parameters => b"limit: parameters\n",
+        Which::Depth => b"limit: depth\n",
+        Which::Arguments => b"limit: arguments\n",
+        Which::Transitions => b"limit: transitions\n",
+        Which::Children => b"limit: children\n",
     }
 }
 
-/// The message of the refusal.
-pub(crate) fn message(refusal: &Refusal) -> Message<'_>
-    ensures text { messages.message_text result ≡ defined.line_of refusal.now }
-    ensures fixed { defined.HasFixedLine refusal.now → messages.IsFixed result }
+/// The line for a fault on a line of the file.
+fn on_line(alloc: Global, line: u32, fault: &[u8]) -> Result<Line, OutOfMemory>
+    ensures { IfOk result (λ made. bytes_of made ≡ on_line line fault.now) }
+{
+    line_with_number(alloc, b"line ", u64::from(line), fault)
+}
+
+/// The line for a fault in the names.
+fn names_line(alloc: Global, fault: &NameFault) -> Result<Line, OutOfMemory>
+    ensures { IfOk result (λ line. bytes_of line ≡ defined.names_line fault.now) }
+{
+    match fault {
+        NameFault::DuplicateRule { line } => on_line(alloc, *line, b": rule twice"),
+        NameFault::DuplicateParam { line } => on_line(alloc, *line, b": parameter twice"),
+        NameFault::Undefined { line } => on_line(alloc, *line, b": undefined nonterminal"),
+        NameFault::StartHasParams { line } => on_line(alloc, *line, b": start has parameters"),
+        NameFault::DuplicateTransition { line } => on_line(alloc, *line, b": transition twice"),
+        NameFault::RankClash { line } => on_line(alloc, *line, b": rank clash"),
+        NameFault::TooManyStates => Ok(Line::Fixed(b"limit: states\n")),
+        NameFault::OutOfMemory => Ok(Line::Fixed(OUT_OF_MEMORY.as_bytes())),
+    }
+}
+
+/// The line on standard error. Rules are printed from 1.
+///
+/// A line without a number or a name in it takes no memory, so that it can be told where memory is
+/// refused. Of any other, time and memory are in proportion to the line.
+pub(crate) fn line(alloc: Global, refusal: &Refusal) -> Result<Line, OutOfMemory>
+    ensures text { IfOk result (λ line. bytes_of line ≡ defined.line_of refusal.now) }
+    ensures fixed { defined.HasFixedLine refusal.now → IsOk result }
 {
     match refusal {
-        Refusal::Usage => Message::Usage,
-        Refusal::Syntax { line } => Message::Line {
-            line: *line,
-            fault: LineFault::Syntax,
-        },
-        Refusal::Names { fault } => names_message(fault),
-        Refusal::IllSorted { rule } => Message::IllSorted { rule: *rule },
-        Refusal::NotFirstOrder { terminal } => Message::NotFirstOrder {
-            terminal: terminal.bytes(),
-        },
-        Refusal::SortTooLarge { rule } => Message::SortTooLarge { rule: *rule },
-        Refusal::FileTooLong => Message::Limit(Limit::File),
-        Refusal::Limit { which } => Message::Limit(limit(*which)),
-        Refusal::Source => Message::ReadFault,
-        Refusal::Sink => Message::WriteFault,
-        Refusal::OutOfMemory => Message::OutOfMemory,
-        Refusal::NotYet => Message::NotYet,
+        Refusal::Usage => Ok(Line::Fixed(
+            b"usage: horsat [--workers N] [--entries N] [--steps N] [--table] [--simplify] [--gen K] [FILE]\n",
+        )),
+        Refusal::Source => Ok(Line::Fixed(b"read fault\n")),
+        Refusal::FileTooLong => Ok(Line::Fixed(b"limit: file\n")),
+        Refusal::Syntax { line } => on_line(alloc, *line, b": syntax"),
+        Refusal::Limit { which } => Ok(Line::Fixed(limit_line(*which))),
+        Refusal::Names { fault } => names_line(alloc, fault),
+        Refusal::IllSorted { rule } => {
+            line_with_number(alloc, b"rule ", u64::from(*rule) + 1, b": ill-sorted")
+        }
+        Refusal::NotFirstOrder { terminal } => {
+            line_with_name(alloc, b"terminal ", terminal.bytes(), b": not first order")
+        }
+        Refusal::SortTooLarge { rule } => {
+            line_with_number(alloc, b"limit: sort of rule ", u64::from(*rule) + 1, b"")
+        }
+        Refusal::RuleTooLong { rule } => {
+            line_with_number(alloc, b"limit: length of rule ", u64::from(*rule) + 1, b"")
+        }
+        Refusal::NotYet => Ok(Line::Fixed(b"not yet\n")),
+        Refusal::Sink => Ok(Line::Fixed(b"write fault\n")),
+        Refusal::OutOfMemory => Ok(Line::Fixed(OUT_OF_MEMORY.as_bytes())),
     }
 }

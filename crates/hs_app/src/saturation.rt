@@ -8,7 +8,7 @@
 
 ghost use Rattle.std.specs.Prelude.{◌≡◌, ◌<◌, [], false, true, length, All, IsTrue, IfOk, OnOk};
 ghost use Rattle.hs_scheme.specs.Run.{Accepts};
-ghost use Rattle.hs_app.specs.Saturation.{IsChildPair, Adds, GoesFrom, Follows, Rejects};
+ghost use Rattle.hs_app.specs.Saturation.{IsBare, IsChildPair, Adds, GoesFrom, Follows, Rejects};
 
 use crate::pair::Pair;
 use crate::points::{Point, Points};
@@ -86,7 +86,8 @@ fn follow(
     }
 }
 
-/// Whether the automaton accepts the value tree of these rules, none of which has parameters.
+/// Whether the automaton accepts the value tree of these rules. None of them has parameters, and no
+/// nonterminal in their bodies has arguments.
 ///
 /// Time and memory are in proportion to the pairs that the automaton reaches, on average over their
 /// hashes, and to the size of the rules.
@@ -97,6 +98,7 @@ pub(crate) fn accepts(
 ) -> Result<bool, OutOfMemory>
     requires start { 0 < length rules.now }
     requires plain { All (λ r. r.params ≡ 0) rules.now }
+    requires bare { All (λ r. IsBare r.body) rules.now }
     ensures accepted { IfOk result (λ yes. yes ≡ true → Accepts rules.now automaton.now.transitions) }
     ensures rejected { IfOk result (λ yes. yes ≡ false → Rejects rules.now automaton.now.transitions) }
 {

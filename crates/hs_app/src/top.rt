@@ -1,22 +1,23 @@
 //! The top call.
 
-ghost use Rattle.std.specs.Prelude.{◌≡◌, ◌≤◌, ◌↔◌, ℕ, [], None, Some, length, OnOk, IfOk, IsErrOf, IfSome, IfErr};
-ghost use Rattle.std.specs.Io.KnownBytes.{append_known};
-ghost use Rattle.hs_edge.specs.Count.{Rose};
-ghost use Rattle.hs_app.specs.Words.{name_of};
+ghost use Rattle.std.specs.Prelude.{◌≡◌, ◌≢◌, ◌≤◌, ◌<◌, None, Some};
+ghost use Rattle.hs_app.specs.Words.{name_of, texts};
+ghost use Rattle.hs_app.specs.Outcome.{source_run, sink_run};
 ghost use Rattle.hs_app.specs.Outcome as outcome;
 
-use crate::limits::MAX_BYTES;
-use crate::refusal::{Refusal, message, status};
+use crate::line::OUT_OF_MEMORY;
+use crate::refusal::{Refusal, line, status};
 use crate::verdict::{Verdict, decide};
 use crate::words::file_name;
 use hs_edge::{ReadAll, Sink, Source, read_all, write_all};
-use hs_text::{OUT_OF_MEMORY, message_line};
+use hs_reader::MAX_BYTES;
 use std::alloc::Global;
 
 /// Reads the file of this name, and gives the verdict on it.
 fn verdict_on<S: Source>(alloc: Global, name: &str, source: &mut S) -> Result<Verdict, Refusal>
-    ensures { outcome.IsAnswer (Some name.now) (S.file source.old) (S.faults source.old) (S.faults source.new) (S.left source.new) result }
+    ensures answer { outcome.IsAnswer (Some name.now) (source_run S.file S.left S.reading S.faults source.old source.new) result }
+    ensures calm { result ≢ Err Refusal.Source → outcome.IsCalm (source_run S.file S.left S.reading S.faults source.old source.new) }
+    ensures keeps { outcome.KeepsSource (source_run S.file S.left S.reading S.faults source.old source.new) }
 {
     if source.start(name).is_err() {
         return Err(Refusal::Source);
@@ -32,8 +33,10 @@ fn verdict_on<S: Source>(alloc: Global, name: &str, source: &mut S) -> Result<Ve
 
 /// Reads the file that the words name, and gives the verdict on it.
 fn answer<S: Source>(alloc: Global, words: &[&str], source: &mut S) -> Result<Verdict, Refusal>
-    ensures verdict { outcome.IsAnswer (name_of words.now) (S.file source.old) (S.faults source.old) (S.faults source.new) (S.left source.new) result }
-    ensures untouched { name_of words.now ≡ None → source.new ≡ source.old }
+    ensures answer { outcome.IsAnswer (name_of (texts words.now)) (source_run S.file S.left S.reading S.faults source.old source.new) result }
+    ensures calm { result ≢ Err Refusal.Source → outcome.IsCalm (source_run S.file S.left S.reading S.faults source.old source.new) }
+    ensures keeps { outcome.KeepsSource (source_run S.file S.left S.reading S.faults source.old source.new) }
+    ensures untouched { name_of (texts words.now) ≡ None → source.new ≡ source.old }
 {
     match file_name(words) {
         Some(name) => verdict_on(alloc, name, source),
@@ -43,7 +46,8 @@ fn answer<S: Source>(alloc: Global, words: &[&str], source: &mut S) -> Result<Ve
 
 /// Writes a line to standard error. A fault there changes nothing else.
 fn tell<E: Sink>(err: &mut E, text: &[u8])
-    ensures { outcome.Gains (E.taken err.old) (E.taken err.new) (E.faults err.old) (E.faults err.new) text.now }
+    ensures gains { outcome.Gains (sink_run E.writing E.faults err.old err.new) text.now }
+    ensures never_falls { E.faults err.old ≤ E.faults err.new }
 {
     let _ = write_all(err, text);
 }
@@ -51,9 +55,10 @@ fn tell<E: Sink>(err: &mut E, text: &[u8])
 /// Writes the line of a refusal, and answers the refusal that was told: want of memory, where it is
 /// refused while the line is formed.
 fn refuse<E: Sink>(alloc: Global, err: &mut E, refusal: Refusal) -> Refusal
-    ensures { outcome.Tells refusal (E.taken err.old) (E.taken err.new) (E.faults err.old) (E.faults err.new) result }
+    ensures tells { outcome.Tells refusal (sink_run E.writing E.faults err.old err.new) result }
+    ensures never_falls { E.faults err.old ≤ E.faults err.new }
 {
-    match message_line(alloc, message(&refusal)) {
+    match line(alloc, &refusal) {
         Ok(line) => {
             tell(err, line.bytes());
             refusal
@@ -78,7 +83,11 @@ fn report(verdict: Verdict) -> &'static [u8]
 /// How a run ends.
 #[derive(Drop)]
 pub(crate) enum Ending {
+    /// The verdict was reported.
     Reported(Verdict),
+    /// The report of the verdict met a fault.
+    CutOff(Verdict),
+    /// There is no verdict.
     Refused(Refusal),
 }
 
@@ -90,17 +99,34 @@ fn end<S: Source, O: Sink, E: Sink>(
     out: &mut O,
     err: &mut E,
 ) -> Ending
-    ensures ends { outcome.Ends (name_of words.now) (S.file source.old) (S.faults source.old) (S.faults source.new) (S.left source.new)
-        (O.taken out.old) (O.taken out.new) (O.faults out.old) (O.faults out.new)
-        (E.taken err.old) (E.taken err.new) (E.faults err.old) (E.faults err.new) result }
-    ensures untouched { name_of words.now ≡ None → source.new ≡ source.old }
+    ensures ends { outcome.Ends (name_of (texts words.now)) (source_run S.file S.left S.reading S.faults source.old source.new)
+        (sink_run O.writing O.faults out.old out.new) (sink_run E.writing E.faults err.old err.new) result }
+    ensures calm { result ≢ Ending.Refused Refusal.Source → outcome.IsCalm (source_run S.file S.left S.reading S.faults source.old source.new) }
+    ensures keeps { outcome.Keeps (source_run S.file S.left S.reading S.faults source.old source.new)
+        (sink_run O.writing O.faults out.old out.new) (sink_run E.writing E.faults err.old err.new) }
+    ensures untouched { name_of (texts words.now) ≡ None → source.new ≡ source.old }
 {
     match answer(alloc, words, source) {
         Ok(verdict) => match write_all(out, report(verdict)) {
             Ok(()) => Ending::Reported(verdict),
-            Err(_) => Ending::Refused(refuse(alloc, err, Refusal::Sink)),
+            Err(_) => {
+                let _ = refuse(alloc, err, Refusal::Sink);
+                Ending::CutOff(verdict)
+            }
         },
         Err(refusal) => Ending::Refused(refuse(alloc, err, refusal)),
+    }
+}
+
+/// The exit status of an ending.
+fn exit_status(ending: &Ending) -> u8
+    ensures { result ≡ outcome.status_at ending.now }
+{
+    match ending {
+        Ending::Reported(Verdict::Accepted) => 0,
+        Ending::Reported(Verdict::Rejected) => 1,
+        Ending::CutOff(_) => status(&Refusal::Sink),
+        Ending::Refused(refusal) => status(refusal),
     }
 }
 
@@ -109,7 +135,8 @@ fn end<S: Source, O: Sink, E: Sink>(
 ///
 /// `words` has the program's name first, which isn't looked at, and then at most one word, the name
 /// of the file, which doesn't begin with `-`. Without it the source is started with the name `-`.
-/// The report is formed before the first write. A fault of `err` changes no status.
+/// The source is started once at most, and nothing is read behind its end. The report is formed
+/// before the first write. A fault of `err` changes no status.
 ///
 /// Time and memory are linear in the file, and in the pairs of a point and a state that the
 /// automaton reaches. Nothing runs in threads yet, so `rt` isn't used.
@@ -121,15 +148,12 @@ pub fn run<R, S: Source, O: Sink, E: Sink>(
     out: &mut O,
     err: &mut E,
 ) -> u8
-    ensures rows { outcome.Rows (name_of words.now) (S.file source.old) (S.faults source.old) (S.faults source.new) (S.left source.new)
-        (O.taken out.old) (O.taken out.new) (O.faults out.old) (O.faults out.new)
-        (E.taken err.old) (E.taken err.new) (E.faults err.old) (E.faults err.new) result }
+    ensures rows { outcome.Rows (name_of (texts words.now)) (source_run S.file S.left S.reading S.faults source.old source.new)
+        (sink_run O.writing O.faults out.old out.new) (sink_run E.writing E.faults err.old err.new) result }
+    ensures keeps { outcome.Keeps (source_run S.file S.left S.reading S.faults source.old source.new)
+        (sink_run O.writing O.faults out.old out.new) (sink_run E.writing E.faults err.old err.new) }
     // Where the words are refused, nothing is started or read.
-    ensures untouched { name_of words.now ≡ None → source.new ≡ source.old }
+    ensures untouched { name_of (texts words.now) ≡ None → source.new ≡ source.old }
 {
-    match end(alloc, words, source, out, err) {
-        Ending::Reported(Verdict::Accepted) => 0,
-        Ending::Reported(Verdict::Rejected) => 1,
-        Ending::Refused(refusal) => status(&refusal),
-    }
+    exit_status(&end(alloc, words, source, out, err))
 }

@@ -3,13 +3,13 @@
 ghost use Rattle.std.specs.Prelude.{◌≡◌, ◌≤◌, ◌<◌, false, true, length, slice_get, Some, IfOk};
 ghost use Rattle.hs_resolve.specs.Answer.{IsFaultless};
 ghost use Rattle.hs_resolve.specs.Numbering.{unsorted_of};
+ghost use Rattle.hs_scheme.specs.Sorted.{IsSorted};
 ghost use Rattle.hs_sorts.specs.Inference.{IsFaultOf};
-ghost use Rattle.hs_app.specs.Verdict.{Answers, Decides, HasParameters, NoParameters, IsSortRefusal};
+ghost use Rattle.hs_app.specs.Verdict.{Answers, DecidesRules, HasParameters, NoParameters, IsSortRefusal};
 
-use crate::limits::MAX_BYTES;
 use crate::refusal::Refusal;
 use crate::saturation::accepts;
-use hs_reader::{RawFile, read_file};
+use hs_reader::{MAX_BYTES, RawFile, read_file};
 use hs_resolve::resolve;
 use hs_scheme::{Name, OutOfMemory, Rule, Scheme, Sorted};
 use hs_sorts::{SortFault, infer};
@@ -49,6 +49,7 @@ fn sort_refusal(alloc: Global, raw: &RawFile, fault: SortFault) -> Refusal
             Err(_) => Refusal::OutOfMemory,
         },
         SortFault::SortTooLarge { rule } => Refusal::SortTooLarge { rule },
+        SortFault::RuleTooLong { rule } => Refusal::RuleTooLong { rule },
         SortFault::OutOfMemory => Refusal::OutOfMemory,
     }
 }
@@ -68,7 +69,8 @@ fn has_parameters(rules: &[Rule]) -> bool
 
 /// The verdict on a scheme with its sorts, where no rule has a parameter.
 fn decide_scheme(alloc: Global, sorted: Sorted) -> Result<Verdict, Refusal>
-    ensures { Decides sorted.scheme.rules sorted.automaton.transitions result }
+    ensures decides { DecidesRules sorted.scheme.rules sorted.automaton.transitions result }
+    ensures sorted { IsSorted sorted }
 {
     let Sorted {
         scheme,

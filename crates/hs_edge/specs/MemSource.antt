@@ -1,7 +1,8 @@
 -- One file in memory, as contracts see a `MemSource`.
-use Rattle.std.specs.Prelude.{◌≡◌, ◌≢◌, ◌↔◌, ℕ, Bool, true, false, if◌then◌else◌, Option, Some, None, Result, List, [], length, drop, min, IsErr, IsTrue, IfOk, OnOk, OnErr}
+use Rattle.std.specs.Prelude.{◌≡◌, ◌≢◌, ◌↔◌, ℕ, if◌then◌else◌, Option, Some, None, Result, List, [], length, take, drop, min, IsErr, IsSome, IfOk, OnOk, OnErr}
 use Rattle.std.specs.Str.{bytes_eq}
 use Rattle.hs_edge.specs.Count.{NextFails, one_more}
+use Rattle.hs_edge.specs.Reading.{Reading, unread, started, handed}
 use Rattle.hs_edge.specs.declared.errors.Failed.{Failed}
 
 pub record SourceState : Type 0 where
@@ -13,7 +14,7 @@ pub record SourceState : Type 0 where
   pub failing : List ℕ
   -- how many calls have come
   pub calls : ℕ
-  pub begun : Bool
+  pub reading : Reading
   -- the bytes that aren't read yet, none before the first `start` that answered `Ok`
   pub left : List ℕ
   pub own_faults : ℕ
@@ -27,7 +28,7 @@ new_source name bytes step failing = record {
   step = step;
   failing = failing;
   calls = 0;
-  begun = false;
+  reading = unread;
   left = [];
   own_faults = 0;
   other_faults = 0;
@@ -36,10 +37,6 @@ new_source name bytes step failing = record {
 -- the bytes of the one file
 abbrev pub file_of : SourceState → List ℕ → Option (List ℕ)
 file_of source name = if bytes_eq name source.name then Some source.bytes else None
-
--- the name, once it is begun
-abbrev pub begun_of : SourceState → Option (List ℕ)
-begun_of source = if source.begun then Some source.name else None
 
 -- one count for the source's own name, and one for all others
 abbrev pub faults_of : SourceState → List ℕ → ℕ
@@ -53,7 +50,7 @@ pub record Starts
   pub other_name : name ≢ old.name → IsErr result
   pub own_name : name ≡ old.name → (IsErr result ↔ NextFails old.failing old.calls)
   pub ok : OnOk result (
-      new ≡ record old { calls = one_more old.calls; begun = true; left = old.bytes })
+      new ≡ record old { calls = one_more old.calls; reading = started name old.reading; left = old.bytes })
   pub err_other : OnErr result (name ≢ old.name →
       new ≡ record old { calls = one_more old.calls; other_faults = one_more old.other_faults })
   pub err_own : OnErr result (name ≡ old.name →
@@ -63,11 +60,15 @@ pub record Starts
 pub record Reads
     (old : SourceState) (buf : List ℕ) (result : Result ℕ Failed) (filled : List ℕ) (new : SourceState)
     : Type 0 where
-  pub fails : IsErr result ↔ (IsTrue old.begun × NextFails old.failing old.calls)
+  pub fails : IsErr result ↔ (IsSome old.reading.begun × NextFails old.failing old.calls)
   pub count : IfOk result (λ n. n ≡ min (min old.step (length buf)) (length old.left))
   pub behind : IfOk result (λ n. drop n filled ≡ drop n buf)
   pub ok : IfOk result (λ n.
-      new ≡ record old { calls = one_more old.calls; left = drop n old.left })
+      new ≡ record old {
+        calls = one_more old.calls;
+        reading = handed (length buf) (take n filled) old.reading;
+        left = drop n old.left;
+      })
   pub err_buf : OnErr result (filled ≡ buf)
   pub err : OnErr result (
       new ≡ record old { calls = one_more old.calls; own_faults = one_more old.own_faults })

@@ -1,16 +1,17 @@
-// The system's files and standard streams. What they hold and show no contract can tell, so these
-// lines only count what fails.
-ghost use Rattle.std.specs.Prelude.{◌≡◌, ◌≤◌, length, None, IfSome};
+// The system's files and standard streams. Of them no contract can tell more than what the system
+// answers, which these lines record; what fails they count.
+ghost use Rattle.std.specs.Prelude.{◌≡◌, ◌<◌, ◌≤◌, Ok, length, take, None, IsErr, IfOk, OnErr};
+ghost use Rattle.hs_edge.specs.Count.{one_more};
+ghost use Rattle.hs_edge.specs.Reading.{handed};
+ghost use Rattle.hs_edge.specs.Writing.{written};
 ghost use Rattle.hs_edge.specs.FileSource.{new_reader};
+ghost use Rattle.hs_edge.specs.StdSink.{new_stream};
 
-use crate::{Failed, Sink, Source};
+use crate::{Failed, Reading, Sink, Source, Writing};
 use std::fmt;
 use std::fs::File;
-use std::io::{Read, Stderr, Stdin, Stdout, Write};
+use std::io::{self, Read, Stderr, Stdin, Stdout, Write};
 use std::marker::Model;
-
-// The system opens no name that is longer.
-const LONGEST_NAME: usize = 4096;
 
 #[derive(Drop)]
 enum Opened {
@@ -27,25 +28,19 @@ enum Opened {
 pub struct FileSource {
     rt: HostRuntime,
     opened: Option<Opened>,
-    name: [u8; LONGEST_NAME],
-    name_len: usize,
+    reading: Reading,
     failures: u64,
 }
 
 impl Model for FileSource {
-    ghost use Rattle.std.specs.Prelude.{◌≤◌, take};
-    ghost use Rattle.std.specs.Option.{option_map};
+    ghost use Rattle.std.specs.Prelude.{◌≡◌, is_some};
     ghost use Rattle.hs_edge.specs.FileSource.{ReaderState};
-    ghost use Rattle.hs_edge.specs.declared.host.TheConstants.{LONGEST_NAME};
 
     ghost Value = { ReaderState };
 
-    ghost view = { λ s. record {
-      begun = option_map (λ _. take s.name_len s.name) s.opened;
-      failures = s.failures;
-    } };
+    ghost view = { λ s. record { reading = s.reading; failures = s.failures } };
 
-    ghost invariant = { λ s. s.name_len ≤ LONGEST_NAME };
+    ghost invariant = { λ s. is_some s.reading.begun ≡ is_some s.opened };
 }
 
 impl FileSource {
@@ -56,9 +51,29 @@ impl FileSource {
         FileSource {
             rt: *rt,
             opened: None,
-            name: [0; LONGEST_NAME],
-            name_len: 0,
+            reading: Reading::new(),
             failures: 0,
+        }
+    }
+
+    // What `read` answers where the system gives this outcome.
+    fn answer(&mut self, buf: &[u8], outcome: io::Result<usize>) -> Result<usize, Failed>
+        ensures ok { IfOk outcome (λ n. result ≡ Ok n) }
+        ensures ok_state { IfOk outcome (λ n.
+            self.new ≡ record self.old { reading = handed (length buf.now) (take n buf.now) self.old.reading }) }
+        ensures err { OnErr outcome (IsErr result) }
+        ensures err_state { OnErr outcome (
+            self.new ≡ record self.old { failures = one_more self.old.failures }) }
+    {
+        match outcome {
+            Ok(count) => {
+                self.reading.note_read(buf, count);
+                Ok(count)
+            }
+            Err(_) => {
+                self.failures = self.failures.saturating_add(1);
+                Err(Failed)
+            }
         }
     }
 }
@@ -68,9 +83,13 @@ impl Source for FileSource {
 
     ghost left = { λ _. None };
 
-    ghost begun = { λ reader. reader.begun };
+    ghost reading = { λ reader. reader.reading };
 
     ghost faults = { λ reader _. reader.failures };
+
+    ghost start_gives = { λ old _ result new. OnErr result (new.failures ≡ one_more old.failures) };
+
+    ghost read_gives = { λ old _ result _ new. OnErr result (new.failures ≡ one_more old.failures) };
 
     fn start(&mut self, name: &str) -> Result<(), Failed> {
         let Some(opened) = open(&self.rt, name) else {
@@ -78,8 +97,7 @@ impl Source for FileSource {
             return Err(Failed);
         };
         self.opened = Some(opened);
-        self.name[..name.len()].copy_from_slice(name.as_bytes());
-        self.name_len = name.len();
+        self.reading.note_start(name);
         Ok(())
     }
 
@@ -89,13 +107,7 @@ impl Source for FileSource {
             Some(Opened::Input(input)) => input.read(buf),
             Some(Opened::File(file)) => file.read(buf),
         };
-        match outcome {
-            Ok(count) => Ok(count),
-            Err(_) => {
-                self.failures = self.failures.saturating_add(1);
-                Err(Failed)
-            }
-        }
+        self.answer(buf, outcome)
     }
 }
 
@@ -107,12 +119,7 @@ impl fmt::Debug for FileSource {
     }
 }
 
-fn open(rt: &HostRuntime, name: &str) -> Option<Opened>
-    ensures { IfSome result (λ _. length name.now ≤ LONGEST_NAME) }
-{
-    if name.len() > LONGEST_NAME {
-        return None;
-    }
+fn open(rt: &HostRuntime, name: &str) -> Option<Opened> {
     if name == "-" {
         return Some(Opened::Input(rt.stdin()));
     }
@@ -134,55 +141,76 @@ enum Stream {
 #[derive(Debug, Drop)]
 pub struct StdSink {
     stream: Stream,
+    writing: Writing,
     failures: u64,
 }
 
 impl Model for StdSink {
-    ghost use Rattle.std.specs.Prelude.{ℕ};
+    ghost use Rattle.hs_edge.specs.StdSink.{StreamState};
 
-    ghost Value = { ℕ };
+    ghost Value = { StreamState };
 
-    ghost view = { λ s. s.failures };
+    ghost view = { λ s. record { writing = s.writing; failures = s.failures } };
 }
 
 impl StdSink {
     /// Standard output.
     pub fn out(rt: &HostRuntime) -> StdSink
-        ensures { result ≡ 0 }
+        ensures { result ≡ new_stream }
     {
         StdSink {
             stream: Stream::Output(rt.stdout()),
+            writing: Writing::new(),
             failures: 0,
         }
     }
 
     /// Standard error.
     pub fn err(rt: &HostRuntime) -> StdSink
-        ensures { result ≡ 0 }
+        ensures { result ≡ new_stream }
     {
         StdSink {
             stream: Stream::Error(rt.stderr()),
+            writing: Writing::new(),
             failures: 0,
+        }
+    }
+
+    // What `write` answers where the system gives this outcome.
+    fn answer(&mut self, piece: &[u8], outcome: io::Result<usize>) -> Result<usize, Failed>
+        ensures ok { IfOk outcome (λ n. IfOk result (λ m. m ≡ n)) }
+        ensures ok_state { IfOk result (λ n. self.new ≡ record self.old { writing = written piece.now n self.old.writing }) }
+        ensures err { OnErr outcome (IsErr result) }
+        ensures fails { OnErr result (
+            self.new ≡ record self.old { failures = one_more self.old.failures }) }
+        ensures takes_some { IfOk result (λ n. 0 < length piece.now → 0 < n) }
+        ensures never_falls { self.old.failures ≤ self.new.failures }
+    {
+        match outcome {
+            Ok(count) if count > 0 || piece.is_empty() => {
+                self.writing.note_write(piece, count);
+                Ok(count)
+            }
+            _ => {
+                self.failures = self.failures.saturating_add(1);
+                Err(Failed)
+            }
         }
     }
 }
 
 impl Sink for StdSink {
-    ghost taken = { λ _. None };
+    ghost writing = { λ stream. stream.writing };
 
-    ghost faults = { λ failures. failures };
+    ghost faults = { λ stream. stream.failures };
+
+    ghost write_gives = { λ old _ result new. OnErr result (new.failures ≡ one_more old.failures) };
 
     fn write(&mut self, piece: &[u8]) -> Result<usize, Failed> {
         let outcome = match self.stream {
             Stream::Output(mut output) => output.write(piece),
             Stream::Error(mut error) => error.write(piece),
         };
-        match outcome {
-            Ok(count) if count > 0 || piece.is_empty() => Ok(count),
-            _ => {
-                self.failures = self.failures.saturating_add(1);
-                Err(Failed)
-            }
-        }
+        self.answer(piece, outcome)
     }
 }

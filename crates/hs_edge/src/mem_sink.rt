@@ -1,8 +1,8 @@
 // A sink in memory.
-ghost use Rattle.std.specs.Prelude.{◌≡◌, ◌<◌, Some, IfOk};
+ghost use Rattle.std.specs.Prelude.{◌≡◌, ◌<◌, IfOk};
 ghost use Rattle.hs_edge.specs.MemSink.{new_sink, Writes};
 
-use crate::{Failed, OutOfMemory, Sink};
+use crate::{Failed, OutOfMemory, Sink, Writing};
 use std::alloc::Global;
 use std::marker::Model;
 
@@ -14,6 +14,7 @@ use std::marker::Model;
 #[derive(Debug, Drop)]
 pub struct MemSink {
     taken: Vec<u8>,
+    writing: Writing,
     room: usize,
     step: usize,
     failing: Vec<u64>,
@@ -22,13 +23,13 @@ pub struct MemSink {
 }
 
 impl Model for MemSink {
-    ghost use Rattle.std.specs.Prelude.{◌≤◌, ◌<◌, vec_len, vec_capacity};
+    ghost use Rattle.std.specs.Prelude.{◌≡◌, ◌≤◌, ◌<◌, vec_len, vec_capacity};
     ghost use Rattle.hs_edge.specs.MemSink.{SinkState};
 
     ghost Value = { SinkState };
 
     ghost view = { λ s. record {
-      taken = s.taken.items;
+      writing = s.writing;
       room = s.room;
       step = s.step;
       failing = s.failing.items;
@@ -37,6 +38,7 @@ impl Model for MemSink {
     } };
 
     ghost invariant = { λ s. record {
+      is_noted : s.taken.items ≡ s.writing.taken;
       takes_some : 0 < s.step;
       within : vec_len s.taken ≤ s.room;
       has_room : s.room ≤ vec_capacity s.taken;
@@ -58,6 +60,7 @@ impl MemSink {
     {
         Ok(MemSink {
             taken: Vec::with_capacity(alloc, room)?,
+            writing: Writing::new(),
             room,
             step,
             failing: Vec::from_slice(alloc, failing)?,
@@ -68,14 +71,14 @@ impl MemSink {
 
     /// What it took.
     pub fn bytes(&self) -> &[u8]
-        ensures { result.now ≡ self.now.taken }
+        ensures { result.now ≡ self.now.writing.taken }
     {
         self.taken.as_slice()
     }
 }
 
 impl Sink for MemSink {
-    ghost taken = { λ sink. Some sink.taken };
+    ghost writing = { λ sink. sink.writing };
 
     ghost faults = { λ sink. sink.faults };
 
@@ -91,6 +94,7 @@ impl Sink for MemSink {
         let count = self.step.min(piece.len()).min(room);
         // There is room for them since `new`.
         self.taken.extend_from_slice(&piece[..count]).unwrap();
+        self.writing.note_write(piece, count);
         Ok(count)
     }
 }

@@ -1,8 +1,8 @@
 // A source in memory.
 ghost use Rattle.std.specs.Prelude.{◌≡◌, ◌<◌, ◌≤◌, ◌++◌, length, drop, Some, IfOk};
-ghost use Rattle.hs_edge.specs.MemSource.{new_source, file_of, begun_of, faults_of, Starts, Reads};
+ghost use Rattle.hs_edge.specs.MemSource.{new_source, file_of, faults_of, Starts, Reads};
 
-use crate::{Failed, OutOfMemory, Source};
+use crate::{Failed, OutOfMemory, Reading, Source};
 use std::alloc::Global;
 use std::marker::Model;
 
@@ -19,6 +19,7 @@ pub struct MemSource {
     step: usize,
     failing: Vec<u64>,
     calls: u64,
+    reading: Reading,
     begun: bool,
     // The next byte, or the end where nothing is begun.
     place: usize,
@@ -27,7 +28,7 @@ pub struct MemSource {
 }
 
 impl Model for MemSource {
-    ghost use Rattle.std.specs.Prelude.{◌≡◌, ◌≤◌, ◌<◌, false, drop, vec_len, string_bytes};
+    ghost use Rattle.std.specs.Prelude.{◌≡◌, ◌≤◌, ◌<◌, if◌then◌else◌, false, Some, None, drop, vec_len, string_bytes};
     ghost use Rattle.hs_edge.specs.MemSource.{SourceState};
 
     ghost Value = { SourceState };
@@ -38,7 +39,7 @@ impl Model for MemSource {
       step = s.step;
       failing = s.failing.items;
       calls = s.calls;
-      begun = s.begun;
+      reading = s.reading;
       left = drop s.place s.bytes.items;
       own_faults = s.own_faults;
       other_faults = s.other_faults;
@@ -47,6 +48,7 @@ impl Model for MemSource {
     ghost invariant = { λ s. record {
       gives_some : 0 < s.step;
       within : s.place ≤ vec_len s.bytes;
+      is_noted : s.reading.begun ≡ (if s.begun then Some (string_bytes s.name) else None);
       not_begun : s.begun ≡ false → s.place ≡ vec_len s.bytes;
     } };
 }
@@ -70,6 +72,7 @@ impl MemSource {
             step,
             failing: Vec::from_slice(alloc, failing)?,
             calls: 0,
+            reading: Reading::new(),
             begun: false,
             place: bytes.len(),
             own_faults: 0,
@@ -83,7 +86,7 @@ impl Source for MemSource {
 
     ghost left = { λ source. Some source.left };
 
-    ghost begun = { begun_of };
+    ghost reading = { λ source. source.reading };
 
     ghost faults = { faults_of };
 
@@ -103,6 +106,7 @@ impl Source for MemSource {
         }
         self.begun = true;
         self.place = 0;
+        self.reading.note_start(name);
         Ok(())
     }
 
@@ -116,6 +120,7 @@ impl Source for MemSource {
         let count = self.step.min(buf.len()).min(left.len());
         copy_to_front(buf, &left[..count]);
         self.place += count;
+        self.reading.note_read(buf, count);
         Ok(count)
     }
 }

@@ -1,15 +1,16 @@
 // What is written to.
-ghost use Rattle.std.specs.Prelude.{◌≡◌, ◌≤◌, ◌<◌, ⊤, ℕ, Option, Result, List, length, take, OnErr, IfOk};
-ghost use Rattle.std.specs.Io.KnownBytes.{append_known};
+ghost use Rattle.std.specs.Prelude.{◌≡◌, ◌≤◌, ◌<◌, ⊤, ℕ, Result, List, length, OnOk, OnErr, IfOk};
 ghost use Rattle.hs_edge.specs.declared.errors.Failed.{Failed};
 ghost use Rattle.hs_edge.specs.Count.{Rose};
+ghost use Rattle.hs_edge.specs.Writing.{Writing, written};
 
 use crate::Failed;
 
 /// A place that takes bytes in order.
 pub trait Sink {
-    /// The bytes taken so far, where they are told.
-    ghost taken: { Self → Option (List ℕ) };
+    /// What its calls have answered: the bytes taken so far, and how they were handed over. It is always
+    /// told. An implementation keeps it as a `crate::Writing`.
+    ghost writing: { Self → Writing };
 
     /// How many calls have failed, counted in a `u64` that stands still at its end.
     ghost faults: { Self → ℕ };
@@ -22,9 +23,10 @@ pub trait Sink {
     fn write(&mut self, piece: &[u8]) -> Result<usize, Failed>
         ensures fits { IfOk result (λ n. n ≤ length piece.now) }
         ensures takes_some { IfOk result (λ n. 0 < length piece.now → 0 < n) }
-        ensures ok_taken { IfOk result (λ n.
-            taken self.new ≡ append_known (taken self.old) (take n piece.now)) }
-        ensures err_taken { OnErr result (taken self.new ≡ taken self.old) }
+        ensures ok_writing { IfOk result (λ n.
+            writing self.new ≡ written piece.now n (writing self.old)) }
+        ensures ok_faults { OnOk result (faults self.new ≡ faults self.old) }
+        ensures err_writing { OnErr result (writing self.new ≡ writing self.old) }
         ensures cause { OnErr result (Rose (faults self.old) (faults self.new)) }
 
         ensures never_falls { faults self.old ≤ faults self.new }

@@ -1,8 +1,9 @@
 // What is read by name.
-ghost use Rattle.std.specs.Prelude.{◌≡◌, ◌≤◌, ◌<◌, ◌↔◌, ⊤, ℕ, Option, Result, List, [], length, take, Some, Ok, OnOk, OnErr, IfOk, IfSome, IsNone, IsSomeAnd};
+ghost use Rattle.std.specs.Prelude.{◌≡◌, ◌≤◌, ◌<◌, ◌↔◌, ⊤, ℕ, Option, Result, List, [], length, take, Ok, OnOk, OnErr, IfOk, IfSome, IsNone, IsSomeAnd};
 ghost use Rattle.std.specs.Io.KnownBytes.{prepend_known};
 ghost use Rattle.hs_edge.specs.declared.errors.Failed.{Failed};
 ghost use Rattle.hs_edge.specs.Count.{Rose};
+ghost use Rattle.hs_edge.specs.Reading.{Reading, started, handed};
 
 use crate::Failed;
 
@@ -15,8 +16,9 @@ pub trait Source {
     /// The bytes that aren't read yet, where they are told.
     ghost left: { Self → Option (List ℕ) };
 
-    /// The name of the last `start` that answered `Ok`.
-    ghost begun: { Self → Option (List ℕ) };
+    /// What its calls have answered: which file was begun last, and what was read of it. It is always
+    /// told. An implementation keeps it as a `crate::Reading`.
+    ghost reading: { Self → Reading };
 
     /// For each name, how many calls have failed, counted in a `u64` that stands still at its end.
     ghost faults: { Self → List ℕ → ℕ };
@@ -31,9 +33,10 @@ pub trait Source {
     /// before can be read on.
     fn start(&mut self, name: &str) -> Result<(), Failed>
         ensures ok_left { OnOk result (left self.new ≡ file self.old name.now) }
-        ensures ok_begun { OnOk result (begun self.new ≡ Some name.now) }
+        ensures ok_reading { OnOk result (reading self.new ≡ started name.now (reading self.old)) }
+        ensures ok_faults { OnOk result ((any : List ℕ) → faults self.new any ≡ faults self.old any) }
         ensures err_left { OnErr result (left self.new ≡ left self.old) }
-        ensures err_begun { OnErr result (begun self.new ≡ begun self.old) }
+        ensures err_reading { OnErr result (reading self.new ≡ reading self.old) }
         ensures cause { OnErr result (Rose (faults self.old name.now) (faults self.new name.now)) }
 
         ensures never_falls { (any : List ℕ) → faults self.old any ≤ faults self.new any }
@@ -46,14 +49,17 @@ pub trait Source {
         ensures fits { IfOk result (λ n. n ≤ length buf.old) }
         ensures ok_left { IfOk result (λ n.
             left self.old ≡ prepend_known (take n buf.new) (left self.new)) }
+        ensures ok_reading { IfOk result (λ n.
+            reading self.new ≡ handed (length buf.old) (take n buf.new) (reading self.old)) }
+        ensures ok_faults { OnOk result ((any : List ℕ) → faults self.new any ≡ faults self.old any) }
         ensures at_end { IfOk result (λ n. IfSome (left self.old) (λ bytes.
             0 < length buf.old → ((n ≡ 0) ↔ (bytes ≡ [])))) }
         ensures err_left { OnErr result (left self.new ≡ left self.old) }
-        ensures same_begun { begun self.new ≡ begun self.old }
+        ensures err_reading { OnErr result (reading self.new ≡ reading self.old) }
 
         // Before the first `start` there is nothing to read, and nothing fails.
-        ensures never_begun { IsNone (begun self.old) → result ≡ Ok 0 }
-        ensures cause { OnErr result (IsSomeAnd (begun self.old) (λ name.
+        ensures never_begun { IsNone (reading self.old).begun → result ≡ Ok 0 }
+        ensures cause { OnErr result (IsSomeAnd (reading self.old).begun (λ name.
             Rose (faults self.old name) (faults self.new name))) }
 
         ensures never_falls { (any : List ℕ) → faults self.old any ≤ faults self.new any }

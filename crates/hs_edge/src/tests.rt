@@ -1,12 +1,14 @@
 // Each public call on its happy path, and faults in mid-stream. The expected values are counted by hand.
-ghost use Rattle.std.specs.Prelude.{◌-◌, ◌^◌, [], None, Some};
+ghost use Rattle.std.specs.Prelude.{◌-◌, ◌^◌, None};
 
 use crate::{
-    Failed, FileSource, MemSink, MemSource, ReadAll, Sink, Source, StdSink, WriteFault, read_all,
-    write_all,
+    Failed, FileSource, MemSink, MemSource, ReadAll, Reading, Sink, Source, StdSink, WriteFault,
+    Writing, read_all, write_all,
 };
 use std::alloc::{AllocError, Global};
 use std::fs;
+use std::marker::Model;
+use std::mem::size_of;
 use std::test::Fail;
 
 const ENOUGH: usize = 1_000_000;
@@ -67,8 +69,13 @@ fn after_a_read_fault_the_rest_can_be_read(rt: HostRuntime) -> Result<(), Fail> 
 
 #[test]
 fn a_source_without_an_end_is_too_long(rt: HostRuntime) {
+    let mut source = Endless {
+        begun: false,
+        reading: Reading::new(),
+    };
+    assert_eq!(rt; source.start("f"), Ok(()));
     assert_eq!(rt;
-        read_all(rt.alloc(), &mut Endless, 100),
+        read_all(rt.alloc(), &mut source, 100),
         Err(ReadAll::TooLong)
     );
 }
@@ -101,10 +108,17 @@ fn all_is_written_or_a_part_beside_a_fault(rt: HostRuntime) -> Result<(), Fail> 
 fn each_write_is_handed_all_that_is_not_taken_yet(rt: HostRuntime) -> Result<(), Fail> {
     let mut sink = Recorder {
         lengths: Vec::with_capacity(rt.alloc(), 3)?,
+        writing: Writing::new(),
     };
     write_all(&mut sink, b"12345")?;
     assert_eq!(rt; sink.lengths.as_slice(), [5, 3, 1].as_slice());
     Ok(())
+}
+
+#[test]
+fn the_records_take_no_memory(rt: HostRuntime) {
+    assert_eq!(rt; size_of::<Reading>(), 0);
+    assert_eq!(rt; size_of::<Writing>(), 0);
 }
 
 #[test]
@@ -149,39 +163,62 @@ fn the_standard_streams_take_all(rt: HostRuntime) -> Result<(), Fail> {
 #[derive(Drop)]
 struct Recorder {
     lengths: Vec<usize>,
+    writing: Writing,
 }
 
 impl Sink for Recorder {
-    ghost taken = { λ _. None };
+    ghost writing = { λ sink. sink.writing };
 
     ghost faults = { λ _. 2 ^ 64 - 1 };
 
     fn write(&mut self, piece: &[u8]) -> Result<usize, Failed> {
+        let count = piece.len().min(2);
         match self.lengths.push(piece.len()) {
-            Ok(()) => Ok(piece.len().min(2)),
+            Ok(()) => {
+                self.writing.note_write(piece, count);
+                Ok(count)
+            }
             Err(_) => Err(Failed),
         }
     }
 }
 
-// Gives as many bytes as it is asked for, for ever.
+// Gives as many bytes as it is asked for, for ever, once it is started.
 #[derive(Drop)]
-struct Endless;
+struct Endless {
+    begun: bool,
+    reading: Reading,
+}
+
+impl Model for Endless {
+    ghost use Rattle.std.specs.Prelude.{◌≡◌, is_some};
+    ghost use Rattle.hs_edge.specs.Reading.{Reading};
+
+    ghost Value = { Reading };
+
+    ghost view = { λ s. s.reading };
+
+    ghost invariant = { λ s. s.begun ≡ is_some s.reading.begun };
+}
 
 impl Source for Endless {
     ghost file = { λ _ _. None };
 
     ghost left = { λ _. None };
 
-    ghost begun = { λ _. Some [] };
+    ghost reading = { λ reading. reading };
 
     ghost faults = { λ _ _. 2 ^ 64 - 1 };
 
-    fn start(&mut self, _name: &str) -> Result<(), Failed> {
-        Err(Failed)
+    fn start(&mut self, name: &str) -> Result<(), Failed> {
+        self.begun = true;
+        self.reading.note_start(name);
+        Ok(())
     }
 
     fn read(&mut self, buf: &mut [u8]) -> Result<usize, Failed> {
-        Ok(buf.len())
+        let count = if self.begun { buf.len() } else { 0 };
+        self.reading.note_read(buf, count);
+        Ok(count)
     }
 }

@@ -1,5 +1,5 @@
 -- Lists of points that grow by one point at a time.
-use Rattle.std.proofs.Common.{◌≡◌, ◌≢◌, refl, sym, ◌∙◌, ap, subst, ℕ, zero, suc, ◌+◌, ◌-◌, ◌<◌, ◌≤◌, Bool, true, false, nat_eq, ◌&&◌, List, [], ◌∷◌, ◌++◌, length, get_or, take, slice_get, Some, length-append, arith, ◌⊎◌, inl, inr, Contains, ◌↔◌, cond, Vec, map, filter, option_map}
+use Rattle.std.proofs.Common.{◌≡◌, ◌≢◌, refl, sym, ◌∙◌, ap, subst, ℕ, zero, suc, ◌+◌, ◌-◌, ◌<◌, ◌≤◌, Bool, true, false, nat_eq, ◌&&◌, List, [], ◌∷◌, ◌++◌, length, get_or, take, slice_get, Some, length-append, arith, ◌⊎◌, inl, inr, Contains, ◌↔◌, cond, Vec, map, filter}
 use Rattle.std.specs.List.Sorted.{IsStrictlyIncreasing}
 use Rattle.std.specs.declared.alloc.Global.{Global}
 use Rattle.std.proofs.lemmas.Bool.{eqb-true, eq-eqb, cases_lt}
@@ -8,13 +8,13 @@ use Rattle.std.proofs.lemmas.List.{take_more, get_or_append_left, get_or_push, g
 use Rattle.std.proofs.lemmas.List.Elements.{All-append, All-cons, Contains-append_left, Contains-append_right, Contains-append_cases}
 use Rattle.hs_scheme.specs.declared.flow.FlowPair.{FlowPair}
 use Rattle.hs_scheme.specs.declared.term.Head.{Head}
-use Rattle.hs_scheme.specs.Points.{PointData, PointsData}
+use Rattle.hs_scheme.specs.Points.{PointData, PointsData, point_at}
 use Rattle.hs_scheme.specs.Dependents.{HeadReads, IsDependent}
 use Rattle.hs_scheme.proofs.DemandLemmas.{some_same, read-slice_get, slice_get-read}
 use Rattle.hs_flow.specs.Rows.{row}
 use Rattle.hs_flow.specs.Dependents.{RisesTo, AddsTo, HasPoint, HasDependents, list_of}
 use Rattle.hs_flow.proofs.GainLemmas.{nothing_in, only_in, first_in}
-use Rattle.hs_flow.proofs.UserLemmas.{option_map-some}
+use Rattle.std.proofs.lemmas.Option.{slice_get-get_or}
 
 -- the point at the end of an ascending list, of which it isn't the last yet
 rises_push : (point : ℕ) (xs : List ℕ) → ((x : ℕ) → slice_get xs (length xs - 1) ≡ Some x → x ≡ point → ⊥) → RisesTo point xs → RisesTo point (xs ++ point ∷ [])
@@ -185,25 +185,23 @@ body_reads bodies base body p at = (λ h. at ∙ ap (λ q. Some q) (sym h), λ h
 
 -- what a point reads, as its parts say
 pub point_reads : (points : PointsData) (flows : List FlowPair) (d rule : ℕ) (head : Head) (args : List ℕ)
-    → option_map (λ (o : PointData). o.args) (slice_get points.points d) ≡ Some args → option_map (λ (o : PointData). o.rule) (slice_get points.points d) ≡ Some rule
-    → option_map (λ (o : PointData). o.head) (slice_get points.points d) ≡ Some head
+    → d < length points.points → args ≡ (point_at points d).args → rule ≡ (point_at points d).rule → head ≡ (point_at points d).head
     → (p : ℕ) → (Contains args p ⊎ HeadReads points.bodies flows rule head p) ↔ IsDependent points flows p d
-point_reads points flows d rule head args their_args their_rule their_head p =
-    let a = option_map-some (λ (o : PointData). o.args) (slice_get points.points d) args their_args in
-    let r = option_map-some (λ (o : PointData). o.rule) (slice_get points.points d) rule their_rule in
-    let h = option_map-some (λ (o : PointData). o.head) (slice_get points.points d) head their_head in
-    let same_rule : a.0.rule ≡ rule = ap (λ (o : PointData). o.rule) (some_same a.0 r.0 (sym a.1.0 ∙ r.1.0)) ∙ r.1.1 in
-    let same_head : a.0.head ≡ head = ap (λ (o : PointData). o.head) (some_same a.0 h.0 (sym a.1.0 ∙ h.1.0)) ∙ h.1.1 in (
+point_reads points flows d rule head args lt their_args their_rule their_head p =
+    let of = point_at points d in
+    let at : slice_get points.points d ≡ Some of = slice_get-get_or points.points d _ lt in
+    let same_rule : of.rule ≡ rule = sym their_rule in
+    let same_head : of.head ≡ head = sym their_head in (
       λ e. record {
-        of = a.0;
-        at = a.1.0;
+        of = of;
+        at = at;
         reads = elim e [
-          | inl arg ↦ inl (subst (λ (xs : List ℕ). Contains xs p) (sym a.1.1) arg)
-          | inr by_head ↦ inr (subst (λ q. HeadReads points.bodies flows q a.0.head p) (sym same_rule) (subst (λ (k : Head). HeadReads points.bodies flows rule k p) (sym same_head) by_head))
+          | inl arg ↦ inl (subst (λ (xs : List ℕ). Contains xs p) their_args arg)
+          | inr by_head ↦ inr (subst (λ q. HeadReads points.bodies flows q of.head p) (sym same_rule) (subst (λ (k : Head). HeadReads points.bodies flows rule k p) (sym same_head) by_head))
         ];
       },
-      λ e. let of_same : e.of ≡ a.0 = some_same e.of a.0 (sym e.at ∙ a.1.0) in elim e.reads [
-        | inl arg ↦ inl (subst (λ (xs : List ℕ). Contains xs p) (ap (λ (o : PointData). o.args) of_same ∙ a.1.1) arg)
+      λ e. let of_same : e.of ≡ of = some_same e.of of (sym e.at ∙ at) in elim e.reads [
+        | inl arg ↦ inl (subst (λ (xs : List ℕ). Contains xs p) (ap (λ (o : PointData). o.args) of_same ∙ sym their_args) arg)
         | inr by_head ↦ inr (subst (λ q. HeadReads points.bodies flows q head p) (ap (λ (o : PointData). o.rule) of_same ∙ same_rule)
             (subst (λ (k : Head). HeadReads points.bodies flows e.of.rule k p) (ap (λ (o : PointData). o.head) of_same ∙ same_head) by_head))
       ],

@@ -36,7 +36,7 @@ module _ (rules : List Rule) (users : UserMap) (are_users : IsUserMap (points_of
 
   pub join_demands : (found : List Pair) (f : FlowPair) (h : HeadPair) → Contains found (OfFlow f) → Contains found (OfHead h) → h.point ≡ f.point → (q : Pair) → Joins f h q → Demands rules found q
   join_demands found f h has_flow has_head same q j =
-      let u = (are_users f.rule f.param j.item).0 j.among in
+      let u = (are_users.exact f.rule f.param j.item).0 j.among in
       let same_of : u.of ≡ j.holds.of = some_same u.of j.holds.of (sym u.at ∙ j.holds.at) in
       let rule_is : j.holds.of.rule ≡ f.rule = ap (λ (d : PointData). d.rule) (sym same_of) ∙ u.rule_is in
       let head_is : j.holds.of.head ≡ Var f.param = ap (λ (d : PointData). d.head) (sym same_of) ∙ u.head_is in
@@ -82,7 +82,7 @@ module _ (rules : List Rule) (users : UserMap) (are_users : IsUserMap (points_of
         same = refl;
         joins = record {
           item = d.point;
-          among = (are_users d.of.rule x d.point).1 (record { of = d.of; at = d.at; rule_is = refl; head_is = e });
+          among = (are_users.exact d.of.rule x d.point).1 (record { of = d.of; at = d.at; rule_is = refl; head_is = e });
           holds = record { of = d.of; at = d.at; passes = d.passes };
         };
       })

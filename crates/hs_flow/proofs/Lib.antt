@@ -8,3 +8,4 @@ pub mod SupportLemmas
 pub mod TableLemmas
 pub mod DependentLemmas
 pub mod BaseLemmas
+pub mod FreshLemmas

@@ -1,17 +1,17 @@
 -- Loops that add, for each item in turn, just the pairs that it stands for.
-use Rattle.std.proofs.Common.{◌≡◌, refl, sym, ◌∙◌, ap, subst, ℕ, ◌+◌, ◌<◌, ◌≤◌, List, [], ◌∷◌, length, get_or, take, slice_get, Some, option_map, inl, inr, Contains}
-use Rattle.std.proofs.lemmas.List.{take_more, take_all, get_or_default}
-use Rattle.std.proofs.lemmas.List.Elements.{Contains-append_cases}
+use Rattle.std.proofs.Common.{◌≡◌, ◌≢◌, AllPairs, arith, refl, sym, ◌∙◌, ap, subst, ℕ, ◌+◌, ◌<◌, ◌≤◌, ◌⊎◌, List, [], ◌∷◌, length, get_or, take, slice_get, Some, inl, inr, Contains}
+use Rattle.std.proofs.lemmas.List.{take_more, take_all, get_or_default, get_or-take, length-take}
+use Rattle.std.proofs.lemmas.List.Elements.{Contains-append_cases, Contains-append_left, Contains-push}
 use Rattle.hs_scheme.specs.declared.term.Rule.{Rule}
 use Rattle.hs_scheme.specs.declared.term.Head.{Head}
 use Rattle.hs_scheme.specs.declared.term.Head.TheVariants.{Var, Nt, Tm}
 use Rattle.hs_scheme.specs.declared.flow.Pair.{Pair}
-use Rattle.hs_scheme.specs.Points.{PointData, PointsData, points_of}
+use Rattle.hs_scheme.specs.Points.{PointData, PointsData, points_of, point_at}
 use Rattle.hs_scheme.specs.Flow.{IsBase, Passes, Demands}
 use Rattle.hs_scheme.proofs.DemandLemmas.{some_same}
-use Rattle.hs_flow.specs.Gain.{Gains, ForOne, PassedBy}
-use Rattle.hs_flow.proofs.GainLemmas.{nothing_in, only_in, gains_then, gains_weaker, gains_keep}
-use Rattle.hs_flow.proofs.UserLemmas.{option_map-some}
+use Rattle.hs_flow.specs.Gain.{Gains, ForOne, PassedBy, PassedAtFirst}
+use Rattle.hs_flow.proofs.GainLemmas.{nothing_in, only_in, gains_then, gains_weaker, gains_keep, gains_cases}
+use Rattle.std.proofs.lemmas.Option.{slice_get-get_or}
 
 module _ {X : Type 0} (xs : List X) (P : X → Pair → Type 0) (n : ℕ) (d : X) (lt : n < length xs) where
   abbrev this : X
@@ -32,13 +32,23 @@ module _ {X : Type 0} (xs : List X) (P : X → Pair → Type 0) (n : ℕ) (d : X
         | inr last ↦ all q (subst (λ (y : X). P y q) (only_in this f.item last) f.holds)
       ]
 
+  -- what is there was there at first, or is of the items so far
+  pub each_behind : (first mid new : List Pair) → Gains (P this) mid new → ((q : Pair) → Contains mid q → Contains first q ⊎ ForOne (take n xs) P q) → (q : Pair) → Contains new q → Contains first q ⊎ ForOne (take (n + 1) xs) P q
+  each_behind first mid new gains behind q h = elim (gains_cases (P this) mid new q gains h) [
+    | inl was ↦ elim (behind q was) [
+      | inl before ↦ inl before
+      | inr f ↦ inr (record { item = f.item; among = subst (λ (ys : List X). Contains ys f.item) (sym (take_more xs n d lt)) (Contains-append_left (take n xs) (this ∷ []) f.item f.among); holds = f.holds })
+    ]
+    | inr now ↦ inr (record { item = this; among = subst (λ (ys : List X). Contains ys this) (sym (take_more xs n d lt)) (Contains-push (take n xs) this); holds = now })
+  ]
+
 pub each_done : {X : Type 0} (xs : List X) (P : X → Pair → Type 0) (n : ℕ) (now : List Pair) → length xs ≤ n → ((q : Pair) → ForOne (take n xs) P q → Contains now q) → (q : Pair) → ForOne xs P q → Contains now q
 each_done {X} xs P n now all so_far = subst (λ (ys : List X). (q : Pair) → ForOne ys P q → Contains now q) (take_all n xs all) so_far
 
 -- a point passes on what its arguments, read from the points, say
-module _ (rules : List Rule) (points : PointsData) (are : points ≡ points_of rules) (base given p : ℕ) (args : List ℕ) (read : option_map (λ (d : PointData). d.args) (slice_get points.points p) ≡ Some args) where
+module _ (rules : List Rule) (points : PointsData) (are : points ≡ points_of rules) (base given p : ℕ) (args : List ℕ) (lt : p < length points.points) (read : args ≡ (point_at points p).args) where
   here : (d : PointData) × ((slice_get points.points p ≡ Some d) × (d.args ≡ args))
-  here = option_map-some (λ (d : PointData). d.args) (slice_get points.points p) args read
+  here = (point_at points p, (slice_get-get_or points.points p _ lt, sym read))
 
   pub passed_by : (q : Pair) → Passes rules p args base given q → PassedBy rules base given p q
   passed_by q h = record {
@@ -53,9 +63,9 @@ module _ (rules : List Rule) (points : PointsData) (are : points ≡ points_of r
       subst (λ (us : List ℕ). Passes rules p us base given q) (ap (λ (d : PointData). d.args) same ∙ here.1.1) h.passes
 
 -- what is demanded before any pair is found comes from a nonterminal at the head
-module _ (rules : List Rule) (points : PointsData) (are : points ≡ points_of rules) (p : ℕ) (head : Head) (is_head : option_map (λ (d : PointData). d.head) (slice_get points.points p) ≡ Some head) where
+module _ (rules : List Rule) (points : PointsData) (are : points ≡ points_of rules) (p : ℕ) (head : Head) (lt : p < length points.points) (is_head : head ≡ (point_at points p).head) where
   at_p : (d : PointData) × ((slice_get points.points p ≡ Some d) × (d.head ≡ head))
-  at_p = option_map-some (λ (d : PointData). d.head) (slice_get points.points p) head is_head
+  at_p = (point_at points p, (slice_get-get_or points.points p _ lt, sym is_head))
 
   same_at : (of : PointData) → slice_get (points_of rules).points p ≡ Some of → of.head ≡ head
   same_at of at = ap (λ (d : PointData). d.head) (some_same of at_p.0 (sym at ∙ (ap (λ (ps : PointsData). slice_get ps.points p) (sym are) ∙ at_p.1.0))) ∙ at_p.1.1
@@ -70,6 +80,9 @@ module _ (rules : List Rule) (points : PointsData) (are : points ≡ points_of r
     is_base = subst (λ (k : Head). IsBase [] h.of.rule k base 0) (sym (same_at h.of h.at ∙ nt)) (refl, refl);
     passes = h.passes;
   }
+
+  pub at_first : (base : ℕ) → head ≡ Nt base → (q : Pair) → PassedBy rules base 0 p q → (f : PassedAtFirst rules q) × (f.point ≡ p)
+  at_first base nt q h = (record { point = p; of = h.of; base = base; at = h.at; head = same_at h.of h.at ∙ nt; passed = h }, refl)
 
   pub started : (base : ℕ) → head ≡ Nt base → (q : Pair) (d : Demands rules [] q) → d.point ≡ p → PassedBy rules base 0 p q
   started base nt q d same =
@@ -88,3 +101,9 @@ module _ (rules : List Rule) (points : PointsData) (are : points ≡ points_of r
       by (Nt f) e b = other f (sym e)
       by (Var x) e (u, (flows, heads)) = nothing_in _ flows
       by (Tm a) e b = b
+
+-- an item of the first ones isn't the next
+pub not_before : (xs : List ℕ) (n x : ℕ) → AllPairs (λ a b. a ≢ b) xs → n < length xs → Contains (take n xs) x → x ≡ get_or xs n 0 → ⊥
+not_before xs n x once lt (k, within, is) same =
+    let short : k < n = omega (arith, length-take n xs) in
+    once k n 0 short lt (sym (get_or-take n xs k 0 short) ∙ (get_or_default (take n xs) k 0 x within ∙ (is ∙ same)))

@@ -1,5 +1,5 @@
 -- What is found stays supported as it grows, and its points are in range.
-use Rattle.std.proofs.Common.{◌≡◌, refl, sym, ◌∙◌, ap, subst, ℕ, ◌+◌, ◌-◌, ◌<◌, ◌≤◌, List, [], ◌∷◌, ◌++◌, length, get_or, take, slice_get, Some, length-append, arith, inl, inr, Contains, Vec, All}
+use Rattle.std.proofs.Common.{◌≡◌, ◌≢◌, AllPairs, refl, sym, ◌∙◌, ap, subst, ℕ, ◌+◌, ◌-◌, ◌<◌, ◌≤◌, List, [], ◌∷◌, ◌++◌, length, get_or, take, slice_get, Some, length-append, arith, inl, inr, Contains, Vec, All}
 use Rattle.std.specs.declared.alloc.Global.{Global}
 use Rattle.std.proofs.lemmas.Bool.{cases_lt}
 use Rattle.std.proofs.lemmas.Option.{slice_get_within}
@@ -18,10 +18,14 @@ use Rattle.hs_flow.specs.Gain.{Gains}
 use Rattle.hs_flow.specs.Rows.{row}
 use Rattle.hs_flow.specs.Users.{UserMap}
 use Rattle.hs_flow.specs.Index.{IsIndex, point_of}
-use Rattle.hs_flow.proofs.GainLemmas.{nothing_in}
+use Rattle.hs_flow.proofs.GainLemmas.{nothing_in, append_once}
 
 pub in_take : {X : Type 0} (n : ℕ) (xs : List X) (x : X) → Contains (take n xs) x → Contains xs x
 in_take n xs x (k, within, is) = (k, omega (arith, length-take n xs), sym (get_or-take n xs k x (omega (arith, length-take n xs))) ∙ is)
+
+-- a pair that is read from the list
+pub read_pair : (xs items : List Pair) (k : ℕ) (x : Pair) → xs ≡ items → (k < length xs) × ((d : Pair) → x ≡ get_or xs k d) → slice_get items k ≡ Some x
+read_pair xs items k x same (lt, is) = subst (λ (ps : List Pair). slice_get ps k ≡ Some x) same (slice_get-read xs k x lt (sym (is x)))
 
 module _ (rules : List Rule) (P : Pair → Type 0) (old new : List Pair) (gains : Gains P old new) (demanded : (q : Pair) → P q → Demands rules old q) (s : IsSupported rules old) where
   early : (i : ℕ) → i ≤ length old → take i new ≡ take i old
@@ -48,7 +52,10 @@ module _ (rules : List Rule) (P : Pair → Type 0) (old new : List Pair) (gains 
           (k, omega (arith, length-take j new), get_or-take j new k p (omega arith) ∙ (ap (λ (ps : List Pair). get_or ps k p) gains.is ∙ (get_or_append_left old gains.added p k within ∙ is)))
 
   pub supported_more : IsSupported rules new
-  supported_more = record { distinct = gains.once s.distinct; demanded = by_place }
+  supported_more = record {
+    distinct = subst (λ (ps : List Pair). AllPairs (λ a b. a ≢ b) ps) (sym gains.is) (append_once old gains.added s.distinct gains.once (λ q was h. gains.fresh q h was));
+    demanded = by_place;
+  }
 
 pub nothing_supported : (rules : List Rule) (none : List Pair) → length none ≡ 0 → IsSupported rules none
 nothing_supported rules [] e = record { distinct = λ i j d less within. absurd (omega arith); demanded = λ i q at. absurd (omega (arith, slice_get_within [] i q at)) }

@@ -6,7 +6,7 @@ use Rattle.std.specs.declared.cmp.Ordering.{Ordering}
 use Rattle.std.specs.declared.cmp.Ordering.TheVariants.{Less, Equal, Greater}
 use Rattle.std.specs.List.{IsDistinct}
 use Rattle.std.specs.List.Sorted.{IsPermutation, IsSorted}
-use Rattle.std.proofs.lemmas.List.{take_more, get_or_default}
+use Rattle.std.proofs.lemmas.List.{take_more, get_or_default, get_or-map}
 use Rattle.std.proofs.lemmas.List.Elements.{Contains-append_left, Contains-append_right, Contains-append_cases}
 use Rattle.std.proofs.lemmas.List.Sorted.{sorted_far, ranks_by, Contains-permutation, IsPermutation-sym}
 use Rattle.std.proofs.lemmas.Map.Keys.{IsDistinct-from_apart, IsDistinct-IsPermutation, apart_from_distinct}
@@ -15,11 +15,13 @@ use Rattle.hs_scheme.specs.declared.flow.HeadPair.{HeadPair}
 use Rattle.hs_scheme.specs.declared.flow.Pair.{Pair}
 use Rattle.hs_scheme.specs.declared.flow.Pair.TheVariants.{OfFlow, OfHead}
 use Rattle.hs_scheme.specs.declared.term.Rule.{Rule}
-use Rattle.hs_scheme.specs.Flow.{pairs_of, IsAscending, flow_cmp, head_cmp, IsClosed, Demands, IsSupported, IsFlow, IsFlowTable}
+use Rattle.hs_scheme.specs.Parameters.{IsParameter, counts_of}
+use Rattle.hs_scheme.specs.FlowRows.{AreOfParameters}
+use Rattle.hs_scheme.specs.Flow.{HasParameter, pairs_of, IsAscending, flow_cmp, head_cmp, IsClosed, Demands, IsSupported, IsFlow, IsFlowTable}
 use Rattle.hs_scheme.specs.Points.{points_of}
 use Rattle.hs_scheme.specs.Problem.{FlowWithin, HeadWithin}
 use Rattle.hs_scheme.proofs.FlowLemmas.{flow_cmp_total, flow_cmp-equal, head_cmp_total, head_cmp-equal}
-use Rattle.hs_scheme.proofs.DemandLemmas.{Demands-more, slice_get-read}
+use Rattle.hs_scheme.proofs.DemandLemmas.{Demands-more, slice_get-read, read-slice_get}
 use Rattle.hs_flow.proofs.SupportLemmas.{flow_within, head_within}
 use Rattle.hs_flow.proofs.GainLemmas.{nothing_in, first_in}
 
@@ -212,3 +214,20 @@ module _ (rules : List Rule) (found : List Pair) (fs : List FlowPair) (hs : List
       let h = get_or hs k d in
       let there = Contains-append_right (map (λ x. OfFlow x) fs) (map (λ x. OfHead x) hs) (OfHead h) (mapped (λ x. OfHead x) hs h (k, lt, get_or_default hs k h d lt)) in
       let w = was_demanded (OfHead h) there in head_within rules (take w.0 found) h w.1
+
+-- the flow pairs found are of parameters that the rules have
+pub all_parameters : (found : List Pair) (fs : List FlowPair) (hs : List HeadPair) (counts : List ℕ) → ((q : Pair) → Contains found q ↔ Contains (pairs_of fs hs) q)
+    → ((f : FlowPair) → Contains found (OfFlow f) → IsParameter counts f.rule f.param) → AreOfParameters counts fs
+all_parameters found fs hs counts same of k d lt =
+    let f = get_or fs k d in
+    of f ((same (OfFlow f)).1 (Contains-append_left (map (λ x. OfFlow x) fs) (map (λ x. OfHead x) hs) (OfFlow f) (mapped (λ x. OfFlow x) fs f (k, lt, get_or_default fs k f d lt))))
+
+-- a parameter of a rule, by the rules' numbers of parameters
+pub has_parameter : (rules : List Rule) (rule x : ℕ) → HasParameter rules rule x → IsParameter (counts_of rules) rule x
+has_parameter rules rule x (r, (at, lt)) =
+    let p = read-slice_get rules rule r at in
+    omega (arith, get_or-map (λ (q : Rule). q.params) rules rule r 0 p.0, ap (λ (q : Rule). q.params) p.1)
+
+pub supported_parameters : (rules : List Rule) (found : List Pair) → IsSupported rules found → (f : FlowPair) → Contains found (OfFlow f) → IsParameter (counts_of rules) f.rule f.param
+supported_parameters rules found supported f (k, lt, is) =
+    has_parameter rules f.rule f.param (flow_within rules (take k found) f (supported.demanded k (OfFlow f) (slice_get-read found k (OfFlow f) lt is))).parameter

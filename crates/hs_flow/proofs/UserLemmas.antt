@@ -1,17 +1,20 @@
 -- The users of a parameter, one point after another.
-use Rattle.std.proofs.Common.{◌≡◌, refl, sym, ◌∙◌, ap, subst, ℕ, ◌+◌, ◌<◌, Bool, true, false, ◌&&◌, List, [], ◌∷◌, ◌++◌, Some, None, Option, option_map, unwrap_or, cond, nat_eq, Vec, Contains, slice_get, get_or, length, All, ◌↔◌, inl, inr, arith}
-use Rattle.std.specs.HashMap.{get}
-use Rattle.std.specs.Option.{option_map_or}
+use Rattle.std.proofs.Common.{◌≡◌, ◌≢◌, AllPairs, refl, sym, ◌∙◌, ap, subst, ℕ, ◌+◌, ◌<◌, Bool, true, false, ◌&&◌, List, [], ◌∷◌, ◌++◌, Some, cond, nat_eq, nat_lt, slice_index, Vec, Contains, slice_get, get_or, length, All, ◌↔◌, inl, inr, arith}
 use Rattle.std.specs.declared.alloc.Global.{Global}
 use Rattle.std.proofs.lemmas.Bool.{eqb-true, eq-eqb, cases_lt}
 use Rattle.std.proofs.lemmas.List.{get_or_default}
 use Rattle.std.proofs.lemmas.Option.{slice_get_within}
-use Rattle.std.proofs.lemmas.List.Elements.{Contains-append_left, Contains-append_right, Contains-append_cases}
+use Rattle.std.proofs.lemmas.List.Elements.{Contains-append_left, Contains-append_right, Contains-append_cases, Contains-get_or}
+use Rattle.std.proofs.lemmas.List.Quantifiers.{all_pairs_push}
 use Rattle.hs_scheme.specs.declared.term.Head.TheVariants.{Var}
 use Rattle.hs_scheme.specs.Key.{key_eq}
 use Rattle.hs_scheme.specs.Points.{PointData}
 use Rattle.hs_scheme.proofs.DemandLemmas.{some_same}
-use Rattle.hs_flow.specs.Users.{UserMap, users_of, IsUser, IsUserMap}
+use Rattle.hs_scheme.specs.Parameters.{IsParameter, parameter_of}
+use Rattle.hs_scheme.proofs.ParameterLemmas.{number_once}
+use Rattle.std.proofs.lemmas.Bool.Decides.{nat_tests}
+use Rattle.hs_flow.specs.Rows.{row}
+use Rattle.hs_flow.specs.Users.{UserMap, row_of, users_of, IsUser, IsUserMap}
 use Rattle.hs_flow.proofs.GainLemmas.{only_in, first_in}
 
 both : (b c : Bool) → b && c ≡ true → (b ≡ true) × (c ≡ true)
@@ -19,30 +22,77 @@ both true true h = (refl, refl)
 both true false h = absurd (cc)
 both false c h = absurd (cc)
 
-items_or : (o : Option (Vec ℕ Global)) (fresh : Vec ℕ Global) → fresh.items ≡ [] → (unwrap_or o fresh).items ≡ option_map_or (λ v. v.items) o []
-items_or None fresh e = e
-items_or (Some v) fresh e = refl
+lt_of : (x n : ℕ) → nat_lt x n ≡ true → x < n
+lt_of x n h = grind (arith, nat_tests)
 
--- the row of one parameter is taken out, gets the point at its end, and is put back
-pub user_added : (old removed new : UserMap) (a b rule x point : ℕ) (o : Option (Vec ℕ Global)) (row pushed fresh : Vec ℕ Global)
-    → o ≡ get key_eq old (a, b) → fresh.items ≡ [] → row ≡ unwrap_or o fresh → pushed.items ≡ row.items ++ point ∷ []
-    → get key_eq removed (rule, x) ≡ cond (key_eq (a, b) (rule, x)) None (get key_eq old (rule, x))
-    → get key_eq new (rule, x) ≡ cond (key_eq (a, b) (rule, x)) (Some pushed) (get key_eq removed (rule, x))
-    → users_of new rule x ≡ cond (key_eq (a, b) (rule, x)) (users_of old rule x ++ point ∷ []) (users_of old rule x)
-user_added old removed new a b rule x point o row pushed fresh was empty is more out back =
-    elim (key_eq (a, b) (rule, x)) as (λ t. key_eq (a, b) (rule, x) ≡ t → get key_eq removed (rule, x) ≡ cond t None (get key_eq old (rule, x)) → get key_eq new (rule, x) ≡ cond t (Some pushed) (get key_eq removed (rule, x))
-    → users_of new rule x ≡ cond t (users_of old rule x ++ point ∷ []) (users_of old rule x)) [
-      | true ↦ λ here out back.
-          let p = both (nat_eq a rule) (nat_eq b x) here in
-          let key : get key_eq old (a, b) ≡ get key_eq old (rule, x) = λ i. get key_eq old (eqb-true a rule p.0 i, eqb-true b x p.1 i) in
-          ap (λ (s : Option (Vec ℕ Global)). option_map_or (λ v. v.items) s []) back
-          ∙ (more ∙ ap (λ ps. ps ++ point ∷ []) (ap (λ (v : Vec ℕ Global). v.items) is ∙ (items_or o fresh empty ∙ ap (λ (s : Option (Vec ℕ Global)). option_map_or (λ v. v.items) s []) (was ∙ key))))
-      | false ↦ λ elsewhere out back. ap (λ (s : Option (Vec ℕ Global)). option_map_or (λ v. v.items) s []) (back ∙ out)
-    ] refl out back
+not_lt : (x n : ℕ) → nat_lt x n ≡ false → x < n → ⊥
+not_lt x n h lt = grind (arith, nat_tests)
 
-pub option_map-some : {X Y : Type 0} (f : X → Y) (o : Option X) (y : Y) → option_map f o ≡ Some y → (x : X) × ((o ≡ Some x) × (f x ≡ y))
-option_map-some f None y h = absurd (cc)
-option_map-some f (Some x) y h = (x, (refl, some_same (f x) y h))
+is_lt : (x n : ℕ) → x < n → nat_lt x n ≡ true
+is_lt x n lt = grind (arith, nat_tests)
+
+isnt_lt : (x n : ℕ) → (x < n → ⊥) → nat_lt x n ≡ false
+isnt_lt x n never = by (nat_lt x n) refl
+  where
+    by : (t : Bool) → nat_lt x n ≡ t → t ≡ false
+    by true e = absurd (never (lt_of x n e))
+    by false e = refl
+
+-- the row of a parameter, and where there is none
+pub row_is : (counts : List ℕ) (rows : List (Vec ℕ Global)) (rule x n : ℕ) → IsParameter counts rule x → n ≡ parameter_of counts rule x → row rows n ≡ row_of counts rows rule x
+row_is counts rows rule x n lt is = ap (row rows) is ∙ ap (λ t. cond t (row rows (parameter_of counts rule x)) []) (sym (is_lt x (slice_index counts rule) lt))
+
+pub no_row : (counts : List ℕ) (rows : List (Vec ℕ Global)) (rule x : ℕ) → (IsParameter counts rule x → ⊥) → [] ≡ row_of counts rows rule x
+no_row counts rows rule x never = ap (λ t. cond t (row rows (parameter_of counts rule x)) []) (sym (isnt_lt x (slice_index counts rule) never))
+
+pub all_empty : (counts : List ℕ) (rows : List (Vec ℕ Global)) (rule x : ℕ) → ((k : ℕ) → row rows k ≡ []) → row_of counts rows rule x ≡ []
+all_empty counts rows rule x empty = by (nat_lt x (slice_index counts rule))
+  where
+    by : (t : Bool) → cond t (row rows (parameter_of counts rule x)) [] ≡ []
+    by true = empty (parameter_of counts rule x)
+    by false = refl
+
+-- the row of one parameter gets the point at its end
+module _ (counts : List ℕ) (old new : List (Vec ℕ Global)) (n rule param point : ℕ) (here : IsParameter counts rule param) (is : n ≡ parameter_of counts rule param)
+    (grown : (k : ℕ) → row new k ≡ cond (nat_eq k n) (row old k ++ point ∷ []) (row old k)) (r x : ℕ) where
+  abbrev at : ℕ
+  at = parameter_of counts r x
+
+  abbrev key : Bool
+  key = nat_eq rule r && nat_eq param x
+
+  same_key : IsParameter counts r x → nat_eq at n ≡ key
+  same_key there = by (nat_eq at n) refl
+    where
+      found : at ≡ n → key ≡ true
+      found e = let p = number_once counts rule param r x here there (sym is ∙ sym e) in rw (eq-eqb rule r p.0, eq-eqb param x p.1)
+
+      lost : (t : Bool) → key ≡ t → nat_eq at n ≡ false → t ≡ false
+      lost true k e =
+          let p = both (nat_eq rule r) (nat_eq param x) k in
+          let same : at ≡ n = (λ i. parameter_of counts (sym (eqb-true rule r p.0) i) (sym (eqb-true param x p.1) i)) ∙ sym is in
+          let f : nat_eq at n ≡ true = eq-eqb at n same in absurd (cc)
+      lost false k e = refl
+
+      by : (t : Bool) → nat_eq at n ≡ t → t ≡ key
+      by true e = sym (found (eqb-true at n e))
+      by false e = sym (lost key refl e)
+
+  other_key : (IsParameter counts r x → ⊥) → key ≡ false
+  other_key never = by key refl
+    where
+      by : (t : Bool) → key ≡ t → t ≡ false
+      by true k =
+          let p = both (nat_eq rule r) (nat_eq param x) k in
+          absurd (never (subst (λ (y : ℕ). IsParameter counts r y) (eqb-true param x p.1) (subst (λ (q : ℕ). IsParameter counts q param) (eqb-true rule r p.0) here)))
+      by false k = refl
+
+  pub user_added : row_of counts new r x ≡ cond key (row_of counts old r x ++ point ∷ []) (row_of counts old r x)
+  user_added = by (nat_lt x (slice_index counts r)) refl
+    where
+      by : (t : Bool) → nat_lt x (slice_index counts r) ≡ t → cond t (row new at) [] ≡ cond key (cond t (row old at) [] ++ point ∷ []) (cond t (row old at) [])
+      by true e = grown at ∙ ap (λ t. cond t (row old at ++ point ∷ []) (row old at)) (same_key (lt_of x (slice_index counts r) e))
+      by false e = sym (ap (λ t. cond t ([] ++ point ∷ []) []) (other_key (not_lt x (slice_index counts r) e)))
 
 module _ (points : List PointData) (n : ℕ) (d : PointData) (at : slice_get points n ≡ Some d) (was : ℕ → ℕ → List ℕ) (so_far : (rule x p : ℕ) → Contains (was rule x) p ↔ ((p < n) × IsUser points rule x p)) where
   same_point : (p : ℕ) (e : PointData) → slice_get points p ≡ Some e → n ≡ p → d ≡ e
@@ -95,11 +145,16 @@ module _ (points : List PointData) (n : ℕ) (d : PointData) (at : slice_get poi
       ],
     )
 
+-- a row that gets a point behind those it has
+pub once_more : (was : List ℕ) (n : ℕ) (t : Bool) → ((p : ℕ) → Contains was p → p < n) → AllPairs (λ a b. a ≢ b) was → AllPairs (λ a b. a ≢ b) (cond t (was ++ n ∷ []) was)
+once_more was n true below once = all_pairs_push (λ a b. a ≢ b) was n once (λ i d lt e. omega (arith, below (get_or was i d) (Contains-get_or was i d lt)))
+once_more was n false below once = once
+
 -- users are points
 pub users_within : (points : List PointData) (m : UserMap) → IsUserMap points m → (rule x : ℕ) → All (λ p. p < length points) (users_of m rule x)
 users_within points m is rule x k d lt =
     let p = get_or (users_of m rule x) k d in
-    let u = (is rule x p).0 (k, lt, get_or_default (users_of m rule x) k p d lt) in
+    let u = (is.exact rule x p).0 (k, lt, get_or_default (users_of m rule x) k p d lt) in
     slice_get_within points p u.of u.at
 
 -- where there are none

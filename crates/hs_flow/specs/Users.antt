@@ -1,20 +1,22 @@
 -- For each parameter, the points with that parameter at their head.
-use Rattle.std.specs.Prelude.{◌≡◌, ℕ, List, [], slice_get, Some, Vec, Contains, ◌↔◌}
-use Rattle.std.specs.Option.{option_map_or}
-use Rattle.std.specs.HashMap.{HashMap, get}
+use Rattle.std.specs.Prelude.{◌≡◌, ◌≢◌, AllPairs, ℕ, List, [], cond, nat_lt, length, sum, slice_index, slice_get, Some, Vec, Contains, ◌↔◌}
 use Rattle.std.specs.declared.alloc.Global.{Global}
-use Rattle.std.specs.declared.hash.FoldHasher.{FoldHasher}
-use Rattle.std.specs.declared.hash.BuildHasherDefault.{BuildHasherDefault}
 use Rattle.hs_scheme.specs.declared.term.Head.TheVariants.{Var}
-use Rattle.hs_scheme.specs.Key.{key_eq}
+use Rattle.hs_scheme.specs.Parameters.{parameter_of}
 use Rattle.hs_scheme.specs.Points.{PointData}
+use Rattle.hs_flow.specs.declared.users.Users.{Users}
+use Rattle.hs_flow.specs.Rows.{row}
 
 abbrev pub UserMap : Type 0
-UserMap = HashMap (ℕ × ℕ) (Vec ℕ Global) (BuildHasherDefault FoldHasher)
+UserMap = Users
+
+-- the row of this parameter, where the rules have it
+abbrev pub row_of : List ℕ → List (Vec ℕ Global) → ℕ → ℕ → List ℕ
+row_of counts rows rule x = cond (nat_lt x (slice_index counts rule)) (row rows (parameter_of counts rule x)) []
 
 -- the users of this parameter
 abbrev pub users_of : UserMap → ℕ → ℕ → List ℕ
-users_of m rule x = option_map_or (λ v. v.items) (get key_eq m (rule, x)) []
+users_of m rule x = row_of m.params m.rows.items rule x
 
 -- the point stands in the rule and has the parameter at its head
 pub record IsUser (points : List PointData) (rule x p : ℕ) : Type 0 where
@@ -23,6 +25,8 @@ pub record IsUser (points : List PointData) (rule x p : ℕ) : Type 0 where
   pub rule_is : of.rule ≡ rule
   pub head_is : of.head ≡ Var x
 
--- the map has just the users of each parameter
-abbrev pub IsUserMap : List PointData → UserMap → Type 0
-IsUserMap points m = (rule x p : ℕ) → Contains (users_of m rule x) p ↔ IsUser points rule x p
+-- there is a row for each parameter, with just its users, each once
+pub record IsUserMap (points : List PointData) (m : UserMap) : Type 0 where
+  pub rows : length m.rows.items ≡ sum m.params
+  pub exact : (rule x p : ℕ) → Contains (users_of m rule x) p ↔ IsUser points rule x p
+  pub once : (rule x : ℕ) → AllPairs (λ a b. a ≢ b) (users_of m rule x)

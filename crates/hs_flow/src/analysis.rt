@@ -1,21 +1,26 @@
 //! The flow analysis.
 
 ghost use Rattle.std.specs.Prelude.{◌≡◌, ◌≤◌, ◌<◌, ◌+◌, ℕ, List, length, take, Contains, IfOk, OnOk, IsErrOf, All, AllPairs, ◌≢◌, ◌↔◌};
+ghost use Rattle.hs_scheme.specs.declared.flow.FlowPair.{FlowPair};
 ghost use Rattle.hs_scheme.specs.declared.flow.Pair.{Pair as AnyPair};
+ghost use Rattle.hs_scheme.specs.declared.flow.Pair.TheVariants.{OfFlow};
+ghost use Rattle.hs_scheme.specs.Parameters.{IsParameter};
 ghost use Rattle.hs_scheme.specs.Points.{points_of};
 ghost use Rattle.hs_scheme.specs.Flow.{IsClosed, IsSupported, IsFlow, IsFlowTable, pairs_of};
 ghost use Rattle.hs_scheme.specs.Problem.{FlowWithin, HeadWithin};
 ghost use Rattle.hs_flow.specs.declared.fault.FlowFault.TheVariants.{FlowLimit};
+ghost use Rattle.hs_flow.specs.declared.bases.Base.{Base};
+ghost use Rattle.hs_flow.specs.Bases.{HasBase};
 ghost use Rattle.hs_flow.specs.Index.{point_of};
 
+use crate::bases::Bases;
 use crate::fault::FlowFault;
 use crate::found::Found;
 use crate::index::{Index, take};
 use crate::rows::empty;
 use crate::spread::start;
-use crate::users::users;
-use hs_scheme::{FlowTable, OutOfMemory, Pair, Points, Rule, Scheme};
-use indexmap::IndexSet;
+use crate::users::all_users;
+use hs_scheme::{FlowTable, OutOfMemory, Pair, Parameters, Points, Rule, Scheme};
 use std::alloc::Global;
 
 /// All pairs that are demanded from the start on, in the order in which they are found.
@@ -27,14 +32,14 @@ fn find_all(
     points: &Points,
 ) -> Result<(), FlowFault>
     requires points { points.now ≡ points_of rules.now }
-    requires none { length found.old.pairs.keys ≡ 0 }
-    requires no_bases { length found.old.bases.keys ≡ 0 }
-    ensures supported { IsSupported rules.now found.new.pairs.keys }
-    ensures closed { OnOk result (IsClosed rules.now found.new.pairs.keys) }
-    ensures within { OnOk result (length found.new.pairs.keys ≤ max) }
-    ensures over { IsErrOf result FlowLimit → max < length found.new.pairs.keys }
+    requires none { length found.old.pairs.items ≡ 0 }
+    requires no_bases { (b : Base) → HasBase points.now.params found.old.bases b → ⊥ }
+    ensures supported { IsSupported rules.now found.new.pairs.items }
+    ensures closed { OnOk result (IsClosed rules.now found.new.pairs.items) }
+    ensures within { OnOk result (length found.new.pairs.items ≤ max) }
+    ensures over { IsErrOf result FlowLimit → max < length found.new.pairs.items }
 {
-    let users = users(alloc, points)?;
+    let users = all_users(alloc, points)?;
     let count = points.count() as usize;
     let mut index = Index {
         flows: empty(alloc, count)?,
@@ -43,7 +48,7 @@ fn find_all(
     start(&mut found.pairs, max, rules, points)?;
     let mut taken = 0;
     while taken < found.pairs.len() {
-        let Some(pair) = found.pairs.get_index(taken) else {
+        let Some(pair) = found.pairs.get(taken) else {
             break;
         };
         let pair = *pair;
@@ -54,8 +59,9 @@ fn find_all(
 }
 
 /// The pairs of each kind, in ascending order.
-fn table(alloc: Global, found: &[Pair]) -> Result<FlowTable, OutOfMemory>
-    requires { AllPairs (λ a b. a ≢ b) found.now }
+fn table(alloc: Global, params: &Parameters, found: &[Pair]) -> Result<FlowTable, OutOfMemory>
+    requires once { AllPairs (λ a b. a ≢ b) found.now }
+    requires parameters { (f : FlowPair) → Contains found.now (OfFlow f) → IsParameter params.now f.rule f.param }
     ensures same { IfOk result (λ table. (q : AnyPair) → Contains found.now q ↔ Contains (pairs_of table.pairs table.heads) q) }
     ensures ascending { IfOk result IsFlowTable }
     ensures len { IfOk result (λ table. length table.pairs + length table.heads ≡ length found.now) }
@@ -70,7 +76,8 @@ fn table(alloc: Global, found: &[Pair]) -> Result<FlowTable, OutOfMemory>
     }
     pairs.sort_unstable();
     heads.sort_unstable();
-    Ok(FlowTable { pairs, heads })
+    let made = FlowTable::of(alloc, params, pairs, heads)?;
+    Ok(made)
 }
 
 /// The flow of a scheme, by a worklist that takes each pair once: Broadbent and Kobayashi,
@@ -80,9 +87,11 @@ fn table(alloc: Global, found: &[Pair]) -> Result<FlowTable, OutOfMemory>
 /// The points are those of the scheme. `FlowLimit` comes exactly where there are more than `max` pairs
 /// of both kinds together.
 ///
-/// Memory is in proportion to the points and the pairs. Time is in proportion to these and to the
-/// meetings of a flow pair and a head pair of one point, each of which is one look-up, on average
-/// over the hashes; the sorting at the end adds the pairs times their logarithm.
+/// No pair is found twice, since an argument belongs to one point at one place. Memory is in
+/// proportion to the points and the pairs. Time is in proportion to these and to the meetings of a
+/// flow pair and a head pair of one point, each of which looks one flag up, or one hash where there are
+/// more than 8,192 parameters; the sorting at the end adds the pairs times their logarithm. The
+/// meetings aren't bounded by the pairs: n pairs have at most the root of n^3 meetings.
 pub fn analyse(
     alloc: Global,
     scheme: &Scheme,
@@ -98,10 +107,10 @@ pub fn analyse(
     ensures limit { IsErrOf result FlowLimit → (order : List AnyPair) × (IsSupported scheme.now.rules order × (max < length order)) }
 {
     let mut found = Found {
-        pairs: IndexSet::new(alloc),
-        bases: IndexSet::new(alloc),
+        pairs: Vec::new(alloc),
+        bases: Bases::new(alloc, points.params())?,
     };
     find_all(alloc, &mut found, max, scheme.rules.as_slice(), points)?;
-    let table = table(alloc, found.pairs.as_slice())?;
+    let table = table(alloc, points.params(), found.pairs.as_slice())?;
     Ok(table)
 }

@@ -2,39 +2,31 @@
 
 ghost use Rattle.std.specs.Prelude.{◌≡◌, ◌≤◌, ◌<◌, length, Contains, OnOk, IsErrOf};
 ghost use Rattle.hs_flow.specs.declared.fault.FlowFault.TheVariants.{FlowLimit};
-ghost use Rattle.hs_flow.specs.Gain.{Gains};
+ghost use Rattle.hs_flow.specs.Gain.{Gains, AreFresh};
 ghost use Rattle.hs_scheme.specs.declared.flow.Pair.{Pair as AnyPair};
 ghost use Rattle.hs_scheme.specs.Flow.{Passes};
 
+use crate::bases::Bases;
 use crate::fault::FlowFault;
 use hs_scheme::{FlowPair, HeadPair, Pair, Rule};
-use indexmap::IndexSet;
-
-/// The parameter may become the nonterminal of rule `base` with `given` arguments.
-#[derive(Clone, Copy, Debug, PartialEq, Eq, Hash)]
-pub(crate) struct Base {
-    pub(crate) rule: u32,
-    pub(crate) param: u32,
-    pub(crate) base: u32,
-    pub(crate) given: u32,
-}
 
 /// What is found: the pairs, in the order in which they were found, and what parameters may become,
 /// so that the points with a parameter at their head pass on each of that once.
 #[derive(Drop)]
 pub(crate) struct Found {
-    pub(crate) pairs: IndexSet<Pair>,
-    pub(crate) bases: IndexSet<Base>,
+    pub(crate) pairs: Vec<Pair>,
+    pub(crate) bases: Bases,
 }
 
-/// Adds a pair, unless it is there. `FlowLimit` comes where there are then more than `max`.
-pub(crate) fn add(found: &mut IndexSet<Pair>, max: u32, pair: Pair) -> Result<(), FlowFault>
-    ensures gains { Gains (λ q. q ≡ pair) found.old.keys found.new.keys }
-    ensures there { OnOk result (Contains found.new.keys pair) }
-    ensures within { OnOk result (length found.new.keys ≤ max) }
-    ensures over { IsErrOf result FlowLimit → max < length found.new.keys }
+/// Adds a pair that isn't there. `FlowLimit` comes where there are then more than `max`.
+pub(crate) fn add(found: &mut Vec<Pair>, max: u32, pair: Pair) -> Result<(), FlowFault>
+    requires { Contains found.old.items pair → ⊥ }
+    ensures gains { Gains (λ q. q ≡ pair) found.old.items found.new.items }
+    ensures there { OnOk result (Contains found.new.items pair) }
+    ensures within { OnOk result (length found.new.items ≤ max) }
+    ensures over { IsErrOf result FlowLimit → max < length found.new.items }
 {
-    found.insert(pair)?;
+    found.push(pair)?;
     if found.len() > max as usize {
         return Err(FlowFault::FlowLimit);
     }
@@ -42,9 +34,10 @@ pub(crate) fn add(found: &mut IndexSet<Pair>, max: u32, pair: Pair) -> Result<()
 }
 
 /// Adds what a point with these arguments passes on where its head may become the nonterminal of
-/// rule `base` with `given` arguments.
+/// rule `base` with `given` arguments, none of which is there: an argument belongs to one point, so
+/// that no other point and no other base passes it on to the same parameter.
 pub(crate) fn pass(
-    found: &mut IndexSet<Pair>,
+    found: &mut Vec<Pair>,
     max: u32,
     rules: &[Rule],
     point: u32,
@@ -52,11 +45,12 @@ pub(crate) fn pass(
     base: u32,
     given: u32,
 ) -> Result<(), FlowFault>
-    requires { length found.old.keys ≤ max }
-    ensures gains { Gains (Passes rules.now point args.now base given) found.old.keys found.new.keys }
-    ensures all { OnOk result ((q : AnyPair) → Passes rules.now point args.now base given q → Contains found.new.keys q) }
-    ensures within { OnOk result (length found.new.keys ≤ max) }
-    ensures over { IsErrOf result FlowLimit → max < length found.new.keys }
+    requires few { length found.old.items ≤ max }
+    requires fresh { AreFresh (Passes rules.now point args.now base given) found.old.items }
+    ensures gains { Gains (Passes rules.now point args.now base given) found.old.items found.new.items }
+    ensures all { OnOk result ((q : AnyPair) → Passes rules.now point args.now base given q → Contains found.new.items q) }
+    ensures within { OnOk result (length found.new.items ≤ max) }
+    ensures over { IsErrOf result FlowLimit → max < length found.new.items }
 {
     let Some(rule) = rules.get(base as usize) else {
         return Ok(());

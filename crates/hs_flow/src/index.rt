@@ -7,6 +7,7 @@ ghost use Rattle.hs_scheme.specs.Points.{points_of};
 ghost use Rattle.hs_scheme.specs.Flow.{Demands};
 ghost use Rattle.hs_flow.specs.declared.fault.FlowFault.TheVariants.{FlowLimit};
 ghost use Rattle.hs_flow.specs.Gain.{Gains, IsPassed};
+ghost use Rattle.hs_flow.specs.Bases.{HasBase};
 ghost use Rattle.hs_flow.specs.Users.{IsUserMap};
 ghost use Rattle.hs_flow.specs.Index.{IsIndex, point_of};
 
@@ -37,21 +38,21 @@ fn take_flow(
 ) -> Result<(), FlowFault>
     requires points { points.now ≡ points_of rules.now }
     requires users { IsUserMap points.now.points users.now }
-    requires few { length found.old.pairs.keys ≤ max }
-    requires passed { IsPassed rules.now users.now found.old.pairs.keys found.old.bases.keys }
+    requires few { length found.old.pairs.items ≤ max }
+    requires passed { IsPassed rules.now users.now found.old.pairs.items (HasBase points.now.params found.old.bases) }
     requires flows { flow.point < length index.old.flows.items }
     requires heads { flow.point < length index.old.heads.items }
     ensures gains { (taken : List AnyPair) → IsIndex users.now taken index.old.flows.items index.old.heads.items →
-        Gains (Demands rules.now (taken ++ OfFlow flow ∷ [])) found.old.pairs.keys found.new.pairs.keys }
+        Gains (Demands rules.now (taken ++ OfFlow flow ∷ [])) found.old.pairs.items found.new.pairs.items }
     ensures all { OnOk result ((taken : List AnyPair) → IsIndex users.now taken index.old.flows.items index.old.heads.items →
-        (q : AnyPair) → Demands rules.now (taken ++ OfFlow flow ∷ []) q → Demands rules.now taken q ⊎ Contains found.new.pairs.keys q) }
+        (q : AnyPair) → Demands rules.now (taken ++ OfFlow flow ∷ []) q → Demands rules.now taken q ⊎ Contains found.new.pairs.items q) }
     ensures index { OnOk result ((taken : List AnyPair) → IsIndex users.now taken index.old.flows.items index.old.heads.items →
         IsIndex users.now (taken ++ OfFlow flow ∷ []) index.new.flows.items index.new.heads.items) }
-    ensures passed { OnOk result (IsPassed rules.now users.now found.new.pairs.keys found.new.bases.keys) }
+    ensures passed { OnOk result (IsPassed rules.now users.now found.new.pairs.items (HasBase points.now.params found.new.bases)) }
     ensures flows { length index.new.flows.items ≡ length index.old.flows.items }
     ensures heads { length index.new.heads.items ≡ length index.old.heads.items }
-    ensures within { OnOk result (length found.new.pairs.keys ≤ max) }
-    ensures over { IsErrOf result FlowLimit → max < length found.new.pairs.keys }
+    ensures within { OnOk result (length found.new.pairs.items ≤ max) }
+    ensures over { IsErrOf result FlowLimit → max < length found.new.pairs.items }
 {
     if users_at(users, flow.rule, flow.param).is_empty() {
         return Ok(());
@@ -74,21 +75,21 @@ fn take_head(
 ) -> Result<(), FlowFault>
     requires points { points.now ≡ points_of rules.now }
     requires users { IsUserMap points.now.points users.now }
-    requires few { length found.old.pairs.keys ≤ max }
-    requires passed { IsPassed rules.now users.now found.old.pairs.keys found.old.bases.keys }
+    requires few { length found.old.pairs.items ≤ max }
+    requires passed { IsPassed rules.now users.now found.old.pairs.items (HasBase points.now.params found.old.bases) }
     requires flows { head.point < length index.old.flows.items }
     requires heads { head.point < length index.old.heads.items }
     ensures gains { (taken : List AnyPair) → IsIndex users.now taken index.old.flows.items index.old.heads.items →
-        Gains (Demands rules.now (taken ++ OfHead head ∷ [])) found.old.pairs.keys found.new.pairs.keys }
+        Gains (Demands rules.now (taken ++ OfHead head ∷ [])) found.old.pairs.items found.new.pairs.items }
     ensures all { OnOk result ((taken : List AnyPair) → IsIndex users.now taken index.old.flows.items index.old.heads.items →
-        (q : AnyPair) → Demands rules.now (taken ++ OfHead head ∷ []) q → Demands rules.now taken q ⊎ Contains found.new.pairs.keys q) }
+        (q : AnyPair) → Demands rules.now (taken ++ OfHead head ∷ []) q → Demands rules.now taken q ⊎ Contains found.new.pairs.items q) }
     ensures index { OnOk result ((taken : List AnyPair) → IsIndex users.now taken index.old.flows.items index.old.heads.items →
         IsIndex users.now (taken ++ OfHead head ∷ []) index.new.flows.items index.new.heads.items) }
-    ensures passed { OnOk result (IsPassed rules.now users.now found.new.pairs.keys found.new.bases.keys) }
+    ensures passed { OnOk result (IsPassed rules.now users.now found.new.pairs.items (HasBase points.now.params found.new.bases)) }
     ensures flows { length index.new.flows.items ≡ length index.old.flows.items }
     ensures heads { length index.new.heads.items ≡ length index.old.heads.items }
-    ensures within { OnOk result (length found.new.pairs.keys ≤ max) }
-    ensures over { IsErrOf result FlowLimit → max < length found.new.pairs.keys }
+    ensures within { OnOk result (length found.new.pairs.items ≤ max) }
+    ensures over { IsErrOf result FlowLimit → max < length found.new.pairs.items }
 {
     let flows = index.flows[head.point as usize].as_slice();
     spread_head(found, max, rules, points, users, flows, head)?;
@@ -108,21 +109,21 @@ pub(crate) fn take(
 ) -> Result<(), FlowFault>
     requires points { points.now ≡ points_of rules.now }
     requires users { IsUserMap points.now.points users.now }
-    requires few { length found.old.pairs.keys ≤ max }
-    requires passed { IsPassed rules.now users.now found.old.pairs.keys found.old.bases.keys }
+    requires few { length found.old.pairs.items ≤ max }
+    requires passed { IsPassed rules.now users.now found.old.pairs.items (HasBase points.now.params found.old.bases) }
     requires flows { point_of pair < length index.old.flows.items }
     requires heads { point_of pair < length index.old.heads.items }
     ensures gains { (taken : List AnyPair) → IsIndex users.now taken index.old.flows.items index.old.heads.items →
-        Gains (Demands rules.now (taken ++ pair ∷ [])) found.old.pairs.keys found.new.pairs.keys }
+        Gains (Demands rules.now (taken ++ pair ∷ [])) found.old.pairs.items found.new.pairs.items }
     ensures all { OnOk result ((taken : List AnyPair) → IsIndex users.now taken index.old.flows.items index.old.heads.items →
-        (q : AnyPair) → Demands rules.now (taken ++ pair ∷ []) q → Demands rules.now taken q ⊎ Contains found.new.pairs.keys q) }
+        (q : AnyPair) → Demands rules.now (taken ++ pair ∷ []) q → Demands rules.now taken q ⊎ Contains found.new.pairs.items q) }
     ensures index { OnOk result ((taken : List AnyPair) → IsIndex users.now taken index.old.flows.items index.old.heads.items →
         IsIndex users.now (taken ++ pair ∷ []) index.new.flows.items index.new.heads.items) }
-    ensures passed { OnOk result (IsPassed rules.now users.now found.new.pairs.keys found.new.bases.keys) }
+    ensures passed { OnOk result (IsPassed rules.now users.now found.new.pairs.items (HasBase points.now.params found.new.bases)) }
     ensures flows { length index.new.flows.items ≡ length index.old.flows.items }
     ensures heads { length index.new.heads.items ≡ length index.old.heads.items }
-    ensures within { OnOk result (length found.new.pairs.keys ≤ max) }
-    ensures over { IsErrOf result FlowLimit → max < length found.new.pairs.keys }
+    ensures within { OnOk result (length found.new.pairs.items ≤ max) }
+    ensures over { IsErrOf result FlowLimit → max < length found.new.pairs.items }
 {
     match pair {
         Pair::OfFlow(flow) => take_flow(found, max, rules, points, users, index, flow),

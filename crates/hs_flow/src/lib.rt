@@ -2,6 +2,7 @@
 #![tactic(auto)]
 
 mod analysis;
+mod bases;
 mod dependents;
 mod fault;
 mod found;

@@ -1,41 +1,45 @@
 //! For each parameter, the points with that parameter at their head.
 
-ghost use Rattle.std.specs.Prelude.{◌≡◌, ◌<◌, ◌++◌, ◌∷◌, ◌↔◌, ◌&&◌, [], ℕ, length, Contains, OnOk, IfOk, Some, slice_get, if◌then◌else◌, nat_eq};
-ghost use Rattle.hs_scheme.specs.declared.term.Head.TheVariants.{Var};
-ghost use Rattle.hs_scheme.specs.Points.{PointsData};
+ghost use Rattle.std.specs.Prelude.{◌≡◌, ◌++◌, ◌∷◌, ◌&&◌, [], ℕ, length, sum, OnOk, IfOk, if◌then◌else◌, nat_eq};
+ghost use Rattle.hs_scheme.specs.Parameters.{IsParameter};
 ghost use Rattle.hs_flow.specs.Users.{users_of, IsUserMap};
 
-use hs_scheme::{Head, OutOfMemory, Points};
+use crate::rows::{empty, push_at};
+use hs_scheme::{Head, OutOfMemory, Parameters, Points};
 use std::alloc::Global;
-use std::collections::HashMap;
 
-/// The users of each parameter that has some, by its rule and its number.
-pub(crate) type Users = HashMap<(u32, u32), Vec<u32>>;
+/// The users of each parameter, in the row of its number.
+#[derive(Drop)]
+pub(crate) struct Users {
+    params: Parameters,
+    rows: Vec<Vec<u32>>,
+}
 
-/// Adds a user of this parameter. After a refusal of memory the map may have lost the parameter.
-fn add_user(
-    alloc: Global,
-    users: &mut Users,
-    param: (u32, u32),
-    point: u32,
-) -> Result<(), OutOfMemory>
-    ensures { OnOk result ((rule x : ℕ) →
-        users_of users.new rule x ≡ (if nat_eq param.0 rule && nat_eq param.1 x then users_of users.old rule x ++ point ∷ [] else users_of users.old rule x)) }
+/// Adds a user of this parameter, which the rules have.
+fn add_user(users: &mut Users, rule: u32, param: u32, point: u32) -> Result<(), OutOfMemory>
+    requires param { IsParameter users.old.params rule param }
+    requires rows { length users.old.rows.items ≡ sum users.old.params }
+    ensures added { OnOk result ((r x : ℕ) →
+        users_of users.new r x ≡ (if nat_eq rule r && nat_eq param x then users_of users.old r x ++ point ∷ [] else users_of users.old r x)) }
+    ensures params { users.new.params ≡ users.old.params }
+    ensures rows { length users.new.rows.items ≡ length users.old.rows.items }
 {
-    let mut row = users.remove(&param).unwrap_or(Vec::new(alloc));
-    row.push(point)?;
-    users.insert(param, row)?;
+    if let Some(number) = users.params.number(rule, param) {
+        push_at(&mut users.rows, number as usize, point)?;
+    }
     Ok(())
 }
 
-/// The users of all parameters.
-pub(crate) fn users(alloc: Global, points: &Points) -> Result<Users, OutOfMemory>
+/// The users of all parameters, in time and memory in proportion to the points and the parameters.
+pub(crate) fn all_users(alloc: Global, points: &Points) -> Result<Users, OutOfMemory>
     ensures { IfOk result (IsUserMap points.now.points) }
 {
-    let mut users = HashMap::new(alloc);
+    let params = points.params().copy(alloc)?;
+    let rows = empty(alloc, params.count() as usize)?;
+    let mut users = Users { params, rows };
     for point in 0..points.count() {
         if let Head::Var(param) = points.head_of(point) {
-            add_user(alloc, &mut users, (points.rule_of(point), param), point)?;
+            add_user(&mut users, points.rule_of(point), param, point)?;
         }
     }
     Ok(users)
@@ -43,10 +47,11 @@ pub(crate) fn users(alloc: Global, points: &Points) -> Result<Users, OutOfMemory
 
 /// The users of this parameter.
 pub(crate) fn users_at(users: &Users, rule: u32, param: u32) -> &[u32]
+    requires { length users.now.rows.items ≡ sum users.now.params }
     ensures { result.now ≡ users_of users.now rule param }
 {
-    match users.get(&(rule, param)) {
-        Some(row) => row.as_slice(),
-        None => &[],
-    }
+    let Some(number) = users.params.number(rule, param) else {
+        return &[];
+    };
+    users.rows[number as usize].as_slice()
 }

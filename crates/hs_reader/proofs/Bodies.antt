@@ -9,7 +9,7 @@ use Rattle.hs_reader.specs.declared.fault.Which.TheVariants as which
 use Rattle.hs_reader.specs.Raw.{Rule}
 use Rattle.hs_reader.specs.Tokens.{Placed, left, right, dot}
 use Rattle.hs_reader.specs.Reading.{place, from_token, tokens}
-use Rattle.hs_reader.specs.Steps.{in_rules, in_body, leaf, added, is_full, is_long, which_if, first_of, closes, ends, passed, named, run, with_rule}
+use Rattle.hs_reader.specs.ReadingStages.{in_rules, in_body, leaf, added, is_full, is_long, which_if, first_of, closes, ends, passed, named, run, with_rule}
 use Rattle.hs_reader.proofs.Running.{on, over, off, word_on, word_full, full_at, free_at}
 
 empty_is : {A : Type 0} (xs : List A) → length xs ≡ 0 → xs ≡ []

@@ -8,7 +8,7 @@ use Rattle.hs_reader.specs.Raw.{Rule, Transition, File}
 use Rattle.hs_reader.specs.Tokens.{Token, word, rules_begin, rules_end, automaton_begin, automaton_end, arrow, dot, left, right, end_of_file}
 use Rattle.hs_reader.specs.Grammar.{begins_upper, IsUpper, IsLower, applied_to, IsAtom, IsTerm, name, enclosed, first, then, IsRule, IsTransition, Sequence, IsFile}
 use Rattle.hs_reader.specs.Faults.{BeginsFile, BeforeRule, BeforeParameter, BehindArrow, BehindLeft, BeforeArgument, BeforeTransition, BeforeChild}
-use Rattle.hs_reader.specs.Steps.{steps, Stage, start, in_rules, in_head, in_body, between, in_transitions, in_transition, before_arrow, in_children, closed, finished, leaf, when, any, added, step}
+use Rattle.hs_reader.specs.ReadingStages.{steps, Stage, start, in_rules, in_head, in_body, between, in_transitions, in_transition, before_arrow, in_children, closed, finished, leaf, when, any, added, step}
 use Rattle.hs_reader.proofs.Stages.{steps_on, steps_rest, steps_through, steps_split, reaches}
 
 -- ---- terms

@@ -11,7 +11,7 @@ use Rattle.hs_reader.specs.Tokens.{Token, Placed, word, rules_begin, rules_end, 
 use Rattle.hs_reader.specs.Grammar.{begins_upper, with_last, applied_to}
 use Rattle.hs_reader.specs.Limits.{HasFewArguments, HaveFewArguments, IsShort}
 use Rattle.hs_reader.specs.Faults.{kinds}
-use Rattle.hs_reader.specs.Steps.{Stage, start, in_rules, in_head, in_body, between, in_transitions, in_transition, before_arrow, in_children, closed, finished, leaf, when, any, added, step, which_if, first_of, is_full, is_long, at_word, passed, judged, file_at, ◌>>=◌, run}
+use Rattle.hs_reader.specs.ReadingStages.{Stage, start, in_rules, in_head, in_body, between, in_transitions, in_transition, before_arrow, in_children, closed, finished, leaf, when, any, added, step, which_if, first_of, is_full, is_long, at_word, passed, judged, file_at, ◌>>=◌, run}
 use Rattle.hs_reader.proofs.Stages.{all_push, passes_when}
 use Rattle.hs_reader.proofs.Names.{words}
 

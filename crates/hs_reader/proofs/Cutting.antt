@@ -5,7 +5,7 @@ use Rattle.std.proofs.lemmas.List.{length-drop}
 use Rattle.std.specs.List.{prefix_len}
 use Rattle.hs_reader.specs.Tokens.{is_blank, is_name_byte, Token, Placed, word, rules_begin, rules_end, automaton_begin, automaton_end, arrow, dot, left, right, end_of_file, bad}
 use Rattle.hs_reader.specs.Reading.{marker, arrow_front, sign_front, run_front, as_word, front, line_behind, starts_with, comment_rest, slash_rest, gap_rest, place, from_token, from_gap, tokens_within, tokens}
-use Rattle.hs_reader.specs.Steps.{Shortens}
+use Rattle.hs_reader.specs.ReadingStages.{Shortens}
 
 -- ---- what is read is shorter
 

@@ -11,8 +11,8 @@ use Rattle.hs_reader.specs.Tokens.{IsName, Token, Placed, end_of_file, bad, Lexe
 use Rattle.hs_reader.specs.Grammar.{IsUpper, IsLower, IsRule, IsTransition, Sequence, IsFile}
 use Rattle.hs_reader.specs.Limits.{IsShort, IsRaw}
 use Rattle.hs_reader.specs.Reading.{tokens}
-use Rattle.hs_reader.specs.Faults.{kinds, BeginsFile, Passes, order, NoLimit, IsFileWithin, Reaches, IsSyntaxFault, IsLimitFault, IsFaultOf, IsAnswer}
-use Rattle.hs_reader.specs.Steps.{steps, Stage, start, in_rules, in_head, in_body, between, in_transitions, in_transition, before_arrow, in_children, closed, finished, step, passed, judged, file_at, ◌>>=◌, run, read, Goes}
+use Rattle.hs_reader.specs.Faults.{kinds, BeginsFile, PassesLimit, order, NoLimit, IsFileWithin, Reaches, IsSyntaxFault, IsLimitFault, IsFaultOf, IsAnswer}
+use Rattle.hs_reader.specs.ReadingStages.{steps, Stage, start, in_rules, in_head, in_body, between, in_transitions, in_transition, before_arrow, in_children, closed, finished, step, passed, judged, file_at, ◌>>=◌, run, read, Goes}
 use Rattle.hs_reader.proofs.Lexing.{tokens_lex, lexes_tokens}
 use Rattle.hs_reader.proofs.Running.{on, over}
 use Rattle.hs_reader.proofs.Stages.{steps_on, steps_rest, steps_through, steps_split, reaches}
@@ -53,7 +53,7 @@ more_free pre s next t leads free h none before u after e which p = go (split_la
   where
     go : Splits pre before t u after → ⊥
     go (inl q) =
-        let here : Passes which pre t = subst (λ (w : List Token). Passes which w t) (sym q.0) (subst (Passes which before) (sym q.1) p) in
+        let here : PassesLimit which pre t = subst (λ (w : List Token). PassesLimit which w t) (sym q.0) (subst (PassesLimit which before) (sym q.1) p) in
         let w = passes_passed which pre t s next leads h here in
         let both : Some w.other ≡ None = sym w.is ∙ none in
         cc
@@ -230,7 +230,7 @@ limit_read bytes w is =
     let q = steps_rest r.0 l2.0 is.at.token [] r.2 in
     let taken : step l.0 is.at.token ≡ Some q.0 = ap (λ (k : Stage). step k is.at.token) (sym (same_stage (kinds is.before) r.0 l.0 r.1 l.1)) ∙ q.1 in
     let v = passes_passed w (kinds is.before) is.at.token l.0 q.0 l.1 taken is.passes in
-    let said : Passes v.other (kinds is.before) is.at.token = passed_passes is.at.token l.0 v.other (kinds is.before) l.1 v.is in
+    let said : PassesLimit v.other (kinds is.before) is.at.token = passed_passes is.at.token l.0 v.other (kinds is.before) l.1 v.is in
     let same : v.other ≡ w = order_is v.other w (least (order v.other) (order w) v.no_later (λ lt. is.no_earlier v.other lt said)) in
     reached_run bytes is.before is.at is.first l.0 l.1
     ∙ over l.0 q.0 is.at.line is.at.token w (is.at ∷ is.first.after) is.first.after refl taken (v.is ∙ ap (λ (k : Which). Some k) same)

@@ -8,8 +8,8 @@ use Rattle.hs_reader.specs.declared.fault.Which.TheVariants as which
 use Rattle.hs_reader.specs.Raw.{Rule}
 use Rattle.hs_reader.specs.Tokens.{Token, word, rules_begin, rules_end, automaton_begin, automaton_end, arrow, dot, left, right, end_of_file, bad}
 use Rattle.hs_reader.specs.Grammar.{begins_upper}
-use Rattle.hs_reader.specs.Faults.{BeforeArgument, lefts, rights, arguments, IsWord, BeginsAtom, IsLong, Passes, order}
-use Rattle.hs_reader.specs.Steps.{steps, Stage, start, in_rules, in_head, in_body, between, in_transitions, in_transition, before_arrow, in_children, closed, finished, leaf, when, any, added, from_body, step, which_if, first_of, is_full, is_long, at_word, at_left, passed}
+use Rattle.hs_reader.specs.Faults.{BeforeArgument, lefts, rights, arguments, IsWord, BeginsAtom, IsLong, PassesLimit, order}
+use Rattle.hs_reader.specs.ReadingStages.{steps, Stage, start, in_rules, in_head, in_body, between, in_transitions, in_transition, before_arrow, in_children, closed, finished, leaf, when, any, added, from_body, step, which_if, first_of, is_full, is_long, at_word, at_left, passed}
 use Rattle.hs_reader.proofs.Running.{full_at}
 use Rattle.hs_reader.proofs.Stages.{steps_rest, passes_when, BodyRead, Reached, reaches}
 use Rattle.hs_reader.proofs.Completeness.{before_rule_steps, before_parameter_steps, before_transition_steps, before_child_steps, same_stage, before_argument_stage}
@@ -134,7 +134,7 @@ deep_passed (finished f) next e h = absurd cc
 at_stage : (a b : Stage) (w : Which) → a ≡ b → at_word a ≡ Some w → at_word b ≡ Some w
 at_stage a b w same e = ap at_word (sym same) ∙ e
 
-pub passes_passed : (w : Which) (pre : List Token) (t : Token) (s next : Stage) → steps start pre ≡ Some s → step s t ≡ Some next → Passes w pre t → IsPassed s t w
+pub passes_passed : (w : Which) (pre : List Token) (t : Token) (s next : Stage) → steps start pre ≡ Some s → step s t ≡ Some next → PassesLimit w pre t → IsPassed s t w
 passes_passed which.Name pre t s next e h p = long_passed s t p
 passes_passed which.Rules pre t s next e h p =
     any_word s t which.Rules p.0 (at_stage (in_rules p.1.0) s which.Rules (same_stage pre (in_rules p.1.0) s (before_rule_steps pre p.1.0 p.1.1) e) (full_at (length p.1.0) 20000 which.Rules p.1.2))
@@ -179,26 +179,26 @@ before_argument rs n ps (below ∷ outer) u pre h = record {
       ∙ sym (append_assoc (h.before ++ arrow ∷ h.begun.0) (left ∷ []) h.begun.1);
 }
 
-full_passes : (rs : List Rule) (n : RawName) (ps : List RawName) (outer : List (Option (Tree RawName))) (top : Option (Tree RawName)) (t : Token) (pre : List Token) → BeginsAtom t → BodyRead pre rs n ps outer top → is_full top ≡ true → Passes which.Arguments pre t
+full_passes : (rs : List Rule) (n : RawName) (ps : List RawName) (outer : List (Option (Tree RawName))) (top : Option (Tree RawName)) (t : Token) (pre : List Token) → BeginsAtom t → BodyRead pre rs n ps outer top → is_full top ≡ true → PassesLimit which.Arguments pre t
 full_passes rs n ps outer None t pre atom h full = absurd cc
 full_passes rs n ps outer (Some u) t pre atom h full = (atom, (u, before_argument rs n ps outer u pre h, eqb-true (arguments u) 64 full))
 
-word_passes : (s : Stage) (n : RawName) (w : Which) (pre : List Token) → Reached pre s → at_word s ≡ Some w → Passes w pre (word n)
+word_passes : (s : Stage) (n : RawName) (w : Which) (pre : List Token) → Reached pre s → at_word s ≡ Some w → PassesLimit w pre (word n)
 word_passes (in_rules rs) n w pre h e =
     let p = if_is (eqb (length rs) 20000) which.Rules w e in
-    subst (λ (v : Which). Passes v pre (word n)) p.1 (tt, (rs, h, eqb-true _ _ p.0))
+    subst (λ (v : Which). PassesLimit v pre (word n)) p.1 (tt, (rs, h, eqb-true _ _ p.0))
 word_passes (in_head rs m ps) n w pre h e =
     let p = if_is (eqb (length ps) 64) which.Parameters w e in
-    subst (λ (v : Which). Passes v pre (word n)) p.1 (tt, (rs, m, ps, h, eqb-true _ _ p.0))
+    subst (λ (v : Which). PassesLimit v pre (word n)) p.1 (tt, (rs, m, ps, h, eqb-true _ _ p.0))
 word_passes (in_body rs m ps outer top) n w pre h e =
     let p = if_is (is_full top) which.Arguments w e in
-    subst (λ (v : Which). Passes v pre (word n)) p.1 (full_passes rs m ps outer top (word n) pre tt h p.0)
+    subst (λ (v : Which). PassesLimit v pre (word n)) p.1 (full_passes rs m ps outer top (word n) pre tt h p.0)
 word_passes (in_transitions rs us) n w pre h e =
     let p = if_is (eqb (length us) 200000) which.Transitions w e in
-    subst (λ (v : Which). Passes v pre (word n)) p.1 (tt, (rs, us, h, eqb-true _ _ p.0))
+    subst (λ (v : Which). PassesLimit v pre (word n)) p.1 (tt, (rs, us, h, eqb-true _ _ p.0))
 word_passes (in_children rs us q a to) n w pre h e =
     let p = if_is (eqb (length to) 64) which.Children w e in
-    subst (λ (v : Which). Passes v pre (word n)) p.1
+    subst (λ (v : Which). PassesLimit v pre (word n)) p.1
     (tt, (rs, us, to, record { before = h.0.before; earlier = h.0.transitions; from = q; terminal = a; lower = h.1; are = h.0.are }, eqb-true _ _ p.0))
 word_passes start n w pre h e = absurd cc
 word_passes (between rs) n w pre h e = absurd cc
@@ -207,14 +207,14 @@ word_passes (before_arrow rs us q a) n w pre h e = absurd cc
 word_passes (closed rs us) n w pre h e = absurd cc
 word_passes (finished f) n w pre h e = absurd cc
 
-left_passes : (s : Stage) (w : Which) (pre : List Token) → steps start pre ≡ Some s → at_left s ≡ Some w → Passes w pre left
+left_passes : (s : Stage) (w : Which) (pre : List Token) → steps start pre ≡ Some s → at_left s ≡ Some w → PassesLimit w pre left
 left_passes (in_body rs n ps outer top) w pre e h = go (eqb (length outer) 200) refl h
   where
-    go : (b : Bool) → eqb (length outer) 200 ≡ b → first_of (which_if b which.Depth) (which_if (is_full top) which.Arguments) ≡ Some w → Passes w pre left
-    go true deep h = let same : which.Depth ≡ w = cc in subst (λ (v : Which). Passes v pre left) same (refl, omega (arith, steps_depth pre start (in_body rs n ps outer top) e, eqb-true (length outer) 200 deep))
+    go : (b : Bool) → eqb (length outer) 200 ≡ b → first_of (which_if b which.Depth) (which_if (is_full top) which.Arguments) ≡ Some w → PassesLimit w pre left
+    go true deep h = let same : which.Depth ≡ w = cc in subst (λ (v : Which). PassesLimit v pre left) same (refl, omega (arith, steps_depth pre start (in_body rs n ps outer top) e, eqb-true (length outer) 200 deep))
     go false deep h =
         let p = if_is (is_full top) which.Arguments w h in
-        subst (λ (v : Which). Passes v pre left) p.1 (full_passes rs n ps outer top left pre tt (reaches pre (in_body rs n ps outer top) e) p.0)
+        subst (λ (v : Which). PassesLimit v pre left) p.1 (full_passes rs n ps outer top left pre tt (reaches pre (in_body rs n ps outer top) e) p.0)
 left_passes start w pre e h = absurd cc
 left_passes (in_rules rs) w pre e h = absurd cc
 left_passes (in_head rs n ps) w pre e h = absurd cc
@@ -226,11 +226,11 @@ left_passes (in_children rs us q a to) w pre e h = absurd cc
 left_passes (closed rs us) w pre e h = absurd cc
 left_passes (finished f) w pre e h = absurd cc
 
-pub passed_passes : (t : Token) (s : Stage) (w : Which) (pre : List Token) → steps start pre ≡ Some s → passed s t ≡ Some w → Passes w pre t
+pub passed_passes : (t : Token) (s : Stage) (w : Which) (pre : List Token) → steps start pre ≡ Some s → passed s t ≡ Some w → PassesLimit w pre t
 passed_passes (word n) s w pre e h = go (is_long n.text) refl h
   where
-    go : (b : Bool) → is_long n.text ≡ b → first_of (which_if b which.Name) (at_word s) ≡ Some w → Passes w pre (word n)
-    go true long h = let same : which.Name ≡ w = cc in subst (λ (v : Which). Passes v pre (word n)) same (ltb-true _ _ long)
+    go : (b : Bool) → is_long n.text ≡ b → first_of (which_if b which.Name) (at_word s) ≡ Some w → PassesLimit w pre (word n)
+    go true long h = let same : which.Name ≡ w = cc in subst (λ (v : Which). PassesLimit v pre (word n)) same (ltb-true _ _ long)
     go false long h = word_passes s n w pre (reaches pre s e) h
 passed_passes left s w pre e h = left_passes s w pre e h
 passed_passes t s w pre e h = absurd cc

@@ -15,7 +15,7 @@ use Rattle.hs_reader.specs.Raw.{Rule, Transition, File}
 use Rattle.hs_reader.specs.Tokens.{Token, Placed, word, rules_begin, rules_end, automaton_begin, automaton_end, arrow, dot, left, right, end_of_file, bad}
 use Rattle.hs_reader.specs.Grammar.{begins_upper}
 use Rattle.hs_reader.specs.Reading.{view, place, as_word, from_token, tokens}
-use Rattle.hs_reader.specs.Steps.{Stage, closed, finished, when, any, from_start, from_rules, from_head, from_body, from_between, from_transitions, from_transition, from_arrow, from_children, from_closed, step, which_if, first_of, is_long, at_word, passed, accept, ◌>>=◌, run, named, Fails, IsNameFault, IsCasedFault}
+use Rattle.hs_reader.specs.ReadingStages.{Stage, closed, finished, when, any, from_start, from_rules, from_head, from_body, from_between, from_transitions, from_transition, from_arrow, from_children, from_closed, step, which_if, first_of, is_long, at_word, passed, accept, ◌>>=◌, run, named, Fails, IsNameFault, IsCasedFault}
 
 -- ---- a token is taken, is no token of the grammar, or passes a limit
 

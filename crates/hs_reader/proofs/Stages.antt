@@ -10,7 +10,7 @@ use Rattle.hs_reader.specs.Raw.{Rule, Transition}
 use Rattle.hs_reader.specs.Tokens.{Token, word, rules_begin, rules_end, automaton_begin, automaton_end, arrow, dot, left, right, end_of_file}
 use Rattle.hs_reader.specs.Grammar.{begins_upper, IsLower, IsAtom, IsTerm, name, enclosed, first, then, IsRule, IsTransition, Sequence, IsFile}
 use Rattle.hs_reader.specs.Faults.{BeforeRule, BeforeParameter, BeforeTransition}
-use Rattle.hs_reader.specs.Steps.{Stage, start, in_rules, in_head, in_body, between, in_transitions, in_transition, before_arrow, in_children, closed, finished, leaf, when, any, added, from_start, from_rules, from_head, closes, ends, from_body, from_between, from_transitions, from_transition, from_arrow, from_children, from_closed, step, steps}
+use Rattle.hs_reader.specs.ReadingStages.{Stage, start, in_rules, in_head, in_body, between, in_transitions, in_transition, before_arrow, in_children, closed, finished, leaf, when, any, added, from_start, from_rules, from_head, closes, ends, from_body, from_between, from_transitions, from_transition, from_arrow, from_children, from_closed, step, steps}
 
 pub steps_on : (s next : Stage) (t : Token) (ts : List Token) → step s t ≡ Some next → steps s (t ∷ ts) ≡ steps next ts
 unfolding steps

@@ -3,7 +3,7 @@ use Rattle.std.proofs.Common.{◌≡◌, ℕ, eqb, List, [], ◌∷◌, ◌++◌
 use Rattle.hs_scheme.specs.Tree.{Tree, Trees, node, more, forest, children-forest}
 use Rattle.hs_reader.specs.declared.raw.RawName.{RawName}
 use Rattle.hs_reader.specs.Grammar.{with_last}
-use Rattle.hs_reader.specs.Steps.{added, is_full}
+use Rattle.hs_reader.specs.ReadingStages.{added, is_full}
 
 pub with_last-forest : {A : Type 0} (ts : List (Tree A)) (x : Tree A) → with_last (forest ts) x ≡ forest (ts ++ x ∷ [])
 with_last-forest [] x = refl

@@ -3,7 +3,7 @@ use Rattle.std.proofs.Common.{◌≡◌, ℕ, List, [], ◌∷◌, ◌++◌, ref
 use Rattle.hs_reader.specs.declared.fault.Which.{Which}
 use Rattle.hs_reader.specs.Tokens.{Token, Placed}
 use Rattle.hs_reader.specs.Grammar.{IsFile}
-use Rattle.hs_reader.specs.Faults.{kinds, BeginsFile, Passes, Reaches, Offends}
+use Rattle.hs_reader.specs.Faults.{kinds, BeginsFile, PassesLimit, Reaches, Offends}
 use Rattle.hs_reader.proofs.Lexing.{lexes_tokens}
 use Rattle.hs_reader.proofs.Exact.{kinds_append}
 
@@ -35,7 +35,7 @@ none_before bytes b1 b2 a1 a2 r e second first = go first.offends
     kinds_are : kinds b2 ≡ kinds b1 ++ a1.token ∷ kinds r
     kinds_are = ap kinds e ∙ kinds_append b1 (a1 ∷ r)
 
-    go : ((BeginsFile (kinds b1 ++ a1.token ∷ []) → ⊥) ⊎ ((which : Which) × Passes which (kinds b1) a1.token)) → ⊥
+    go : ((BeginsFile (kinds b1 ++ a1.token ∷ []) → ⊥) ⊎ ((which : Which) × PassesLimit which (kinds b1) a1.token)) → ⊥
     go (inl not_begun) = not_begun (begins_earlier (kinds b1 ++ a1.token ∷ []) (kinds r) (subst BeginsFile (kinds_are ∙ sym (append_assoc (kinds b1) (a1.token ∷ []) (kinds r))) second.begins))
     go (inr passes) = second.within (kinds b1) a1.token (kinds r) kinds_are passes.0 passes.1
 

@@ -103,16 +103,16 @@ IsLong (word name) = 200 < length name.text
 IsLong t = ⊥
 
 -- a token passes the limit, behind the tokens before it
-abbrev pub Passes : Which → List Token → Token → Type 0
-Passes Name before t = IsLong t
-Passes Rules before t = IsWord t × ((rules : List Rule) × BeforeRule before rules × (length rules ≡ 20000))
-Passes Parameters before t =
+abbrev pub PassesLimit : Which → List Token → Token → Type 0
+PassesLimit Name before t = IsLong t
+PassesLimit Rules before t = IsWord t × ((rules : List Rule) × BeforeRule before rules × (length rules ≡ 20000))
+PassesLimit Parameters before t =
     IsWord t × ((rules : List Rule) × (name : RawName) × (params : List RawName) × BeforeParameter before rules name params × (length params ≡ 64))
-Passes Depth before t = (t ≡ left) × (lefts before ≡ rights before + 200)
-Passes Arguments before t = BeginsAtom t × ((term : Tree RawName) × BeforeArgument before term × (arguments term ≡ 64))
-Passes Transitions before t =
+PassesLimit Depth before t = (t ≡ left) × (lefts before ≡ rights before + 200)
+PassesLimit Arguments before t = BeginsAtom t × ((term : Tree RawName) × BeforeArgument before term × (arguments term ≡ 64))
+PassesLimit Transitions before t =
     IsWord t × ((rules : List Rule) × (transitions : List Transition) × BeforeTransition before rules transitions × (length transitions ≡ 200000))
-Passes Children before t =
+PassesLimit Children before t =
     IsWord t × ((rules : List Rule) × (transitions : List Transition) × (to : List RawName) × BeforeChild before rules transitions to × (length to ≡ 64))
 
 -- the order in which the limits are judged at one token
@@ -127,7 +127,7 @@ order Children = 6
 
 -- no token passes a limit
 abbrev pub NoLimit : List Token → Type 0
-NoLimit tokens = (before : List Token) (t : Token) (after : List Token) → tokens ≡ before ++ t ∷ after → (which : Which) → Passes which before t → ⊥
+NoLimit tokens = (before : List Token) (t : Token) (after : List Token) → tokens ≡ before ++ t ∷ after → (which : Which) → PassesLimit which before t → ⊥
 
 -- ---- the answers
 
@@ -148,7 +148,7 @@ pub record Reaches (bytes : List ℕ) (before : List Placed) (at : Placed) : Typ
 -- the token offends, and none before it
 pub record Offends (bytes : List ℕ) (before : List Placed) (at : Placed) : Type 0 where
   pub first : Reaches bytes before at
-  pub offends : (BeginsFile (kinds before ++ at.token ∷ []) → ⊥) ⊎ ((which : Which) × Passes which (kinds before) at.token)
+  pub offends : (BeginsFile (kinds before ++ at.token ∷ []) → ⊥) ⊎ ((which : Which) × PassesLimit which (kinds before) at.token)
 
 -- The first token that offends offends the grammar, and stands on this line.
 pub record IsSyntaxFault (bytes : List ℕ) (line : ℕ) : Type 0 where
@@ -164,8 +164,8 @@ pub record IsLimitFault (bytes : List ℕ) (which : Which) : Type 0 where
   pub at : Placed
   pub first : Reaches bytes before at
   pub in_grammar : BeginsFile (kinds before ++ at.token ∷ [])
-  pub passes : Passes which (kinds before) at.token
-  pub no_earlier : (other : Which) → order other < order which → Passes other (kinds before) at.token → ⊥
+  pub passes : PassesLimit which (kinds before) at.token
+  pub no_earlier : (other : Which) → order other < order which → PassesLimit other (kinds before) at.token → ⊥
 
 abbrev pub IsFaultOf : List ℕ → ReadFault → Type 0
 IsFaultOf bytes (Syntax line) = IsSyntaxFault bytes line

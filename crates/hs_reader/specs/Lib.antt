@@ -4,4 +4,4 @@ pub mod Grammar
 pub mod Limits
 pub mod Reading
 pub mod Faults
-pub mod Steps
+pub mod ReadingStages

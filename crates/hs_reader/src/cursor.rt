@@ -3,7 +3,7 @@
 ghost use Rattle.std.specs.Prelude.{◌≡◌, ◌≤◌, ◌<◌, ◌+◌, ◌^◌, ◌==◌, ◌&&◌, true, false, length, drop, Option, MatchOption, IfSome, None, ℕ};
 ghost use Rattle.std.specs.Option.{option_map};
 ghost use Rattle.hs_reader.specs.Reading.{view, marker, arrow_front, sign_front, front, line_behind, starts_with, comment_rest, gap_rest, tokens, from_token};
-ghost use Rattle.hs_reader.specs.Steps.{Shortens};
+ghost use Rattle.hs_reader.specs.ReadingStages.{Shortens};
 
 use crate::token::{Token, is_blank, is_name_byte, run_length};
 
@@ -51,7 +51,7 @@ fn line_behind(line: u32, byte: u8) -> u32
     if byte == b'\n' { line + 1 } else { line }
 }
 
-// The bytes behind `*/`, where these two stand at the front.
+/// The bytes behind `*/`, where these two stand at the front.
 fn comment_end(first: u8, behind: &[u8]) -> Option<&[u8]>
     ensures { MatchOption result ((first == 42 && starts_with 47 behind.now) ≡ false)
         (λ rest. ((first == 42 && starts_with 47 behind.now) ≡ true) × (rest.now ≡ drop 1 behind.now)) }
@@ -62,7 +62,7 @@ fn comment_end(first: u8, behind: &[u8]) -> Option<&[u8]>
     }
 }
 
-// The line and the bytes behind the first `*/`.
+/// The line and the bytes behind the first `*/`.
 fn comment_rest(line: u32, bytes: &[u8]) -> Option<(u32, &[u8])>
     requires { line + length bytes.now < 2 ^ 32 }
     ensures value { option_map (λ p. (p.0, p.1.now)) result ≡ comment_rest line bytes.now }
@@ -81,7 +81,7 @@ fn comment_rest(line: u32, bytes: &[u8]) -> Option<(u32, &[u8])>
     None
 }
 
-// The line and the bytes behind a blank or a comment at the front.
+/// The line and the bytes behind a blank or a comment at the front.
 fn gap_rest(line: u32, bytes: &[u8]) -> Option<(u32, &[u8])>
     requires { line + length bytes.now < 2 ^ 32 }
     ensures value { option_map (λ p. (p.0, p.1.now)) result ≡ gap_rest line bytes.now }
@@ -103,7 +103,7 @@ fn gap_rest(line: u32, bytes: &[u8]) -> Option<(u32, &[u8])>
     comment_rest(line, text)
 }
 
-// The line and the bytes of the next token. A comment that isn't closed is none.
+/// The line and the bytes of the next token. A comment that isn't closed is none.
 fn skip_gaps(line: u32, bytes: &[u8]) -> (u32, &[u8])
     requires { line + length bytes.now < 2 ^ 32 }
     ensures value { tokens line bytes.now ≡ from_token tokens result.0 (front result.0 result.1.now) }
@@ -119,7 +119,7 @@ fn skip_gaps(line: u32, bytes: &[u8]) -> (u32, &[u8])
     (at, rest)
 }
 
-// The token at the front and the bytes behind it.
+/// The token at the front and the bytes behind it.
 #[tactic(auto, unfolding(crate::specs::Reading::front))]
 fn front(bytes: &[u8]) -> (Token<'_>, &[u8])
     ensures { (line : ℕ) → (view line result.0, result.1.now) ≡ front line bytes.now }
@@ -142,15 +142,15 @@ fn front(bytes: &[u8]) -> (Token<'_>, &[u8])
 
 /// The bytes that are still to be read.
 #[derive(Drop)]
-pub struct Cursor<'a> {
+pub(crate) struct Cursor<'a> {
     rest: &'a [u8],
     /// The line of the token that was read last, counted from 1.
-    pub line: u32,
+    pub(crate) line: u32,
     ghost few_lines: { line + length rest.now < 2 ^ 32 },
 }
 
 impl<'a> Cursor<'a> {
-    pub fn new(bytes: &'a [u8]) -> Self
+    pub(crate) fn new(bytes: &'a [u8]) -> Self
         requires { length bytes.now ≤ 16777216 }
         ensures rest { result.rest.now ≡ bytes.now }
         ensures line { result.line ≡ 1 }
@@ -162,10 +162,11 @@ impl<'a> Cursor<'a> {
     }
 
     /// The next token. Behind the last one it says nothing.
-    pub fn next(&mut self) -> Token<'a>
+    pub(crate) fn next(&mut self) -> Token<'a>
         ensures value { tokens self.old.line self.old.rest.now
             ≡ from_token tokens self.new.line (view self.new.line result, self.new.rest.now) }
-        ensures shorter { Shortens (view self.new.line result) (length self.new.rest.now) (length self.old.rest.now) }
+        ensures shorter { Shortens (view self.new.line result)
+            (length self.new.rest.now) (length self.old.rest.now) }
     {
         let (line, rest) = skip_gaps(self.line, self.rest);
         let (token, rest) = front(rest);

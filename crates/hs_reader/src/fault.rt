@@ -29,13 +29,13 @@ pub enum Which {
 #[derive(Debug, Drop, Error)]
 pub enum ReadFault {
     /// No file begins with the tokens up to one on this line, counted from 1.
-    #[error("line {line}: syntax")]
+    #[error("not of the grammar on line {line}")]
     Syntax { line: u32 },
     /// The file passes this limit.
-    #[error("limit: {which:?}")]
+    #[error("the limit {which:?} is passed")]
     Limit { which: Which },
     /// Memory was refused.
-    #[error("out of memory")]
+    #[error("memory was refused")]
     OutOfMemory,
 }
 

@@ -6,7 +6,7 @@ ghost use Rattle.hs_reader.specs.Raw.{File};
 ghost use Rattle.hs_reader.specs.Tokens.{Token, Placed, end_of_file, bad, Lexes};
 ghost use Rattle.hs_reader.specs.Grammar.{IsFile};
 ghost use Rattle.hs_reader.specs.Faults.{BeginsFile, Offends, IsAnswer};
-ghost use Rattle.hs_reader.specs.Steps.{Stage, start, steps};
+ghost use Rattle.hs_reader.specs.ReadingStages.{Stage, start, steps};
 
 /// Every list of bytes has exactly one list of tokens, and it ends with the end or with bad.
 pub fn one_cutting()
@@ -24,8 +24,10 @@ pub fn one_file()
 
 /// Some file begins with tokens exactly where they lead to a stage of reading.
 pub fn some_file_begins()
-    ensures leads { (tokens : List Token) → BeginsFile tokens → (s : Stage) × (steps start tokens ≡ Some s) }
-    ensures begins { (tokens : List Token) (s : Stage) → steps start tokens ≡ Some s → BeginsFile tokens }
+    ensures leads { (tokens : List Token) → BeginsFile tokens
+        → (s : Stage) × (steps start tokens ≡ Some s) }
+    ensures begins { (tokens : List Token) (s : Stage) → steps start tokens ≡ Some s
+        → BeginsFile tokens }
 {}
 
 /// At most one token of the bytes is the first that offends.
@@ -37,5 +39,6 @@ pub fn one_offending_token()
 /// Every list of bytes has exactly one answer.
 pub fn one_answer()
     ensures some { (bytes : List ℕ) → (answer : Result File ReadFault) × IsAnswer bytes answer }
-    ensures one { (bytes : List ℕ) (a b : Result File ReadFault) → IsAnswer bytes a → IsAnswer bytes b → a ≡ b }
+    ensures one { (bytes : List ℕ) (a b : Result File ReadFault)
+        → IsAnswer bytes a → IsAnswer bytes b → a ≡ b }
 {}

@@ -4,14 +4,14 @@
 mod cursor;
 mod fault;
 mod laws;
+mod limits;
 mod raw;
 mod reader;
 mod token;
 
 pub use fault::{ReadFault, Which};
 pub use laws::{one_answer, one_cutting, one_file, one_offending_token, some_file_begins};
+pub use limits::MAX_BYTES;
 pub use raw::{RawFile, RawName, RawRule, RawTerm, RawTransition};
 pub use reader::read_file;
-
-#[cfg(test)]
-mod tests;
+pub use token::is_upper;

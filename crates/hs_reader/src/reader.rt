@@ -4,43 +4,20 @@ ghost use Rattle.std.specs.Prelude.{◌⊎◌, IfErr, Result, Err, ℕ, ◌≡�
 ghost use Rattle.hs_scheme.specs.Tree.{Tree};
 ghost use Rattle.hs_reader.specs.declared.raw.RawName.{RawName};
 ghost use Rattle.hs_reader.specs.Raw.{Rule, Transition, File};
-ghost use Rattle.hs_reader.specs.Grammar.{begins_upper};
 ghost use Rattle.hs_reader.specs.declared.fault.ReadFault.{ReadFault};
 ghost use Rattle.hs_reader.specs.Faults.{IsFileWithin, IsFaultOf, IsAnswer};
 ghost use Rattle.hs_reader.specs.Reading.{tokens};
-ghost use Rattle.hs_reader.specs.Steps.{start, in_rules, in_head, in_body, between, in_transitions, in_transition, in_children, closed, added, is_full, named, run, read, Goes, GivesName, GivesCased, GivesTerm, with_rule, with_transition};
+ghost use Rattle.hs_reader.specs.ReadingStages.{start, in_rules, in_head, in_body, between, in_transitions, in_transition, in_children, closed, added, is_full, named, run, read, Goes, GivesName, GivesCased, GivesTerm, with_rule, with_transition};
 
 use crate::cursor::Cursor;
 use crate::fault::{ReadFault, Which};
+use crate::limits::{MAX_CHILDREN, MAX_DEPTH, MAX_NAME, MAX_TRANSITIONS};
 use crate::raw::{RawFile, RawName, RawRule, RawTerm, RawTransition};
-use crate::token::Token;
-use hs_scheme::Name;
+use crate::token::{Token, is_upper};
+use hs_scheme::{MAX_ARGUMENTS, MAX_PARAMETERS, MAX_RULES, Name};
 use std::alloc::Global;
 
-// The bytes of a name.
-const MAX_NAME: usize = 200;
-
-const MAX_RULES: usize = 20_000;
-// The parameters of one rule.
-const MAX_PARAMETERS: usize = 64;
-// The parentheses that are open at a place.
-const MAX_DEPTH: usize = 200;
-// The arguments of one application.
-const MAX_ARGUMENTS: usize = 64;
-
-const MAX_TRANSITIONS: usize = 200_000;
-// The states on the right of one transition.
-const MAX_CHILDREN: usize = 64;
-
-fn is_upper(name: &[u8]) -> bool
-    ensures { result ≡ begins_upper name.now }
-{
-    match name {
-        [first, ..] => first.is_ascii_uppercase(),
-        [] => false,
-    }
-}
-
+/// A name that isn't too long.
 fn short_name(alloc: Global, bytes: &[u8], line: u32) -> Result<RawName, ReadFault>
     ensures { GivesName line bytes.now result }
 {
@@ -51,7 +28,7 @@ fn short_name(alloc: Global, bytes: &[u8], line: u32) -> Result<RawName, ReadFau
     Ok(RawName { text, line })
 }
 
-// A name that is to be upper, or lower.
+/// A name that is to be upper, or lower.
 fn cased_name(alloc: Global, bytes: &[u8], line: u32, upper: bool) -> Result<RawName, ReadFault>
     ensures { GivesCased upper line bytes.now result }
 {
@@ -61,7 +38,7 @@ fn cased_name(alloc: Global, bytes: &[u8], line: u32, upper: bool) -> Result<Raw
     short_name(alloc, bytes, line)
 }
 
-// The parameters of a rule, up to its arrow.
+/// The parameters of a rule, up to its arrow.
 fn parameters(alloc: Global, cursor: &mut Cursor<'_>) -> Result<Vec<RawName>, ReadFault>
     ensures value { (rs : List Rule) (n : RawName) → Goes
         (λ ps. read (in_body rs n ps.items [] None) cursor.new.line cursor.new.rest.now)
@@ -86,6 +63,7 @@ fn parameters(alloc: Global, cursor: &mut Cursor<'_>) -> Result<Vec<RawName>, Re
     }
 }
 
+/// Whether a term has as many arguments as it may.
 fn is_full(term: &Option<RawTerm>) -> bool
     ensures { result ≡ is_full term.now }
 {
@@ -95,7 +73,7 @@ fn is_full(term: &Option<RawTerm>) -> bool
     }
 }
 
-// The term begun, with one term more.
+/// The term begun, with one term more.
 fn added(begun: Option<RawTerm>, term: RawTerm) -> Result<RawTerm, ReadFault>
     ensures { GivesTerm (added begun term) result }
 {
@@ -108,8 +86,8 @@ fn added(begun: Option<RawTerm>, term: RawTerm) -> Result<RawTerm, ReadFault>
     }
 }
 
-// The right side of a rule, up to its dot. The terms begun before each open parenthesis wait in
-// `outer`, the innermost last.
+/// The right side of a rule, up to its dot. The terms begun before each open parenthesis wait in
+/// `outer`, the innermost last.
 fn body(alloc: Global, cursor: &mut Cursor<'_>) -> Result<RawTerm, ReadFault>
     ensures value { (rs : List Rule) (n : RawName) (ps : List RawName) → Goes
         (λ t. read (in_rules (with_rule rs n ps t)) cursor.new.line cursor.new.rest.now)
@@ -167,7 +145,7 @@ fn body(alloc: Global, cursor: &mut Cursor<'_>) -> Result<RawTerm, ReadFault>
     }
 }
 
-// A rule behind its name.
+/// A rule behind its name.
 fn rule(alloc: Global, cursor: &mut Cursor<'_>, name: RawName) -> Result<RawRule, ReadFault>
     ensures value { (rs : List Rule) → Goes
         (λ r. read (in_rules (rs ++ r ∷ [])) cursor.new.line cursor.new.rest.now)
@@ -179,7 +157,7 @@ fn rule(alloc: Global, cursor: &mut Cursor<'_>, name: RawName) -> Result<RawRule
     Ok(RawRule { name, params, body })
 }
 
-// The rules, up to the marker behind them.
+/// The rules, up to the marker behind them.
 fn rules(alloc: Global, cursor: &mut Cursor<'_>) -> Result<Vec<RawRule>, ReadFault>
     ensures { Goes (λ rs. read (between rs.items) cursor.new.line cursor.new.rest.now)
         result (read (in_rules []) cursor.old.line cursor.old.rest.now) }
@@ -207,7 +185,7 @@ fn rules(alloc: Global, cursor: &mut Cursor<'_>) -> Result<Vec<RawRule>, ReadFau
     }
 }
 
-// The states behind an arrow, up to the dot.
+/// The states behind an arrow, up to the dot.
 fn children(alloc: Global, cursor: &mut Cursor<'_>) -> Result<Vec<RawName>, ReadFault>
     ensures value { (rs : List Rule) (us : List Transition) (q a : RawName) → Goes
         (λ to. read (in_transitions rs (with_transition us q a to.items)) cursor.new.line cursor.new.rest.now)
@@ -232,7 +210,7 @@ fn children(alloc: Global, cursor: &mut Cursor<'_>) -> Result<Vec<RawName>, Read
     }
 }
 
-// The terminal of a transition, and the arrow behind it.
+/// The terminal of a transition, and the arrow behind it.
 fn terminal(alloc: Global, cursor: &mut Cursor<'_>) -> Result<RawName, ReadFault>
     ensures value { (rs : List Rule) (us : List Transition) (q : RawName) → Goes
         (λ a. read (in_children rs us q a []) cursor.new.line cursor.new.rest.now)
@@ -249,7 +227,7 @@ fn terminal(alloc: Global, cursor: &mut Cursor<'_>) -> Result<RawName, ReadFault
     Ok(terminal)
 }
 
-// A transition behind its state.
+/// A transition behind its state.
 fn transition(
     alloc: Global,
     cursor: &mut Cursor<'_>,
@@ -265,7 +243,7 @@ fn transition(
     Ok(RawTransition { from, terminal, to })
 }
 
-// The transitions, up to the marker behind them.
+/// The transitions, up to the marker behind them.
 fn transitions(alloc: Global, cursor: &mut Cursor<'_>) -> Result<Vec<RawTransition>, ReadFault>
     ensures { (rs : List Rule) → Goes
         (λ us. read (closed rs us.items) cursor.new.line cursor.new.rest.now)
@@ -294,6 +272,7 @@ fn transitions(alloc: Global, cursor: &mut Cursor<'_>) -> Result<Vec<RawTransiti
     }
 }
 
+/// The file, from its first token to its end.
 fn file(alloc: Global, bytes: &[u8]) -> Result<RawFile, ReadFault>
     requires { length bytes.now ≤ 16777216 }
     ensures { Goes (λ f. Ok f) result (read start 1 bytes.now) }

@@ -4,8 +4,8 @@ use Rattle.std.specs.Str.{bytes_eq}
 use Rattle.std.proofs.lemmas.Slice.Eq.{bytes_eq-Decides}
 use Rattle.std.proofs.lemmas.List.Elements.{filter-append}
 use Rattle.std.proofs.lemmas.Map.Views.{any-filter_same}
+use Rattle.std.proofs.lemmas.List.{append-nil}
 use Rattle.hs_resolve.specs.Names.{is_among, distinct, with_name, with_names}
-use Rattle.hs_resolve.proofs.Lists.{append-nil}
 
 pub same : (x y : List ℕ) → bytes_eq x y ≡ true → x ≡ y
 same x y h = (bytes_eq-Decides x y).0 h

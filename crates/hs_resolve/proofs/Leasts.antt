@@ -2,10 +2,9 @@
 use Rattle.std.proofs.Common.{◌≡◌, sym, ◌∙◌, subst, ℕ, ◌+◌, ◌≤◌, min, List, length, slice_get, Option, Some, None, ◌⊎◌, inl, inr, arith}
 use Rattle.std.proofs.Math.Nat.{eq-or-lt_of_le}
 use Rattle.std.proofs.lemmas.Bool.{cases_lt}
-use Rattle.std.proofs.lemmas.Option.{slice_get_within}
+use Rattle.std.proofs.lemmas.Option.{slice_get_within, same_Some}
 use Rattle.hs_resolve.specs.Least.{IsLeast, earliest, Before}
 use Rattle.hs_resolve.specs.LineFaults.{Somewhere}
-use Rattle.hs_resolve.proofs.Lists.{same_some}
 
 pub least-same : (P Q : ℕ → Type 0) (a : Option ℕ) → ((line : ℕ) → P line → Q line) → ((line : ℕ) → Q line → P line) → IsLeast P a → IsLeast Q a
 least-same P Q None to from h = λ line q. h line (from line q)
@@ -35,7 +34,7 @@ module _ {A : Type 0} (P : ℕ → A → ℕ → Type 0) (items : List A) where
       let le : b.place ≤ n = omega (arith, b.below) in
       elim (eq-or-lt_of_le le) [
         | inl e ↦ let there : slice_get items n ≡ Some b.item = subst (λ i. slice_get items i ≡ Some b.item) e b.at in
-            let f : b.item ≡ x = same_some b.item x (sym there ∙ at) in
+            let f : b.item ≡ x = same_Some b.item x (sym there ∙ at) in
             inr (subst (λ y. P n y line) f (subst (λ i. P i b.item line) e b.holds))
         | inr less ↦ inl (record { place = b.place; item = b.item; below = less; at = b.at; holds = b.holds })
       ]

@@ -1,8 +1,8 @@
 pub mod Lists
 pub mod Distinct
 pub mod Leasts
-pub mod Passes
-pub mod TransitionPasses
+pub mod NameLoops
+pub mod TransitionLoops
 pub mod FirstFault
 pub mod Members
 pub mod Sound

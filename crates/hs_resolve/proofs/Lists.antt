@@ -1,16 +1,14 @@
 -- Lists under a map: tests and places.
-use Rattle.std.proofs.Common.{◌≡◌, refl, sym, ◌∙◌, ap, ℕ, zero, suc, ◌+◌, ◌<◌, ◌≤◌, Bool, true, false, not, ◌||◌, cond, nat_lt, List, [], ◌∷◌, ◌++◌, length, map, slice_get, Option, Some, None, option_map, position, arith, take, add-one, append_assoc, is_some}
+use Rattle.std.proofs.Common.{◌≡◌, refl, sym, ◌∙◌, ap, ℕ, suc, ◌+◌, ◌<◌, ◌≤◌, Bool, true, false, not, ◌||◌, cond, nat_lt, List, [], ◌∷◌, ◌++◌, length, map, slice_get, Option, Some, None, option_map, position, arith, take, is_some}
 use Rattle.std.specs.List.{list_any, position_or_len, prefix_len, flat_map}
-use Rattle.std.proofs.lemmas.Option.{slice_get-map}
+use Rattle.std.proofs.lemmas.List.{append-nil, length-map, map_push, take_more}
+use Rattle.std.proofs.lemmas.List.Concat.{flat_map-append}
+use Rattle.std.proofs.lemmas.Option.{get_or_from_slice_get, slice_get-map, slice_get_within}
 use Rattle.std.proofs.lemmas.Bool.{lt-ltb, le-ltb, ltb-true, ltb-false}
 
 pub any-map : {A B : Type 0} (p : B → Bool) (f : A → B) (xs : List A) → list_any p (map f xs) ≡ list_any (λ x. p (f x)) xs
 any-map p f [] = refl
 any-map p f (x ∷ xs) = ap (λ b. p (f x) || b) (any-map p f xs)
-
-pub len-map : {A B : Type 0} (f : A → B) (xs : List A) → length (map f xs) ≡ length xs
-len-map f [] = refl
-len-map f (x ∷ xs) = ap suc (len-map f xs)
 
 prefix-map : {A B : Type 0} (p : B → Bool) (f : A → B) (xs : List A) → prefix_len p (map f xs) ≡ prefix_len (λ x. p (f x)) xs
 prefix-map p f [] = refl
@@ -19,7 +17,7 @@ prefix-map p f (x ∷ xs) = ap (λ n. cond (p (f x)) (1 + n) 0) (prefix-map p f 
 pub position-map : {A B : Type 0} (p : B → Bool) (f : A → B) (xs : List A) → position p (map f xs) ≡ position (λ x. p (f x)) xs
 position-map p f xs =
     let e = prefix-map (λ y. not (p y)) f xs in
-    let l = len-map f xs in (λ i. cond (nat_lt (e i) (l i)) (Some (e i)) None)
+    let l = length-map xs f in (λ i. cond (nat_lt (e i) (l i)) (Some (e i)) None)
 
 shift : (n m : ℕ) → cond (nat_lt (1 + n) (suc m)) (Some (1 + n)) None ≡ option_map suc (cond (nat_lt n m) (Some n) None)
 shift n m =
@@ -46,38 +44,21 @@ position-cons p x xs =
 pub position-nil : {A : Type 0} (p : A → Bool) → position p [] ≡ None
 position-nil p = refl
 
-pub push-map : {A B : Type 0} (f : A → B) (xs : List A) (x : A) → map f (xs ++ x ∷ []) ≡ map f xs ++ f x ∷ []
-push-map f [] x = refl
-push-map f (y ∷ ys) x = ap (λ zs. f y ∷ zs) (push-map f ys x)
-
 pub pushed-map : {A B : Type 0} (f : A → B) (b c : Bool) (xs : List A) (x : A) → b ≡ c → map f (cond b xs (xs ++ x ∷ [])) ≡ cond c (map f xs) (map f xs ++ f x ∷ [])
 pushed-map f b c xs x e =
     ap (λ d. map f (cond d xs (xs ++ x ∷ []))) e ∙ elim c as (λ d. map f (cond d xs (xs ++ x ∷ [])) ≡ cond d (map f xs) (map f xs ++ f x ∷ [])) [
       | true ↦ refl
-      | false ↦ push-map f xs x
+      | false ↦ map_push f xs x
     ]
 
-pub append-nil : {A : Type 0} (xs : List A) → xs ++ [] ≡ xs
-append-nil [] = refl
-append-nil (x ∷ xs) = ap (λ ys. x ∷ ys) (append-nil xs)
+pub take-push : {A : Type 0} (xs : List A) (i : ℕ) (x : A) → slice_get xs i ≡ Some x → take (i + 1) xs ≡ take i xs ++ x ∷ []
+take-push xs i x at = take_more xs i x (slice_get_within xs i x at) ∙ ap (λ y. take i xs ++ y ∷ []) (get_or_from_slice_get xs i x x at)
 
-pub same_some : {A : Type 0} (x y : A) → Some x ≡ Some y → x ≡ y
-same_some x y h = (cc)
+pub flat_map-push : {A B : Type 0} (f : A → List B) (xs : List A) (x : A) → flat_map f (xs ++ x ∷ []) ≡ flat_map f xs ++ f x
+flat_map-push f xs x = flat_map-append f xs (x ∷ []) ∙ ap (λ ys. flat_map f xs ++ ys) (append-nil (f x))
 
 pub at_map : {A B : Type 0} (f : A → B) (xs : List A) (i : ℕ) (x : A) → slice_get xs i ≡ Some x → slice_get (map f xs) i ≡ Some (f x)
 at_map f xs i x at = slice_get-map f xs i ∙ ap (option_map f) at
-
-pub take-push_suc : {A : Type 0} (x : A) (ys : List A) (j : ℕ) → slice_get ys j ≡ Some x → take (suc j) ys ≡ take j ys ++ x ∷ []
-take-push_suc x [] j at = absurd (cc)
-take-push_suc x (y ∷ ys) zero at = ap (λ z. z ∷ []) (same_some y x at)
-take-push_suc x (y ∷ ys) (suc j) at = ap (λ zs. y ∷ zs) (take-push_suc x ys j at)
-
-pub take-push : {A : Type 0} (xs : List A) (i : ℕ) (x : A) → slice_get xs i ≡ Some x → take (i + 1) xs ≡ take i xs ++ x ∷ []
-take-push xs i x at = rw add-one (take-push_suc x xs i at)
-
-pub flat_map-push : {A B : Type 0} (f : A → List B) (xs : List A) (x : A) → flat_map f (xs ++ x ∷ []) ≡ flat_map f xs ++ f x
-flat_map-push f [] x = append-nil (f x)
-flat_map-push f (y ∷ ys) x = ap (λ zs. f y ++ zs) (flat_map-push f ys x) ∙ sym (append_assoc (f y) (flat_map f ys) (f x))
 
 pub is_some-position : {A : Type 0} (p : A → Bool) (xs : List A) → is_some (position p xs) ≡ list_any p xs
 is_some-position p [] = refl
@@ -99,4 +80,4 @@ map-map f g (x ∷ xs) = ap (λ ys. f (g x) ∷ ys) (map-map f g xs)
 pub pushed-more : {A B : Type 0} (f : A → B) (items : List A) (n : ℕ) (x : A) (old new : List B) (y : B) → slice_get items n ≡ Some x → old ≡ map f (take n items) → new ≡ old ++ y ∷ [] → y ≡ f x
     → new ≡ map f (take (n + 1) items)
 pushed-more f items n x old new y at was e same =
-    e ∙ ((λ i. was i ++ same i ∷ []) ∙ sym (ap (map f) (take-push items n x at) ∙ push-map f (take n items) x))
+    e ∙ ((λ i. was i ++ same i ∷ []) ∙ sym (ap (map f) (take-push items n x at) ∙ map_push f (take n items) x))

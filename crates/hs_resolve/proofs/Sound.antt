@@ -5,7 +5,8 @@ use Rattle.std.specs.Option.{option_map_or}
 use Rattle.std.specs.Str.{bytes_eq}
 use Rattle.std.proofs.lemmas.Bool.{cases_lt, eqb-true, eqb-false}
 use Rattle.std.proofs.lemmas.List.Folds.{list_any-append}
-use Rattle.std.proofs.lemmas.Option.{slice_get_within, slice_get-map}
+use Rattle.std.proofs.lemmas.Option.{slice_get_within, slice_get-map, same_Some}
+use Rattle.std.proofs.lemmas.List.{length-map}
 use Rattle.hs_scheme.specs.declared.term.Head.{Head}
 use Rattle.hs_scheme.specs.declared.term.Head.TheVariants.{Var, Nt, Tm}
 use Rattle.hs_scheme.specs.declared.term.Rule.{Rule as NumberedRule}
@@ -22,7 +23,7 @@ use Rattle.hs_resolve.specs.Numbering.{left, left_names, is_terminal, terminals_
 use Rattle.hs_resolve.specs.LineFaults.{same_left}
 use Rattle.hs_resolve.specs.Answer.{IsFaultless}
 use Rattle.hs_resolve.specs.Tables.{scoped_rule}
-use Rattle.hs_resolve.proofs.Lists.{at_map, len-map, same_some, is_some-position, map-map}
+use Rattle.hs_resolve.proofs.Lists.{at_map, is_some-position, map-map}
 use Rattle.hs_resolve.proofs.Distinct.{same_self, among-distinct, distinct-le, filter-le}
 use Rattle.hs_resolve.proofs.Members.{some_at, all-map, all-same, all-append, map-same, any-at, any-before, any-filter, any-flat_map, or_left, or_right, position-at, number-name, number-within, apart-distinct, recursion-at, not-empty}
 
@@ -49,7 +50,7 @@ upper-or-lower false = inr refl
 
 same_images : {A B : Type 0} (f : A → B) (o : Option A) (y : B) → option_map f o ≡ Some y → (x : A) × ((o ≡ Some x) × (f x ≡ y))
 same_images f None y h = absurd (cc)
-same_images f (Some x) y h = (x, (refl, same_some (f x) y h))
+same_images f (Some x) y h = (x, (refl, same_Some (f x) y h))
 
 find-some : {A : Type 0} (p : A → Bool) (xs : List A) → list_any p xs ≡ true → (x : A) × (find p xs ≡ Some x)
 find-some p [] h = absurd (cc)
@@ -119,12 +120,12 @@ module _ (raw : File) (inside : IsRaw raw) (clean : IsFaultless raw) where
       elim (begins_upper n.text) as (λ b. begins_upper n.text ≡ b → Holds (cond b (Nt (number (left_names raw) n.text)) (option_map_or Var (number_of (texts r.params) n.text) (Tm (number (terminal_names raw) n.text))))) [
         | true ↦ λ e.
             let within = number-within (left_names raw) n.text (left-defined i k r n at at_name e) in
-            let len : length (left_names raw) ≡ length raw.rules = len-map (λ m. m.text) (left raw) ∙ len-map (λ s. s.name) raw.rules in
+            let len : length (left_names raw) ≡ length raw.rules = length-map (left raw) (λ m. m.text) ∙ length-map raw.rules (λ s. s.name) in
             subst (λ m. number (left_names raw) n.text < m) len within
         | false ↦ λ e. elim (number_of (texts r.params) n.text) as (λ o. number_of (texts r.params) n.text ≡ o → Holds (option_map_or Var o (Tm (number (terminal_names raw) n.text)))) [
           | Some j ↦ λ f.
               let found = position-at (bytes_eq n.text) (texts r.params) j f in
-              subst (λ m. j < m) (len-map (λ m. m.text) r.params) (slice_get_within (texts r.params) j found.0 found.1.0)
+              subst (λ m. j < m) (length-map r.params (λ m. m.text)) (slice_get_within (texts r.params) j found.0 found.1.0)
           | None ↦ λ f.
               let absent : is_among (texts r.params) n.text ≡ false = sym (is_some-position (bytes_eq n.text) (texts r.params)) ∙ ap is_some f in
               number-within (terminal_names raw) n.text (body-terminal i k r n at at_name (λ j. not (e j) && not (absent j)))
@@ -144,8 +145,8 @@ module _ (raw : File) (inside : IsRaw raw) (clean : IsFaultless raw) where
   rules-are : AreRules (unsorted_of raw).rules (length (unsorted_of raw).ranks)
   rules-are =
       let make = rule_of (left_names raw) (terminal_names raw) in
-      let ranks : length (map (rank_of raw.transitions) (terminal_names raw)) ≡ length (terminal_names raw) = len-map (rank_of raw.transitions) (terminal_names raw) in
-      let rules : length (map make raw.rules) ≡ length raw.rules = len-map make raw.rules in
+      let ranks : length (map (rank_of raw.transitions) (terminal_names raw)) ≡ length (terminal_names raw) = length-map (terminal_names raw) (rank_of raw.transitions) in
+      let rules : length (map make raw.rules) ≡ length raw.rules = length-map raw.rules make in
       record {
         start = starts;
         bodies = all-map (λ r. TermInRange r.params (length (map make raw.rules)) (length (map (rank_of raw.transitions) (terminal_names raw))) r.body) make raw.rules
@@ -181,16 +182,16 @@ module _ (raw : File) (inside : IsRaw raw) (clean : IsFaultless raw) where
       (λ i t at.
       at_map (rank_of raw.transitions) (terminal_names raw) (number (terminal_names raw) t.terminal.text) t.terminal.text
       (number-name (terminal_names raw) t.terminal.text (transition-terminal i t at))
-      ∙ ap (λ o. Some o) (rank-known i t at ∙ ap (λ m. Some m) (sym (len-map (λ q. number (state_names raw) q.text) t.to))))
+      ∙ ap (λ o. Some o) (rank-known i t at ∙ ap (λ m. Some m) (sym (length-map t.to (λ q. number (state_names raw) q.text)))))
 
   named : HasNames (unsorted_of raw).names (unsorted_of raw).rules (length (unsorted_of raw).ranks) (unsorted_of raw).automaton.states
   named =
       let make = rule_of (left_names raw) (terminal_names raw) in
       record {
-        each_rule = len-map (λ n. n.text) (left raw) ∙ (len-map (λ r. r.name) raw.rules ∙ sym (len-map make raw.rules));
+        each_rule = length-map (left raw) (λ n. n.text) ∙ (length-map raw.rules (λ r. r.name) ∙ sym (length-map raw.rules make));
         each_param = sym (map-map (λ ns. length ns) (λ r. texts r.params) raw.rules)
-            ∙ (map-same (λ r. length (texts r.params)) (λ r. length r.params) raw.rules (λ i r at. len-map (λ n. n.text) r.params) ∙ map-map (λ r. r.params) make raw.rules);
-        each_terminal = sym (len-map (rank_of raw.transitions) (terminal_names raw));
+            ∙ (map-same (λ r. length (texts r.params)) (λ r. length r.params) raw.rules (λ i r at. length-map r.params (λ n. n.text)) ∙ map-map (λ r. r.params) make raw.rules);
+        each_terminal = sym (length-map (terminal_names raw) (rank_of raw.transitions));
         each_state = refl;
       }
 
@@ -211,7 +212,7 @@ module _ (raw : File) (inside : IsRaw raw) (clean : IsFaultless raw) where
 
   -- equal numbers are those of equal names
   one-name : (names : List (List ℕ)) (x y : List ℕ) → is_among names x ≡ true → is_among names y ≡ true → number names x ≡ number names y → x ≡ y
-  one-name names x y hx hy e = same_some x y (sym (number-name names x hx) ∙ (ap (slice_get names) e ∙ number-name names y hy))
+  one-name names x y hx hy e = same_Some x y (sym (number-name names x hx) ∙ (ap (slice_get names) e ∙ number-name names y hy))
 
   not-later : (i j : ℕ) (s t : Transition) → slice_get raw.transitions i ≡ Some s → slice_get raw.transitions j ≡ Some t → s.from.text ≡ t.from.text → s.terminal.text ≡ t.terminal.text → i < j → ⊥
   not-later i j s t at_i at_j from terminal less =
@@ -290,7 +291,7 @@ map-le f g (x ∷ xs) h = omega (arith, h x, map-le f g xs h, length-append (g x
 
 pub left-few : (raw : File) → IsRaw raw → length (distinct (left_names raw)) ≤ 20000
 left-few raw inside =
-    omega (arith, distinct-le (left_names raw), len-map (λ (n : RawName). n.text) (left raw), len-map (λ (r : Rule). r.name) raw.rules, inside.within.rules)
+    omega (arith, distinct-le (left_names raw), length-map (left raw) (λ (n : RawName). n.text), length-map raw.rules (λ (r : Rule). r.name), inside.within.rules)
 
 pub terminals-few : (raw : File) → IsRaw raw → length (terminal_names raw) ≤ 16777216
 terminals-few raw inside =
@@ -300,7 +301,7 @@ terminals-few raw inside =
     let in_transitions = flat_map (λ (t : Transition). t.from ∷ (t.terminal ∷ t.to)) raw.transitions in
     let front : length bodies ≤ length in_rules =
     flat_map-le terminals_in (λ (r : Rule). r.name ∷ (r.params ++ term_names r.body)) raw.rules (λ r.
-    omega (arith, filter-le (is_terminal (texts r.params)) (texts (term_names r.body)), len-map (λ (n : RawName). n.text) (term_names r.body), length-append r.params (term_names r.body))) in
+    omega (arith, filter-le (is_terminal (texts r.params)) (texts (term_names r.body)), length-map (term_names r.body) (λ (n : RawName). n.text), length-append r.params (term_names r.body))) in
     let back : length ends ≤ length in_transitions =
     map-le (λ (t : Transition). t.terminal.text) (λ (t : Transition). t.from ∷ (t.terminal ∷ t.to)) raw.transitions (λ t. omega arith) in
     omega (arith, front, back, distinct-le (bodies ++ ends), length-append bodies ends, length-append in_rules in_transitions, inside.count)

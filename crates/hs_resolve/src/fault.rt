@@ -13,28 +13,28 @@ pub const MAX_STATES: usize = 10_000;
 #[derive(Debug, PartialEq, Eq, Drop, Error)]
 pub enum NameFault {
     /// An earlier rule has the same left name. It stands on the line of the left name.
-    #[error("line {line}: rule twice")]
+    #[error("a second rule for a name on line {line}")]
     DuplicateRule { line: u32 },
     /// An earlier parameter of the rule has the same name. It stands on the line of the parameter.
-    #[error("line {line}: parameter twice")]
+    #[error("a second parameter of a name on line {line}")]
     DuplicateParam { line: u32 },
     /// No rule has the upper name in a body on its left. It stands on the line of the name.
-    #[error("line {line}: undefined nonterminal")]
+    #[error("a nonterminal without a rule on line {line}")]
     Undefined { line: u32 },
     /// The first rule has a parameter. It stands on the line of the rule's left name.
-    #[error("line {line}: start has parameters")]
+    #[error("parameters of the start on line {line}")]
     StartHasParams { line: u32 },
     /// An earlier transition has the same state and terminal. It stands on the line of the state.
-    #[error("line {line}: transition twice")]
+    #[error("a second transition for a state and a terminal on line {line}")]
     DuplicateTransition { line: u32 },
     /// The first transition of the terminal has another length. It stands on the line of the state.
-    #[error("line {line}: rank clash")]
+    #[error("a transition of another length on line {line}")]
     RankClash { line: u32 },
     /// There are more than `MAX_STATES` states.
-    #[error("more than 10000 states")]
+    #[error("too many states")]
     TooManyStates,
     /// Memory was refused.
-    #[error("out of memory")]
+    #[error("memory was refused")]
     OutOfMemory,
 }
 

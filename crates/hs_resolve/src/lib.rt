@@ -4,14 +4,12 @@
 
 mod body;
 mod fault;
-mod index;
 mod laws;
 mod line;
+mod name_index;
 mod numbering;
 mod resolving;
 mod seen;
-#[cfg(test)]
-mod tests;
 mod transitions;
 
 pub use fault::{MAX_STATES, NameFault};

@@ -6,14 +6,13 @@ ghost use Rattle.hs_resolve.specs.Names.{texts, distinct};
 ghost use Rattle.hs_resolve.specs.Numbering as definition;
 ghost use Rattle.hs_resolve.specs.Tables.{HasNumbers, scoped_rule};
 
-use crate::body::is_upper;
-use crate::index::Index;
-use hs_reader::{RawName, RawRule, RawTerm, RawTransition};
+use crate::name_index::NameIndex;
+use hs_reader::{RawName, RawRule, RawTerm, RawTransition, is_upper};
 use hs_scheme::{Head, Name, OutOfMemory, Rule, Term, Transition};
 use std::alloc::Global;
 
 /// The number of a name, and 0 for one that isn't there.
-fn number(index: &Index, name: &[u8]) -> u32
+fn number(index: &NameIndex, name: &[u8]) -> u32
     requires { HasNumbers index.now }
     ensures { result ≡ names.number index.now name.now }
 {
@@ -24,7 +23,7 @@ fn number(index: &Index, name: &[u8]) -> u32
 }
 
 /// What a name in a body stands for.
-fn head_of(left: &Index, params: &Index, terminals: &Index, name: &RawName) -> Head
+fn head_of(left: &NameIndex, params: &NameIndex, terminals: &NameIndex, name: &RawName) -> Head
     requires left { HasNumbers left.now }
     requires params { HasNumbers params.now }
     requires terminals { HasNumbers terminals.now }
@@ -43,15 +42,16 @@ fn head_of(left: &Index, params: &Index, terminals: &Index, name: &RawName) -> H
 /// The term with a head for each of its names. Recurses as deep as the term.
 fn term_of(
     alloc: Global,
-    left: &Index,
-    params: &Index,
-    terminals: &Index,
+    left: &NameIndex,
+    params: &NameIndex,
+    terminals: &NameIndex,
     raw: &RawTerm,
 ) -> Result<Term, OutOfMemory>
     requires left { HasNumbers left.now }
     requires params { HasNumbers params.now }
     requires terminals { HasNumbers terminals.now }
-    ensures { IfOk result (λ t. t ≡ definition.numbered (definition.head_of left.now params.now terminals.now) raw.now) }
+    ensures { IfOk result (λ t. t
+        ≡ definition.numbered (definition.head_of left.now params.now terminals.now) raw.now) }
 {
     let mut args = Vec::with_capacity(alloc, raw.args.len())?;
     for arg in &raw.args {
@@ -66,9 +66,9 @@ fn term_of(
 /// The rule with numbers for its names.
 fn rule_of(
     alloc: Global,
-    left: &Index,
-    params: &Index,
-    terminals: &Index,
+    left: &NameIndex,
+    params: &NameIndex,
+    terminals: &NameIndex,
     raw: &RawRule,
 ) -> Result<Rule, OutOfMemory>
     requires left { HasNumbers left.now }
@@ -87,9 +87,9 @@ fn rule_of(
 /// The rules with numbers for their names, where these are the names of the parameters of each.
 pub(crate) fn rules_of(
     alloc: Global,
-    left: &Index,
-    params: &[Index],
-    terminals: &Index,
+    left: &NameIndex,
+    params: &[NameIndex],
+    terminals: &NameIndex,
     rules: &[RawRule],
 ) -> Result<Vec<Rule>, OutOfMemory>
     requires left { HasNumbers left.now }
@@ -106,7 +106,7 @@ pub(crate) fn rules_of(
 }
 
 /// The numbers of these states.
-fn states_of(alloc: Global, states: &Index, texts: &[RawName]) -> Result<Vec<u32>, OutOfMemory>
+fn states_of(alloc: Global, states: &NameIndex, texts: &[RawName]) -> Result<Vec<u32>, OutOfMemory>
     requires { HasNumbers states.now }
     ensures { IfOk result (λ qs. qs.items ≡ map (λ q. names.number states.now q.text) texts.now) }
 {
@@ -120,13 +120,14 @@ fn states_of(alloc: Global, states: &Index, texts: &[RawName]) -> Result<Vec<u32
 /// The transitions with numbers for their names.
 pub(crate) fn transitions_of(
     alloc: Global,
-    states: &Index,
-    terminals: &Index,
+    states: &NameIndex,
+    terminals: &NameIndex,
     transitions: &[RawTransition],
 ) -> Result<Vec<Transition>, OutOfMemory>
     requires states { HasNumbers states.now }
     requires terminals { HasNumbers terminals.now }
-    ensures { IfOk result (λ ts. ts.items ≡ map (definition.transition_of states.now terminals.now) transitions.now) }
+    ensures { IfOk result (λ ts. ts.items
+        ≡ map (definition.transition_of states.now terminals.now) transitions.now) }
 {
     let mut numbered = Vec::with_capacity(alloc, transitions.len())?;
     for transition in transitions {
@@ -141,7 +142,7 @@ pub(crate) fn transitions_of(
 }
 
 /// The names of the parameters of each rule.
-pub(crate) fn params_of(alloc: Global, params: &[Index]) -> Result<Vec<Vec<Name>>, OutOfMemory>
+pub(crate) fn params_of(alloc: Global, params: &[NameIndex]) -> Result<Vec<Vec<Name>>, OutOfMemory>
     ensures { IfOk result (λ ns. map (λ n. n.items) ns.items ≡ params.now) }
 {
     let mut names = Vec::with_capacity(alloc, params.len())?;

@@ -9,11 +9,11 @@ ghost use Rattle.hs_resolve.specs.Tables.{AreLines, AreTables};
 
 use crate::body::bodies_of;
 use crate::fault::{MAX_STATES, NameFault};
-use crate::index::Index;
 use crate::line::FaultLines;
+use crate::name_index::NameIndex;
 use crate::numbering::{params_of, rules_of, transitions_of};
 use crate::seen::{left_of, scopes_of};
-use crate::transitions::{add_transition_terminals, lengths_of, repeated_of, states_of};
+use crate::transitions::{add_transition_terminals, transition_names};
 use hs_reader::RawFile;
 use hs_scheme::{Automaton, Names, OutOfMemory, Unsorted};
 use indexmap::IndexMap;
@@ -22,10 +22,10 @@ use std::alloc::Global;
 /// The names of a file by number, and what was found on the way.
 #[derive(Drop)]
 struct Tables<'a> {
-    left: Index<'a>,
-    params: Vec<Index<'a>>,
-    terminals: Index<'a>,
-    states: Index<'a>,
+    left: NameIndex<'a>,
+    params: Vec<NameIndex<'a>>,
+    terminals: NameIndex<'a>,
+    states: NameIndex<'a>,
     lengths: IndexMap<&'a [u8], u32>,
     lines: FaultLines,
 }
@@ -52,22 +52,20 @@ fn tables_of<'a>(alloc: Global, raw: &'a RawFile) -> Result<Tables<'a>, OutOfMem
     let bodies = bodies_of(alloc, &left.index, scopes.params.as_slice(), rules)?;
     let mut terminals = bodies.terminals;
     add_transition_terminals(&mut terminals, transitions)?;
-    let states = states_of(alloc, transitions)?;
-    let repeated = repeated_of(alloc, transitions)?;
-    let lengths = lengths_of(alloc, transitions)?;
+    let names = transition_names(alloc, transitions)?;
     Ok(Tables {
         left: left.index,
         params: scopes.params,
         terminals,
-        states,
-        lengths: lengths.first,
+        states: names.states,
+        lengths: names.lengths,
         lines: FaultLines {
             duplicate_rule: left.repeated,
             duplicate_param: scopes.repeated,
             undefined: bodies.undefined,
             start_has_params: start_line(raw),
-            duplicate_transition: repeated,
-            rank_clash: lengths.clash,
+            duplicate_transition: names.repeated,
+            rank_clash: names.clash,
         },
     })
 }
@@ -111,9 +109,11 @@ pub fn resolve(alloc: Global, raw: &RawFile) -> Result<Unsorted, NameFault>
     ensures value { IfOk result (λ u. u ≡ unsorted_of raw.now) }
     ensures faultless { OnOk result (IsFaultless raw.now) }
     ensures fault { IfErr result (λ e. (e ≡ NameFault.OutOfMemory) ⊎ IsAnswered raw.now e) }
-    // Nothing but want of memory keeps a file without faults from its scheme, and one from its first fault.
+    // Nothing but want of memory keeps a file without faults from its scheme, and one with faults
+    // from its first.
     ensures taken { IsFaultless raw.now → IfErr result (λ e. e ≡ NameFault.OutOfMemory) }
-    ensures refused { (fault : NameFault) → IsAnswered raw.now fault → IsErrAnd result (λ e. (e ≡ NameFault.OutOfMemory) ⊎ (e ≡ fault)) }
+    ensures refused { (fault : NameFault) → IsAnswered raw.now fault
+        → IsErrAnd result (λ e. (e ≡ NameFault.OutOfMemory) ⊎ (e ≡ fault)) }
 {
     let tables = tables_of(alloc, raw)?;
     if let Some(fault) = tables.lines.first() {

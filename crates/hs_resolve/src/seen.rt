@@ -7,8 +7,8 @@ ghost use Rattle.hs_resolve.specs.Least as least;
 ghost use Rattle.hs_resolve.specs.Least.{IsLeast};
 ghost use Rattle.hs_resolve.specs.LineFaults.{Somewhere, Repeats};
 
-use crate::index::Index;
 use crate::line::earliest;
+use crate::name_index::NameIndex;
 use hs_reader::{RawName, RawRule};
 use hs_scheme::OutOfMemory;
 use std::alloc::Global;
@@ -16,7 +16,7 @@ use std::alloc::Global;
 /// The names of a list, by number, and the least line of one that stood there before.
 #[derive(Drop)]
 pub(crate) struct Seen<'a> {
-    pub(crate) index: Index<'a>,
+    pub(crate) index: NameIndex<'a>,
     pub(crate) repeated: Option<u32>,
 }
 
@@ -26,14 +26,15 @@ impl<'a> Seen<'a> {
         ensures repeated { result.repeated ≡ None }
     {
         Seen {
-            index: Index::new(alloc),
+            index: NameIndex::new(alloc),
             repeated: None,
         }
     }
 
     fn add(&mut self, name: &'a RawName) -> Result<(), OutOfMemory>
         ensures index { OnOk result (self.new.index ≡ with_name self.old.index name.now.text) }
-        ensures repeated { OnOk result (self.new.repeated ≡ least.earliest self.old.repeated (repeat_of self.old.index name.now)) }
+        ensures repeated { OnOk result (self.new.repeated
+            ≡ least.earliest self.old.repeated (repeat_of self.old.index name.now)) }
     {
         if !self.index.add(name.text.bytes())? {
             self.repeated = earliest(self.repeated, Some(name.line));
@@ -45,7 +46,8 @@ impl<'a> Seen<'a> {
 /// The names on the left of the rules.
 pub(crate) fn left_of<'a>(alloc: Global, rules: &'a [RawRule]) -> Result<Seen<'a>, OutOfMemory>
     ensures index { IfOk result (λ seen. seen.index ≡ distinct (texts (map (λ r. r.name) rules.now))) }
-    ensures repeated { IfOk result (λ seen. IsLeast (Repeats (map (λ r. r.name) rules.now)) seen.repeated) }
+    ensures repeated { IfOk result (λ seen. IsLeast
+        (Repeats (map (λ r. r.name) rules.now)) seen.repeated) }
 {
     let mut seen = Seen::new(alloc);
     for rule in rules {
@@ -70,14 +72,15 @@ fn params_of<'a>(alloc: Global, params: &'a [RawName]) -> Result<Seen<'a>, OutOf
 /// rule has.
 #[derive(Drop)]
 pub(crate) struct Scopes<'a> {
-    pub(crate) params: Vec<Index<'a>>,
+    pub(crate) params: Vec<NameIndex<'a>>,
     pub(crate) repeated: Option<u32>,
 }
 
 /// The names of the parameters of each of the rules.
 pub(crate) fn scopes_of<'a>(alloc: Global, rules: &'a [RawRule]) -> Result<Scopes<'a>, OutOfMemory>
     ensures params { IfOk result (λ s. s.params.items ≡ map (λ r. distinct (texts r.params)) rules.now) }
-    ensures repeated { IfOk result (λ s. IsLeast (λ line. Somewhere (λ _ r. Repeats r.params line) rules.now) s.repeated) }
+    ensures repeated { IfOk result (λ s. IsLeast
+        (λ line. Somewhere (λ _ r. Repeats r.params line) rules.now) s.repeated) }
 {
     let mut params = Vec::new(alloc);
     let mut repeated = None;

@@ -8,15 +8,18 @@ ghost use Rattle.hs_resolve.specs.Least.{IsLeast};
 ghost use Rattle.hs_resolve.specs.LineFaults.{Somewhere, RepeatsLeft, Clashes};
 ghost use Rattle.hs_resolve.specs.Lengths.{length_of, first_or, own_length, clash_line};
 
-use crate::index::Index;
 use crate::line::earliest;
+use crate::name_index::NameIndex;
 use hs_reader::RawTransition;
 use hs_scheme::OutOfMemory;
 use indexmap::{IndexMap, IndexSet};
 use std::alloc::Global;
 
 /// Puts the states of a transition at the end of those that were met before.
-fn add_states<'a>(states: &mut Index<'a>, transition: &'a RawTransition) -> Result<(), OutOfMemory>
+fn add_states<'a>(
+    states: &mut NameIndex<'a>,
+    transition: &'a RawTransition,
+) -> Result<(), OutOfMemory>
     ensures { OnOk result (states.new ≡ with_names states.old (states_in transition.now)) }
 {
     states.add(transition.from.text.bytes())?;
@@ -27,13 +30,13 @@ fn add_states<'a>(states: &mut Index<'a>, transition: &'a RawTransition) -> Resu
 }
 
 /// The states by number.
-pub(crate) fn states_of<'a>(
+fn states_of<'a>(
     alloc: Global,
     transitions: &'a [RawTransition],
-) -> Result<Index<'a>, OutOfMemory>
+) -> Result<NameIndex<'a>, OutOfMemory>
     ensures { IfOk result (λ states. states ≡ distinct (flat_map states_in transitions.now)) }
 {
-    let mut states = Index::new(alloc);
+    let mut states = NameIndex::new(alloc);
     for transition in transitions {
         add_states(&mut states, transition)?;
     }
@@ -42,10 +45,11 @@ pub(crate) fn states_of<'a>(
 
 /// Puts the terminals of the transitions at the end of those that were met before.
 pub(crate) fn add_transition_terminals<'a>(
-    terminals: &mut Index<'a>,
+    terminals: &mut NameIndex<'a>,
     transitions: &'a [RawTransition],
 ) -> Result<(), OutOfMemory>
-    ensures { OnOk result (terminals.new ≡ with_names terminals.old (map (λ t. t.terminal.text) transitions.now)) }
+    ensures { OnOk result (terminals.new
+        ≡ with_names terminals.old (map (λ t. t.terminal.text) transitions.now)) }
 {
     for transition in transitions {
         terminals.add(transition.terminal.text.bytes())?;
@@ -54,11 +58,9 @@ pub(crate) fn add_transition_terminals<'a>(
 }
 
 /// The least line of a transition whose state and terminal an earlier one has.
-pub(crate) fn repeated_of(
-    alloc: Global,
-    transitions: &[RawTransition],
-) -> Result<Option<u32>, OutOfMemory>
-    ensures { IfOk result (λ least. IsLeast (λ line. Somewhere (λ i t. RepeatsLeft transitions.now i t line) transitions.now) least) }
+fn repeated_of(alloc: Global, transitions: &[RawTransition]) -> Result<Option<u32>, OutOfMemory>
+    ensures { IfOk result (λ least. IsLeast
+        (λ line. Somewhere (λ i t. RepeatsLeft transitions.now i t line) transitions.now) least) }
 {
     let mut met = IndexSet::new(alloc);
     let mut least = None;
@@ -85,8 +87,10 @@ fn note_length<'a>(
     transition: &'a RawTransition,
 ) -> Result<Option<u32>, OutOfMemory>
     requires { length transition.now.to < 2 ^ 32 }
-    ensures lengths { OnOk result ((x : List ℕ) → length_of lengths.new x ≡ first_or (length_of lengths.old x) (own_length transition.now x)) }
-    ensures clash { IfOk result (λ line. line ≡ clash_line (length_of lengths.old transition.now.terminal.text) transition.now) }
+    ensures lengths { OnOk result ((x : List ℕ) → length_of lengths.new x
+        ≡ first_or (length_of lengths.old x) (own_length transition.now x)) }
+    ensures clash { IfOk result (λ line. line
+        ≡ clash_line (length_of lengths.old transition.now.terminal.text) transition.now) }
 {
     let terminal = transition.terminal.text.bytes();
     let length = transition.to.len() as u32;
@@ -103,19 +107,21 @@ fn note_length<'a>(
 /// The lengths of the right sides of the first transitions of the terminals, and the least line of
 /// a transition of another length.
 #[derive(Drop)]
-pub(crate) struct Lengths<'a> {
-    pub(crate) first: IndexMap<&'a [u8], u32>,
-    pub(crate) clash: Option<u32>,
+struct Lengths<'a> {
+    first: IndexMap<&'a [u8], u32>,
+    clash: Option<u32>,
 }
 
 /// The lengths of the transitions of each terminal.
-pub(crate) fn lengths_of<'a>(
+fn lengths_of<'a>(
     alloc: Global,
     transitions: &'a [RawTransition],
 ) -> Result<Lengths<'a>, OutOfMemory>
     requires { All (λ t. length t.to ≤ 64) transitions.now }
-    ensures first { IfOk result (λ lengths. (x : List ℕ) → length_of lengths.first x ≡ rank_of transitions.now x) }
-    ensures clash { IfOk result (λ lengths. IsLeast (λ line. Somewhere (λ _ t. Clashes transitions.now t line) transitions.now) lengths.clash) }
+    ensures first { IfOk result (λ lengths. (x : List ℕ)
+        → length_of lengths.first x ≡ rank_of transitions.now x) }
+    ensures clash { IfOk result (λ lengths. IsLeast
+        (λ line. Somewhere (λ _ t. Clashes transitions.now t line) transitions.now) lengths.clash) }
 {
     let mut first = IndexMap::new(alloc);
     let mut clash = None;
@@ -124,4 +130,39 @@ pub(crate) fn lengths_of<'a>(
         clash = earliest(clash, line);
     }
     Ok(Lengths { first, clash })
+}
+
+/// What the transitions of a file name, and the least lines of those that don't go together.
+#[derive(Drop)]
+pub(crate) struct TransitionNames<'a> {
+    pub(crate) states: NameIndex<'a>,
+    pub(crate) repeated: Option<u32>,
+    /// The lengths of the right sides of the first transitions of the terminals.
+    pub(crate) lengths: IndexMap<&'a [u8], u32>,
+    pub(crate) clash: Option<u32>,
+}
+
+/// What the transitions name.
+pub(crate) fn transition_names<'a>(
+    alloc: Global,
+    transitions: &'a [RawTransition],
+) -> Result<TransitionNames<'a>, OutOfMemory>
+    requires { All (λ t. length t.to ≤ 64) transitions.now }
+    ensures states { IfOk result (λ names. names.states ≡ distinct (flat_map states_in transitions.now)) }
+    ensures repeated { IfOk result (λ names. IsLeast
+        (λ line. Somewhere (λ i t. RepeatsLeft transitions.now i t line) transitions.now) names.repeated) }
+    ensures lengths { IfOk result (λ names. (x : List ℕ)
+        → length_of names.lengths x ≡ rank_of transitions.now x) }
+    ensures clash { IfOk result (λ names. IsLeast
+        (λ line. Somewhere (λ _ t. Clashes transitions.now t line) transitions.now) names.clash) }
+{
+    let states = states_of(alloc, transitions)?;
+    let repeated = repeated_of(alloc, transitions)?;
+    let lengths = lengths_of(alloc, transitions)?;
+    Ok(TransitionNames {
+        states,
+        repeated,
+        lengths: lengths.first,
+        clash: lengths.clash,
+    })
 }

@@ -1,8 +1,12 @@
 pub mod Index
+pub mod TransitionLemmas
 pub mod PlainLemmas
-pub mod Refusal
+pub mod ParameterLemmas
 pub mod PointLemmas
+pub mod RowLemmas
+pub mod PlaceLemmas
 pub mod FlowLemmas
+pub mod FlowRowLemmas
 pub mod DemandLemmas
 pub mod CheckedLemmas
 pub mod SameLemmas

@@ -1,12 +1,13 @@
 -- The points of terms and of rules, one more at the end.
-use Rattle.std.proofs.Common.{◌≡◌, refl, sym, ◌∙◌, ap, subst, ℕ, zero, suc, ◌+◌, ◌<◌, ◌≤◌, List, [], ◌∷◌, ◌++◌, length, get_or, set, take, append_assoc, add_assoc, length-append, All, arith}
-use Rattle.std.proofs.lemmas.List.{take_more, set_at, get_or_at, append-nil, length-take-le}
+use Rattle.std.proofs.Common.{◌≡◌, refl, sym, ◌∙◌, ap, subst, ℕ, zero, suc, ◌+◌, ◌<◌, ◌≤◌, List, [], ◌∷◌, ◌++◌, length, get_or, set, take, slice_index, append_assoc, add_assoc, length-append, All, arith}
+use Rattle.std.proofs.lemmas.List.{take_more, set_at, get_or_at, append-nil, length-take-le, length-map}
 use Rattle.std.proofs.lemmas.List.Elements.{All-cons, All-append, All-tail}
 use Rattle.hs_scheme.specs.declared.term.Head.{Head}
 use Rattle.hs_scheme.specs.declared.term.Head.TheVariants.{Var, Nt, Tm}
 use Rattle.hs_scheme.specs.declared.term.Rule.{Rule}
 use Rattle.hs_scheme.specs.Tree.{Tree, Trees, node, none, more, forest}
-use Rattle.hs_scheme.specs.Points.{PointData, size, sizes, numbers, term_points, terms_points, rules_points, bodies, points_of, NonterminalWithin, IsPoints}
+use Rattle.hs_scheme.specs.Points.{PointData, size, sizes, numbers, term_points, terms_points, rules_points, bodies, points_of, NonterminalWithin, ParameterWithin, IsArgument, IsPoints}
+use Rattle.hs_scheme.specs.Parameters.{counts_of}
 use Rattle.hs_scheme.specs.Scheme.{HeadInRange, TermInRange, TermsInRange, AreRules}
 
 mutual
@@ -76,7 +77,7 @@ term_done rule n old q p first point h us term long whole pushed row is =
     ∙ ap (λ ps. old ++ ps) (ap (λ pt. pt ∷ terms_points rule (n + 1) (forest us)) is ∙ (ap (λ m. term_points rule m (node h (forest us))) (sym long) ∙ ap (term_points rule (length old)) whole)))
 
 -- rules one after another
-abbrev total : List Rule → ℕ
+abbrev pub total : List Rule → ℕ
 total [] = 0
 total (r ∷ rules) = size r.body + total rules
 
@@ -107,20 +108,20 @@ module _ (i : ℕ) (rules : List Rule) (r : Rule) (p : List PointData) (lt : i <
   next_rule : take (i + 1) rules ≡ take i rules ++ r ∷ []
   next_rule = take_more rules i r lt ∙ ap (λ s. take i rules ++ s ∷ []) (sym is)
 
-  so_long : length p ≡ 0 + total (take i rules)
-  so_long = ap length so_far ∙ (length-rules_points 0 0 (take i rules) ∙ omega arith)
+  pub rule_length : length p ≡ 0 + total (take i rules)
+  rule_length = ap length so_far ∙ (length-rules_points 0 0 (take i rules) ∙ omega arith)
 
   this_rule : i ≡ 0 + length (take i rules)
   this_rule = omega (arith, length-take-le i rules (omega arith))
 
   pub rule_more : (new : List PointData) → new ≡ p ++ term_points i (length p) r.body → new ≡ rules_points 0 0 (take (i + 1) rules)
-  rule_more new e = e ∙ ((λ j. so_far j ++ term_points (this_rule j) (so_long j) r.body) ∙ (sym (rules_points-push 0 0 (take i rules) r) ∙ ap (rules_points 0 0) (sym next_rule)))
+  rule_more new e = e ∙ ((λ j. so_far j ++ term_points (this_rule j) (rule_length j) r.body) ∙ (sym (rules_points-push 0 0 (take i rules) r) ∙ ap (rules_points 0 0) (sym next_rule)))
 
   pub body_more : (old new : List ℕ) → old ≡ bodies 0 (take i rules) → new ≡ old ++ length p ∷ [] → new ≡ bodies 0 (take (i + 1) rules)
-  body_more old new was e = e ∙ ((λ j. was j ++ so_long j ∷ []) ∙ (sym (bodies-push 0 (take i rules) r) ∙ ap (bodies 0) (sym next_rule)))
+  body_more old new was e = e ∙ ((λ j. was j ++ rule_length j ∷ []) ∙ (sym (bodies-push 0 (take i rules) r) ∙ ap (bodies 0) (sym next_rule)))
 
   pub rule_many : (max : ℕ) → max < length p + size r.body → max < length (rules_points 0 0 rules)
-  rule_many max too_many = omega (arith, so_long, total-take rules i r lt is, length-rules_points 0 0 rules)
+  rule_many max too_many = omega (arith, rule_length, total-take rules i r lt is, length-rules_points 0 0 rules)
 
 -- the numbers of terms side by side, and what stands in the points of terms and rules, are in range
 at_least_one : (t : Tree Head) → 1 ≤ size t
@@ -190,11 +191,49 @@ each_within rules = rules_within (length (bodies 0 rules)) (length (rules_points
 pub args_within : (rules : List Rule) → All (λ d. All (λ a. a < length (points_of rules).points) d.args) (points_of rules).points
 args_within rules = λ k d l. (each_within rules k d l).args
 
-pub are_points : (rules : List Rule) (terminals : ℕ) → AreRules rules terminals → length (rules_points 0 0 rules) ≤ 500000 → IsPoints (points_of rules)
-are_points rules terminals are few = record {
+-- the parameters at the heads of terms in range
+module _ (params : List ℕ) (count terminals : ℕ) where
+  parameter_within : (rule n : ℕ) (h : Head) → slice_index params rule ≡ n → HeadInRange n count terminals h → ParameterWithin params rule h
+  parameter_within rule n (Var x) e r = omega arith
+  parameter_within rule n (Nt f) e r = tt
+  parameter_within rule n (Tm a) e r = tt
+
+  mutual
+    parameters_within : (rule n k : ℕ) (t : Tree Head) → slice_index params rule ≡ k → TermInRange k count terminals t → All (λ d. ParameterWithin params d.rule d.head) (term_points rule n t)
+    parameters_within rule n k (node h ts) e r =
+        All-cons (λ d. ParameterWithin params d.rule d.head) (record { rule = rule; head = h; args = numbers (n + 1) ts }) (terms_points rule (n + 1) ts) (parameter_within rule k h e r.0)
+        (parameters_within_row rule (n + 1) k ts e r.2)
+
+    parameters_within_row : (rule n k : ℕ) (ts : Trees Head) → slice_index params rule ≡ k → TermsInRange k count terminals ts → All (λ d. ParameterWithin params d.rule d.head) (terms_points rule n ts)
+    parameters_within_row rule n k none e r = λ k d l. absurd (omega arith)
+    parameters_within_row rule n k (more t ts) e r =
+        All-append (λ d. ParameterWithin params d.rule d.head) (term_points rule n t) (terms_points rule (n + size t) ts) (parameters_within rule n k t e r.0) (parameters_within_row rule (n + size t) k ts e r.1)
+
+  all_parameters_within : (rule n : ℕ) (rules : List Rule) → ((i : ℕ) → i < length rules → slice_index params (rule + i) ≡ slice_index (counts_of rules) i)
+      → All (λ r. TermInRange r.params count terminals r.body) rules → All (λ d. ParameterWithin params d.rule d.head) (rules_points rule n rules)
+  all_parameters_within rule n [] e rs = λ k d l. absurd (omega arith)
+  all_parameters_within rule n (r ∷ rules) e rs =
+      All-append (λ d. ParameterWithin params d.rule d.head) (term_points rule n r.body) (rules_points (rule + 1) (n + size r.body) rules)
+      (parameters_within rule n r.params r.body (ap (slice_index params) (sym (zero_more rule)) ∙ e 0 (omega arith)) (rs 0 r (omega arith)))
+      (all_parameters_within (rule + 1) (n + size r.body) rules
+      (λ i lt. ap (slice_index params) (shifted rule i) ∙ e (suc i) (omega arith))
+      (All-tail (λ (q : Rule). TermInRange q.params count terminals q.body) r rules rs))
+    where
+      shifted : (rule i : ℕ) → rule + 1 + i ≡ rule + suc i
+      shifted rule i = omega arith
+
+pub are_points : (rules : List Rule) (terminals : ℕ) → AreRules rules terminals → length (rules_points 0 0 rules) ≤ 500000
+    → ((a q i r j : ℕ) → IsArgument (points_of rules) q i a → IsArgument (points_of rules) r j a → (q ≡ r) × (i ≡ j)) → IsPoints (points_of rules)
+are_points rules terminals are few once = record {
   few = few;
+  params = length-map rules (λ (r : Rule). r.params) ∙ sym (length-bodies 0 rules);
+  parameters = all_parameters_within (counts_of rules) (length rules) terminals 0 0 rules (λ i lt. ap (slice_index (counts_of rules)) (from_zero i)) are.bodies;
+  once = once;
   rules = λ k d l. (each_within rules k d l).rule;
   heads = subst (λ n. All (λ d. NonterminalWithin n d.head) (rules_points 0 0 rules)) (sym (length-bodies 0 rules)) (all_heads_within (length rules) terminals 0 0 rules are.bodies);
   args = args_within rules;
   bodies = bodies_within (length (bodies 0 rules)) (length (rules_points 0 0 rules)) 0 rules (omega (arith, length-rules_points 0 0 rules));
 }
+  where
+    from_zero : (i : ℕ) → 0 + i ≡ i
+    from_zero i = omega arith

@@ -5,7 +5,7 @@ use Rattle.hs_scheme.specs.declared.term.Head.{Head}
 use Rattle.hs_scheme.specs.declared.term.Head.TheVariants.{Var, Nt, Tm}
 use Rattle.hs_scheme.specs.declared.term.Rule.{Rule}
 use Rattle.hs_scheme.specs.Tree.{Tree, Trees, node, none, more, children}
-use Rattle.hs_scheme.specs.Sorting.{SortTree, o, arrow, arrows, size, sizes, Sorts, heads, HasSort, Applied, IsSorting, IsLeastSorting, AreEqual, IsFirstOrder, AreFirstOrder, IsWellSorted}
+use Rattle.hs_scheme.specs.Sorting.{SortTree, o, arrow, arrows, without, behind, size, sizes, Sorts, heads, HasSort, Applied, IsSorting, IsLeastSorting, AreEqual, IsFirstOrder, AreFirstOrder, IsWellSorted}
 
 -- the arguments that both sorts have, from the front, each cut down in the same way
 abbrev mutual
@@ -20,11 +20,25 @@ abbrev mutual
 meet-arrow : (a b c d : SortTree) → meet (arrow a b) (arrow c d) ≡ arrow (meet a c) (meet b d)
 meet-arrow a (node u ks) c (node w ls) = refl
 
-meet-arrows : (n : ℕ) (p q : ℕ → SortTree) → meet (arrows n p) (arrows n q) ≡ arrows n (λ j. meet (p j) (q j))
-meet-arrows zero p q = refl
-meet-arrows (suc n) p q =
-    meet-arrow (p 0) (arrows n (λ j. p (suc j))) (q 0) (arrows n (λ j. q (suc j)))
-    ∙ ap (arrow (meet (p 0) (q 0))) (meet-arrows n (λ j. p (suc j)) (λ j. q (suc j)))
+meet-arrows : (n : ℕ) (p q : ℕ → SortTree) (k l : SortTree) → meet (arrows n p k) (arrows n q l) ≡ arrows n (λ j. meet (p j) (q j)) (meet k l)
+meet-arrows zero p q k l = refl
+meet-arrows (suc n) p q k l =
+    meet-arrow (p 0) (arrows n (λ j. p (suc j)) k) (q 0) (arrows n (λ j. q (suc j)) l)
+    ∙ ap (arrow (meet (p 0) (q 0))) (meet-arrows n (λ j. p (suc j)) (λ j. q (suc j)) k l)
+
+meets-none : (ks : Trees (Unit {0})) → meets ks none ≡ none
+meets-none none = refl
+meets-none (more k ks) = refl
+
+meets-without : (n : ℕ) (ks ls : Trees (Unit {0})) → meets (without n ks) (without n ls) ≡ without n (meets ks ls)
+meets-without zero ks ls = refl
+meets-without (suc n) none ls = refl
+meets-without (suc n) (more k ks) none = meets-none (without n ks)
+meets-without (suc n) (more k ks) (more l ls) = meets-without n ks ls
+
+-- what is left of the common part is the common part of what is left
+meet-behind : (n : ℕ) (a b : SortTree) → meet (behind n a) (behind n b) ≡ behind n (meet a b)
+meet-behind n (node u ks) (node w ls) = ap (node tt) (meets-without n ks ls)
 
 mutual
   meet_comm : (a b : SortTree) → meet a b ≡ meet b a
@@ -86,11 +100,17 @@ module _ (d e : Head → SortTree) where
 pub common_sorting : (rules : List Rule) (ranks : List (Option ℕ)) (k : ℕ) (s t : Sorts) → IsSorting rules ranks k s → IsSorting rules ranks k t
     → IsSorting rules ranks k (common s t)
 common_sorting rules ranks k s t p q = record {
-  nonterminals = λ f rule at. (λ i. meet (p.nonterminals f rule at i) (q.nonterminals f rule at i)) ∙ meet-arrows rule.params (s.parameter f) (t.parameter f);
+  nonterminals = λ f rule at.
+      (λ i. meet (p.nonterminals f rule at i) (q.nonterminals f rule at i))
+      ∙ (meet-arrows rule.params (s.parameter f) (t.parameter f) (behind rule.params (s.nonterminal f)) (behind rule.params (t.nonterminal f))
+      ∙ ap (arrows rule.params (λ j. meet (s.parameter f j) (t.parameter f j))) (meet-behind rule.params (s.nonterminal f) (t.nonterminal f)));
   bodies = λ f rule below at.
-      subst (λ (e : Head → SortTree). HasSort e rule.body o) (λ i h. heads-common s t f h i)
-      (meet_sort (heads s f) (heads t f) rule.body o o (p.bodies f rule below at) (q.bodies f rule below at));
-  terminals = λ a n at. (λ i. meet (p.terminals a n at i) (q.terminals a n at i)) ∙ meet-arrows n (λ _. o) (λ _. o);
+      subst (λ (k : SortTree). HasSort (heads (common s t) f) rule.body k) (meet-behind rule.params (s.nonterminal f) (t.nonterminal f))
+      (subst (λ (e : Head → SortTree). HasSort e rule.body (meet (behind rule.params (s.nonterminal f)) (behind rule.params (t.nonterminal f))))
+      (λ i h. heads-common s t f h i)
+      (meet_sort (heads s f) (heads t f) rule.body (behind rule.params (s.nonterminal f)) (behind rule.params (t.nonterminal f)) (p.bodies f rule below at) (q.bodies f rule below at)));
+  start = λ i. meet (p.start i) (q.start i);
+  terminals = λ a n at. (λ i. meet (p.terminals a n at i) (q.terminals a n at i)) ∙ meet-arrows n (λ _. o) (λ _. o) o o;
 }
 
 -- two sorts that are no larger than their common part are equal

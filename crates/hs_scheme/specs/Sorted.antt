@@ -4,6 +4,7 @@ use Rattle.std.specs.Coded.{Coded, code_by, coded×, coded_list}
 use Rattle.hs_scheme.specs.Automaton.{AutomatonData, coded_automaton}
 use Rattle.hs_scheme.specs.Names.{NamesData, coded_names}
 use Rattle.hs_scheme.specs.Scheme.{SchemeData, coded_scheme}
+use Rattle.hs_scheme.specs.declared.term.Rule.{Rule}
 use Rattle.hs_scheme.specs.Unsorted.{HasNames, AgreesWithRanks}
 use Rattle.hs_scheme.specs.Sorting.{SortTree, coded_sort, o, ranked, arguments, Sorts, IsSorting}
 
@@ -38,8 +39,13 @@ sorts_of sorts ranks = record {
 abbrev pub known : List ℕ → List (Option ℕ)
 known ranks = map (λ n. Some n) ranks
 
+-- each rule has as many parameters as its nonterminal's sort has arguments
+abbrev pub AreFull : List Rule → List SortTree → Type 0
+AreFull rules sorts = (f : ℕ) (rule : Rule) → slice_get rules f ≡ Some rule → length (arguments (sort_at sorts f)) ≡ rule.params
+
 pub record IsSorted (s : SortedData) : Type 0 where
   pub each_rule : length s.sorts ≡ length s.scheme.rules
   pub sorting : IsSorting s.scheme.rules (known s.scheme.ranks) (length s.scheme.rules) (sorts_of s.sorts s.scheme.ranks)
+  pub full : AreFull s.scheme.rules s.sorts
   pub ranks : AgreesWithRanks (known s.scheme.ranks) s.automaton.transitions
   pub names : HasNames s.names s.scheme.rules (length s.scheme.ranks) s.automaton.states

@@ -1,6 +1,6 @@
 -- Sorts, and what a sorting of a scheme's rules is.
 --     SortTree, o, arrow    a sort is its arguments, with result o; arrow a b has the argument a before those of b
---     arrows                the sort with these arguments
+--     arrows, behind        the sort with these arguments before those of another; what is left of a sort behind its first arguments
 --     size                  1, and for each argument 1 and its size
 --     Sorts                 a sort for each nonterminal, parameter and terminal
 --     HasSort, Applied      the sort of a term, from those of the heads; that of a head with arguments
@@ -29,14 +29,23 @@ o = node tt none
 abbrev pub arrow : SortTree → SortTree → SortTree
 arrow a (node u ks) = node u (more a ks)
 
--- the sort with the n arguments that the function gives, counted from 0
-abbrev pub arrows : ℕ → (ℕ → SortTree) → SortTree
-arrows zero args = o
-arrows (suc n) args = arrow (args 0) (arrows n (λ j. args (suc j)))
+-- the sort with the n arguments that the function gives, counted from 0, and behind them those of k
+abbrev pub arrows : ℕ → (ℕ → SortTree) → SortTree → SortTree
+arrows zero args k = k
+arrows (suc n) args k = arrow (args 0) (arrows n (λ j. args (suc j)) k)
+
+-- a sort's arguments without the first n, and so what is left of the sort
+abbrev pub without : ℕ → Trees (Unit {0}) → Trees (Unit {0})
+without zero ks = ks
+without (suc n) none = none
+without (suc n) (more k ks) = without n ks
+
+abbrev pub behind : ℕ → SortTree → SortTree
+behind n (node u ks) = node u (without n ks)
 
 -- the sort of a terminal of rank n
 abbrev pub ranked : ℕ → SortTree
-ranked n = arrows n (λ _. o)
+ranked n = arrows n (λ _. o) o
 
 abbrev mutual
   pub size : SortTree → ℕ
@@ -76,11 +85,13 @@ abbrev mutual
   Applied of_head none f k = f ≡ k
   Applied of_head (more t ts) f k = (a : SortTree) × (b : SortTree) × (f ≡ arrow a b) × HasSort of_head t a × Applied of_head ts b k
 
--- Each nonterminal's sort has its parameters' sorts as its arguments, each of the first k bodies has
--- sort o, and each terminal whose rank is known has the sort of its rank.
+-- Each nonterminal's sort begins with its parameters' sorts, and the start's sort has no arguments; each of
+-- the first k bodies has the sort that is left of its nonterminal's sort behind them; each terminal whose
+-- rank is known has the sort of its rank.
 pub record IsSorting (rules : List Rule) (ranks : List (Option ℕ)) (k : ℕ) (s : Sorts) : Type 0 where
-  pub nonterminals : (f : ℕ) (rule : Rule) → slice_get rules f ≡ Some rule → s.nonterminal f ≡ arrows rule.params (s.parameter f)
-  pub bodies : (f : ℕ) (rule : Rule) → f < k → slice_get rules f ≡ Some rule → HasSort (heads s f) rule.body o
+  pub nonterminals : (f : ℕ) (rule : Rule) → slice_get rules f ≡ Some rule → s.nonterminal f ≡ arrows rule.params (s.parameter f) (behind rule.params (s.nonterminal f))
+  pub bodies : (f : ℕ) (rule : Rule) → f < k → slice_get rules f ≡ Some rule → HasSort (heads s f) rule.body (behind rule.params (s.nonterminal f))
+  pub start : s.nonterminal 0 ≡ o
   pub terminals : (a n : ℕ) → slice_get ranks a ≡ Some (Some n) → s.terminal a ≡ ranked n
 
 -- the first k rules have a sorting

@@ -7,13 +7,17 @@ use Rattle.hs_scheme.specs.declared.term.Head.{Head}
 use Rattle.hs_scheme.specs.declared.term.Head.TheVariants.{Nt, Tm}
 use Rattle.hs_scheme.specs.declared.term.Rule.{Rule}
 use Rattle.hs_scheme.specs.Tree.{Tree, node, none, more}
-use Rattle.hs_scheme.specs.Sorting.{SortTree, o, arrow, arrows, ranked, size, Sorts, heads, HasSort, HasSorting}
+use Rattle.hs_scheme.specs.Sorting.{SortTree, o, arrow, arrows, behind, ranked, size, Sorts, heads, HasSort, HasSorting}
 
 pub size_of_identity : size (arrow o o) ≡ 3
 size_of_identity = refl
 
 pub size_of_second_order : size (arrow (arrow (arrow o o) o) o) ≡ 7
 size_of_second_order = refl
+
+-- the sort o -> o -> o -> o begins with o, and o -> o -> o is left behind it
+pub left_behind : behind 1 (ranked 3) ≡ ranked 2
+left_behind = refl
 
 pub size_of_rank_2 : size (ranked 2) ≡ 5
 size_of_rank_2 = refl
@@ -50,14 +54,14 @@ open_nonterminal (suc f) = arrow o o
 abbrev open_sorts : Sorts
 open_sorts = record { nonterminal = open_nonterminal; parameter = λ f j. o; terminal = λ a. o }
 
-open_nonterminals : (f : ℕ) (rule : Rule) → slice_get open_rules f ≡ Some rule → open_nonterminal f ≡ arrows rule.params (λ _. o)
-open_nonterminals zero rule at = let e : applied_to_b ≡ rule = cc in ap (λ (r : Rule). arrows r.params (λ _. o)) e
-open_nonterminals (suc zero) rule at = let e : constant 1 ≡ rule = cc in ap (λ (r : Rule). arrows r.params (λ _. o)) e
+open_nonterminals : (f : ℕ) (rule : Rule) → slice_get open_rules f ≡ Some rule → open_nonterminal f ≡ arrows rule.params (λ _. o) (behind rule.params (open_nonterminal f))
+open_nonterminals zero rule at = let e : applied_to_b ≡ rule = cc in subst (λ (r : Rule). o ≡ arrows r.params (λ _. o) (behind r.params o)) e refl
+open_nonterminals (suc zero) rule at = let e : constant 1 ≡ rule = cc in subst (λ (r : Rule). arrow o o ≡ arrows r.params (λ _. o) (behind r.params (arrow o o))) e refl
 open_nonterminals (suc (suc f)) rule at = absurd (cc)
 
-open_bodies : (f : ℕ) (rule : Rule) → slice_get open_rules f ≡ Some rule → HasSort (heads open_sorts f) rule.body o
-open_bodies zero rule at = let e : applied_to_b ≡ rule = cc in subst (λ (r : Rule). HasSort (heads open_sorts 0) r.body o) e (o, o, refl, refl, refl)
-open_bodies (suc zero) rule at = let e : constant 1 ≡ rule = cc in subst (λ (r : Rule). HasSort (heads open_sorts 1) r.body o) e refl
+open_bodies : (f : ℕ) (rule : Rule) → slice_get open_rules f ≡ Some rule → HasSort (heads open_sorts f) rule.body (behind rule.params (open_nonterminal f))
+open_bodies zero rule at = let e : applied_to_b ≡ rule = cc in subst (λ (r : Rule). HasSort (heads open_sorts 0) r.body (behind r.params o)) e (o, o, refl, refl, refl)
+open_bodies (suc zero) rule at = let e : constant 1 ≡ rule = cc in subst (λ (r : Rule). HasSort (heads open_sorts 1) r.body (behind r.params (arrow o o))) e refl
 open_bodies (suc (suc f)) rule at = absurd (cc)
 
 open_terminals : (a n : ℕ) → slice_get (None ∷ Some 0 ∷ []) a ≡ Some (Some n) → o ≡ ranked n
@@ -66,4 +70,4 @@ open_terminals (suc zero) n at = let e : 0 ≡ n = cc in ap ranked e
 open_terminals (suc (suc a)) n at = absurd (cc)
 
 pub open_sort : HasSorting open_rules (None ∷ Some 0 ∷ []) 2
-open_sort = (open_sorts, record { nonterminals = open_nonterminals; bodies = λ f rule below at. open_bodies f rule at; terminals = open_terminals })
+open_sort = (open_sorts, record { nonterminals = open_nonterminals; bodies = λ f rule below at. open_bodies f rule at; start = refl; terminals = open_terminals })

@@ -1,9 +1,11 @@
 //! Deterministic trivial automata.
 
-ghost use Rattle.std.specs.Prelude.{◌≡◌, IfOk, option_copied};
+ghost use Rattle.std.specs.Prelude.{◌≡◌, ◌↔◌, ℕ, Contains, IfOk, option_copied};
 ghost use Rattle.hs_scheme.specs.Automaton.{AutomatonData, IsAutomaton, next};
+ghost use Rattle.hs_scheme.specs.Transitions.{IsPlaceOf, Reads};
 
 use crate::memory::OutOfMemory;
+use crate::transitions::{ByChild, ByTerminal, by_child, by_terminal, places_at, states_at};
 use std::alloc::Global;
 use std::collections::HashMap;
 use std::marker::Model;
@@ -48,13 +50,16 @@ pub struct Automaton {
     transitions: Vec<Transition>,
     /// The place of the transition of each state and terminal that have one.
     index: HashMap<(u32, u32), usize>,
+    by_terminal: ByTerminal,
+    by_child: ByChild,
 }
 
 impl Model for Automaton {
     ghost use Rattle.hs_scheme.specs.Automaton.{AutomatonData, coded_automaton, IsAutomaton, IsIndex};
     ghost use Rattle.std.specs.HashMap.{get};
-    ghost use Rattle.std.specs.Prelude.{length};
-    ghost use Rattle.hs_scheme.specs.Key.{key_eq};
+    ghost use Rattle.std.specs.Prelude.{length, nat_eq};
+    ghost use Rattle.hs_scheme.specs.Key.{key_eq, triple_eq};
+    ghost use Rattle.hs_scheme.specs.Transitions.{items_of, IsByTerminal, IsByChild};
 
     ghost Value = { AutomatonData };
 
@@ -63,15 +68,17 @@ impl Model for Automaton {
     ghost view = { λ a. record { states = a.states; transitions = a.transitions.items } };
 
     ghost invariant = { λ a. IsAutomaton (record { states = a.states; transitions = a.transitions.items })
-        × IsIndex (λ q t. get key_eq a.index (q, t)) a.transitions.items (length a.transitions.items) };
+        × IsIndex (λ q t. get key_eq a.index (q, t)) a.transitions.items (length a.transitions.items)
+        × IsByTerminal a.transitions.items (length a.transitions.items) (λ t. items_of (get nat_eq a.by_terminal t))
+        × IsByChild a.transitions.items (length a.transitions.items) (λ t child s. items_of (get triple_eq a.by_child (t, child, s))) };
 }
 
 impl Automaton {
     /// The automaton with these states and transitions, where there is at least one state, the states
     /// in the transitions are in range, and no two transitions are of one state and terminal.
     ///
-    /// Time and memory are in proportion to the transitions, on average over the hashes of their
-    /// states and terminals.
+    /// Time and memory are in proportion to the transitions and their children, on average over the
+    /// hashes of their states and terminals.
     pub fn of(
         alloc: Global,
         states: u32,
@@ -84,10 +91,14 @@ impl Automaton {
         for (place, transition) in transitions.iter().enumerate() {
             index.insert((transition.from, transition.terminal), place)?;
         }
+        let by_terminal = by_terminal(alloc, transitions.as_slice())?;
+        let by_child = by_child(alloc, transitions.as_slice())?;
         Ok(Automaton {
             states,
             transitions,
             index,
+            by_terminal,
+            by_child,
         })
     }
 
@@ -98,6 +109,22 @@ impl Automaton {
     {
         let place = *self.index.get(&(state, terminal))?;
         Some(self.transitions[place].to.as_slice())
+    }
+
+    /// The places in `transitions` of those with this terminal. Takes no memory, and constant time
+    /// on average.
+    pub fn with_terminal(&self, terminal: u32) -> &[usize]
+        ensures { (place : ℕ) → Contains result.now place ↔ IsPlaceOf self.now.transitions terminal place }
+    {
+        places_at(&self.by_terminal, terminal)
+    }
+
+    /// The states in which this child, counted from 0, of a node with this terminal is read in the
+    /// given state. Takes no memory, and constant time on average.
+    pub fn reading(&self, terminal: u32, child: usize, state: u32) -> &[u32]
+        ensures { (from : ℕ) → Contains result.now from ↔ Reads self.now.transitions terminal child state from }
+    {
+        states_at(&self.by_child, terminal, child, state)
     }
 
     /// The number of states.
@@ -125,3 +152,6 @@ impl Automaton {
         Automaton::of(alloc, self.states, transitions)
     }
 }
+
+#[cfg(test)]
+mod tests;

@@ -7,6 +7,7 @@ ghost use Rattle.std.specs.Prelude.{◌≡◌, IfOk};
 ghost use Rattle.hs_scheme.specs.Replacement as replacement;
 ghost use Rattle.hs_scheme.specs.Cut as definition;
 ghost use Rattle.hs_scheme.specs.Run as acceptance;
+ghost use Rattle.hs_scheme.specs.Tree.{forest};
 
 use crate::automaton::Automaton;
 use crate::memory::OutOfMemory;
@@ -67,7 +68,22 @@ pub fn substitute(alloc: Global, term: &Term, with: &[Term]) -> Result<Term, Out
     Ok(made)
 }
 
-/// What a nonterminal with these arguments is replaced by, where it has the number of its parameters.
+/// The term with further arguments, copied, behind its own.
+fn applied(alloc: Global, term: Term, rest: &[Term]) -> Result<Term, OutOfMemory>
+    ensures { IfOk result (λ t. t ≡ replacement.applied term (forest rest.now)) }
+{
+    let mut args = term.args;
+    for arg in rest {
+        args.push(arg.copy(alloc)?)?;
+    }
+    Ok(Term {
+        head: term.head,
+        args,
+    })
+}
+
+/// What a nonterminal with these arguments is replaced by, where it has as many as it has
+/// parameters, or more.
 fn unfolded(
     alloc: Global,
     rules: &[Rule],
@@ -79,10 +95,12 @@ fn unfolded(
     let Some(rule) = rules.get(number as usize) else {
         return Ok(None);
     };
-    if args.len() != rule.params as usize {
+    let params = rule.params as usize;
+    if args.len() < params {
         return Ok(None);
     }
-    Ok(Some(substitute(alloc, &rule.body, args)?))
+    let body = substitute(alloc, &rule.body, &args[..params])?;
+    Ok(Some(applied(alloc, body, &args[params..])?))
 }
 
 /// The value tree of a term, cut off after n steps of outermost reduction on each branch. Recurses

@@ -1,11 +1,13 @@
 //! The points of a scheme.
 
-ghost use Rattle.std.specs.Prelude.{◌≡◌, ◌+◌, ◌<◌, ◌≤◌, ◌++◌, length, All, slice_get, Some, IfOk, OnOk, IsErrOf, option_map};
+ghost use Rattle.std.specs.Prelude.{◌≡◌, ◌↔◌, ℕ, ◌+◌, ◌<◌, ◌≤◌, ◌++◌, length, All, slice_index, Some, IfOk, OnOk, IsErrOf};
 ghost use Rattle.hs_scheme.specs.declared.points.PointsFault.TheVariants.{TooMany, OutOfMemory};
-ghost use Rattle.hs_scheme.specs.Points.{PointData, NonterminalWithin, size, term_points, points_of};
+ghost use Rattle.hs_scheme.specs.Points.{NonterminalWithin, ParameterWithin, IsArgument, point_at, size, term_points, points_of};
+ghost use Rattle.hs_scheme.specs.Rows.{points_in, places_in, Fits, term_places};
 
+use crate::parameters::Parameters;
 use crate::scheme::Scheme;
-use crate::term::{Head, Rule, Term};
+use crate::term::{Head, Term};
 use std::alloc::{AllocError, AllocFailed, Global};
 use std::error::Error;
 use std::fmt;
@@ -50,23 +52,37 @@ impl<T: Drop> From<AllocFailed<T>> for PointsFault {
     }
 }
 
-/// A rule's body or an argument in it.
-#[derive(Debug, Drop)]
-struct Point {
-    rule: u32,
-    head: Head,
-    /// The points of its arguments.
-    args: Vec<u32>,
+impl From<crate::memory::OutOfMemory> for PointsFault {
+    ghost from_gives = { λ _ e. e ≡ OutOfMemory };
+
+    fn from(_refused: crate::memory::OutOfMemory) -> PointsFault {
+        PointsFault::OutOfMemory
+    }
 }
 
-impl Model for Point {
-    ghost use Rattle.hs_scheme.specs.Points.{PointData, coded_point};
+/// Whose argument a point is: that of the point `point`, at `place`, counted from 0.
+#[derive(Clone, Copy, Debug, PartialEq, Eq)]
+pub struct Argument {
+    pub point: u32,
+    pub place: u32,
+}
 
-    ghost Value = { PointData };
+/// A rule's body or an argument in it.
+#[derive(Clone, Copy, Debug)]
+struct Row {
+    rule: u32,
+    head: Head,
+    argument: Option<Argument>,
+    /// Where its arguments stand in the list of all arguments.
+    from: u32,
+    to: u32,
+}
 
-    ghost coded = { coded_point };
-
-    ghost view = { λ a. record { rule = a.rule; head = a.head; args = a.args.items } };
+/// The points, by number, and the points of their arguments, those of each point in a row.
+#[derive(Debug, Drop)]
+struct Rows {
+    points: Vec<Row>,
+    args: Vec<u32>,
 }
 
 /// The points of a scheme: each rule's body and each argument in it.
@@ -75,50 +91,71 @@ impl Model for Point {
 /// preorder.
 #[derive(Debug, Drop)]
 pub struct Points {
-    points: Vec<Point>,
+    rows: Rows,
     bodies: Vec<u32>,
+    params: Parameters,
 }
 
 impl Model for Points {
-    ghost use Rattle.hs_scheme.specs.Points.{PointsData, coded_points, IsPoints};
+    ghost use Rattle.hs_scheme.specs.Points.{PointsData, coded_points};
+    ghost use Rattle.hs_scheme.specs.Rows.{points_in, AreRows};
 
     ghost Value = { PointsData };
 
     ghost coded = { coded_points };
 
-    ghost view = { λ a. record { points = a.points.items; bodies = a.bodies.items } };
+    ghost view = { λ a. record { points = points_in a.rows.args.items a.rows.points.items; bodies = a.bodies.items; params = a.params } };
 
-    ghost invariant = { λ a. IsPoints (record { points = a.points.items; bodies = a.bodies.items }) };
+    ghost invariant = { λ a. AreRows a.rows.points.items a.rows.args.items
+        (record { points = points_in a.rows.args.items a.rows.points.items; bodies = a.bodies.items; params = a.params }) };
 }
 
-/// Adds the points of a term of this rule. Recurses as deep as the term.
+/// Adds the points of a term of this rule, itself an argument or none. Recurses as deep as the term.
 fn add_term(
     alloc: Global,
-    points: &mut Vec<Point>,
+    rows: &mut Rows,
     rule: u32,
+    argument: Option<Argument>,
     term: &Term,
 ) -> Result<(), PointsFault>
-    requires { length points.old.items ≤ 500000 }
-    ensures added { OnOk result (points.new.items ≡ points.old.items ++ term_points rule (length points.old.items) term.now) }
-    ensures few { OnOk result (length points.new.items ≤ 500000) }
-    ensures many { IsErrOf result TooMany → 500000 < length points.old.items + size term.now }
+    requires few { length rows.old.points.items ≤ 500000 }
+    requires args { length rows.old.args.items ≤ length rows.old.points.items }
+    requires ranges { All (Fits rows.old.args.items) rows.old.points.items }
+    ensures added { OnOk result (points_in rows.new.args.items rows.new.points.items
+        ≡ points_in rows.old.args.items rows.old.points.items ++ term_points rule (length rows.old.points.items) term.now) }
+    ensures places { OnOk result (places_in rows.new.points.items
+        ≡ places_in rows.old.points.items ++ term_places argument (length rows.old.points.items) term.now) }
+    ensures ranges { OnOk result (All (Fits rows.new.args.items) rows.new.points.items) }
+    ensures few { OnOk result (length rows.new.points.items ≤ 500000) }
+    ensures args { OnOk result (length rows.new.args.items + length rows.old.points.items + 1 ≤ length rows.new.points.items + length rows.old.args.items) }
+    ensures many { IsErrOf result TooMany → 500000 < length rows.old.points.items + size term.now }
 {
-    if points.len() >= MAX_POINTS {
+    if rows.points.len() >= MAX_POINTS {
         return Err(PointsFault::TooMany);
     }
-    let number = points.len();
-    points.push(Point {
+    let number = rows.points.len();
+    rows.points.push(Row {
         rule,
         head: term.head,
-        args: Vec::new(alloc),
+        argument,
+        from: 0,
+        to: 0,
     })?;
     let mut args = Vec::with_capacity(alloc, term.args.len())?;
-    for arg in &term.args {
-        args.push(points.len() as u32)?;
-        add_term(alloc, points, rule, arg)?;
+    for (place, arg) in term.args.iter().enumerate() {
+        args.push(rows.points.len() as u32)?;
+        let argument = Argument {
+            point: number as u32,
+            place: place as u32,
+        };
+        add_term(alloc, rows, rule, Some(argument), arg)?;
     }
-    let point = &mut points[number];
-    point.args = args;
+    let from = rows.args.len() as u32;
+    rows.args.extend_from_slice(args.as_slice())?;
+    let to = rows.args.len() as u32;
+    let row = &mut rows.points[number];
+    row.from = from;
+    row.to = to;
     Ok(())
 }
 
@@ -130,13 +167,21 @@ impl Points {
         ensures few { IfOk result (λ points. length points.points ≤ 500000) }
         ensures many { IsErrOf result TooMany → 500000 < length (points_of scheme.now.rules).points }
     {
-        let mut points = Vec::new(alloc);
+        let params = Parameters::of(alloc, scheme.rules.as_slice())?;
+        let mut rows = Rows {
+            points: Vec::new(alloc),
+            args: Vec::new(alloc),
+        };
         let mut bodies = Vec::with_capacity(alloc, scheme.rules.len())?;
         for (number, rule) in scheme.rules.iter().enumerate() {
-            bodies.push(points.len() as u32)?;
-            add_term(alloc, &mut points, number as u32, &rule.body)?;
+            bodies.push(rows.points.len() as u32)?;
+            add_term(alloc, &mut rows, number as u32, None, &rule.body)?;
         }
-        Ok(Points { points, bodies })
+        Ok(Points {
+            rows,
+            bodies,
+            params,
+        })
     }
 
     /// The number of points. Takes no memory.
@@ -144,44 +189,63 @@ impl Points {
         ensures points { result ≡ length self.now.points }
         ensures few { result ≤ 500000 }
     {
-        self.points.len() as u32
+        self.rows.points.len() as u32
     }
 
     /// The rule in which this point stands, which is less than `count`. Takes no memory.
     pub fn rule_of(&self, p: u32) -> u32
         requires { p < length self.now.points }
-        ensures rule { option_map (λ (point : PointData). point.rule) (slice_get self.now.points p) ≡ Some result }
+        ensures rule { result ≡ (point_at self.now p).rule }
         ensures within { result < length self.now.bodies }
     {
-        self.points[p as usize].rule
+        self.rows.points[p as usize].rule
     }
 
     /// The head of this point, which is less than `count`. Takes no memory.
     pub fn head_of(&self, p: u32) -> Head
         requires { p < length self.now.points }
-        ensures head { option_map (λ (point : PointData). point.head) (slice_get self.now.points p) ≡ Some result }
+        ensures head { result ≡ (point_at self.now p).head }
         ensures within { NonterminalWithin (length self.now.bodies) result }
+        ensures parameter { ParameterWithin self.now.params (point_at self.now p).rule result }
     {
-        self.points[p as usize].head
+        self.rows.points[p as usize].head
     }
 
     /// The points of the arguments of this point, which is less than `count`, in order. Takes no
     /// memory.
     pub fn args_of(&self, p: u32) -> &[u32]
         requires { p < length self.now.points }
-        ensures args { option_map (λ (point : PointData). point.args) (slice_get self.now.points p) ≡ Some result.now }
+        ensures args { result.now ≡ (point_at self.now p).args }
         ensures within { All (λ a. a < length self.now.points) result.now }
     {
-        self.points[p as usize].args.as_slice()
+        let row = &self.rows.points[p as usize];
+        &self.rows.args[row.from as usize..row.to as usize]
+    }
+
+    /// Whose argument this point is, which is less than `count`, or `None` where it is a rule's
+    /// body. No point is an argument twice. Takes no memory.
+    pub fn argument_of(&self, p: u32) -> Option<Argument>
+        requires { p < length self.now.points }
+        ensures { (q place : ℕ) → (result ≡ Some (record { point = q; place = place })) ↔ IsArgument self.now q place p }
+    {
+        self.rows.points[p as usize].argument
     }
 
     /// The point of the body of this rule, which is one of the scheme's. Takes no memory.
     pub fn body_of(&self, rule: u32) -> u32
         requires { rule < length self.now.bodies }
-        ensures body { slice_get self.now.bodies rule ≡ Some result }
+        ensures body { result ≡ slice_index self.now.bodies rule }
         ensures within { result < length self.now.points }
     {
         self.bodies[rule as usize]
+    }
+
+    /// How many parameters each rule has, with a number for each parameter. Takes no memory.
+    pub fn params(&self) -> &Parameters
+        ensures params { result.now ≡ self.now.params }
+        ensures rules { length result.now ≡ length self.now.bodies }
+    {
+        &self.params
     }
 }
 

@@ -11,9 +11,10 @@ use std::marker::Model;
 
 /// A scheme with its automaton, its names and the sorts of its nonterminals.
 ///
-/// The scheme is well-sorted by `sorts`, where a terminal has the sort of its rank. The
-/// transitions agree with the ranks, there is one name for each rule, parameter, terminal and
-/// state, and all that holds of a `Scheme` holds of `scheme`.
+/// The scheme is well-sorted by `sorts`, where a terminal has the sort of its rank, and each rule
+/// has as many parameters as its nonterminal's sort has arguments. The transitions agree with the
+/// ranks, there is one name for each rule, parameter, terminal and state, and all that holds of a
+/// `Scheme` holds of `scheme`.
 #[derive(Drop)]
 pub struct Sorted {
     pub scheme: Scheme,

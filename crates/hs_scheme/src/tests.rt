@@ -87,16 +87,70 @@ fn a_cut_ends_after_its_steps(rt: HostRuntime) -> Result<(), Fail> {
         let tree = cut(alloc, one_loop.as_slice(), n, &start)?;
         assert_eq!(rt; text(alloc, &tree)?.as_str(), expected, "{n}");
     }
-    let surplus = term(alloc, Head::Nt(0), &[Head::Tm(0)])?;
-    let tree = cut(alloc, one_loop.as_slice(), 9, &surplus)?;
-    assert_eq!(rt;
-        text(alloc, &tree)?.as_str(),
-        "_()",
-        "an argument for no parameter"
-    );
     let free = term(alloc, Head::Var(0), &[])?;
     let tree = cut(alloc, one_loop.as_slice(), 9, &free)?;
     assert_eq!(rt; text(alloc, &tree)?.as_str(), "_()", "a parameter");
+    Ok(())
+}
+
+#[test]
+fn a_rule_shorter_than_its_sort_leaves_arguments_to_its_body(rt: HostRuntime) -> Result<(), Fail> {
+    let alloc = rt.alloc();
+    let start = term(alloc, Head::Nt(0), &[])?;
+    // S -> F c. F -> a., where a and c are 0 and 1.
+    let mut lengthened = rules(alloc, term(alloc, Head::Nt(1), &[Head::Tm(1)])?)?;
+    lengthened.push(Rule {
+        params: 0,
+        body: term(alloc, Head::Tm(0), &[])?,
+    })?;
+    // S -> Ap a c. Ap f -> f.
+    let mut identity = rules(
+        alloc,
+        term(alloc, Head::Nt(1), &[Head::Tm(0), Head::Tm(1)])?,
+    )?;
+    identity.push(Rule {
+        params: 1,
+        body: term(alloc, Head::Var(0), &[])?,
+    })?;
+    let automaton = one_transition(alloc)?;
+    let rows = [
+        (0, "_()", true),
+        (1, "_()", true),
+        (2, "_()", true),
+        (3, "0(_())", true),
+        (4, "0(1())", false),
+        (5, "0(1())", false),
+    ];
+    for (n, expected, is_accepted) in rows {
+        for short in [lengthened.as_slice(), identity.as_slice()] {
+            let tree = cut(alloc, short, n, &start)?;
+            assert_eq!(rt; text(alloc, &tree)?.as_str(), expected, "{n}");
+            assert_eq!(rt;
+                accepts_cut(alloc, short, &automaton, n)?,
+                is_accepted,
+                "{n}"
+            );
+        }
+    }
+    Ok(())
+}
+
+#[test]
+fn arguments_left_to_a_body_come_behind_its_own(rt: HostRuntime) -> Result<(), Fail> {
+    let alloc = rt.alloc();
+    // S -> F b c d. F x -> a x., where a, b, c and d are 0, 1, 2 and 3.
+    let body = term(alloc, Head::Nt(1), &[Head::Tm(1), Head::Tm(2), Head::Tm(3)])?;
+    let mut rules = rules(alloc, body)?;
+    rules.push(Rule {
+        params: 1,
+        body: term(alloc, Head::Tm(0), &[Head::Var(0)])?,
+    })?;
+    let start = term(alloc, Head::Nt(0), &[])?;
+    let tree = cut(alloc, rules.as_slice(), 4, &start)?;
+    assert_eq!(rt; text(alloc, &tree)?.as_str(), "0(1()2()3())");
+    let few = term(alloc, Head::Nt(1), &[])?;
+    let tree = cut(alloc, rules.as_slice(), 4, &few)?;
+    assert_eq!(rt; text(alloc, &tree)?.as_str(), "_()", "too few arguments");
     Ok(())
 }
 

@@ -1,12 +1,14 @@
 -- Claims on the sorts of nodes, one after another.
-use Rattle.std.proofs.Common.{◌≡◌, refl, sym, ◌∙◌, ap, subst, ℕ, zero, suc, ◌+◌, ◌^◌, ◌<◌, ◌≤◌, List, [], ◌∷◌, ◌++◌, length, slice_get, replicate, length-append, Some, Bool, true, false, arith}
+use Rattle.std.proofs.Common.{◌≡◌, sym, ◌∙◌, ap, subst, ℕ, suc, ◌+◌, ◌^◌, ◌<◌, ◌≤◌, List, [], ◌∷◌, ◌++◌, length, slice_get, replicate, length-append, Option, Some, None, Bool, true, false, arith}
+use Rattle.std.specs.Option.{is_some}
 use Rattle.std.proofs.lemmas.List.{length-replicate}
 use Rattle.hs_scheme.specs.Sorting.{SortTree, o, arrow, arrows}
 use Rattle.hs_sorts.specs.declared.store.Shape.TheVariants.{Base}
 use Rattle.hs_sorts.specs.declared.store.Node.{Node}
 use Rattle.hs_sorts.specs.declared.store.Node.TheVariants.{Root}
 use Rattle.hs_sorts.specs.Nodes.{Valuation, Respects, FitsNode, IsStore, Equates, IsEquation}
-use Rattle.hs_sorts.specs.Constraints.{Adds, Refutes, Claims, IsClaim, IsBase, HasArguments, IsRanked, Takes}
+use Rattle.hs_sorts.specs.Constraints.{Agree, Extension, Adds, Refutes, IsNodeFor, Claims, IsClaim, IsBase, Leaves, IsRanked, Takes}
+use Rattle.hs_sorts.proofs.Arrows.{arrows_more, arrows_split, arrows_same}
 use Rattle.hs_sorts.proofs.Lists.{get_right, get_replicate, get_of_replicate}
 use Rattle.hs_sorts.proofs.NodeLemmas.{agree_trans, over, over_agrees, over_later, respects_more, respects_fewer, one_place}
 
@@ -65,41 +67,67 @@ ended old mid new sort P true a b = record {
 }
 ended old mid new sort P false a b = λ v r p. let w = a.complete v o r p in b w.valuation w.respects w.gives
 
--- the sort with these arguments before those of k
-abbrev pub onto : ℕ → (ℕ → SortTree) → SortTree → SortTree
-onto zero args k = k
-onto (suc n) args k = arrow (args 0) (onto n (λ j. args (suc j)) k)
+-- one claim for each sort that the node may have
+some_sort : (old new : List Node) (sort : ℕ) (P : Valuation → SortTree → Type 0) → Adds old new sort P → Claims old new (λ v. (k : SortTree) × P v k)
+some_sort old new sort P a = record {
+  longer = a.longer;
+  few = a.few;
+  sound = λ v r. let p = a.sound v r in (p.0, (v sort, p.1));
+  complete = λ v r (k, p). let w = a.complete v k r p in record { valuation = w.valuation; agrees = w.agrees; respects = w.respects };
+}
 
-onto-o : (n : ℕ) (args : ℕ → SortTree) → onto n args o ≡ arrows n args
-onto-o zero args = refl
-onto-o (suc n) args = ap (arrow (args 0)) (onto-o n (λ j. args (suc j)))
+pub some_node : (old new : List Node) (P : Valuation → SortTree → Type 0) (answer : Option ℕ) → IsNodeFor old new P answer → is_some answer ≡ true → Claims old new (λ v. (k : SortTree) × P v k)
+some_node old new P None a h = absurd (cc)
+some_node old new P (Some sort) a h = some_sort old new sort P a
 
-onto_more : (n : ℕ) (args : ℕ → SortTree) (k : SortTree) → onto n args (arrow (args n) k) ≡ onto (suc n) args k
-onto_more zero args k = refl
-onto_more (suc n) args k = ap (arrow (args 0)) (onto_more n (λ j. args (suc j)) k)
+pub no_node : (old new : List Node) (P : Valuation → SortTree → Type 0) (answer : Option ℕ) → IsNodeFor old new P answer → is_some answer ≡ false → (v : Valuation) → Respects v old → ((k : SortTree) × P v k) → ⊥
+no_node old new P None a h = λ v r (k, p). a v k r p
+no_node old new P (Some sort) a h = absurd (cc)
 
-onto_split : (i n : ℕ) (args : ℕ → SortTree) → i < n → (r : SortTree) × (arrows n args ≡ onto i args (arrow (args i) r))
-onto_split i zero args h = absurd (omega arith)
-onto_split zero (suc n) args h = (arrows n (λ j. args (suc j)), refl)
-onto_split (suc i) (suc n) args h = let x = onto_split i n (λ j. args (suc j)) (omega arith) in (x.0, ap (arrow (args 0)) x.1)
+-- two nodes for a sort, made one
+module _ (old mid wide : List Node) (a b : ℕ) (P Q : Valuation → SortTree → Type 0) (first : Adds old mid a P) (second : Adds mid wide b Q)
+    (stable : (v w : Valuation) (k : SortTree) → Agree (length old) v w → Q v k → Q w k) where
+  module _ (v : Valuation) (k : SortTree) (was : Respects v old) (p : P v k) (q : Q v k) where
+    abbrev one : Extension old mid a v k
+    one = first.complete v k was p
 
-onto_same : (n : ℕ) (p q : ℕ → SortTree) (k : SortTree) → ((j : ℕ) → j < n → p j ≡ q j) → onto n p k ≡ onto n q k
-onto_same zero p q k h = refl
-onto_same (suc n) p q k h = (λ i. arrow (h 0 (omega arith) i) (onto n (λ j. p (suc j)) k)) ∙ ap (arrow (q 0)) (onto_same n (λ j. p (suc j)) (λ j. q (suc j)) k (λ j l. h (suc j) (omega arith)))
+    abbrev other : Extension mid wide b one.valuation k
+    other = second.complete one.valuation k one.respects (stable v one.valuation k one.agrees q)
 
-pub arrows_same : (n : ℕ) (p q : ℕ → SortTree) → ((j : ℕ) → j < n → p j ≡ q j) → arrows n p ≡ arrows n q
-arrows_same n p q h = sym (onto-o n p) ∙ (onto_same n p q o h ∙ onto-o n q)
+    agree : other.valuation a ≡ other.valuation b
+    agree = other.agrees.at a first.within ∙ (one.gives ∙ sym other.gives)
+
+  pub same_sort : (new : List Node) (answer : Bool) → IsEquation a b wide new answer → IsClaim old new (λ v. (k : SortTree) × P v k × Q v k) answer
+  same_sort new true e = record {
+    longer = omega (arith, e.as_long, first.longer, second.longer);
+    few = omega (arith, e.as_long, second.few);
+    sound = λ v r.
+        let x = e.back v r in
+        let y = second.sound v x.0 in
+        let z = first.sound v y.0 in
+        (z.0, (v a, z.1, subst (Q v) (sym x.1) y.1));
+    complete = λ v r (k, p, q).
+        let z = other v k r p q in
+        record {
+          valuation = z.valuation;
+          agrees = agree_trans (length old) (length mid) v (one v k r p q).valuation z.valuation first.longer (one v k r p q).agrees z.agrees;
+          respects = e.onward z.valuation z.respects (agree v k r p q);
+        };
+  }
+  same_sort new false e = λ v r (k, p, q). let z = other v k r p q in e z.valuation z.respects (agree v k r p q)
+
+-- no node for the second sort
+pub no_second : (old mid : List Node) (a : ℕ) (P Q : Valuation → SortTree → Type 0) → Adds old mid a P → ((v w : Valuation) (k : SortTree) → Agree (length old) v w → Q v k → Q w k) → Refutes mid Q
+    → (v : Valuation) → Respects v old → ((k : SortTree) × P v k × Q v k) → ⊥
+no_second old mid a P Q first stable never v r (k, p, q) = let w = first.complete v k r p in never w.valuation k w.respects (stable v w.valuation k w.agrees q)
 
 -- a node's sort takes the first arguments of a row, and a node has what is left
 module _ (old : List Node) (i first count : ℕ) (within : first + count ≤ length old) where
-  abbrev pub Taken : ℕ → Valuation → SortTree → Type 0
-  Taken n v k = v i ≡ onto n (λ j. v (first + j)) k
+  pub taken_all : (new : List Node) (sort : ℕ) (n : ℕ) → n ≡ count → Adds old new sort (Leaves i first n) → Adds old new sort (Leaves i first count)
+  taken_all new sort n e a = subst (λ (m : ℕ). Adds old new sort (Leaves i first m)) e a
 
-  pub taken_all : (new : List Node) (sort : ℕ) (n : ℕ) → n ≡ count → Adds old new sort (Taken n) → Adds old new sort (λ v k. v i ≡ onto count (λ j. v (first + j)) k)
-  taken_all new sort n e a = subst (λ (m : ℕ). Adds old new sort (Taken m)) e a
-
-  module _ (now next : List Node) (n sort rest : ℕ) (below : n < count) (so_far : Adds old now sort (Taken n)) where
-    pub taken_more : Adds now next rest (Takes sort (first + n)) → Adds old next rest (Taken (n + 1))
+  module _ (now next : List Node) (n sort rest : ℕ) (below : n < count) (so_far : Adds old now sort (Leaves i first n)) where
+    pub taken_more : Adds now next rest (Takes sort (first + n)) → Adds old next rest (Leaves i first (n + 1))
     taken_more t = record {
       longer = omega (arith, so_far.longer, t.longer);
       few = t.few;
@@ -108,24 +136,20 @@ module _ (old : List Node) (i first count : ℕ) (within : first + count ≤ len
           let s = t.sound v r in
           let p = so_far.sound v s.0 in
           let e : suc n ≡ n + 1 = omega arith in
-          (p.0, p.1 ∙ (ap (onto n (λ j. v (first + j))) s.1 ∙ (onto_more n (λ j. v (first + j)) (v rest) ∙ ap (λ m. onto m (λ j. v (first + j)) (v rest)) e)));
+          (p.0, p.1 ∙ (ap (arrows n (λ j. v (first + j))) s.1 ∙ (arrows_more n (λ j. v (first + j)) (v rest) ∙ ap (λ m. arrows m (λ j. v (first + j)) (v rest)) e)));
       complete = λ v k r p.
           let e : n + 1 ≡ suc n = omega arith in
           let w = so_far.complete v (arrow (v (first + n)) k) r
-          (p ∙ (ap (λ m. onto m (λ j. v (first + j)) k) e ∙ sym (onto_more n (λ j. v (first + j)) k))) in
+          (p ∙ (ap (λ m. arrows m (λ j. v (first + j)) k) e ∙ sym (arrows_more n (λ j. v (first + j)) k))) in
           let z = t.complete w.valuation k w.respects (w.gives ∙ (λ j. arrow (sym (w.agrees.at (first + n) (omega arith)) j) k)) in
           record { valuation = z.valuation; agrees = agree_trans (length old) (length now) v w.valuation z.valuation so_far.longer w.agrees z.agrees; respects = z.respects; gives = z.gives };
     }
 
-    pub taken_no_more : Refutes now (Takes sort (first + n)) → (v : Valuation) → Respects v old → HasArguments i first count v → ⊥
-    taken_no_more never v r p =
-        let x = onto_split n count (λ j. v (first + j)) below in
+    pub taken_no_more : Refutes now (Takes sort (first + n)) → Refutes old (Leaves i first count)
+    taken_no_more never v k r p =
+        let x = arrows_split n count (λ j. v (first + j)) k below in
         let w = so_far.complete v (arrow (v (first + n)) x.0) r (p ∙ x.1) in
         never w.valuation x.0 w.respects (w.gives ∙ (λ j. arrow (sym (w.agrees.at (first + n) (omega arith)) j) x.0))
-
-  pub arguments_ended : (mid new : List Node) (sort : ℕ) (answer : Bool) → Adds old mid sort (Taken count) → IsClaim mid new (IsBase sort) answer → IsClaim old new (HasArguments i first count) answer
-  arguments_ended mid new sort answer a b =
-      subst (λ (P : Valuation → Type 0). IsClaim old new P answer) (λ j v. v i ≡ onto-o count (λ m. v (first + m)) j) (ended old mid new sort (Taken count) answer a b)
 
 -- a row of nodes that are o, and then the arguments
 module _ (old : List Node) (i n : ℕ) (is : IsStore old) (below : i < length old) where
@@ -142,24 +166,24 @@ module _ (old : List Node) (i n : ℕ) (is : IsStore old) (below : i < length ol
   row_respects v r = respects_more old (replicate n (Root Base)) v (over (length old) v (λ _. o)) is (over_agrees (length old) v (λ _. o)) r (λ j m h.
       subst (λ (x : Node). FitsNode (over (length old) v (λ _. o)) (over (length old) v (λ _. o) (length old + j)) x) (sym (get_replicate n j (Root Base) m h)) (over_later (length old) j v (λ _. o)))
 
-  pub ranked_by : (wide new : List Node) (first : ℕ) (answer : Bool) → first ≡ length old → wide ≡ with_row → IsClaim wide new (HasArguments i first n) answer → IsClaim old new (IsRanked i n) answer
+  pub ranked_by : (wide new : List Node) (first : ℕ) (answer : Bool) → first ≡ length old → wide ≡ with_row → IsClaim wide new (λ v. Leaves i first n v o) answer → IsClaim old new (IsRanked i n) answer
   ranked_by wide new first answer at widened e = by_answer answer
-      (subst (λ (j : ℕ). IsClaim with_row new (HasArguments i j n) answer) at (subst (λ (xs : List Node). IsClaim xs new (HasArguments i first n) answer) widened e))
+      (subst (λ (j : ℕ). IsClaim with_row new (λ v. Leaves i j n v o) answer) at (subst (λ (xs : List Node). IsClaim xs new (λ v. Leaves i first n v o) answer) widened e))
     where
-      by_answer : (b : Bool) → IsClaim with_row new (HasArguments i (length old) n) b → IsClaim old new (IsRanked i n) b
+      by_answer : (b : Bool) → IsClaim with_row new (λ v. Leaves i (length old) n v o) b → IsClaim old new (IsRanked i n) b
       by_answer true b = record {
         longer = omega (arith, b.longer, row_long);
         few = b.few;
         sound = λ v r.
             let w = b.sound v r in
-            (respects_fewer old (replicate n (Root Base)) v w.0, w.1 ∙ arrows_same n (λ j. v (length old + j)) (λ _. o) (λ j l. row_is_base v j w.0 l));
+            (respects_fewer old (replicate n (Root Base)) v w.0, w.1 ∙ arrows_same n (λ j. v (length old + j)) (λ _. o) o (λ j l. row_is_base v j w.0 l));
         complete = λ v r p.
             let u = over (length old) v (λ _. o) in
             let was = row_respects v r in
-            let z = b.complete u was ((over_agrees (length old) v (λ _. o)).at i below ∙ (p ∙ sym (arrows_same n (λ j. u (length old + j)) (λ _. o) (λ j l. row_is_base u j was l)))) in
+            let z = b.complete u was ((over_agrees (length old) v (λ _. o)).at i below ∙ (p ∙ sym (arrows_same n (λ j. u (length old + j)) (λ _. o) o (λ j l. row_is_base u j was l)))) in
             record { valuation = z.valuation; agrees = agree_trans (length old) (length with_row) v u z.valuation (omega (arith, row_long)) (over_agrees (length old) v (λ _. o)) z.agrees; respects = z.respects };
       }
       by_answer false b = λ v r p.
           let u = over (length old) v (λ _. o) in
           let was = row_respects v r in
-          b u was ((over_agrees (length old) v (λ _. o)).at i below ∙ (p ∙ sym (arrows_same n (λ j. u (length old + j)) (λ _. o) (λ j l. row_is_base u j was l))))
+          b u was ((over_agrees (length old) v (λ _. o)).at i below ∙ (p ∙ sym (arrows_same n (λ j. u (length old + j)) (λ _. o) o (λ j l. row_is_base u j was l))))

@@ -1,5 +1,5 @@
 -- The least sorting that was found, and the faults.
-use Rattle.std.proofs.Common.{◌≡◌, refl, sym, ◌∙◌, ap, ℕ, zero, suc, ◌+◌, ◌<◌, ◌≤◌, List, ◌∷◌, length, slice_get, get_or, Option, Some, None, true, false, arith}
+use Rattle.std.proofs.Common.{◌≡◌, refl, sym, ◌∙◌, ap, subst, ℕ, zero, suc, ◌+◌, ◌<◌, ◌≤◌, List, ◌∷◌, length, slice_get, get_or, Option, Some, None, true, false, arith}
 use Rattle.std.specs.Prelude.{unwrap_or}
 use Rattle.std.specs.Option.{option_map, is_some}
 use Rattle.std.proofs.lemmas.List.Elements.{All-head, All-tail}
@@ -9,7 +9,7 @@ use Rattle.hs_scheme.specs.declared.term.Head.TheVariants.{Var, Nt, Tm}
 use Rattle.hs_scheme.specs.declared.term.Rule.{Rule}
 use Rattle.hs_scheme.specs.Tree.{Trees, node, none, more, children}
 use Rattle.hs_scheme.specs.Scheme.{HeadInRange, TermInRange, AreRules}
-use Rattle.hs_scheme.specs.Sorting.{SortTree, o, arrow, arrows, ranked, size, arguments, IsFirstOrder, Sorts, heads, IsSorting, HasSorting, AreFirstOrder, IsLeastSorting}
+use Rattle.hs_scheme.specs.Sorting.{SortTree, o, arrow, arrows, behind, ranked, size, arguments, IsFirstOrder, Sorts, heads, HasSort, IsSorting, HasSorting, AreFirstOrder, IsLeastSorting}
 use Rattle.hs_scheme.specs.Sorted.{sort_at, sorts_of, known}
 use Rattle.hs_sorts.specs.declared.found.Found.{Found}
 use Rattle.hs_sorts.specs.declared.store.Node.{Node}
@@ -18,20 +18,23 @@ use Rattle.hs_sorts.specs.Nodes.{Valuation}
 use Rattle.hs_sorts.specs.Weights.{Describes}
 use Rattle.hs_sorts.specs.Reading.{size_at}
 use Rattle.hs_sorts.specs.Solving.{IsLayout, sorts_at}
-use Rattle.hs_sorts.specs.Finding.{Finds, IsFinding, IsFirstHigherOrder, IsFirstLarge, AreSorts, AreArities}
-use Rattle.hs_sorts.specs.Inference.{IsFirstHigherTerminal, IsFirstTooLarge}
+use Rattle.hs_sorts.specs.Finding.{Finds, IsFinding, IsFirstHigherOrder, IsFirstLarge, IsFirstLong, AreSorts, AreArities}
+use Rattle.hs_sorts.specs.Inference.{IsFirstHigherTerminal, IsFirstTooLarge, IsTooLong, IsFirstTooLong}
 use Rattle.hs_sorts.specs.Least.{IsLeast}
-use Rattle.hs_sorts.proofs.Claiming.{arrows_same}
+use Rattle.hs_sorts.proofs.Arrows.{arrows_same, left_behind}
 use Rattle.hs_sorts.proofs.Solutions.{All_at, has_in_range}
 use Rattle.hs_sorts.proofs.Readings.{reading_respects, reading_least, counted}
 
--- no rules have a sorting in which all parameters are o
-pub no_rules_sorted : (rules : List Rule) (ranks : List (Option ℕ)) → HasSorting rules ranks 0
-no_rules_sorted rules ranks = (
-  record { nonterminal = λ f. arrows (params_of (slice_get rules f)) (λ _. o); parameter = λ f j. o; terminal = λ a. ranked (rank_of (slice_get ranks a)) },
+-- no bodies have a sorting in which all parameters are o
+pub no_rules_sorted : (rules : List Rule) (ranks : List (Option ℕ)) → AreRules rules (length ranks) → HasSorting rules ranks 0
+no_rules_sorted rules ranks are = (
+  record { nonterminal = λ f. ranked (params_of (slice_get rules f)); parameter = λ f j. o; terminal = λ a. ranked (rank_of (slice_get ranks a)) },
   record {
-    nonterminals = λ f rule at. ap (λ r. arrows (params_of r) (λ _. o)) at;
+    nonterminals = λ f rule at.
+        let whole = ap (λ r. ranked (params_of r)) at in
+        whole ∙ ap (arrows rule.params (λ _. o)) (left_behind rule.params (λ _. o) o (ranked (params_of (slice_get rules f))) whole);
     bodies = λ f rule below at. absurd (omega arith);
+    start = ap (λ r. ranked (params_of r)) are.start.1.0 ∙ ap ranked are.start.1.1;
     terminals = λ a n at. ap (λ r. ranked (rank_of r)) at;
   },
 )
@@ -55,10 +58,10 @@ found_sorting rules ranks k found f = (
 arguments-arrow : (a b : SortTree) → arguments (arrow a b) ≡ a ∷ arguments b
 arguments-arrow a (node u ks) = refl
 
-argument_at : (n : ℕ) (p : ℕ → SortTree) (j : ℕ) → j < n → slice_get (arguments (arrows n p)) j ≡ Some (p j)
-argument_at zero p j h = absurd (omega arith)
-argument_at (suc n) p zero h = ap (λ xs. slice_get xs 0) (arguments-arrow (p 0) (arrows n (λ j. p (suc j))))
-argument_at (suc n) p (suc j) h = ap (λ xs. slice_get xs (suc j)) (arguments-arrow (p 0) (arrows n (λ j. p (suc j)))) ∙ argument_at n (λ j. p (suc j)) j (omega arith)
+argument_at : (n : ℕ) (p : ℕ → SortTree) (k : SortTree) (j : ℕ) → j < n → slice_get (arguments (arrows n p k)) j ≡ Some (p j)
+argument_at zero p k j h = absurd (omega arith)
+argument_at (suc n) p k zero h = ap (λ xs. slice_get xs 0) (arguments-arrow (p 0) (arrows n (λ j. p (suc j)) k))
+argument_at (suc n) p k (suc j) h = ap (λ xs. slice_get xs (suc j)) (arguments-arrow (p 0) (arrows n (λ j. p (suc j)) k)) ∙ argument_at n (λ j. p (suc j)) k j (omega arith)
 
 arity-ranked : (n : ℕ) → length (arguments (ranked n)) ≡ n
 arity-ranked zero = refl
@@ -82,15 +85,21 @@ module _ (rules : List Rule) (ranks : List (Option ℕ)) (are : AreRules rules (
   same_head f rule at (Nt g) l = same_nonterminal g l
   same_head f rule at (Tm a) l = same_terminal a l
 
+  same_rest : (f : ℕ) (rule : Rule) → slice_get rules f ≡ Some rule → behind rule.params (s.nonterminal f) ≡ behind rule.params (t.nonterminal f)
+  same_rest f rule at = ap (behind rule.params) (sym (same_nonterminal f (slice_get_within rules f rule at)))
+
   pub same_sorting : (others : List (Option ℕ)) → IsSorting rules ranks (length rules) s → ((a n : ℕ) → slice_get others a ≡ Some (Some n) → t.terminal a ≡ ranked n) → IsSorting rules others (length rules) t
   same_sorting others sorting terminals = record {
     nonterminals = λ f rule at.
         same_nonterminal f (slice_get_within rules f rule at)
         ∙ (sorting.nonterminals f rule at
-        ∙ arrows_same rule.params (s.parameter f) (t.parameter f) (λ j l. sym (same_parameter f j rule at l)));
+        ∙ (arrows_same rule.params (s.parameter f) (t.parameter f) (behind rule.params (s.nonterminal f)) (λ j l. sym (same_parameter f j rule at l))
+        ∙ ap (arrows rule.params (t.parameter f)) (same_rest f rule at)));
     bodies = λ f rule below at.
-        has_in_range rule.params (length rules) (length ranks) (heads s f) (heads t f) (same_head f rule at) rule.body o
-        (All_at (λ r. TermInRange r.params (length rules) (length ranks) r.body) rules f rule are.bodies at) (sorting.bodies f rule below at);
+        subst (HasSort (heads t f) rule.body) (same_rest f rule at)
+        (has_in_range rule.params (length rules) (length ranks) (heads s f) (heads t f) (same_head f rule at) rule.body (behind rule.params (s.nonterminal f))
+        (All_at (λ r. TermInRange r.params (length rules) (length ranks) r.body) rules f rule are.bodies at) (sorting.bodies f rule below at));
+    start = same_nonterminal 0 (slice_get_within rules 0 are.start.0 are.start.1.0) ∙ sorting.start;
     terminals = terminals;
   }
 
@@ -190,6 +199,14 @@ module _ (rules : List Rule) (ranks : List (Option ℕ)) (are : AreRules rules (
         omega (arith, before h w.weight less (ap (slice_get weights) e ∙ w.at), w.describes.sized);
   }
 
+  pub weights_many : length rules ≤ length weights
+  weights_many = omega (arith, f.weighing.as_long, layout.room)
+
+  none_long : IsFirstLong rules weights None → (g : ℕ) (rule : Rule) → slice_get rules g ≡ Some rule → IsTooLong rule (low g) → ⊥
+  none_long passed g rule at =
+      let w = weighed g (rule_below g (slice_get_within rules g rule at)) in
+      passed g rule w.weight at w.at (low g) w.describes.arity
+
   module _ (all : IsFirstHigherOrder weights number (length ranks) None) (small : IsFirstLarge weights 0 number None) where
     small_at : (g : ℕ) → g < number → size (low g) ≤ 1000
     small_at g below =
@@ -197,10 +214,28 @@ module _ (rules : List Rule) (ranks : List (Option ℕ)) (are : AreRules rules (
         let e : 0 + g ≡ g = omega arith in
         omega (arith, small g w.weight below (ap (slice_get weights) e ∙ w.at), w.describes.sized)
 
+    pub long_found : (g : ℕ) → IsFirstLong rules weights (Some g) → IsFirstTooLong rules ranks g
+    long_found g (tells, below, before) =
+        let rule = get_or rules g (record { params = 0; body = node (Nt 0) none }) in
+        let at = slice_get-get_or rules g (record { params = 0; body = node (Nt 0) none }) below in
+        let w = weighed g (rule_below g below) in
+        record {
+          sorts = least_sorts;
+          least = least_found;
+          first_order = all_first_order all;
+          small = λ h inside. small_at h (omega (arith, inside, layout.numbered));
+          rule = rule;
+          at = at;
+          long = tells rule w.weight at w.at (low g) w.describes.arity;
+          before = λ h r less there.
+              let x = weighed h (rule_below h (omega (arith, less, below))) in
+              before h r x.weight less there x.at (low h) x.describes.arity;
+        }
+
     pub counted_small : (g : ℕ) → g < number → size_at weights g ≤ 1000
     counted_small g below = omega (arith, counted nodes weights f.weighing g (rule_below g (omega (arith, below, layout.numbered))), small_at g below)
 
-    module _ (sorts : List SortTree) (arities : List ℕ) (are_sorts : AreSorts nodes number sorts) (are_arities : AreArities weights number (length ranks) arities) where
+    module _ (passed : IsFirstLong rules weights None) (sorts : List SortTree) (arities : List ℕ) (are_sorts : AreSorts nodes number sorts) (are_arities : AreArities weights number (length ranks) arities) where
       same_nonterminals : (g : ℕ) → g < length rules → sort_at sorts g ≡ low g
       same_nonterminals g below =
           let at = slice_get-get_or sorts g o (omega (arith, are_sorts.as_long, layout.numbered)) in
@@ -209,7 +244,7 @@ module _ (rules : List Rule) (ranks : List (Option ℕ)) (are : AreRules rules (
       same_parameters : (g j : ℕ) (rule : Rule) → slice_get rules g ≡ Some rule → j < rule.params → sort_at (arguments (sort_at sorts g)) j ≡ low (get_or firsts g 0 + j)
       same_parameters g j rule at below =
           let whole = same_nonterminals g (slice_get_within rules g rule at) ∙ least_found.sorting.nonterminals g rule at in
-          ap (λ k. sort_at (arguments k) j) whole ∙ ap (λ k. unwrap_or k o) (argument_at rule.params (least_sorts.parameter g) j below)
+          ap (λ k. sort_at (arguments k) j) whole ∙ ap (λ k. unwrap_or k o) (argument_at rule.params (least_sorts.parameter g) (behind rule.params (least_sorts.nonterminal g)) j below)
 
       arity_of : (a : ℕ) → a < length ranks → slice_get arities a ≡ Some (length (arguments (low (number + a))))
       arity_of a below =
@@ -237,6 +272,7 @@ module _ (rules : List Rule) (ranks : List (Option ℕ)) (are : AreRules rules (
         sorting = same_sorting rules ranks are least_sorts (sorts_of sorts arities) same_nonterminals same_parameters same_terminals (known arities) least_found.sorting known_rank;
         least = same_least rules ranks are least_sorts (sorts_of sorts arities) same_nonterminals same_parameters same_terminals least_found;
         small = λ g below. omega (arith, ap size (same_nonterminals g below), small_at g (omega (arith, below, layout.numbered)));
+        none_too_long = λ g rule at long. none_long passed g rule at (subst (IsTooLong rule) (same_nonterminals g (slice_get_within rules g rule at)) long);
       }
 
 pub found_if : (rules : List Rule) (ranks : List (Option ℕ)) (k : ℕ) (answer : Option Found) → IsFinding rules ranks k answer → true ≡ is_some answer → HasSorting rules ranks k

@@ -3,15 +3,18 @@ use Rattle.std.proofs.Common.{◌≡◌, refl, sym, ◌∙◌, ap, subst, ℕ, �
 use Rattle.std.proofs.Math.Nat.{eq-or-lt_of_le}
 use Rattle.std.proofs.lemmas.List.{length-replicate, get_or_append_left, get_or_at}
 use Rattle.std.proofs.lemmas.Option.{same_Some}
+use Rattle.hs_scheme.specs.declared.term.Head.{Head}
 use Rattle.hs_scheme.specs.declared.term.Rule.{Rule}
+use Rattle.hs_scheme.specs.Sorting.{SortTree}
 use Rattle.hs_sorts.specs.declared.store.Shape.TheVariants.{Open}
 use Rattle.hs_sorts.specs.declared.store.Node.{Node}
 use Rattle.hs_sorts.specs.declared.store.Node.TheVariants.{Root}
 use Rattle.hs_sorts.specs.Nodes.{Valuation, Respects, FitsNode, IsStore}
-use Rattle.hs_sorts.specs.Constraints.{Agree, Claims, HasArguments, IsRankedIf}
+use Rattle.hs_sorts.specs.Constraints.{Agree, Claims, NodesBelow, Leaves, Begins, IsRankedIf, HasBody}
 use Rattle.hs_sorts.specs.Solving.{LaysOut, EachBefore}
 use Rattle.hs_sorts.proofs.Lists.{get_replicate, get_append}
-use Rattle.hs_sorts.proofs.Claiming.{arrows_same}
+use Rattle.hs_sorts.proofs.Arrows.{arrows_same}
+use Rattle.hs_sorts.proofs.Typing.{has_same}
 use Rattle.hs_sorts.proofs.NodeLemmas.{agree_trans, over, over_agrees, over_later, respects_more}
 
 le_last : (i n : ℕ) → i < n + 1 → (i ≡ n) ⊎ (i < n)
@@ -153,9 +156,15 @@ module _ (rules : List Rule) (terminals number : ℕ) (numbered : number ≡ len
     }
 
 -- what stays true where the nodes that it speaks of keep their sorts
-pub arguments_stable : (n i first count : ℕ) (v w : Valuation) → i < n → first + count ≤ n → Agree n v w → HasArguments i first count v → HasArguments i first count w
-arguments_stable n i first count v w below within same h =
-    same.at i below ∙ (h ∙ arrows_same count (λ j. v (first + j)) (λ j. w (first + j)) (λ j l. sym (same.at (first + j) (omega arith))))
+pub leaves_stable : (n i first count : ℕ) (v w : Valuation) (k : SortTree) → i < n → first + count ≤ n → Agree n v w → Leaves i first count v k → Leaves i first count w k
+leaves_stable n i first count v w k below within same h =
+    same.at i below ∙ (h ∙ arrows_same count (λ j. v (first + j)) (λ j. w (first + j)) k (λ j l. sym (same.at (first + j) (omega arith))))
+
+pub begins_stable : (n i first count : ℕ) (v w : Valuation) → i < n → first + count ≤ n → Agree n v w → Begins i first count v → Begins i first count w
+begins_stable n i first count v w below within same (k, h) = (k, leaves_stable n i first count v w k below within same h)
+
+pub body_stable : (at : Head → ℕ) (n i first : ℕ) (rule : Rule) (v w : Valuation) → i < n → first + rule.params ≤ n → NodesBelow at n rule.body → Agree n v w → HasBody at i first rule v → HasBody at i first rule w
+body_stable at n i first rule v w below within nodes same (k, h, body) = (k, leaves_stable n i first rule.params v w k below within same h, has_same at n v w same rule.body k nodes body)
 
 pub ranked_stable : (n i : ℕ) (rank : Option ℕ) (v w : Valuation) → i < n → Agree n v w → IsRankedIf i rank v → IsRankedIf i rank w
 ranked_stable n i None v w below same h = tt

@@ -1,8 +1,10 @@
 pub mod Lists
 pub mod NodeLemmas
+pub mod Flattening
 pub mod Joining
 pub mod Applying
 pub mod Typing
+pub mod Arrows
 pub mod Claiming
 pub mod Laying
 pub mod Solutions
@@ -10,7 +12,9 @@ pub mod Weighing
 pub mod Searching
 pub mod Readings
 pub mod Scanning
+pub mod Lengthenings
 pub mod Inferring
+pub mod FullRules
 pub mod Assembling
 pub mod Excluding
 pub mod Samples

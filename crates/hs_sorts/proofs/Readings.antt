@@ -5,6 +5,7 @@ use Rattle.std.specs.Prelude.{unwrap_or}
 use Rattle.std.proofs.lemmas.Option.{slice_get-get_or}
 use Rattle.hs_scheme.specs.Tree.{node, forest}
 use Rattle.hs_scheme.specs.Sorting.{SortTree, o, arrow, size}
+use Rattle.hs_sorts.specs.declared.store.Shape.{Shape}
 use Rattle.hs_sorts.specs.declared.store.Shape.TheVariants.{Open, Base, Arrow}
 use Rattle.hs_sorts.specs.declared.store.Node.{Node}
 use Rattle.hs_sorts.specs.declared.store.Node.TheVariants.{Root, Link}
@@ -12,7 +13,7 @@ use Rattle.hs_sorts.specs.declared.weights.Weight.{Weight}
 use Rattle.hs_sorts.specs.Nodes.{Valuation, FitsNode, Respects, IsStore}
 use Rattle.hs_sorts.specs.Weights.{Reads, IsReading}
 use Rattle.hs_sorts.specs.Search.{rank, Weighing}
-use Rattle.hs_sorts.specs.Reading.{size_at, IsArrow}
+use Rattle.hs_sorts.specs.Reading.{size_at, parts, IsArrow, IsSplit}
 use Rattle.hs_sorts.proofs.Weighing.{size-arrow, size_positive}
 use Rattle.hs_sorts.proofs.Searching.{child_lower, child_below}
 
@@ -89,3 +90,15 @@ parts_smaller nodes weights w i a b within s small =
 pub argument_read : (whole : SortTree) (args longer : List SortTree) (a k l m : SortTree) → whole ≡ with_arguments args k → k ≡ arrow l m → a ≡ l → longer ≡ args ++ a ∷ [] → whole ≡ with_arguments longer m
 argument_read whole args longer a k l m was split same pushed =
     was ∙ (ap (with_arguments args) (split ∙ ap (λ b. arrow b m) (sym same)) ∙ (with_arguments_more args a m ∙ ap (λ (xs : List SortTree). with_arguments xs m) (sym pushed)))
+
+-- the sort of a node whose root is known
+pub split_at : (nodes : List Node) (i root : ℕ) (shape : Shape) (answer : Option (ℕ × ℕ)) → IsStore nodes → slice_get nodes root ≡ Some (Root shape) → ((v : Valuation) → IsReading v nodes → v i ≡ v root)
+    → answer ≡ parts shape → IsSplit nodes i answer
+split_at nodes i root shape answer is at same e = subst (IsSplit nodes i) (sym e) (by_shape shape at)
+  where
+    by_shape : (s : Shape) → slice_get nodes root ≡ Some (Root s) → IsSplit nodes i (parts s)
+    by_shape Open at = λ v r. same v r ∙ r.reads root (Root Open) at
+    by_shape Base at = λ v r. same v r ∙ r.reads root (Root Base) at
+    by_shape (Arrow a b) at =
+        let range = is.in_range root (Root (Arrow a b)) at in
+        record { argument = range.0; rest = range.1; reads = λ v r. same v r ∙ r.reads root (Root (Arrow a b)) at }

@@ -5,6 +5,7 @@ use Rattle.std.specs.Prelude.{◌≡◌, ℕ, ◌+◌, ◌^◌, ◌<◌, ◌≤�
 use Rattle.hs_scheme.specs.declared.term.Head.{Head}
 use Rattle.hs_scheme.specs.declared.term.Head.TheVariants.{Var, Nt, Tm}
 use Rattle.hs_scheme.specs.Tree.{Tree, Trees, node, none, more}
+use Rattle.hs_scheme.specs.declared.term.Rule.{Rule}
 use Rattle.hs_scheme.specs.Sorting.{SortTree, o, arrow, arrows, ranked, HasSort}
 use Rattle.hs_sorts.specs.declared.store.Node.{Node}
 use Rattle.hs_sorts.specs.Nodes.{Valuation, Respects}
@@ -81,9 +82,13 @@ IsClaim old new P false = (v : Valuation) → Respects v old → P v → ⊥
 abbrev pub IsBase : ℕ → Valuation → Type 0
 IsBase i v = v i ≡ o
 
--- the node's sort has as its arguments those of `count` nodes in a row
-abbrev pub HasArguments : ℕ → ℕ → ℕ → Valuation → Type 0
-HasArguments i first count v = v i ≡ arrows count (λ j. v (first + j))
+-- k is what is left of the node's sort behind the sorts of `count` nodes in a row, its first arguments
+abbrev pub Leaves : ℕ → ℕ → ℕ → Valuation → SortTree → Type 0
+Leaves i first count v k = v i ≡ arrows count (λ j. v (first + j)) k
+
+-- the node's sort begins with those of `count` nodes in a row
+abbrev pub Begins : ℕ → ℕ → ℕ → Valuation → Type 0
+Begins i first count v = (k : SortTree) × Leaves i first count v k
 
 -- the node's sort is that of a terminal of this rank
 abbrev pub IsRanked : ℕ → ℕ → Valuation → Type 0
@@ -94,6 +99,6 @@ abbrev pub IsRankedIf : ℕ → Option ℕ → Valuation → Type 0
 IsRankedIf i None v = Unit {0}
 IsRankedIf i (Some n) v = IsRanked i n v
 
--- the term's sort is o
-abbrev pub HasBase : (Head → ℕ) → Tree Head → Valuation → Type 0
-HasBase at t v = HasSort (λ h. v (at h)) t o
+-- the node's sort begins with those of the rule's parameters, and the body has what is left
+abbrev pub HasBody : (Head → ℕ) → ℕ → ℕ → Rule → Valuation → Type 0
+HasBody at i first rule v = (k : SortTree) × Leaves i first rule.params v k × Has at rule.body v k

@@ -1,17 +1,19 @@
 -- Weighed nodes whose sorts are the sortings of a scheme's first rules.
-use Rattle.std.specs.Prelude.{◌≡◌, ◌<◌, ◌≤◌, ℕ, ◌+◌, List, length, slice_get, Option, Some, None, true, false}
+use Rattle.std.specs.Prelude.{◌≡◌, ◌<◌, ◌≤◌, ℕ, ◌+◌, List, length, slice_get, Option, Some, None, Bool, true, false}
 use Rattle.hs_scheme.specs.declared.term.Rule.{Rule}
-use Rattle.hs_scheme.specs.Sorting.{SortTree, HasSorting}
+use Rattle.hs_scheme.specs.Sorting.{SortTree, arguments, HasSorting}
 use Rattle.hs_sorts.specs.declared.found.Found.{Found}
 use Rattle.hs_sorts.specs.declared.store.Node.{Node}
 use Rattle.hs_sorts.specs.declared.weights.Weight.{Weight}
-use Rattle.hs_sorts.specs.Nodes.{Valuation, IsStore}
+use Rattle.hs_sorts.specs.Nodes.{Valuation, IsStore, IsFlat}
 use Rattle.hs_sorts.specs.Weights.{IsReading}
 use Rattle.hs_sorts.specs.Search.{Weighing}
 use Rattle.hs_sorts.specs.Solving.{Solves}
+use Rattle.hs_sorts.specs.Inference.{IsTooLong}
 
 pub record Finds (rules : List Rule) (ranks : List (Option ℕ)) (k : ℕ) (found : Found) : Type 0 where
   pub store : IsStore found.solved.store
+  pub flat : IsFlat found.solved.store
   pub solves : Solves rules ranks k found.solved.store found.solved.layout.rules found.solved.layout.firsts.items
   pub weighing : Weighing found.solved.store found.weights.items
 
@@ -32,6 +34,18 @@ IsFirstHigherOrder = IsFirst (λ w. w.first_order ≡ false) (λ w. w.first_orde
 
 abbrev pub IsFirstLarge : List Weight → ℕ → ℕ → Option ℕ → Type 0
 IsFirstLarge = IsFirst (λ w. 1000 < w.size) (λ w. w.size ≤ 1000)
+
+-- whether a rule is too long, where its nonterminal's sort has so many arguments
+abbrev pub TellsLong : Rule → ℕ → Bool → Type 0
+TellsLong rule arity true = (k : SortTree) → arity ≡ length (arguments k) → IsTooLong rule k
+TellsLong rule arity false = (k : SortTree) → arity ≡ length (arguments k) → IsTooLong rule k → ⊥
+
+-- the first rule that is too long, where its nonterminal's weight is that of its sort
+abbrev pub IsFirstLong : List Rule → List Weight → Option ℕ → Type 0
+IsFirstLong rules weights (Some i) =
+    ((rule : Rule) (w : Weight) → slice_get rules i ≡ Some rule → slice_get weights i ≡ Some w → TellsLong rule w.arity true) × (i < length rules)
+    × ((j : ℕ) (rule : Rule) (w : Weight) → j < i → slice_get rules j ≡ Some rule → slice_get weights j ≡ Some w → TellsLong rule w.arity false)
+IsFirstLong rules weights None = (j : ℕ) (rule : Rule) (w : Weight) → slice_get rules j ≡ Some rule → slice_get weights j ≡ Some w → TellsLong rule w.arity false
 
 -- the sorts that are read from the first nodes
 pub record AreSorts (nodes : List Node) (count : ℕ) (sorts : List SortTree) : Type 0 where

@@ -3,7 +3,7 @@ use Rattle.std.specs.Prelude.{◌≡◌, ℕ, List, length, Option, slice_get, S
 use Rattle.hs_scheme.specs.declared.term.Rule.{Rule}
 use Rattle.hs_scheme.specs.Sorting.{SortTree, IsSorting, IsLeastSorting}
 use Rattle.hs_scheme.specs.Sorted.{sorts_of, known}
-use Rattle.hs_sorts.specs.Inference.{AreSmall}
+use Rattle.hs_sorts.specs.Inference.{AreSmall, NoneTooLong}
 
 pub record IsLeast (rules : List Rule) (ranks : List (Option ℕ)) (sorts : List SortTree) (arities : List ℕ) : Type 0 where
   pub each_rule : length sorts ≡ length rules
@@ -12,3 +12,4 @@ pub record IsLeast (rules : List Rule) (ranks : List (Option ℕ)) (sorts : List
   pub sorting : IsSorting rules (known arities) (length rules) (sorts_of sorts arities)
   pub least : IsLeastSorting rules ranks (sorts_of sorts arities)
   pub small : AreSmall rules (sorts_of sorts arities)
+  pub none_too_long : NoneTooLong rules (sorts_of sorts arities)

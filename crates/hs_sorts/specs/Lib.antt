@@ -5,6 +5,7 @@ pub mod Solution
 pub mod Weights
 pub mod Search
 pub mod Reading
-pub mod Finding
+pub mod Naming
 pub mod Inference
+pub mod Finding
 pub mod Least

@@ -2,6 +2,7 @@
 --     Fits, FitsNode     a sort is as a node says, where v gives the sorts of the nodes
 --     Respects           so is the sort that v gives to each node
 --     IsStore            links and arrows lead to nodes, links to smaller numbers
+--     IsFlat             no link leads to a link
 use Rattle.std.specs.Prelude.{◌≡◌, ◌≢◌, ℕ, ◌+◌, ◌*◌, ◌^◌, ◌<◌, ◌≤◌, List, All, length, slice_get, slice_set, sum_by, Option, Some, None, Bool, true, false}
 use Rattle.hs_scheme.specs.Sorting.{SortTree, o, arrow}
 use Rattle.hs_sorts.specs.declared.store.Shape.{Shape}
@@ -56,6 +57,14 @@ pub record IsSameStore (old new : List Node) : Type 0 where
   pub kept : (i : ℕ) (s : Shape) → slice_get old i ≡ Some (Root s) → slice_get new i ≡ Some (Root s)
   pub onward : (v : Valuation) → Respects v old → Respects v new
   pub back : (v : Valuation) → Respects v new → Respects v old
+
+-- the links of the first `count` nodes lead to nodes without one
+abbrev pub FlatBelow : ℕ → List Node → Type 0
+FlatBelow count nodes = (i up : ℕ) → i < count → slice_get nodes i ≡ Some (Link up) → (s : Shape) × (slice_get nodes up ≡ Some (Root s))
+
+-- so do all
+pub record IsFlat (nodes : List Node) : Type 0 where
+  pub all : FlatBelow (length nodes) nodes
 
 -- the links from the node lead to this root
 pub record IsRootOf (old new : List Node) (node root : ℕ) (shape : Shape) : Type 0 where

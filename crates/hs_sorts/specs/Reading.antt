@@ -2,6 +2,8 @@
 use Rattle.std.specs.Prelude.{◌≡◌, ℕ, ◌<◌, List, length, Option, Some, None, slice_get, unwrap_or}
 use Rattle.std.specs.Option.{option_map}
 use Rattle.hs_scheme.specs.Sorting.{o, arrow}
+use Rattle.hs_sorts.specs.declared.store.Shape.{Shape}
+use Rattle.hs_sorts.specs.declared.store.Shape.TheVariants.{Open, Base, Arrow}
 use Rattle.hs_sorts.specs.declared.store.Node.{Node}
 use Rattle.hs_sorts.specs.declared.weights.Weight.{Weight}
 use Rattle.hs_sorts.specs.Nodes.{Valuation}
@@ -10,6 +12,12 @@ use Rattle.hs_sorts.specs.Weights.{IsReading}
 -- the counted size at a node
 abbrev pub size_at : List Weight → ℕ → ℕ
 size_at weights i = unwrap_or (option_map (λ w. w.size) (slice_get weights i)) 0
+
+-- the nodes of an arrow's argument and of the rest
+abbrev pub parts : Shape → Option (ℕ × ℕ)
+parts Open = None
+parts Base = None
+parts (Arrow a b) = Some (a, b)
 
 -- the sort that is read from a node takes an argument, or is o
 pub record IsArrow (nodes : List Node) (i a b : ℕ) : Type 0 where

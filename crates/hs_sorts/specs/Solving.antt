@@ -7,7 +7,7 @@ use Rattle.hs_scheme.specs.declared.term.Rule.{Rule}
 use Rattle.hs_scheme.specs.Sorting.{Sorts, IsSorting}
 use Rattle.hs_sorts.specs.declared.store.Node.{Node}
 use Rattle.hs_sorts.specs.Nodes.{Valuation, Respects}
-use Rattle.hs_sorts.specs.Constraints.{node_of, NodesBelow}
+use Rattle.hs_sorts.specs.Constraints.{node_of, NodesBelow, HasBody}
 
 -- each part of the scheme has a node below `count`, the parameters of the first i rules among them
 pub record IsLayout (rules : List Rule) (terminals count number : ℕ) (firsts : List ℕ) (i : ℕ) : Type 0 where
@@ -46,6 +46,10 @@ pub record Solves (rules : List Rule) (ranks : List (Option ℕ)) (k : ℕ) (nod
 -- what holds of the first i elements
 abbrev pub EachBefore : {A : Type 0} → (ℕ → A → Valuation → Type 0) → List A → ℕ → Valuation → Type 0
 EachBefore {A = A} Q xs i v = (f : ℕ) (x : A) → f < i → slice_get xs f ≡ Some x → Q f x v
+
+-- the bodies of the first k rules have what is left of their nonterminals' sorts behind the parameters' sorts
+abbrev pub HaveBodies : List Rule → ℕ → List ℕ → ℕ → Valuation → Type 0
+HaveBodies rules number firsts k v = EachBefore (λ f rule. HasBody (node_of number firsts f) f (slice_index firsts f) rule) rules k v
 
 -- the nodes of the heads of each body are below `count`
 abbrev pub BodiesBelow : List Rule → ℕ → List ℕ → ℕ → Type 0

@@ -1,11 +1,12 @@
 //! What the terms of a scheme ask of the sorts of its parts.
 
 ghost use Rattle.std.specs.Prelude.{◌≡◌, ◌+◌, ◌<◌, ◌≤◌, ◌^◌, length, IfOk};
-ghost use Rattle.hs_sorts.specs.Constraints.{node_of, NodesBelow, IsNodeFor, Takes, Has, IsClaim, IsBase, HasArguments, IsRanked, IsRankedIf, HasBase};
+ghost use Rattle.std.specs.Prelude.{slice_index};
+ghost use Rattle.hs_sorts.specs.Constraints.{node_of, NodesBelow, IsNodeFor, Takes, Has, IsClaim, IsBase, Leaves, IsRanked, IsRankedIf, HasBody};
 
 use crate::layout::Layout;
 use crate::store::{Shape, Store};
-use hs_scheme::{OutOfMemory, Term};
+use hs_scheme::{OutOfMemory, Rule, Term};
 use std::alloc::Global;
 
 /// The node of what is left where a function takes an argument, or `None` where it can't.
@@ -79,7 +80,7 @@ pub fn term_sort(
 }
 
 /// Makes the sort of a node `o`. `false` where it can't be.
-fn make_base(alloc: Global, store: &mut Store, node: u32) -> Result<bool, OutOfMemory>
+pub fn make_base(alloc: Global, store: &mut Store, node: u32) -> Result<bool, OutOfMemory>
     requires { node < length store.old }
     ensures { IfOk result (λ yes. IsClaim store.old store.new (IsBase node) yes) }
 {
@@ -87,28 +88,28 @@ fn make_base(alloc: Global, store: &mut Store, node: u32) -> Result<bool, OutOfM
     store.equate(alloc, node, base)
 }
 
-/// Makes the sort of a node one that takes the nodes from `first` on as its arguments, and leaves
-/// `o`. `false` where it can't be.
-pub fn make_arrows(
+/// The node of what is left of a node's sort behind those of `count` nodes from `first` on, its first
+/// arguments, or `None` where it can't begin with them.
+pub fn rest_behind(
     alloc: Global,
     store: &mut Store,
     node: u32,
     first: u32,
     count: u32,
-) -> Result<bool, OutOfMemory>
+) -> Result<Option<u32>, OutOfMemory>
     requires node { node < length store.old }
     requires arguments { first + count ≤ length store.old }
     requires few { length store.old ≤ 2 ^ 32 }
-    ensures { IfOk result (λ yes. IsClaim store.old store.new (HasArguments node first count) yes) }
+    ensures { IfOk result (λ rest. IsNodeFor store.old store.new (Leaves node first count) rest) }
 {
     let mut sort = node;
     for place in 0..count {
         let Some(rest) = apply(alloc, store, sort, first + place)? else {
-            return Ok(false);
+            return Ok(None);
         };
         sort = rest;
     }
-    make_base(alloc, store, sort)
+    Ok(Some(sort))
 }
 
 /// Makes the sort of a node that of a terminal of this rank. `false` where it can't be.
@@ -117,7 +118,10 @@ fn make_ranked(alloc: Global, store: &mut Store, node: u32, rank: u32) -> Result
     ensures { IfOk result (λ yes. IsClaim store.old store.new (IsRanked node rank) yes) }
 {
     let first = store.add_all(rank, Shape::Base)?;
-    make_arrows(alloc, store, node, first, rank)
+    let Some(rest) = rest_behind(alloc, store, node, first, rank)? else {
+        return Ok(false);
+    };
+    make_base(alloc, store, rest)
 }
 
 /// The same where the rank is known, and nothing where it isn't.
@@ -137,21 +141,29 @@ pub fn make_ranked_if(
     }
 }
 
-/// Makes the sort of a term in the body of this rule `o`. `false` where it can't be.
+/// Gives the body of this rule what is left of its nonterminal's sort behind the sorts of its
+/// parameters. `false` where it can't have it.
 pub fn make_body(
     alloc: Global,
     store: &mut Store,
     layout: &Layout,
-    rule: usize,
-    body: &Term,
+    number: usize,
+    rule: &Rule,
 ) -> Result<bool, OutOfMemory>
-    requires rule { rule < length layout.now.firsts.items }
-    requires nodes { NodesBelow (node_of layout.now.rules layout.now.firsts.items rule) (length store.old) body.now }
+    requires number { number < length layout.now.firsts.items }
+    requires nonterminal { number < length store.old }
+    requires parameters { slice_index layout.now.firsts.items number + rule.now.params ≤ length store.old }
+    requires nodes { NodesBelow (node_of layout.now.rules layout.now.firsts.items number) (length store.old) rule.now.body }
     requires few { length store.old ≤ 2 ^ 32 }
-    ensures { IfOk result (λ yes. IsClaim store.old store.new (HasBase (node_of layout.now.rules layout.now.firsts.items rule) body.now) yes) }
+    ensures { IfOk result (λ yes. IsClaim store.old store.new
+        (HasBody (node_of layout.now.rules layout.now.firsts.items number) number (slice_index layout.now.firsts.items number) rule.now) yes) }
 {
-    let Some(body_sort) = term_sort(alloc, store, layout, rule, body)? else {
+    let first = layout.firsts[number];
+    let Some(rest) = rest_behind(alloc, store, number as u32, first, rule.params)? else {
         return Ok(false);
     };
-    make_base(alloc, store, body_sort)
+    let Some(body) = term_sort(alloc, store, layout, number, &rule.body)? else {
+        return Ok(false);
+    };
+    store.equate(alloc, rest, body)
 }

@@ -18,6 +18,11 @@ pub enum SortFault {
     /// rule, counted from 0.
     #[error("rule {} counted from 0: sort too large", rule)]
     SortTooLarge { rule: u32 },
+    /// The rule has fewer parameters than its nonterminal's least sort has arguments, and with the
+    /// missing ones it would have more than 64, or its body's head more than 64 arguments. It is the
+    /// first such rule, counted from 0.
+    #[error("rule {} counted from 0: too long", rule)]
+    RuleTooLong { rule: u32 },
     /// Memory was refused.
     #[error("out of memory")]
     OutOfMemory,

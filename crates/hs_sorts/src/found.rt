@@ -1,19 +1,20 @@
 //! The least sorting of a scheme's first rules, where they have one.
 
-ghost use Rattle.std.specs.Prelude.{◌≡◌, ◌+◌, ◌≤◌, ◌<◌, ℕ, List, Option, length, IfOk};
+ghost use Rattle.std.specs.Prelude.{◌≡◌, ◌+◌, ◌≤◌, ◌<◌, ◌^◌, ℕ, List, Option, length, IfOk};
 ghost use Rattle.hs_scheme.specs.declared.term.Rule.{Rule};
 ghost use Rattle.hs_scheme.specs.Scheme.{AreRules};
-ghost use Rattle.hs_sorts.specs.Nodes.{IsStore};
+ghost use Rattle.hs_sorts.specs.Nodes.{IsStore, IsFlat};
 ghost use Rattle.hs_sorts.specs.Search.{Weighing};
 ghost use Rattle.hs_sorts.specs.Reading.{size_at};
-ghost use Rattle.hs_sorts.specs.Finding.{IsFinding, IsFirstHigherOrder, IsFirstLarge, AreSorts, AreArities};
+ghost use Rattle.hs_sorts.specs.Inference as inference;
+ghost use Rattle.hs_sorts.specs.Finding.{IsFinding, IsFirstHigherOrder, IsFirstLarge, TellsLong, IsFirstLong, AreSorts, AreArities};
 
 use crate::reading::read_sort;
 use crate::search::weigh;
 use crate::solve::{Solved, solve};
 use crate::store::Node;
 use crate::weights::Weight;
-use hs_scheme::{OutOfMemory, Rule, Sort};
+use hs_scheme::{MAX_ARGUMENTS, MAX_PARAMETERS, OutOfMemory, Rule, Sort, Term};
 use std::alloc::Global;
 
 /// The greatest size that a nonterminal's sort may have.
@@ -73,6 +74,38 @@ pub fn first_large(weights: &[Weight], count: u32) -> Option<u32>
     None
 }
 
+/// The number of arguments at the term's head.
+fn head_arguments(term: &Term) -> usize
+    ensures { result ≡ inference.head_arguments term.now }
+{
+    term.args.len()
+}
+
+/// Whether the rule has fewer parameters than its nonterminal's sort has arguments, and too many, or
+/// its body's head too many arguments, once it has the missing ones.
+fn is_too_long(rule: &Rule, arity: u32) -> bool
+    ensures { TellsLong rule.now arity result }
+{
+    let missing = arity.saturating_sub(rule.params) as usize;
+    let parameters = arity as usize;
+    let arguments = head_arguments(&rule.body).saturating_add(missing);
+    missing > 0 && (parameters > MAX_PARAMETERS || arguments > MAX_ARGUMENTS)
+}
+
+/// The first rule that is too long, where the weights of the nonterminals come first.
+pub fn first_too_long(rules: &[Rule], weights: &[Weight]) -> Option<u32>
+    requires many { length rules.now ≤ length weights.now }
+    requires few { length rules.now ≤ 2 ^ 32 }
+    ensures { IsFirstLong rules.now weights.now result }
+{
+    for (number, rule) in rules.iter().enumerate() {
+        if is_too_long(rule, weights[number].arity) {
+            return Some(number as u32);
+        }
+    }
+    None
+}
+
 /// The sorts of the first `count` nodes.
 pub fn read_sorts(
     alloc: Global,
@@ -81,6 +114,7 @@ pub fn read_sorts(
     count: u32,
 ) -> Result<Vec<Sort>, OutOfMemory>
     requires store { IsStore nodes.now }
+    requires flat { IsFlat nodes.now }
     requires weights { Weighing nodes.now weights.now }
     requires count { count ≤ length nodes.now }
     requires small { (i : ℕ) → i < count → size_at weights.now i ≤ 1000 }

@@ -4,11 +4,12 @@ ghost use Rattle.std.specs.Prelude.{◌≡◌, ℕ, List, Option, length, IfOk, 
 ghost use Rattle.hs_scheme.specs.declared.term.Rule.{Rule};
 ghost use Rattle.hs_scheme.specs.Scheme.{AreRules};
 ghost use Rattle.hs_scheme.specs.Sorting.{HasSorting};
-ghost use Rattle.hs_sorts.specs.Inference.{IsInferred, IsFirstIllSorted, IsFaultOf, HasSmallSorts};
+ghost use Rattle.hs_sorts.specs.Inference.{IsInferred, IsFirstIllSorted, IsFaultOf, IsInferable};
 ghost use Rattle.hs_sorts.specs.Least.{IsLeast};
 
 use crate::fault::SortFault;
-use crate::found::{arities, find, first_higher_order, first_large, read_sorts};
+use crate::found::{arities, find, first_higher_order, first_large, first_too_long, read_sorts};
+use crate::lengthening::{lengthen, lengthen_names};
 use hs_scheme::{OutOfMemory, Rule, Scheme, Sort, Sorted, Unsorted};
 use std::alloc::Global;
 
@@ -60,6 +61,9 @@ fn find_least(alloc: Global, rules: &[Rule], ranks: &[Option<u32>]) -> Result<Le
     if let Some(rule) = first_large(weights, number) {
         return Err(SortFault::SortTooLarge { rule });
     }
+    if let Some(rule) = first_too_long(rules, weights) {
+        return Err(SortFault::RuleTooLong { rule });
+    }
     let sorts = read_sorts(alloc, found.solved.store.nodes(), weights, number)?;
     let ranks = arities(alloc, weights, number, ranks.len())?;
     Ok(Least { sorts, ranks })
@@ -73,9 +77,14 @@ fn find_least(alloc: Global, rules: &[Rule], ranks: &[Option<u32>]) -> Result<Le
 /// any other gets its rank from here. A sort that is left open is `o`. The input is consumed on every
 /// answer.
 ///
+/// A rule may have fewer parameters than its nonterminal's sort has arguments, as `F -> a.` where `a`
+/// takes one. It gets the missing ones, named `~1`, `~2` and so on, at its end, and its body takes
+/// them as its last arguments. A rule that isn't short is kept, however many arguments its body has.
+///
 /// There is a node or a few for each head, for each parameter, and for each terminal and each
 /// argument that a known rank gives it. Memory is linear in the number of nodes, and in the sizes of
-/// the sorts answered, which are at most 1,000 for each rule. Time is linear in the same, times the
+/// the sorts answered, which are at most 1,000 for each rule. Lengthening adds what it adds to the
+/// rules in place. Time is linear in the same, times the
 /// amortized cost of a look-up of a node, which is logarithmic at most. Where the scheme is
 /// ill-sorted, the time is multiplied by the logarithm of the number of rules. A sort that is
 /// exponentially large as a tree costs no more than its nodes. More than 2^32 nodes are want of
@@ -83,15 +92,17 @@ fn find_least(alloc: Global, rules: &[Rule], ranks: &[Option<u32>]) -> Result<Le
 pub fn infer(alloc: Global, unsorted: Unsorted) -> Result<Sorted, SortFault>
     ensures ok { IfOk result (λ sorted. IsInferred unsorted sorted) }
     ensures fault { IfErr result (λ fault. IsFaultOf unsorted.rules unsorted.ranks fault) }
-    ensures accepted { HasSmallSorts unsorted.rules unsorted.ranks → IfErr result (λ fault. fault ≡ SortFault.OutOfMemory) }
+    ensures accepted { IsInferable unsorted.rules unsorted.ranks → IfErr result (λ fault. fault ≡ SortFault.OutOfMemory) }
 {
     let Unsorted {
-        rules,
+        mut rules,
         ranks,
         automaton,
         names,
     } = unsorted;
     let least = find_least(alloc, rules.as_slice(), ranks.as_slice())?;
+    let names = lengthen_names(alloc, names, least.sorts.as_slice())?;
+    lengthen(alloc, &mut rules, least.sorts.as_slice())?;
     Ok(Sorted {
         scheme: Scheme {
             rules,

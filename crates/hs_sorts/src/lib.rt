@@ -11,6 +11,7 @@ mod found;
 mod inference;
 mod laws;
 mod layout;
+mod lengthening;
 mod reading;
 mod search;
 mod solve;

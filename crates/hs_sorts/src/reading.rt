@@ -1,9 +1,10 @@
 //! The sorts that nodes stand for, as trees.
 
 ghost use Rattle.std.specs.Prelude.{◌≡◌, ◌<◌, ◌≤◌, length, IfOk};
-ghost use Rattle.hs_sorts.specs.Nodes.{Valuation, IsStore};
+ghost use Rattle.hs_sorts.specs.Nodes.{Valuation, IsStore, IsFlat};
 ghost use Rattle.hs_sorts.specs.Weights.{IsReading};
 ghost use Rattle.hs_sorts.specs.Search.{Weighing};
+ghost use Rattle.hs_sorts.specs.Reading as reading;
 ghost use Rattle.hs_sorts.specs.Reading.{size_at, IsSplit};
 
 use crate::store::{Node, Shape};
@@ -11,24 +12,31 @@ use crate::weights::Weight;
 use hs_scheme::{OutOfMemory, Sort};
 use std::alloc::Global;
 
-/// The nodes of the first argument and of what is left, or `None` where the sort is `o`.
+/// The nodes of an arrow's argument and of the rest.
+fn parts(shape: Shape) -> Option<(u32, u32)>
+    ensures { result ≡ reading.parts shape }
+{
+    match shape {
+        Shape::Open => None,
+        Shape::Base => None,
+        Shape::Arrow(argument, rest) => Some((argument, rest)),
+    }
+}
+
+/// The nodes of the first argument and of what is left, or `None` where the sort is `o`. Takes
+/// constant time, since no link leads to a link.
 fn split(nodes: &[Node], node: u32) -> Option<(u32, u32)>
     requires store { IsStore nodes.now }
+    requires flat { IsFlat nodes.now }
     requires node { node < length nodes.now }
     ensures { IsSplit nodes.now node result }
 {
-    let mut at = node;
-    loop {
-        match nodes[at as usize] {
-            Node::Link(up) => at = up,
-            Node::Root(shape) => {
-                return match shape {
-                    Shape::Open => None,
-                    Shape::Base => None,
-                    Shape::Arrow(argument, rest) => Some((argument, rest)),
-                };
-            }
-        }
+    match nodes[node as usize] {
+        Node::Root(shape) => parts(shape),
+        Node::Link(up) => match nodes[up as usize] {
+            Node::Root(shape) => parts(shape),
+            Node::Link(_top) => None,
+        },
     }
 }
 
@@ -41,6 +49,7 @@ pub fn read_sort(
     node: u32,
 ) -> Result<Sort, OutOfMemory>
     requires store { IsStore nodes.now }
+    requires flat { IsFlat nodes.now }
     requires weights { Weighing nodes.now weights.now }
     requires node { node < length nodes.now }
     requires small { size_at weights.now node ≤ 1000 }

@@ -3,11 +3,11 @@
 ghost use Rattle.std.specs.Prelude.{◌≡◌, ◌+◌, ◌≤◌, ◌^◌, [], length, slice_index, IfOk};
 ghost use Rattle.hs_scheme.specs.declared.term.Rule.{Rule};
 ghost use Rattle.hs_scheme.specs.Scheme.{AreRules};
-ghost use Rattle.hs_sorts.specs.Constraints.{node_of, IsClaim, HasArguments, IsRankedIf, HasBase};
-ghost use Rattle.hs_sorts.specs.Solving.{IsLayout, LaysOut, EachBefore, BodiesBelow};
+ghost use Rattle.hs_sorts.specs.Constraints.{IsClaim, Begins, IsRankedIf, HasBody};
+ghost use Rattle.hs_sorts.specs.Solving.{IsLayout, LaysOut, EachBefore, BodiesBelow, HaveBodies};
 ghost use Rattle.hs_sorts.specs.Solution.{IsSolution};
 
-use crate::constraints::{make_arrows, make_body, make_ranked_if};
+use crate::constraints::{make_base, make_body, make_ranked_if, rest_behind};
 use crate::layout::Layout;
 use crate::store::{Shape, Store};
 use hs_scheme::{OutOfMemory, Rule};
@@ -21,7 +21,7 @@ pub struct Solved {
 }
 
 /// The nodes of a scheme and what its first `count` rules ask of them, or `None` where they have no
-/// sorting. Time is almost linear in the number of nodes, and memory linear.
+/// sorting. No link leads to a link. Time is almost linear in the number of nodes, and memory linear.
 pub fn solve(
     alloc: Global,
     rules: &[Rule],
@@ -37,12 +37,16 @@ pub fn solve(
     if !make_nonterminals(alloc, &mut store, &layout, rules)? {
         return Ok(None);
     }
+    if !make_base(alloc, &mut store, 0)? {
+        return Ok(None);
+    }
     if !make_terminals(alloc, &mut store, &layout, ranks)? {
         return Ok(None);
     }
     if !make_bodies(alloc, &mut store, &layout, rules, count)? {
         return Ok(None);
     }
+    store.flatten();
     Ok(Some(Solved { store, layout }))
 }
 
@@ -74,7 +78,7 @@ fn lay_out(
     })
 }
 
-/// Gives each nonterminal the sort with its parameters' sorts as its arguments.
+/// Gives each nonterminal a sort that begins with its parameters' sorts.
 fn make_nonterminals(
     alloc: Global,
     store: &mut Store,
@@ -84,16 +88,11 @@ fn make_nonterminals(
     requires layout { IsLayout rules.now 0 (length store.old) layout.now.rules layout.now.firsts.items (length rules.now) }
     requires few { length store.old ≤ 2 ^ 32 }
     ensures { IfOk result (λ yes. IsClaim store.old store.new
-        (EachBefore (λ f rule. HasArguments f (slice_index layout.now.firsts.items f) rule.params) rules.now (length rules.now)) yes) }
+        (EachBefore (λ f rule. Begins f (slice_index layout.now.firsts.items f) rule.params) rules.now (length rules.now)) yes) }
 {
     for (number, rule) in rules.iter().enumerate() {
-        if !make_arrows(
-            alloc,
-            store,
-            number as u32,
-            layout.firsts[number],
-            rule.params,
-        )? {
+        let first = layout.firsts[number];
+        if rest_behind(alloc, store, number as u32, first, rule.params)?.is_none() {
             return Ok(false);
         }
     }
@@ -120,7 +119,7 @@ fn make_terminals(
     Ok(true)
 }
 
-/// Gives the bodies of the first `count` rules the sort `o`.
+/// Gives the bodies of the first `count` rules what is left of their nonterminals' sorts.
 fn make_bodies(
     alloc: Global,
     store: &mut Store,
@@ -129,14 +128,14 @@ fn make_bodies(
     count: usize,
 ) -> Result<bool, OutOfMemory>
     requires count { count ≤ length rules.now }
-    requires each_rule { length layout.now.firsts.items ≡ length rules.now }
+    requires layout { IsLayout rules.now 0 (length store.old) layout.now.rules layout.now.firsts.items (length rules.now) }
     requires nodes { BodiesBelow rules.now layout.now.rules layout.now.firsts.items (length store.old) }
     requires few { length store.old ≤ 2 ^ 32 }
     ensures { IfOk result (λ yes. IsClaim store.old store.new
-        (EachBefore (λ f rule. HasBase (node_of layout.now.rules layout.now.firsts.items f) rule.body) rules.now count) yes) }
+        (HaveBodies rules.now layout.now.rules layout.now.firsts.items count) yes) }
 {
     for rule in 0..count {
-        if !make_body(alloc, store, layout, rule, &rules[rule].body)? {
+        if !make_body(alloc, store, layout, rule, &rules[rule])? {
             return Ok(false);
         }
     }

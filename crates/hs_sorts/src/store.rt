@@ -1,8 +1,8 @@
 //! Unknown sorts as shared nodes, and unification over them.
 
-ghost use Rattle.std.specs.Prelude.{◌≡◌, ◌++◌, ◌∷◌, [], ◌<◌, ◌≤◌, ◌^◌, IfOk, length, replicate, slice_get, Some, min, max};
+ghost use Rattle.std.specs.Prelude.{◌≡◌, ◌+◌, ◌++◌, ◌∷◌, [], ◌<◌, ◌≤◌, ◌^◌, IfOk, length, replicate, slice_get, Some, min, max};
 ghost use Rattle.hs_sorts.specs.declared.store.Node.TheVariants.{Root, Link};
-ghost use Rattle.hs_sorts.specs.Nodes.{IsStore, ShapeInRange, IsSameStore, AreRoots, linked, IsRootOf, IsMerge, IsJoin, IsEquation};
+ghost use Rattle.hs_sorts.specs.Nodes.{IsStore, ShapeInRange, IsSameStore, FlatBelow, IsFlat, AreRoots, linked, IsRootOf, IsMerge, IsJoin, IsEquation};
 
 use hs_scheme::OutOfMemory;
 use std::alloc::Global;
@@ -94,10 +94,24 @@ impl Store {
     /// Turns the link from `at` to `up` to where the link from `up` leads, if there is one.
     fn shorten(&mut self, at: u32, up: u32)
         requires { slice_get self.old at ≡ Some (Link up) }
-        ensures { IsSameStore self.old self.new }
+        ensures same { IsSameStore self.old self.new }
+        ensures flat { FlatBelow at self.old → FlatBelow (at + 1) self.new }
     {
         if let Node::Link(top) = self.nodes[up as usize] {
             self.nodes[at as usize] = Node::Link(top);
+        }
+    }
+
+    /// Turns each link to the node at the end of the links from it. Links lead to smaller numbers, so
+    /// that one pass does: linear in the number of nodes.
+    pub fn flatten(&mut self)
+        ensures same { IsSameStore self.old self.new }
+        ensures flat { IsFlat self.new }
+    {
+        for node in 0..self.nodes.len() {
+            if let Node::Link(up) = self.nodes[node] {
+                self.shorten(node as u32, up);
+            }
         }
     }
 

@@ -144,29 +144,68 @@ fn one(alloc: Global, head: Head, arg: Term) -> Result<Term, OutOfMemory> {
     Ok(term)
 }
 
+/// A head with two arguments.
+fn two(alloc: Global, head: Head, first: Term, second: Term) -> Result<Term, OutOfMemory> {
+    let mut term = one(alloc, head, first)?;
+    term.args.push(second)?;
+    Ok(term)
+}
+
+/// One rule after the others.
+fn push(rules: &mut Vec<Rule>, params: u32, body: Term) -> Result<(), OutOfMemory> {
+    rules.push(Rule { params, body })?;
+    Ok(())
+}
+
 /// The rules `S -> c`, where `c` is terminal 0.
 fn start(alloc: Global) -> Result<Vec<Rule>, OutOfMemory> {
     let mut rules = Vec::new(alloc);
-    rules.push(Rule {
-        params: 0,
-        body: leaf(alloc, Head::Tm(0)),
-    })?;
+    push(&mut rules, 0, leaf(alloc, Head::Tm(0)))?;
+    Ok(rules)
+}
+
+/// The rules `S -> F F` and `F x -> c`.
+fn self_application(alloc: Global) -> Result<Vec<Rule>, OutOfMemory> {
+    let mut rules = Vec::new(alloc);
+    let body = one(alloc, Head::Nt(1), leaf(alloc, Head::Nt(1)))?;
+    push(&mut rules, 0, body)?;
+    push(&mut rules, 1, leaf(alloc, Head::Tm(0)))?;
+    Ok(rules)
+}
+
+/// The rules `S -> G` and `G x -> c`.
+fn start_with_an_argument(alloc: Global) -> Result<Vec<Rule>, OutOfMemory> {
+    let mut rules = Vec::new(alloc);
+    push(&mut rules, 0, leaf(alloc, Head::Nt(1)))?;
+    push(&mut rules, 1, leaf(alloc, Head::Tm(0)))?;
+    Ok(rules)
+}
+
+/// The rules `S -> b F` and `F x -> x`, where `b` is terminal 1.
+fn higher_terminal(alloc: Global) -> Result<Vec<Rule>, OutOfMemory> {
+    let mut rules = Vec::new(alloc);
+    let body = one(alloc, Head::Tm(1), leaf(alloc, Head::Nt(1)))?;
+    push(&mut rules, 0, body)?;
+    push(&mut rules, 1, leaf(alloc, Head::Var(0)))?;
+    Ok(rules)
+}
+
+/// The rules `S -> G b` and `G x -> c`, where `c` is terminal 0.
+fn open(alloc: Global) -> Result<Vec<Rule>, OutOfMemory> {
+    let mut rules = Vec::new(alloc);
+    let body = one(alloc, Head::Nt(1), leaf(alloc, Head::Tm(1)))?;
+    push(&mut rules, 0, body)?;
+    push(&mut rules, 1, leaf(alloc, Head::Tm(0)))?;
     Ok(rules)
 }
 
 /// The rules `S -> c`, `T0 x -> x` and `Ti f -> f T(i-1)` for i up to `last`.
 fn chain(alloc: Global, last: u32) -> Result<Vec<Rule>, OutOfMemory> {
     let mut rules = start(alloc)?;
-    rules.push(Rule {
-        params: 1,
-        body: leaf(alloc, Head::Var(0)),
-    })?;
+    push(&mut rules, 1, leaf(alloc, Head::Var(0)))?;
     for number in 0..last {
         let before = leaf(alloc, Head::Nt(number.saturating_add(1)));
-        rules.push(Rule {
-            params: 1,
-            body: one(alloc, Head::Var(0), before)?,
-        })?;
+        push(&mut rules, 1, one(alloc, Head::Var(0), before)?)?;
     }
     Ok(rules)
 }
@@ -175,12 +214,13 @@ fn chain(alloc: Global, last: u32) -> Result<Vec<Rule>, OutOfMemory> {
 fn doubling(alloc: Global) -> Result<Vec<Rule>, OutOfMemory> {
     let mut body = leaf(alloc, Head::Tm(1));
     for number in 0..59_u32 {
-        let mut arg = one(alloc, Head::Var(number + 1), leaf(alloc, Head::Var(number)))?;
-        arg.args.push(leaf(alloc, Head::Var(number)))?;
-        body.args.push(arg)?;
+        let first = leaf(alloc, Head::Var(number));
+        let second = leaf(alloc, Head::Var(number));
+        body.args
+            .push(two(alloc, Head::Var(number + 1), first, second)?)?;
     }
     let mut rules = start(alloc)?;
-    rules.push(Rule { params: 60, body })?;
+    push(&mut rules, 60, body)?;
     Ok(rules)
 }
 
@@ -188,12 +228,78 @@ fn doubling(alloc: Global) -> Result<Vec<Rule>, OutOfMemory> {
 fn cycle(alloc: Global) -> Result<Vec<Rule>, OutOfMemory> {
     let mut rules = start(alloc)?;
     for next in [2, 3, 4, 5, 1] {
-        rules.push(Rule {
-            params: 1,
-            body: one(alloc, Head::Var(0), leaf(alloc, Head::Nt(next)))?,
-        })?;
+        let body = one(alloc, Head::Var(0), leaf(alloc, Head::Nt(next)))?;
+        push(&mut rules, 1, body)?;
     }
     Ok(rules)
+}
+
+/// The rules `S -> c`, `F` with these many parameters and the body `G`, and `G` with 32 parameters
+/// and the body `c`.
+fn long(alloc: Global, params: u32) -> Result<Vec<Rule>, OutOfMemory> {
+    let mut rules = start(alloc)?;
+    push(&mut rules, params, leaf(alloc, Head::Nt(2)))?;
+    push(&mut rules, 32, leaf(alloc, Head::Tm(0)))?;
+    Ok(rules)
+}
+
+/// The rules `S -> F c` and `F -> a`, or `F x -> a x`.
+fn lengthened_rule(alloc: Global, full: bool) -> Result<Vec<Rule>, OutOfMemory> {
+    let mut rules = Vec::new(alloc);
+    let body = one(alloc, Head::Nt(1), leaf(alloc, Head::Tm(0)))?;
+    push(&mut rules, 0, body)?;
+    if full {
+        let body = one(alloc, Head::Tm(1), leaf(alloc, Head::Var(0)))?;
+        push(&mut rules, 1, body)?;
+    } else {
+        push(&mut rules, 0, leaf(alloc, Head::Tm(1)))?;
+    }
+    Ok(rules)
+}
+
+/// The rules `S -> Ap a c` and `Ap f -> f`, or `Ap f x -> f x`.
+fn lengthened_identity(alloc: Global, full: bool) -> Result<Vec<Rule>, OutOfMemory> {
+    let mut rules = Vec::new(alloc);
+    let first = leaf(alloc, Head::Tm(1));
+    let body = two(alloc, Head::Nt(1), first, leaf(alloc, Head::Tm(0)))?;
+    push(&mut rules, 0, body)?;
+    if full {
+        let body = one(alloc, Head::Var(0), leaf(alloc, Head::Var(1)))?;
+        push(&mut rules, 2, body)?;
+    } else {
+        push(&mut rules, 1, leaf(alloc, Head::Var(0)))?;
+    }
+    Ok(rules)
+}
+
+/// The rules `S -> F c c`, `F -> G`, `G -> H` and `H -> d`, or `F x y -> G x y` and so on.
+fn three_calls(alloc: Global, full: bool) -> Result<Vec<Rule>, OutOfMemory> {
+    let mut rules = Vec::new(alloc);
+    let first = leaf(alloc, Head::Tm(0));
+    let body = two(alloc, Head::Nt(1), first, leaf(alloc, Head::Tm(0)))?;
+    push(&mut rules, 0, body)?;
+    for head in [Head::Nt(2), Head::Nt(3), Head::Tm(1)] {
+        if full {
+            let first = leaf(alloc, Head::Var(0));
+            let body = two(alloc, head, first, leaf(alloc, Head::Var(1)))?;
+            push(&mut rules, 2, body)?;
+        } else {
+            push(&mut rules, 0, leaf(alloc, head))?;
+        }
+    }
+    Ok(rules)
+}
+
+/// The scheme that is answered, if one is.
+fn sorted(
+    alloc: Global,
+    rules: Vec<Rule>,
+    ranks: Vec<Option<u32>>,
+) -> Result<Option<Sorted>, OutOfMemory> {
+    match answer(alloc, rules, ranks)? {
+        Some(Ok(sorted)) => Ok(Some(sorted)),
+        _ => Ok(None),
+    }
 }
 
 /// The size of a sort, by its definition.
@@ -212,7 +318,7 @@ fn sizes(
     ranks: Vec<Option<u32>>,
 ) -> Result<Vec<u32>, OutOfMemory> {
     let mut sizes = Vec::new(alloc);
-    if let Some(Ok(sorted)) = answer(alloc, rules, ranks)? {
+    if let Some(sorted) = sorted(alloc, rules, ranks)? {
         let copy = sorted.copy(alloc)?;
         for sort in &copy.sorts {
             sizes.push(size(sort))?;
@@ -221,116 +327,148 @@ fn sizes(
     Ok(sizes)
 }
 
-#[test]
-fn self_application_is_ill_sorted(rt: HostRuntime) -> Result<(), Fail> {
-    let alloc = rt.alloc();
-    let mut rules = Vec::new(alloc);
-    rules.push(Rule {
-        params: 0,
-        body: one(alloc, Head::Nt(1), leaf(alloc, Head::Nt(1)))?,
-    })?;
-    rules.push(Rule {
-        params: 1,
-        body: leaf(alloc, Head::Tm(0)),
-    })?;
-    let ranks = [Some(0)].to_vec(alloc)?;
-    assert_eq!(rt;
-        fault(alloc, rules, ranks)?,
-        Some(SortFault::IllSorted { rule: 0 })
-    );
-    Ok(())
+/// The rules, ranks and sorts that are answered, as they are printed.
+fn printed(alloc: Global, sorted: &Option<Sorted>) -> Result<String, OutOfMemory> {
+    match sorted {
+        Some(sorted) => Ok(format!(in alloc; "{:?} {:?}", sorted.scheme, sorted.sorts)?),
+        None => Ok(format!(in alloc; "none")?),
+    }
+}
+
+/// The names of the parameters, those of a rule ended by a full stop.
+fn parameters(alloc: Global, sorted: &Option<Sorted>) -> Result<Vec<u8>, OutOfMemory> {
+    let mut text = Vec::new(alloc);
+    if let Some(sorted) = sorted {
+        for names in &sorted.names.params {
+            for name in names {
+                text.extend_from_slice(name.bytes())?;
+                text.push(b' ')?;
+            }
+            text.push(b'.')?;
+        }
+    }
+    Ok(text)
+}
+
+/// The numbers of parameters of the rules that are answered.
+fn parameter_counts(
+    alloc: Global,
+    rules: Vec<Rule>,
+    ranks: Vec<Option<u32>>,
+) -> Result<Vec<u32>, OutOfMemory> {
+    let mut counts = Vec::new(alloc);
+    if let Some(sorted) = sorted(alloc, rules, ranks)? {
+        let scheme = sorted.scheme.copy(alloc)?;
+        for rule in &scheme.rules {
+            counts.push(rule.params)?;
+        }
+    }
+    Ok(counts)
 }
 
 #[test]
-fn an_open_sort_is_that_of_trees(rt: HostRuntime) -> Result<(), Fail> {
+fn schemes_without_a_sorting_or_past_a_limit(rt: HostRuntime) -> Result<(), Fail> {
     let alloc = rt.alloc();
-    let mut rules = Vec::new(alloc);
-    rules.push(Rule {
-        params: 0,
-        body: one(alloc, Head::Nt(1), leaf(alloc, Head::Tm(0)))?,
-    })?;
-    rules.push(Rule {
-        params: 1,
-        body: leaf(alloc, Head::Tm(1)),
-    })?;
-    let ranks = [None, Some(0)].to_vec(alloc)?;
-    assert_eq!(rt; sizes(alloc, rules, ranks)?.as_slice(), [1, 3].as_slice());
-    Ok(())
-}
-
-#[test]
-fn a_terminal_takes_no_functions(rt: HostRuntime) -> Result<(), Fail> {
-    let alloc = rt.alloc();
-    let mut rules = Vec::new(alloc);
-    rules.push(Rule {
-        params: 0,
-        body: one(alloc, Head::Tm(1), leaf(alloc, Head::Nt(1)))?,
-    })?;
-    rules.push(Rule {
-        params: 1,
-        body: leaf(alloc, Head::Var(0)),
-    })?;
-    let ranks = [Some(0), None].to_vec(alloc)?;
-    assert_eq!(rt;
-        fault(alloc, rules, ranks)?,
-        Some(SortFault::TerminalNotFirstOrder { terminal: 1 })
-    );
-    Ok(())
-}
-
-#[test]
-fn a_body_is_a_tree(rt: HostRuntime) -> Result<(), Fail> {
-    let alloc = rt.alloc();
-    let ranks = [Some(1)].to_vec(alloc)?;
-    assert_eq!(rt;
-        fault(alloc, start(alloc)?, ranks)?,
-        Some(SortFault::IllSorted { rule: 0 })
-    );
-    Ok(())
-}
-
-#[test]
-fn the_first_rule_of_a_cycle_without_a_sorting_is_the_last(rt: HostRuntime) -> Result<(), Fail> {
-    let alloc = rt.alloc();
-    let ranks = [Some(0)].to_vec(alloc)?;
-    assert_eq!(rt;
-        fault(alloc, cycle(alloc)?, ranks)?,
-        Some(SortFault::IllSorted { rule: 5 })
-    );
-    Ok(())
-}
-
-#[test]
-fn a_sort_of_size_999_is_small(rt: HostRuntime) -> Result<(), Fail> {
-    let alloc = rt.alloc();
-    let ranks = [Some(0)].to_vec(alloc)?;
-    let sizes = sizes(alloc, chain(alloc, 249)?, ranks)?;
-    assert_eq!(rt; sizes.len(), 251);
-    assert_eq!(rt; sizes[250], 999);
-    Ok(())
-}
-
-#[test]
-fn larger_sorts_are_too_large(rt: HostRuntime) -> Result<(), Fail> {
-    let alloc = rt.alloc();
-    for last in [250, 19_998] {
-        let ranks = [Some(0)].to_vec(alloc)?;
-        assert_eq!(rt;
-            fault(alloc, chain(alloc, last)?, ranks)?,
-            Some(SortFault::SortTooLarge { rule: 251 })
-        );
+    let ill_sorted = |rule| SortFault::IllSorted { rule };
+    let rows = [
+        (self_application(alloc)?, Some(0), None, ill_sorted(0)),
+        (start(alloc)?, Some(1), None, ill_sorted(0)),
+        (start_with_an_argument(alloc)?, Some(0), None, ill_sorted(0)),
+        (cycle(alloc)?, Some(0), None, ill_sorted(5)),
+        (
+            higher_terminal(alloc)?,
+            Some(0),
+            None,
+            SortFault::TerminalNotFirstOrder { terminal: 1 },
+        ),
+        (
+            chain(alloc, 250)?,
+            Some(0),
+            None,
+            SortFault::SortTooLarge { rule: 251 },
+        ),
+        (
+            chain(alloc, 19_998)?,
+            Some(0),
+            None,
+            SortFault::SortTooLarge { rule: 251 },
+        ),
+        (
+            doubling(alloc)?,
+            Some(0),
+            None,
+            SortFault::SortTooLarge { rule: 1 },
+        ),
+        (
+            long(alloc, 33)?,
+            Some(0),
+            None,
+            SortFault::RuleTooLong { rule: 1 },
+        ),
+    ];
+    for (rules, first, second, expected) in Vec::from_array(alloc, rows)? {
+        let ranks = [first, second].to_vec(alloc)?;
+        assert_eq!(rt; fault(alloc, rules, ranks)?, Some(expected));
     }
     Ok(())
 }
 
 #[test]
-fn a_sort_that_doubles_sixty_times_is_too_large(rt: HostRuntime) -> Result<(), Fail> {
+fn sorts_have_their_least_sizes(rt: HostRuntime) -> Result<(), Fail> {
     let alloc = rt.alloc();
     let ranks = [Some(0), None].to_vec(alloc)?;
-    assert_eq!(rt;
-        fault(alloc, doubling(alloc)?, ranks)?,
-        Some(SortFault::SortTooLarge { rule: 1 })
-    );
+    let open_sizes = sizes(alloc, open(alloc)?, ranks)?;
+    assert_eq!(rt; open_sizes.as_slice(), [1, 3].as_slice());
+    let ranks = [Some(0)].to_vec(alloc)?;
+    let chain_sizes = sizes(alloc, chain(alloc, 249)?, ranks)?;
+    assert_eq!(rt; chain_sizes.len(), 251);
+    assert_eq!(rt; chain_sizes[250], 999);
+    Ok(())
+}
+
+#[test]
+fn short_rules_become_the_full_ones(rt: HostRuntime) -> Result<(), Fail> {
+    let alloc = rt.alloc();
+    let rows = [
+        (
+            lengthened_rule(alloc, false)?,
+            lengthened_rule(alloc, true)?,
+            1,
+            b".~1 .".as_slice(),
+        ),
+        (
+            lengthened_identity(alloc, false)?,
+            lengthened_identity(alloc, true)?,
+            1,
+            b".x ~1 .".as_slice(),
+        ),
+        (
+            three_calls(alloc, false)?,
+            three_calls(alloc, true)?,
+            2,
+            b".~1 ~2 .~1 ~2 .~1 ~2 .".as_slice(),
+        ),
+    ];
+    for (short, full, rank, expected) in Vec::from_array(alloc, rows)? {
+        let ranks = [Some(0), Some(rank)].to_vec(alloc)?;
+        let same = ranks.to_vec(alloc)?;
+        let lengthened = sorted(alloc, short, ranks)?;
+        let written = sorted(alloc, full, same)?;
+        let text = printed(alloc, &lengthened)?;
+        let full_text = printed(alloc, &written)?;
+        assert_eq!(rt; text.as_str(), full_text.as_str());
+        let names = parameters(alloc, &lengthened)?;
+        assert_eq!(rt; names.as_slice(), expected);
+    }
+    Ok(())
+}
+
+#[test]
+fn a_rule_with_64_parameters_is_not_too_long(rt: HostRuntime) -> Result<(), Fail> {
+    let alloc = rt.alloc();
+    let ranks = [Some(0)].to_vec(alloc)?;
+    let counts = parameter_counts(alloc, long(alloc, 32)?, ranks)?;
+    assert_eq!(rt; counts.as_slice(), [0, 64, 32].as_slice());
     Ok(())
 }
 
@@ -348,6 +486,10 @@ fn faults_are_printed(rt: HostRuntime) -> Result<(), Fail> {
         (
             SortFault::SortTooLarge { rule: 20 },
             "rule 20 counted from 0: sort too large",
+        ),
+        (
+            SortFault::RuleTooLong { rule: 3 },
+            "rule 3 counted from 0: too long",
         ),
         (SortFault::OutOfMemory, "out of memory"),
     ];

@@ -1,37 +1,14 @@
 -- Texts that are written piece by piece.
 use Rattle.std.proofs.Common.{◌≡◌, refl, sym, ◌∙◌, ap, ℕ, zero, suc, ◌+◌, true, false, nat_eq, List, [], ◌∷◌, ◌++◌, codes, length, take, slice_get, Some, add-one, append_assoc, arith}
 use Rattle.std.specs.List.{flat_map, enumerate_from}
+use Rattle.std.proofs.lemmas.List.{append-nil, take_more}
+use Rattle.std.proofs.lemmas.List.Concat.{flat_map-append}
+use Rattle.std.proofs.lemmas.Option.{get_or_from_slice_get, same_Some, slice_get_within}
 use Rattle.hs_scheme.specs.declared.term.Head.{Head}
 use Rattle.hs_scheme.specs.declared.term.Rule.{Rule}
 use Rattle.hs_scheme.specs.Tree.{Tree, node, forest}
 use Rattle.hs_scheme.specs.Names.{NamesData}
 use Rattle.hs_text.specs.Canonical.{opening, closing, term_text, args_text, rule_text, rules_text, params_at}
-
-append-nil : {A : Type 0} (xs : List A) → xs ++ [] ≡ xs
-append-nil [] = refl
-append-nil (x ∷ xs) = ap (λ ys. x ∷ ys) (append-nil xs)
-
-same_some : {A : Type 0} (x y : A) → Some x ≡ Some y → x ≡ y
-same_some x y h = (cc)
-
-take-push_suc : {A : Type 0} (x : A) (ys : List A) (j : ℕ) → slice_get ys j ≡ Some x → take (suc j) ys ≡ take j ys ++ x ∷ []
-take-push_suc x [] j at = absurd (cc)
-take-push_suc x (y ∷ ys) zero at = ap (λ z. z ∷ []) (same_some y x at)
-take-push_suc x (y ∷ ys) (suc j) at = ap (λ zs. y ∷ zs) (take-push_suc x ys j at)
-
-take-push : {A : Type 0} (xs : List A) (i : ℕ) (x : A) → slice_get xs i ≡ Some x → take (i + 1) xs ≡ take i xs ++ x ∷ []
-take-push xs i x at = rw add-one (take-push_suc x xs i at)
-
-flat_map-push : {A B : Type 0} (f : A → List B) (xs : List A) (x : A) → flat_map f (xs ++ x ∷ []) ≡ flat_map f xs ++ f x
-flat_map-push f [] x = append-nil (f x)
-flat_map-push f (y ∷ ys) x = ap (λ zs. f y ++ zs) (flat_map-push f ys x) ∙ sym (append_assoc (f y) (flat_map f ys) (f x))
-
--- one more item of a text that is written item by item
-pub item-more : {A : Type 0} (f : A → List ℕ) (items : List A) (n : ℕ) (x : A) (first old new : List ℕ) → slice_get items n ≡ Some x
-    → old ≡ first ++ flat_map f (take n items) → new ≡ old ++ f x → new ≡ first ++ flat_map f (take (n + 1) items)
-item-more f items n x first old new at was e =
-    e ∙ (ap (λ t. t ++ f x) was ∙ (append_assoc first (flat_map f (take n items)) (f x)
-    ∙ ap (λ t. first ++ t) (sym (ap (flat_map f) (take-push items n x at) ∙ flat_map-push f (take n items) x))))
 
 -- one more argument
 args-push : (names : NamesData) (params : List (List ℕ)) (ts : List (Tree Head)) (t : Tree Head)
@@ -46,17 +23,18 @@ pub argument-more : (names : NamesData) (params : List (List ℕ)) (args : List 
     → new ≡ first ++ args_text names params (forest (take (n + 1) args))
 argument-more names params args n t first old opened written new at was o w e =
     let so_far = args_text names params (forest (take n args)) in
+    let more : take (n + 1) args ≡ take n args ++ t ∷ [] = take_more args n t (slice_get_within args n t at) ∙ ap (λ u. take n args ++ u ∷ []) (get_or_from_slice_get args n t t at) in
     let next : new ≡ old ++ (opening t ++ (term_text names params t ++ closing t)) =
     e ∙ (ap (λ r. r ++ closing t) (w ∙ ap (λ r. r ++ term_text names params t) o)
     ∙ (append_assoc (old ++ opening t) (term_text names params t) (closing t) ∙ append_assoc old (opening t) (term_text names params t ++ closing t))) in
     next ∙ (ap (λ r. r ++ (opening t ++ (term_text names params t ++ closing t))) was
     ∙ (append_assoc first so_far (opening t ++ (term_text names params t ++ closing t))
-    ∙ ap (λ r. first ++ r) (sym (ap (λ ts. args_text names params (forest ts)) (take-push args n t at) ∙ args-push names params (take n args) t))))
+    ∙ ap (λ r. first ++ r) (sym (ap (λ ts. args_text names params (forest ts)) more ∙ args-push names params (take n args) t))))
 
 -- one more rule
 enumerate-push : {A : Type 0} (k : ℕ) (xs : List A) (n : ℕ) (x : A) → slice_get xs n ≡ Some x → enumerate_from k (take (suc n) xs) ≡ enumerate_from k (take n xs) ++ (k + n, x) ∷ []
 enumerate-push k [] n x at = absurd (cc)
-enumerate-push k (y ∷ ys) zero x at = let e : k ≡ k + 0 = omega arith in λ i. (e i, same_some y x at i) ∷ []
+enumerate-push k (y ∷ ys) zero x at = let e : k ≡ k + 0 = omega arith in λ i. (e i, same_Some y x at i) ∷ []
 enumerate-push k (y ∷ ys) (suc n) x at =
     let e : k + 1 + n ≡ k + suc n = omega arith in ap (λ zs. (k, y) ∷ zs) (enumerate-push (k + 1) ys n x at ∙ ap (λ m. enumerate_from (k + 1) (take n ys) ++ (m, x) ∷ []) e)
 
@@ -69,7 +47,7 @@ rule-more names rules n r first old new at was e =
     let pushed : enumerate_from 0 (take (n + 1) rules) ≡ enumerate_from 0 (take n rules) ++ (n, r) ∷ [] =
     rw add-one (enumerate-push 0 rules n r at ∙ ap (λ m. enumerate_from 0 (take n rules) ++ (m, r) ∷ []) zero_n) in
     e ∙ (ap (λ t. t ++ f (n, r)) was ∙ (append_assoc first (rules_text names (take n rules)) (f (n, r))
-    ∙ ap (λ t. first ++ t) (sym (ap (flat_map f) pushed ∙ flat_map-push f (enumerate_from 0 (take n rules)) (n, r)))))
+    ∙ ap (λ t. first ++ t) (sym (ap (flat_map f) pushed ∙ (flat_map-append f (enumerate_from 0 (take n rules)) ((n, r) ∷ []) ∙ ap (λ t. flat_map f (enumerate_from 0 (take n rules)) ++ t) (append-nil (f (n, r))))))))
 
 -- what stands round an argument that has arguments
 pub opening-many : (h : Head) (ts : List (Tree Head)) (n : ℕ) → n ≡ length ts → nat_eq n 0 ≡ false → opening (node h (forest ts)) ≡ codes " ("

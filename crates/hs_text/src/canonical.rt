@@ -25,7 +25,8 @@ fn push_head(
     head: Head,
     text: &mut Vec<u8>,
 ) -> Result<(), OutOfMemory>
-    ensures { OnOk result (text.new.items ≡ text.old.items ++ canonical.head_text names.now params.now head) }
+    ensures { OnOk result (text.new.items
+        ≡ text.old.items ++ canonical.head_text names.now params.now head) }
 {
     match head {
         Head::Var(parameter) => push_name(params, parameter as usize, text),
@@ -63,7 +64,8 @@ fn push_term(
     term: &Term,
     text: &mut Vec<u8>,
 ) -> Result<(), OutOfMemory>
-    ensures { OnOk result (text.new.items ≡ text.old.items ++ canonical.term_text names.now params.now term.now) }
+    ensures { OnOk result (text.new.items
+        ≡ text.old.items ++ canonical.term_text names.now params.now term.now) }
 {
     push_head(names, params, term.head, text)?;
     for arg in &term.args {
@@ -93,7 +95,8 @@ fn push_rule(
     rule: &Rule,
     text: &mut Vec<u8>,
 ) -> Result<(), OutOfMemory>
-    ensures { OnOk result (text.new.items ≡ text.old.items ++ canonical.rule_text names.now number params.now rule.now) }
+    ensures { OnOk result (text.new.items
+        ≡ text.old.items ++ canonical.rule_text names.now number params.now rule.now) }
 {
     push_name(names.rules.as_slice(), number, text)?;
     text.extend_from_slice(b" ")?;
@@ -116,7 +119,8 @@ fn params_of(names: &Names, number: usize) -> &[Name]
 
 /// Puts the rules at the end.
 fn push_rules(names: &Names, rules: &[Rule], text: &mut Vec<u8>) -> Result<(), OutOfMemory>
-    ensures { OnOk result (text.new.items ≡ text.old.items ++ canonical.rules_text names.now rules.now) }
+    ensures { OnOk result (text.new.items
+        ≡ text.old.items ++ canonical.rules_text names.now rules.now) }
 {
     for (number, rule) in rules.iter().enumerate() {
         push_rule(names, number, params_of(names, number), rule, text)?;
@@ -126,7 +130,8 @@ fn push_rules(names: &Names, rules: &[Rule], text: &mut Vec<u8>) -> Result<(), O
 
 /// Puts the states on the right of a transition at the end.
 fn push_states(names: &Names, states: &[u32], text: &mut Vec<u8>) -> Result<(), OutOfMemory>
-    ensures { OnOk result (text.new.items ≡ text.old.items ++ canonical.states_text names.now states.now) }
+    ensures { OnOk result (text.new.items
+        ≡ text.old.items ++ canonical.states_text names.now states.now) }
 {
     if states.is_empty() {
         text.extend_from_slice(b" ")?;
@@ -144,7 +149,8 @@ fn push_transition(
     transition: &Transition,
     text: &mut Vec<u8>,
 ) -> Result<(), OutOfMemory>
-    ensures { OnOk result (text.new.items ≡ text.old.items ++ canonical.transition_text names.now transition.now) }
+    ensures { OnOk result (text.new.items
+        ≡ text.old.items ++ canonical.transition_text names.now transition.now) }
 {
     push_name(names.states.as_slice(), transition.from as usize, text)?;
     text.extend_from_slice(b" ")?;
@@ -165,7 +171,8 @@ fn push_transitions(
     transitions: &[Transition],
     text: &mut Vec<u8>,
 ) -> Result<(), OutOfMemory>
-    ensures { OnOk result (text.new.items ≡ text.old.items ++ flat_map (canonical.transition_text names.now) transitions.now) }
+    ensures { OnOk result (text.new.items
+        ≡ text.old.items ++ flat_map (canonical.transition_text names.now) transitions.now) }
 {
     for transition in transitions {
         push_transition(names, transition, text)?;

@@ -1,4 +1,4 @@
-use super::{Points, PointsFault};
+use super::{Argument, Points, PointsFault};
 use crate::checked::scheme_of;
 use crate::memory::OutOfMemory;
 use crate::scheme::Scheme;
@@ -106,6 +106,14 @@ fn points_in_preorder(rt: HostRuntime) -> Result<(), Fail> {
     assert_eq!(rt; points.rule_of(7), 1);
     assert!(rt; points.head_of(5) == Head::Nt(1));
     assert!(rt; points.head_of(6) == Head::Tm(2));
+    assert_eq!(rt; points.argument_of(2), None);
+    assert_eq!(rt;
+        points.argument_of(4),
+        Some(Argument { point: 2, place: 1 })
+    );
+    assert_eq!(rt; points.params().rules(), 2);
+    assert_eq!(rt; points.params().number(1, 0), Some(0));
+    assert_eq!(rt; points.params().number(0, 0), None);
     Ok(())
 }
 

@@ -1,18 +1,17 @@
 use Rattle.std.proofs.Common.{◌≡◌, ◌≤◌, ◌-◌, ℕ, List, vec_len}
-use Rattle.std.specs.Io.KnownBytes.{prepend_known}
+use Rattle.hs_edge.specs.Reading.{ReadsOn}
 use Rattle.hs_edge.proofs.whole.read_all.Given as goal
 
 abbrev pub invariant-pieces : goal.invariant-pieces
 invariant-pieces g l =
     let left = g.S.Source.left in
-    let begun = g.S.Source.begun in
+    let reading = g.S.Source.reading in
     let faults = g.S.Source.faults in
     let file = g.S.Source.file in
     record {
-      read : left l.fn.source ≡ prepend_known l.bytes.items (left l.source);
+      read : ReadsOn (reading l.fn.source) (left l.fn.source) l.bytes.items (reading l.fn.source).ended (reading l.source) (left l.source);
       within : vec_len l.bytes ≤ l.limit;
-      same_begun : begun l.source ≡ begun l.fn.source;
-      never_falls : (any : List ℕ) → faults l.fn.source any ≤ faults l.source any;
+      same_faults : (any : List ℕ) → faults l.source any ≡ faults l.fn.source any;
       same_files : (any : List ℕ) → file l.source any ≡ file l.fn.source any;
     }
 

@@ -1,4 +1,4 @@
-use Rattle.std.proofs.Common.{sym, ◌∙◌, ap, subst, List, [], ◌∷◌, ◌++◌, length, take, arith, Vec}
+use Rattle.std.proofs.Common.{◌≡◌, ◌↔◌, ◌+◌, Contains, sym, ◌∙◌, ap, subst, List, [], ◌∷◌, ◌++◌, length, take, arith, Vec}
 use Rattle.std.specs.declared.alloc.Global.{Global}
 use Rattle.std.specs.List.Sorted.{IsPermutation}
 use Rattle.std.proofs.lemmas.List.{take_all, append-nil}
@@ -6,9 +6,9 @@ use Rattle.hs_scheme.specs.declared.flow.FlowPair.{FlowPair}
 use Rattle.hs_scheme.specs.declared.flow.HeadPair.{HeadPair}
 use Rattle.hs_scheme.specs.declared.flow.Pair.{Pair}
 use Rattle.hs_scheme.specs.declared.flow.Pair.TheVariants.{OfFlow}
-use Rattle.hs_scheme.specs.Flow.{flow_cmp, head_cmp}
+use Rattle.hs_scheme.specs.Flow.{FlowData, IsFlowTable, pairs_of, flow_cmp, head_cmp}
 use Rattle.hs_scheme.proofs.FlowLemmas.{flow_cmp_total, flow_cmp-equal, head_cmp_total, head_cmp-equal}
-use Rattle.hs_flow.proofs.TableLemmas.{flows_in, heads_in, flows_more, heads_more, length-split, same_pairs, flows_once, heads_once, ascends}
+use Rattle.hs_flow.proofs.TableLemmas.{flows_in, heads_in, flows_more, heads_more, length-split, same_pairs, flows_once, heads_once, ascends, all_parameters}
 use Rattle.hs_flow.proofs.analysis.table.Goals as goal
 use Rattle.hs_flow.proofs.analysis.table.Goals.{in-OfFlow+in_ok-push-in-OfFlow, in-OfHead+in_ok-push-in-OfHead}
 
@@ -32,17 +32,26 @@ loop-pair-preserved c =
       }
     ]
 
-pub invariant_of-result : goal.invariant_of-result
-invariant_of-result c =
+pub of-requires-clause-ascending : goal.of-requires-clause-ascending
+of-requires-clause-ascending c =
     let ps = c.args.found.now in
     let flows : IsPermutation (flows_in ps) c.sort_unstable.new.self.items = subst (λ (fs : List FlowPair). IsPermutation fs c.sort_unstable.new.self.items)
     (c.loop-pair.invariant.pairs ∙ ap flows_in (take_all c.loop-pair.pair-index ps c.loop-pair-test.false)) c.sort_unstable.ensures.permutation in
     let heads : IsPermutation (heads_in ps) c.sort_unstable-2.new.self.items = subst (λ (hs : List HeadPair). IsPermutation hs c.sort_unstable-2.new.self.items)
     (c.loop-pair.invariant.heads ∙ ap heads_in (take_all c.loop-pair.pair-index ps c.loop-pair-test.false)) c.sort_unstable-2.ensures.permutation in
     record {
-      pairs = ascends flow_cmp flow_cmp_total flow_cmp-equal (flows_in ps) c.sort_unstable.new.self.items (flows_once ps c.requires) flows c.sort_unstable.ensures.sorted;
-      heads = ascends head_cmp head_cmp_total head_cmp-equal (heads_in ps) c.sort_unstable-2.new.self.items (heads_once ps c.requires) heads c.sort_unstable-2.ensures.sorted;
+      pairs = ascends flow_cmp flow_cmp_total flow_cmp-equal (flows_in ps) c.sort_unstable.new.self.items (flows_once ps c.requires.once) flows c.sort_unstable.ensures.sorted;
+      heads = ascends head_cmp head_cmp_total head_cmp-equal (heads_in ps) c.sort_unstable-2.new.self.items (heads_once ps c.requires.once) heads c.sort_unstable-2.ensures.sorted;
     }
+
+pub of-requires-clause-parameters : goal.of-requires-clause-parameters
+of-requires-clause-parameters c =
+    let ps = c.args.found.now in
+    let flows : IsPermutation (flows_in ps) c.sort_unstable.new.self.items = subst (λ (fs : List FlowPair). IsPermutation fs c.sort_unstable.new.self.items)
+    (c.loop-pair.invariant.pairs ∙ ap flows_in (take_all c.loop-pair.pair-index ps c.loop-pair-test.false)) c.sort_unstable.ensures.permutation in
+    let heads : IsPermutation (heads_in ps) c.sort_unstable-2.new.self.items = subst (λ (hs : List HeadPair). IsPermutation hs c.sort_unstable-2.new.self.items)
+    (c.loop-pair.invariant.heads ∙ ap heads_in (take_all c.loop-pair.pair-index ps c.loop-pair-test.false)) c.sort_unstable-2.ensures.permutation in
+    all_parameters ps c.sort_unstable.new.self.items c.sort_unstable-2.new.self.items c.args.params.now (same_pairs ps c.sort_unstable.new.self.items c.sort_unstable-2.new.self.items flows heads) c.requires.parameters
 
 pub returns-clause-same : goal.returns-clause-same
 returns-clause-same c =
@@ -51,7 +60,8 @@ returns-clause-same c =
     (c.loop-pair.invariant.pairs ∙ ap flows_in (take_all c.loop-pair.pair-index ps c.loop-pair-test.false)) c.sort_unstable.ensures.permutation in
     let heads : IsPermutation (heads_in ps) c.sort_unstable-2.new.self.items = subst (λ (hs : List HeadPair). IsPermutation hs c.sort_unstable-2.new.self.items)
     (c.loop-pair.invariant.heads ∙ ap heads_in (take_all c.loop-pair.pair-index ps c.loop-pair-test.false)) c.sort_unstable-2.ensures.permutation in
-    same_pairs ps c.sort_unstable.new.self.items c.sort_unstable-2.new.self.items flows heads
+    subst (λ (t : FlowData). (q : Pair) → Contains ps q ↔ Contains (pairs_of t.pairs t.heads) q) (sym c.in_ok-made.ensures)
+    (same_pairs ps c.sort_unstable.new.self.items c.sort_unstable-2.new.self.items flows heads)
 
 pub returns-clause-ascending : goal.returns-clause-ascending
 returns-clause-ascending c =
@@ -60,14 +70,15 @@ returns-clause-ascending c =
     (c.loop-pair.invariant.pairs ∙ ap flows_in (take_all c.loop-pair.pair-index ps c.loop-pair-test.false)) c.sort_unstable.ensures.permutation in
     let heads : IsPermutation (heads_in ps) c.sort_unstable-2.new.self.items = subst (λ (hs : List HeadPair). IsPermutation hs c.sort_unstable-2.new.self.items)
     (c.loop-pair.invariant.heads ∙ ap heads_in (take_all c.loop-pair.pair-index ps c.loop-pair-test.false)) c.sort_unstable-2.ensures.permutation in
-    record {
-      pairs = ascends flow_cmp flow_cmp_total flow_cmp-equal (flows_in ps) c.sort_unstable.new.self.items (flows_once ps c.requires) flows c.sort_unstable.ensures.sorted;
-      heads = ascends head_cmp head_cmp_total head_cmp-equal (heads_in ps) c.sort_unstable-2.new.self.items (heads_once ps c.requires) heads c.sort_unstable-2.ensures.sorted;
-    }
+    subst (λ (t : FlowData). IsFlowTable t) (sym c.in_ok-made.ensures) (record {
+      pairs = ascends flow_cmp flow_cmp_total flow_cmp-equal (flows_in ps) c.sort_unstable.new.self.items (flows_once ps c.requires.once) flows c.sort_unstable.ensures.sorted;
+      heads = ascends head_cmp head_cmp_total head_cmp-equal (heads_in ps) c.sort_unstable-2.new.self.items (heads_once ps c.requires.once) heads c.sort_unstable-2.ensures.sorted;
+    })
 
 pub returns-clause-len : goal.returns-clause-len
 returns-clause-len c =
     let ps = c.args.found.now in
     let fs = ap length (c.loop-pair.invariant.pairs ∙ ap flows_in (take_all c.loop-pair.pair-index ps c.loop-pair-test.false)) in
     let hs = ap length (c.loop-pair.invariant.heads ∙ ap heads_in (take_all c.loop-pair.pair-index ps c.loop-pair-test.false)) in
-    omega (arith, fs, hs, c.sort_unstable.ensures.len, c.sort_unstable-2.ensures.len, c.sort_unstable.new.self.ok.0, c.sort_unstable-2.new.self.ok.0, c.loop-pair.pairs.ok.0, c.loop-pair.heads.ok.0, length-split ps)
+    subst (λ (t : FlowData). length t.pairs + length t.heads ≡ length ps) (sym c.in_ok-made.ensures)
+    (omega (arith, fs, hs, c.sort_unstable.ensures.len, c.sort_unstable-2.ensures.len, c.sort_unstable.new.self.ok.0, c.sort_unstable-2.new.self.ok.0, c.loop-pair.pairs.ok.0, c.loop-pair.heads.ok.0, length-split ps))

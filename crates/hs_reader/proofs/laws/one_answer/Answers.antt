@@ -1,4 +1,4 @@
-use Rattle.hs_reader.specs.Steps.{start, read}
+use Rattle.hs_reader.specs.ReadingStages.{start, read}
 use Rattle.hs_reader.proofs.Exact.{read_answer, one_answer_is}
 use Rattle.hs_reader.proofs.laws.one_answer.Goals as goal
 

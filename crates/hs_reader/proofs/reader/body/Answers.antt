@@ -2,7 +2,7 @@ use Rattle.std.proofs.Common.{◌≡◌, ◌∙◌, reverse, sym, refl, arith, v
 use Rattle.std.proofs.lemmas.Bool.{eqb-true, eqb-false}
 use Rattle.std.proofs.lemmas.Result.{err_from_is_err_and}
 use Rattle.hs_reader.specs.Reading.{view}
-use Rattle.hs_reader.specs.Steps.{in_body}
+use Rattle.hs_reader.specs.ReadingStages.{in_body}
 use Rattle.hs_reader.proofs.Running.{off, word_fault, continues, body_other}
 use Rattle.hs_reader.proofs.Bodies.{body_word, body_word_full, left_on, left_deep, left_full, right_bare, right_outside, right_on, dot_bare, dot_inside, dot_on}
 use Rattle.hs_reader.proofs.reader.body.Goals as goal

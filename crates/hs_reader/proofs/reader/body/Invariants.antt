@@ -1,7 +1,7 @@
 use Rattle.std.proofs.Common.{◌≡◌, ◌≤◌, List, [], length, None, reverse}
 use Rattle.hs_reader.specs.declared.raw.RawName.{RawName}
 use Rattle.hs_reader.specs.Raw.{Rule}
-use Rattle.hs_reader.specs.Steps.{in_body, read}
+use Rattle.hs_reader.specs.ReadingStages.{in_body, read}
 use Rattle.hs_reader.proofs.reader.body.Given as goal
 
 abbrev pub invariant-loop-bytes : goal.invariant-loop-bytes

@@ -3,7 +3,7 @@ use Rattle.std.proofs.lemmas.Result.{err_from_is_err_and}
 use Rattle.hs_reader.specs.declared.fault.Which.TheVariants as which
 use Rattle.hs_reader.specs.Tokens.{dot}
 use Rattle.hs_reader.specs.Reading.{view}
-use Rattle.hs_reader.specs.Steps.{in_children}
+use Rattle.hs_reader.specs.ReadingStages.{in_children}
 use Rattle.hs_reader.proofs.Running.{on, off, word_on, word_full, word_fault, continues, full_at, free_at, child_other}
 use Rattle.hs_reader.proofs.reader.children.Goals as goal
 

@@ -1,7 +1,7 @@
 use Rattle.std.proofs.Common.{◌≡◌, ◌≤◌, List, [], length}
 use Rattle.hs_reader.specs.declared.raw.RawName.{RawName}
 use Rattle.hs_reader.specs.Raw.{Rule, Transition}
-use Rattle.hs_reader.specs.Steps.{in_children, read}
+use Rattle.hs_reader.specs.ReadingStages.{in_children, read}
 use Rattle.hs_reader.proofs.reader.children.Given as goal
 
 abbrev pub invariant-loop-bytes : goal.invariant-loop-bytes

@@ -2,7 +2,7 @@ use Rattle.std.proofs.Common.{◌≡◌, ℕ, List, [], Ok, ◌∙◌, ap, sym, 
 use Rattle.std.proofs.lemmas.Result.{err_from_is_err_and}
 use Rattle.hs_reader.specs.Tokens.{rules_begin, automaton_begin}
 use Rattle.hs_reader.specs.Reading.{view}
-use Rattle.hs_reader.specs.Steps.{start, in_rules, between, in_transitions, closed, read}
+use Rattle.hs_reader.specs.ReadingStages.{start, in_rules, between, in_transitions, closed, read}
 use Rattle.hs_reader.proofs.Running.{on, off, continues, start_other, between_other, end_other, file_ends}
 use Rattle.hs_reader.proofs.Exact.{read_is_raw}
 use Rattle.hs_reader.proofs.reader.file.Goals as goal

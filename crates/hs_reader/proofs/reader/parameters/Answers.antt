@@ -3,7 +3,7 @@ use Rattle.std.proofs.lemmas.Result.{err_from_is_err_and}
 use Rattle.hs_reader.specs.declared.fault.Which.TheVariants as which
 use Rattle.hs_reader.specs.Tokens.{arrow}
 use Rattle.hs_reader.specs.Reading.{view}
-use Rattle.hs_reader.specs.Steps.{in_head}
+use Rattle.hs_reader.specs.ReadingStages.{in_head}
 use Rattle.hs_reader.proofs.Running.{on, off, word_on, word_full, cased_fault, continues, full_at, free_at, head_other}
 use Rattle.hs_reader.proofs.reader.parameters.Goals as goal
 

@@ -4,7 +4,7 @@ use Rattle.std.proofs.lemmas.Result.{err_from_is_err_and}
 use Rattle.hs_reader.specs.declared.fault.Which.TheVariants as which
 use Rattle.hs_reader.specs.Tokens.{rules_end}
 use Rattle.hs_reader.specs.Reading.{view}
-use Rattle.hs_reader.specs.Steps.{in_rules, in_head, between}
+use Rattle.hs_reader.specs.ReadingStages.{in_rules, in_head, between}
 use Rattle.hs_reader.proofs.Running.{on, off, word_on, word_full, cased_fault, continues, full_at, free_at, any_none, any_some, rules_other}
 use Rattle.hs_reader.proofs.reader.rules.Goals as goal
 

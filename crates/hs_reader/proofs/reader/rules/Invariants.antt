@@ -1,5 +1,5 @@
 use Rattle.std.proofs.Common.{◌≡◌, [], length}
-use Rattle.hs_reader.specs.Steps.{in_rules, read}
+use Rattle.hs_reader.specs.ReadingStages.{in_rules, read}
 use Rattle.hs_reader.proofs.reader.rules.Given as goal
 
 abbrev pub invariant-loop-bytes : goal.invariant-loop-bytes

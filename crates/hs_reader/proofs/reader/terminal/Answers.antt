@@ -2,7 +2,7 @@ use Rattle.std.proofs.Common.{◌∙◌, refl, false}
 use Rattle.std.proofs.lemmas.Result.{err_from_is_err_and}
 use Rattle.hs_reader.specs.Tokens.{arrow}
 use Rattle.hs_reader.specs.Reading.{view}
-use Rattle.hs_reader.specs.Steps.{in_transition, before_arrow}
+use Rattle.hs_reader.specs.ReadingStages.{in_transition, before_arrow}
 use Rattle.hs_reader.proofs.Running.{on, off, word_on, cased_fault, terminal_other, arrow_other}
 use Rattle.hs_reader.proofs.reader.terminal.Goals as goal
 

@@ -1,6 +1,6 @@
 use Rattle.std.proofs.Common.{◌≡◌, List, [], length}
 use Rattle.hs_reader.specs.Raw.{Rule}
-use Rattle.hs_reader.specs.Steps.{in_transitions, read}
+use Rattle.hs_reader.specs.ReadingStages.{in_transitions, read}
 use Rattle.hs_reader.proofs.reader.transitions.Given as goal
 
 abbrev pub invariant-loop-bytes : goal.invariant-loop-bytes

@@ -4,7 +4,7 @@ use Rattle.hs_scheme.specs.Tree.{forest}
 use Rattle.hs_reader.specs.declared.raw.RawName.{RawName}
 use Rattle.hs_reader.specs.Limits.{term_names, terms_names}
 use Rattle.hs_resolve.proofs.Lists.{take-push}
-use Rattle.hs_resolve.proofs.Passes.{names_in-push}
+use Rattle.hs_resolve.proofs.NameLoops.{names_in-push}
 use Rattle.hs_resolve.proofs.body.+push_names.Goals as goal
 
 pub loop-arg-preserved : goal.loop-arg-preserved

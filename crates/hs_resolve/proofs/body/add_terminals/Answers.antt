@@ -2,7 +2,7 @@ use Rattle.std.proofs.Common.{length, map, refl}
 use Rattle.std.proofs.lemmas.Option.{slice_get_read}
 use Rattle.hs_resolve.specs.Numbering.{is_terminal}
 use Rattle.hs_resolve.proofs.Lists.{at_map}
-use Rattle.hs_resolve.proofs.Passes.{terminals-more}
+use Rattle.hs_resolve.proofs.NameLoops.{terminals-more}
 use Rattle.hs_resolve.proofs.body.add_terminals.Goals as goal
 
 pub loop-name-preserved : goal.loop-name-preserved

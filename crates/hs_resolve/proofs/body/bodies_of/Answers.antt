@@ -1,5 +1,6 @@
 use Rattle.std.proofs.Common.{◌≡◌, ◌∙◌, ap, sym, subst, length, filter, refl, Option, slice_get, ℕ, ◌+◌, ◌<◌, arith}
-use Rattle.std.proofs.lemmas.Option.{slice_get_read}
+use Rattle.std.proofs.lemmas.Option.{slice_get_read, same_Some}
+use Rattle.std.proofs.lemmas.List.{length-map}
 use Rattle.hs_scheme.specs.Tree.{Tree}
 use Rattle.hs_reader.specs.declared.raw.RawName.{RawName}
 use Rattle.hs_reader.specs.Raw.{Rule}
@@ -8,9 +9,9 @@ use Rattle.hs_resolve.specs.Names.{texts, distinct, with_names}
 use Rattle.hs_resolve.specs.Numbering.{is_terminal}
 use Rattle.hs_resolve.specs.Least.{IsLeast, Before}
 use Rattle.hs_resolve.specs.LineFaults.{Somewhere, IsUndefined}
-use Rattle.hs_resolve.proofs.Lists.{at_map, len-map, same_some}
+use Rattle.hs_resolve.proofs.Lists.{at_map}
 use Rattle.hs_resolve.proofs.Leasts.{least-more, least-all}
-use Rattle.hs_resolve.proofs.Passes.{bodies-more}
+use Rattle.hs_resolve.proofs.NameLoops.{bodies-more}
 use Rattle.hs_resolve.proofs.body.bodies_of.Goals as goal
 
 pub loop-number-preserved : goal.loop-number-preserved
@@ -24,9 +25,9 @@ loop-number-preserved c =
     let scopes = λ (x : Rule). distinct (texts x.params) in
     let body : c.rule.inside.body ≡ r.body = ap (λ (x : Rule). x.body) c.rule.view_is in
     let at = slice_get_read rules (length rules) i r refl c.loop-number-test.true c.index-rules-number.is in
-    let within : i < length params = let e : length params ≡ length rules = ap length c.requires ∙ len-map scopes rules in omega (arith, c.loop-number-test.true) in
+    let within : i < length params = let e : length params ≡ length rules = ap length c.requires ∙ length-map rules scopes in omega (arith, c.loop-number-test.true) in
     let at_scope = slice_get_read params (length params) i scope refl within c.index-params-number.is in
-    let same : scope ≡ scopes r = same_some scope (scopes r) (sym at_scope ∙ (ap (λ ps. slice_get ps i) c.requires ∙ at_map scopes rules i r at)) in
+    let same : scope ≡ scopes r = same_Some scope (scopes r) (sym at_scope ∙ (ap (λ ps. slice_get ps i) c.requires ∙ at_map scopes rules i r at)) in
     let P = λ (_ : ℕ) (x : Rule) (line : ℕ). Somewhere (λ _ n. IsUndefined left n line) (term_names x.body) in
     record {
       terminals = bodies-more rules i r c.loop-number.terminals c.read_body.new.terminals scope at same c.loop-number.invariant.terminals

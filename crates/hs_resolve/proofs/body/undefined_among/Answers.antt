@@ -1,11 +1,12 @@
 use Rattle.std.proofs.Common.{◌≡◌, ◌∙◌, ap, sym, subst, length, map, refl, Option, ℕ, ◌+◌, ◌≤◌, Bor, arith}
 use Rattle.std.proofs.lemmas.Option.{slice_get_read}
+use Rattle.std.proofs.lemmas.List.{length-map}
 use Rattle.hs_reader.specs.declared.raw.RawName.{RawName}
 use Rattle.hs_resolve.specs.Least.{IsLeast, Before, earliest}
 use Rattle.hs_resolve.specs.LineFaults.{IsUndefined}
-use Rattle.hs_resolve.proofs.Lists.{at_map, len-map}
+use Rattle.hs_resolve.proofs.Lists.{at_map}
 use Rattle.hs_resolve.proofs.Leasts.{least-more, least-all}
-use Rattle.hs_resolve.proofs.Passes.{undefined-least}
+use Rattle.hs_resolve.proofs.NameLoops.{undefined-least}
 use Rattle.hs_resolve.proofs.body.undefined_among.Goals as goal
 
 pub loop-name-preserved : goal.loop-name-preserved
@@ -24,6 +25,6 @@ pub returns : goal.returns
 returns c =
     let now = λ (n : Bor RawName). n.now in
     let names = c.args.names.now in
-    let len : length (map now names) ≡ length names = len-map now names in
+    let len : length (map now names) ≡ length names = length-map names now in
     let le : length (map now names) ≤ c.loop-name.name-index = omega (arith, c.loop-name-test.false) in
     least-all (λ _ n line. IsUndefined c.args.left.now n line) (map now names) c.loop-name.name-index c.loop-name.least le c.loop-name.invariant

@@ -2,7 +2,7 @@ use Rattle.std.proofs.Common.{◌≡◌, ◌∙◌, ap, sym, map}
 use Rattle.std.proofs.lemmas.List.{take_all}
 use Rattle.hs_scheme.specs.Tree.{node, forest}
 use Rattle.hs_resolve.specs.Numbering.{head_of, numbered}
-use Rattle.hs_resolve.proofs.Passes.{numbered-forest}
+use Rattle.hs_resolve.proofs.NameLoops.{numbered-forest}
 use Rattle.hs_resolve.proofs.numbering.+term_of.Goals as goal
 
 pub returns : goal.returns

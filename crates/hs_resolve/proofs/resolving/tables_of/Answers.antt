@@ -8,11 +8,11 @@ use Rattle.hs_resolve.specs.Least.{IsLeast}
 use Rattle.hs_resolve.specs.LineFaults.{Somewhere, IsUndefined, Repeats, RepeatsLeft, Clashes}
 use Rattle.hs_resolve.proofs.Distinct.{distinct-append}
 use Rattle.hs_resolve.proofs.Members.{all-from}
-use Rattle.hs_resolve.proofs.Passes.{undefined-distinct}
+use Rattle.hs_resolve.proofs.NameLoops.{undefined-distinct}
 use Rattle.hs_resolve.proofs.resolving.tables_of.Goals as goal
 
-pub lengths_of-requires : goal.lengths_of-requires
-lengths_of-requires c =
+pub transition_names-requires : goal.transition_names-requires
+transition_names-requires c =
     let inside : IsRaw c.args.raw.now = subst IsRaw c.raw.view_is c.raw.invariant in
     let transitions : c.as_slice-transitions.result.now ≡ c.args.raw.now.transitions = c.as_slice-transitions.ensures.value ∙ ap (λ (f : File). f.transitions) c.raw.view_is in
     let few = λ (t : Transition). length t.to ≤ 64 in
@@ -29,8 +29,8 @@ returns-clause-tables c =
           ∙ ((λ i. with_names (c.in_ok-bodies.ensures.terminals i) (map (λ (t : Transition). t.terminal.text) c.as_slice-transitions.result.now))
           ∙ (sym (distinct-append (flat_map terminals_in c.as_slice-rules.result.now) (map (λ (t : Transition). t.terminal.text) c.as_slice-transitions.result.now))
           ∙ (λ i. distinct (flat_map terminals_in (rules i) ++ map (λ (t : Transition). t.terminal.text) (transitions i)))));
-      states = c.in_ok-states.ensures ∙ ap (λ (ts : List Transition). distinct (flat_map states_in ts)) transitions;
-      lengths = λ x. c.in_ok-lengths.ensures.first x ∙ ap (λ (ts : List Transition). rank_of ts x) transitions;
+      states = c.in_ok-names.ensures.states ∙ ap (λ (ts : List Transition). distinct (flat_map states_in ts)) transitions;
+      lengths = λ x. c.in_ok-names.ensures.lengths x ∙ ap (λ (ts : List Transition). rank_of ts x) transitions;
     }
 
 pub returns-clause-lines : goal.returns-clause-lines
@@ -46,6 +46,6 @@ returns-clause-lines c =
           (subst (λ (rs : List Rule). IsLeast (λ line. Somewhere (λ _ r. Somewhere (λ _ n. IsUndefined c.in_ok-left.left.index n line) (term_names r.body)) rs) c.in_ok-bodies.bodies.undefined) rules
           c.in_ok-bodies.ensures.undefined));
       start_has_params = c.start_line.ensures;
-      duplicate_transition = subst (λ (ts : List Transition). IsLeast (λ line. Somewhere (λ i t. RepeatsLeft ts i t line) ts) c.in_ok-repeated.repeated) transitions c.in_ok-repeated.ensures;
-      rank_clash = subst (λ (ts : List Transition). IsLeast (λ line. Somewhere (λ _ t. Clashes ts t line) ts) c.in_ok-lengths.lengths.clash) transitions c.in_ok-lengths.ensures.clash;
+      duplicate_transition = subst (λ (ts : List Transition). IsLeast (λ line. Somewhere (λ i t. RepeatsLeft ts i t line) ts) c.in_ok-names.names.repeated) transitions c.in_ok-names.ensures.repeated;
+      rank_clash = subst (λ (ts : List Transition). IsLeast (λ line. Somewhere (λ _ t. Clashes ts t line) ts) c.in_ok-names.names.clash) transitions c.in_ok-names.ensures.clash;
     }

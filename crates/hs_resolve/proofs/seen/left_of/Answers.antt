@@ -1,10 +1,11 @@
 use Rattle.std.proofs.Common.{◌≡◌, ◌∙◌, ap, sym, length, map, refl, Some, slice_get, ◌≤◌, arith}
 use Rattle.std.proofs.lemmas.Option.{slice_get_read}
+use Rattle.std.proofs.lemmas.List.{length-map}
 use Rattle.hs_reader.specs.Raw.{Rule}
 use Rattle.hs_resolve.specs.LineFaults.{RepeatsAt}
-use Rattle.hs_resolve.proofs.Lists.{at_map, len-map}
+use Rattle.hs_resolve.proofs.Lists.{at_map}
 use Rattle.hs_resolve.proofs.Leasts.{least-all}
-use Rattle.hs_resolve.proofs.Passes.{index-more, repeated-more}
+use Rattle.hs_resolve.proofs.NameLoops.{index-more, repeated-more}
 use Rattle.hs_resolve.proofs.seen.left_of.Goals as goal
 
 pub loop-rule-preserved : goal.loop-rule-preserved
@@ -25,6 +26,6 @@ pub returns-clause-repeated : goal.returns-clause-repeated
 returns-clause-repeated c =
     let rules = c.args.rules.now in
     let names = map (λ (r : Rule). r.name) rules in
-    let len : length names ≡ length rules = len-map (λ (r : Rule). r.name) rules in
+    let len : length names ≡ length rules = length-map rules (λ (r : Rule). r.name) in
     let le : length names ≤ c.loop-rule.rule-index = omega (arith, c.loop-rule-test.false) in
     least-all (RepeatsAt names) names c.loop-rule.rule-index c.loop-rule.seen.repeated le c.loop-rule.invariant.repeated

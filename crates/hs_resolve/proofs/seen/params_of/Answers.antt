@@ -2,7 +2,7 @@ use Rattle.std.proofs.Common.{length, refl}
 use Rattle.std.proofs.lemmas.Option.{slice_get_read}
 use Rattle.hs_resolve.specs.LineFaults.{RepeatsAt}
 use Rattle.hs_resolve.proofs.Leasts.{least-all}
-use Rattle.hs_resolve.proofs.Passes.{index-more, repeated-more}
+use Rattle.hs_resolve.proofs.NameLoops.{index-more, repeated-more}
 use Rattle.hs_resolve.proofs.seen.params_of.Goals as goal
 
 pub loop-param-preserved : goal.loop-param-preserved

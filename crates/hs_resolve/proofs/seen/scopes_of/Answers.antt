@@ -1,11 +1,12 @@
 use Rattle.std.proofs.Common.{◌≡◌, ◌∙◌, ap, sym, subst, length, map, refl, List, [], ◌∷◌, ◌++◌, Option, take, ℕ, ◌+◌}
 use Rattle.std.proofs.lemmas.Option.{slice_get_read}
+use Rattle.std.proofs.lemmas.List.{map_push}
 use Rattle.hs_reader.specs.declared.raw.RawName.{RawName}
 use Rattle.hs_reader.specs.Raw.{Rule}
 use Rattle.hs_resolve.specs.Names.{texts, distinct}
 use Rattle.hs_resolve.specs.Least.{IsLeast, Before}
 use Rattle.hs_resolve.specs.LineFaults.{Repeats}
-use Rattle.hs_resolve.proofs.Lists.{take-push, push-map}
+use Rattle.hs_resolve.proofs.Lists.{take-push}
 use Rattle.hs_resolve.proofs.Leasts.{least-more, least-all}
 use Rattle.hs_resolve.proofs.seen.scopes_of.Goals as goal
 
@@ -22,7 +23,7 @@ loop-rule-preserved c =
       params = c.in_ok-push.ensures.items
           ∙ (ap (λ (ss : List (List (List ℕ))). ss ++ c.in_ok-seen.seen.index ∷ []) c.loop-rule.invariant.params
           ∙ (ap (λ s. map scope (take i rules) ++ s ∷ []) (c.in_ok-seen.ensures.index ∙ ap (λ ps. distinct (texts ps)) params)
-          ∙ sym (ap (map scope) (take-push rules i r at) ∙ push-map scope (take i rules) r)));
+          ∙ sym (ap (map scope) (take-push rules i r at) ∙ map_push scope (take i rules) r)));
       repeated = subst (λ (o : Option ℕ). IsLeast (Before P rules (i + 1)) o) (sym c.earliest-repeated.ensures)
           (least-more P rules i r c.loop-rule.repeated c.in_ok-seen.seen.repeated at c.loop-rule.invariant.repeated
           (subst (λ (ps : List RawName). IsLeast (Repeats ps) c.in_ok-seen.seen.repeated) params c.in_ok-seen.ensures.repeated));

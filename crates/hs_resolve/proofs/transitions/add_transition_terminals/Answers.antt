@@ -2,7 +2,7 @@ use Rattle.std.proofs.Common.{◌∙◌, ap, refl, length}
 use Rattle.std.proofs.lemmas.Option.{slice_get_read}
 use Rattle.hs_reader.specs.Raw.{Transition}
 use Rattle.hs_resolve.specs.Names.{with_name}
-use Rattle.hs_resolve.proofs.TransitionPasses.{mapped-more}
+use Rattle.hs_resolve.proofs.TransitionLoops.{mapped-more}
 use Rattle.hs_resolve.proofs.transitions.add_transition_terminals.Goals as goal
 
 pub loop-transition-preserved : goal.loop-transition-preserved

@@ -5,7 +5,7 @@ use Rattle.hs_resolve.specs.Lengths.{length_of, clash_line}
 use Rattle.hs_resolve.specs.Least.{IsLeast, Before, earliest}
 use Rattle.hs_resolve.specs.LineFaults.{Clashes}
 use Rattle.hs_resolve.proofs.Leasts.{least-more, least-all}
-use Rattle.hs_resolve.proofs.TransitionPasses.{rank-more, clash-least}
+use Rattle.hs_resolve.proofs.TransitionLoops.{rank-more, clash-least}
 use Rattle.hs_resolve.proofs.transitions.lengths_of.Goals as goal
 
 pub loop-transition-preserved : goal.loop-transition-preserved

@@ -3,7 +3,7 @@ use Rattle.std.specs.Option.{option_copied}
 use Rattle.std.specs.Str.{bytes_eq}
 use Rattle.hs_reader.specs.Raw.{Transition}
 use Rattle.hs_resolve.specs.Lengths.{length_of}
-use Rattle.hs_resolve.proofs.TransitionPasses.{noted}
+use Rattle.hs_resolve.proofs.TransitionLoops.{noted}
 use Rattle.hs_resolve.proofs.transitions.note_length.Goals as goal
 
 pub returns-clause-lengths : goal.returns-clause-lengths

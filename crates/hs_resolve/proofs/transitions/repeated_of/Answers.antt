@@ -8,7 +8,7 @@ use Rattle.hs_resolve.specs.Lengths.{pair_eq}
 use Rattle.hs_resolve.specs.Least.{IsLeast, Before, earliest}
 use Rattle.hs_resolve.specs.LineFaults.{same_left, RepeatsLeft}
 use Rattle.hs_resolve.proofs.Leasts.{least-more, least-all}
-use Rattle.hs_resolve.proofs.TransitionPasses.{met-more, repeats_left-least, new_line, old_line}
+use Rattle.hs_resolve.proofs.TransitionLoops.{met-more, repeats_left-least, new_line, old_line}
 use Rattle.hs_resolve.proofs.transitions.repeated_of.Goals as goal
 use Rattle.hs_resolve.proofs.transitions.repeated_of.Goals.{then-fresh, else-fresh}
 

@@ -1,6 +1,6 @@
 use Rattle.std.proofs.Common.{refl, length}
 use Rattle.std.proofs.lemmas.Option.{slice_get_read}
-use Rattle.hs_resolve.proofs.TransitionPasses.{states-more}
+use Rattle.hs_resolve.proofs.TransitionLoops.{states-more}
 use Rattle.hs_resolve.proofs.transitions.states_of.Goals as goal
 
 pub loop-transition-preserved : goal.loop-transition-preserved

@@ -1,14 +1,32 @@
-use Rattle.std.proofs.Common.{◌≡◌, ◌∙◌, ap, ℕ, ◌+◌, ◌≤◌, List, [], ◌∷◌, ◌++◌, length, arith}
+use Rattle.std.proofs.Common.{◌≡◌, sym, ◌∙◌, ap, subst, ℕ, ◌+◌, ◌≤◌, ◌<◌, List, [], ◌∷◌, ◌++◌, length, length-append, take, arith}
 use Rattle.std.proofs.lemmas.Result.{err_from_is_err_and}
-use Rattle.std.proofs.lemmas.List.{take_all, length_push}
+use Rattle.std.proofs.lemmas.List.{take_all, length_push, length-map, length-take-le, length-set}
 use Rattle.hs_scheme.specs.declared.term.Head.{Head}
+use Rattle.hs_scheme.specs.declared.points.Row.{Row}
 use Rattle.hs_scheme.specs.Tree.{Tree, node, forest}
-use Rattle.hs_scheme.specs.Points.{PointData, size, numbers, terms_points}
-use Rattle.hs_scheme.proofs.PointLemmas.{row_more, numbers_more, row_many, point_at, term_done}
+use Rattle.hs_scheme.specs.Points.{PointData, size, sizes, numbers, term_points, terms_points}
+use Rattle.hs_scheme.specs.Rows.{point_of, points_in, places_in, terms_places}
+use Rattle.hs_scheme.proofs.PointLemmas.{row_more, row_length, numbers_more, row_many, point_at, term_done}
+use Rattle.hs_scheme.proofs.RowLemmas.{places_more, first_pushed, place_pushed, ranged_points, ranged_places, term_placed, length-numbers}
 use Rattle.hs_scheme.proofs.points.+add_term.Goals as goal
 
 at_least_one : (t : Tree Head) → 1 ≤ size t
 at_least_one (node h ts) = omega arith
+
+longer : (rows new : List Row) (row : Row) → new ≡ rows ++ row ∷ [] → length new ≡ length rows + 1
+longer rows new row e = ap length e ∙ length_push rows row
+
+as_many : (args : List ℕ) (rows : List Row) → length (points_in args rows) ≡ length rows
+as_many args rows = length-map rows (point_of args)
+
+one_more : (args : List ℕ) (rows new : List Row) (row : Row) (n : ℕ) → n ≡ length rows → new ≡ rows ++ row ∷ [] → length (points_in args new) ≡ n + 1
+one_more args rows new row n long e = as_many args new ∙ (ap length e ∙ (length_push rows row ∙ omega arith))
+
+-- the first of the rows behind the old ones is among the later ones
+stands : (rule : ℕ) (args : List ℕ) (rows new : List Row) (later_args : List ℕ) (later : List Row) (row : Row) (added : List PointData) → new ≡ rows ++ row ∷ [] → points_in later_args later ≡ points_in args new ++ added
+    → {n : ℕ} → n ≡ length rows → n < length later
+stands rule args rows new later_args later row added e f long =
+    omega (arith, longer rows new row e, as_many args new, as_many later_args later, ap length f, length-append (points_in args new) added)
 
 pub returns-then-len-ge-MAX_POINTS-clause-many : goal.returns-then-len-ge-MAX_POINTS-clause-many
 returns-then-len-ge-MAX_POINTS-clause-many t c = λ h. omega (arith, at_least_one c.args.term.now)
@@ -17,35 +35,103 @@ pub returns-in_err-add_term-clause-many : goal.returns-in_err-add_term-clause-ma
 returns-in_err-add_term-clause-many t c =
     let p = err_from_is_err_and c.from_residual-in_err-add_term.result c.from_residual-in_err-add_term.ensures.1 in
     let us = c.deref-arg-items.result.now in
-    let long : length c.push.new.self.items ≡ c.len-number.result + 1 = ap length c.in_ok-push.ensures.items ∙ (length_push c.args.points.now.items _ ∙ omega arith) in
-    λ h. row_many c.args.rule (c.len-number.result + 1) c.loop-arg.arg-index c.push.new.self.items c.loop-arg.points.items us c.arg-item.result c.loop-arg-test.true c.arg-item.is long c.loop-arg.invariant.points
-    500000 c.args.points.now.items c.term.inside.head c.args.term.now (omega arith) (ap (λ vs. node c.term.inside.head (forest vs)) c.deref-arg-items.ensures.value ∙ c.term.view_is)
-    (c.in_err-add_term.ensures.many (cc (p.1, p.2, h)))
+    let args = c.args.rows.now.args.items in
+    let long : length (points_in args c.push.new.self.items) ≡ c.len-number.result + 1 = one_more args c.args.rows.now.points.items c.push.new.self.items _ c.len-number.result (omega arith) c.in_ok-push.ensures.items in
+    λ h. subst (λ (n : ℕ). 500000 < n + size c.args.term.now) (as_many args c.args.rows.now.points.items)
+    (row_many c.args.rule (c.len-number.result + 1) c.loop-place.place (points_in args c.push.new.self.items) (points_in c.loop-place.rows.args.items c.loop-place.rows.points.items) us c.arg-item.result
+    c.loop-place-test.true c.arg-item.is long c.loop-place.invariant.points 500000 (points_in args c.args.rows.now.points.items) c.term.inside.head c.args.term.now
+    (omega (arith, as_many args c.args.rows.now.points.items)) (ap (λ vs. node c.term.inside.head (forest vs)) c.deref-arg-items.ensures.value ∙ c.term.view_is)
+    (subst (λ (n : ℕ). 500000 < n + size c.arg-item.result) (sym (as_many c.loop-place.rows.args.items c.loop-place.rows.points.items)) (c.in_err-add_term.ensures.many (cc (p.1, p.2, h)))))
 
-pub loop-arg-preserved : goal.loop-arg-preserved
-loop-arg-preserved t c =
+pub loop-place-preserved : goal.loop-place-preserved
+loop-place-preserved t c =
     let us = c.deref-arg-items.result.now in
-    let long : length c.push.new.self.items ≡ c.len-number.result + 1 = ap length c.in_ok-push.ensures.items ∙ (length_push c.args.points.now.items _ ∙ omega arith) in
+    let args = c.args.rows.now.args.items in
+    let rows = c.loop-place.rows.points.items in
+    let points = points_in c.loop-place.rows.args.items rows in
+    let count : length points ≡ length rows = as_many c.loop-place.rows.args.items rows in
+    let long : length (points_in args c.push.new.self.items) ≡ c.len-number.result + 1 = one_more args c.args.rows.now.points.items c.push.new.self.items _ c.len-number.result (omega arith) c.in_ok-push.ensures.items in
+    let so_long : length rows ≡ c.len-number.result + 1 + sizes (forest (take c.loop-place.place us)) =
+    sym count ∙ row_length c.args.rule (c.len-number.result + 1) c.loop-place.place (points_in args c.push.new.self.items) points us c.arg-item.result c.loop-place-test.true c.arg-item.is long c.loop-place.invariant.points in
     record {
-      points = row_more c.args.rule (c.len-number.result + 1) c.loop-arg.arg-index c.push.new.self.items c.loop-arg.points.items us c.arg-item.result c.loop-arg-test.true c.arg-item.is long c.loop-arg.invariant.points
-          c.add_term.new.points.items c.in_ok-add_term.ensures.added;
-      args = numbers_more c.args.rule (c.len-number.result + 1) c.loop-arg.arg-index c.push.new.self.items c.loop-arg.points.items us c.arg-item.result c.loop-arg-test.true c.arg-item.is long c.loop-arg.invariant.points
-          c.loop-arg.args.items c.push-in-loop-arg.new.self.items c.loop-arg.invariant.args (c.in_ok-push-2.ensures.items ∙ ap (λ n. c.loop-arg.args.items ++ n ∷ []) (omega arith));
+      points = row_more c.args.rule (c.len-number.result + 1) c.loop-place.place (points_in args c.push.new.self.items) points us c.arg-item.result c.loop-place-test.true c.arg-item.is long c.loop-place.invariant.points
+          (points_in c.add_term.new.rows.args.items c.add_term.new.rows.points.items) (c.in_ok-add_term.ensures.added ∙ ap (λ n. points ++ term_points c.args.rule n c.arg-item.result) (sym count));
+      places = places_more c.len-number.result (c.len-number.result + 1) c.loop-place.place (length rows) (places_in c.push.new.self.items) (places_in rows) us c.arg-item.result c.loop-place-test.true c.arg-item.is so_long
+          c.loop-place.invariant.places (places_in c.add_term.new.rows.points.items) c.in_ok-add_term.ensures.places;
+      args = numbers_more c.args.rule (c.len-number.result + 1) c.loop-place.place (points_in args c.push.new.self.items) points us c.arg-item.result c.loop-place-test.true c.arg-item.is long c.loop-place.invariant.points
+          c.loop-place.args.items c.push-in-loop-place.new.self.items c.loop-place.invariant.args (c.in_ok-push-2.ensures.items ∙ ap (λ n. c.loop-place.args.items ++ n ∷ []) (omega (arith, count)));
+      ranges = c.in_ok-add_term.ensures.ranges;
       few = c.in_ok-add_term.ensures.few;
+      room = omega (arith, c.in_ok-add_term.ensures.args, c.loop-place.invariant.room);
     }
+
+-- as many arguments as the loop took terms
+taken : (n i : ℕ) (us : List (Tree Head)) (args : List ℕ) → i ≤ length us → args ≡ numbers n (forest (take i us)) → length args ≡ i
+taken n i us args le is = ap length is ∙ (length-numbers n (take i us) ∙ length-take-le i us le)
+
+pub overflow_cast-to : goal.overflow_cast-to
+overflow_cast-to t c =
+    let grown : c.extend_from_slice.new.self.items ≡ c.loop-place.rows.args.items ++ c.loop-place.args.items =
+    c.in_ok-extend_from_slice.ensures.items ∙ ap (λ (xs : List ℕ). c.loop-place.rows.args.items ++ xs) c.as_slice.ensures.value in
+    let more : length c.push.new.self.items ≡ length c.args.rows.now.points.items + 1 = longer c.args.rows.now.points.items c.push.new.self.items _ c.in_ok-push.ensures.items in
+    omega (
+      arith,
+      taken (c.len-number.result + 1) c.loop-place.place c.deref-arg-items.result.now c.loop-place.args.items (omega arith) c.loop-place.invariant.args,
+      length-append c.loop-place.rows.args.items c.loop-place.args.items,
+      ap length grown,
+      c.loop-place.invariant.room,
+    )
 
 pub returns-clause-added : goal.returns-clause-added
 returns-clause-added t c =
     let us = c.deref-arg-items.result.now in
+    let args = c.args.rows.now.args.items in
+    let old = points_in args c.args.rows.now.points.items in
+    let q = points_in args c.push.new.self.items in
+    let rows = c.loop-place.rows.points.items in
+    let p = points_in c.loop-place.rows.args.items rows in
     let first : PointData = record { rule = c.args.rule; head = c.term.inside.head; args = [] } in
-    let pushed : c.push.new.self.items ≡ c.args.points.now.items ++ first ∷ [] =
-    c.in_ok-push.ensures.items ∙ ap (λ (xs : List ℕ). c.args.points.now.items ++ record { rule = c.args.rule; head = c.term.inside.head; args = xs } ∷ []) c.new.ensures.items in
-    let row : c.loop-arg.points.items ≡ c.push.new.self.items ++ terms_points c.args.rule (c.len-number.result + 1) (forest us) =
-    c.loop-arg.invariant.points ∙ ap (λ vs. c.push.new.self.items ++ terms_points c.args.rule (c.len-number.result + 1) (forest vs)) (take_all c.loop-arg.arg-index us c.loop-arg-test.false) in
-    let args : c.loop-arg.args.items ≡ numbers (c.len-number.result + 1) (forest us) =
-    c.loop-arg.invariant.args ∙ ap (λ vs. numbers (c.len-number.result + 1) (forest vs)) (take_all c.loop-arg.arg-index us c.loop-arg-test.false) in
-    let same : record { rule = c.point.inside.rule; head = c.point.inside.head; args = c.point.inside.args.items } ≡ first =
-    c.point.view_is ∙ (c.index_mut-point.ensures.value ∙ point_at c.len-number.result c.args.points.now.items c.push.new.self.items c.loop-arg.points.items _ first _ (omega arith) pushed row) in
-    term_done c.args.rule c.len-number.result c.args.points.now.items c.push.new.self.items c.loop-arg.points.items first
-    (record { rule = c.point.inside.rule; head = c.point.inside.head; args = c.loop-arg.args.items }) c.term.inside.head us c.args.term.now (omega arith)
-    (ap (λ vs. node c.term.inside.head (forest vs)) c.deref-arg-items.ensures.value ∙ c.term.view_is) pushed row (λ j. record { rule = (same j).rule; head = (same j).head; args = args j })
+    let pushed : q ≡ old ++ first ∷ [] = first_pushed args c.args.rows.now.points.items c.push.new.self.items _ c.in_ok-push.ensures.items in
+    let long : length old ≡ c.len-number.result = as_many args c.args.rows.now.points.items ∙ omega arith in
+    let row : p ≡ q ++ terms_points c.args.rule (c.len-number.result + 1) (forest us) =
+    c.loop-place.invariant.points ∙ ap (λ vs. q ++ terms_points c.args.rule (c.len-number.result + 1) (forest vs)) (take_all c.loop-place.place us c.loop-place-test.false) in
+    let numbered : c.loop-place.args.items ≡ numbers (c.len-number.result + 1) (forest us) =
+    c.loop-place.invariant.args ∙ ap (λ vs. numbers (c.len-number.result + 1) (forest vs)) (take_all c.loop-place.place us c.loop-place-test.false) in
+    let grown : c.extend_from_slice.new.self.items ≡ c.loop-place.rows.args.items ++ c.loop-place.args.items =
+    c.in_ok-extend_from_slice.ensures.items ∙ ap (λ (xs : List ℕ). c.loop-place.rows.args.items ++ xs) c.as_slice.ensures.value in
+    let within : c.len-number.result < length rows = stands c.args.rule c.args.rows.now.args.items c.args.rows.now.points.items c.push.new.self.items c.loop-place.rows.args.items rows _ _ c.in_ok-push.ensures.items c.loop-place.invariant.points (omega arith) in
+    ranged_points c.loop-place.rows.args.items c.extend_from_slice.new.self.items c.loop-place.args.items rows c.len-number.result c.index_mut-row.result.now within c.index_mut-row.ensures.value
+    c.loop-place.invariant.ranges grown c.len-from.result c.len-to.result (omega arith)
+    (omega (arith, length-append c.loop-place.rows.args.items c.loop-place.args.items, ap length grown)) first
+    (point_at c.len-number.result old q p _ first _ long pushed row)
+    ∙ (term_done c.args.rule c.len-number.result old q p first (record { rule = c.args.rule; head = c.term.inside.head; args = c.loop-place.args.items }) c.term.inside.head us c.args.term.now long
+    (ap (λ vs. node c.term.inside.head (forest vs)) c.deref-arg-items.ensures.value ∙ c.term.view_is) pushed row (ap (λ (xs : List ℕ). record { rule = c.args.rule; head = c.term.inside.head; args = xs }) numbered)
+    ∙ ap (λ n. old ++ term_points c.args.rule n c.args.term.now) (as_many args c.args.rows.now.points.items))
+
+pub returns-clause-places : goal.returns-clause-places
+returns-clause-places t c =
+    let us = c.deref-arg-items.result.now in
+    let rows = c.loop-place.rows.points.items in
+    let grown : c.extend_from_slice.new.self.items ≡ c.loop-place.rows.args.items ++ c.loop-place.args.items =
+    c.in_ok-extend_from_slice.ensures.items ∙ ap (λ (xs : List ℕ). c.loop-place.rows.args.items ++ xs) c.as_slice.ensures.value in
+    let within : c.len-number.result < length rows = stands c.args.rule c.args.rows.now.args.items c.args.rows.now.points.items c.push.new.self.items c.loop-place.rows.args.items rows _ _ c.in_ok-push.ensures.items c.loop-place.invariant.points (omega arith) in
+    ranged_places c.loop-place.rows.args.items c.extend_from_slice.new.self.items c.loop-place.args.items rows c.len-number.result c.index_mut-row.result.now within c.index_mut-row.ensures.value
+    c.loop-place.invariant.ranges grown c.len-from.result c.len-to.result (omega arith) (omega (arith, length-append c.loop-place.rows.args.items c.loop-place.args.items, ap length grown))
+    ∙ term_placed c.args.argument c.len-number.result (places_in c.args.rows.now.points.items) (places_in c.push.new.self.items) (places_in rows) c.term.inside.head us c.args.term.now
+    (length c.args.rows.now.points.items) (omega arith) (ap (λ vs. node c.term.inside.head (forest vs)) c.deref-arg-items.ensures.value ∙ c.term.view_is)
+    (place_pushed c.args.rows.now.points.items c.push.new.self.items _ c.in_ok-push.ensures.items)
+    (c.loop-place.invariant.places ∙ ap (λ vs. places_in c.push.new.self.items ++ terms_places c.len-number.result 0 (c.len-number.result + 1) (forest vs)) (take_all c.loop-place.place us c.loop-place-test.false))
+
+pub returns-clause-args : goal.returns-clause-args
+returns-clause-args t c =
+    let grown : c.extend_from_slice.new.self.items ≡ c.loop-place.rows.args.items ++ c.loop-place.args.items =
+    c.in_ok-extend_from_slice.ensures.items ∙ ap (λ (xs : List ℕ). c.loop-place.rows.args.items ++ xs) c.as_slice.ensures.value in
+    let more : length c.push.new.self.items ≡ length c.args.rows.now.points.items + 1 = longer c.args.rows.now.points.items c.push.new.self.items _ c.in_ok-push.ensures.items in
+    omega (
+      arith,
+      length-set {A = Row},
+      taken (c.len-number.result + 1) c.loop-place.place c.deref-arg-items.result.now c.loop-place.args.items (omega arith) c.loop-place.invariant.args,
+      length-append c.loop-place.rows.args.items c.loop-place.args.items,
+      ap length grown,
+      c.loop-place.invariant.room,
+    )

@@ -7,7 +7,7 @@ pub loop-unsorted-init : goal.loop-unsorted-init
 loop-unsorted-init c = record {
   apart = slice_get_within c.args.rules.now 0 c.requires.rules.start.0 c.requires.rules.start.1.0;
   within = omega arith;
-  have = no_rules_sorted c.args.rules.now c.args.ranks.now;
+  have = no_rules_sorted c.args.rules.now c.args.ranks.now c.requires.rules;
   have_not = c.requires.none;
 }
 

@@ -1,4 +1,5 @@
-use Rattle.std.proofs.Common.{sym, ◌∙◌, ap, arith}
+use Rattle.std.proofs.Common.{◌<◌, sym, ◌∙◌, ap, arith}
+use Rattle.hs_sorts.specs.Reading.{size_at}
 use Rattle.hs_sorts.proofs.Readings.{with_arguments, with_arguments-o, argument_read, parts_smaller}
 use Rattle.hs_sorts.proofs.reading.+read_sort.Goals as goal
 
@@ -21,3 +22,9 @@ loop-argument-smaller t c =
 pub returns : goal.returns
 returns t c = λ v r.
     sym (c.loop-argument.invariant.reads v r ∙ (ap (with_arguments c.loop-argument.args.items) (c.in_default.ensures v r) ∙ with_arguments-o c.loop-argument.args.items))
+
+pub read_sort-requires : goal.read_sort-requires
+read_sort-requires t c =
+    let parts = parts_smaller c.args.nodes.now c.args.weights.now c.requires.weights c.loop-argument.at c.in-Some.argument c.in-Some.rest c.loop-argument.invariant.within c.in-Some.ensures (omega (arith, c.loop-argument.invariant.smaller, c.requires.small)) in
+    let smaller : size_at c.args.weights.now c.in-Some.argument < t = omega (arith, c.decreases, parts, c.loop-argument.invariant.smaller) in
+    (smaller, (c.requires.store, (c.requires.flat, (c.requires.weights, (c.in-Some.ensures.argument, omega (arith, parts, c.loop-argument.invariant.smaller, c.requires.small))))))

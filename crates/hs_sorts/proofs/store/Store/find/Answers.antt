@@ -16,8 +16,8 @@ loop-shape-preserved c =
     read_at c.loop-shape.self c.self.inside.nodes.items c.loop-shape.at c.index.result.now c.self.view_is c.loop-shape.invariant.within c.index.ensures ∙ ap (λ n. Some n) c.in-Link.is in
     let below = link_below c.loop-shape.self c.loop-shape.at c.in-Link.up (subst IsStore c.self.view_is c.self.invariant) at_link in
     record {
-      same = same_trans c.args.self.now c.loop-shape.self c.shorten.new.self c.loop-shape.invariant.same c.shorten.ensures;
-      within = omega (arith, below, c.shorten.ensures.as_long);
+      same = same_trans c.args.self.now c.loop-shape.self c.shorten.new.self c.loop-shape.invariant.same c.shorten.ensures.same;
+      within = omega (arith, below, c.shorten.ensures.same.as_long);
       equal = λ v r. c.loop-shape.invariant.equal v r ∙ (c.loop-shape.invariant.same.onward v r).fits c.loop-shape.at (Link c.in-Link.up) at_link;
     }
 

@@ -1,0 +1,64 @@
+//! The run on the words of the command line.
+
+ghost use Rattle.std.specs.Prelude.{◌≡◌, ◌⊎◌, map, IfOk, OnErr, string_bytes};
+ghost use Rattle.std.specs.Vec.Iter.{into_iter_items};
+ghost use Rattle.hs_app.specs.Words.{name_of, texts};
+ghost use Rattle.hs_app.specs.Outcome as outcome;
+ghost use Rattle.hs_app.specs.Outcome.{source_run, sink_run};
+
+use hs_app::run;
+use hs_edge::{Sink, Source};
+use std::alloc::{AllocError, Global};
+use std::env::Args;
+use std::io::{self, ErrorKind};
+
+/// The status where memory is refused before the run.
+const OUT_OF_MEMORY: u8 = 10;
+
+/// The status where the system doesn't give the words of the command line.
+const NO_WORDS: u8 = 13;
+
+/// The words in a list.
+fn collected(alloc: Global, words: Args) -> Result<Vec<String>, AllocError>
+    ensures { IfOk result (λ all. all.items ≡ into_iter_items words) }
+{
+    words.collect(alloc)
+}
+
+/// The words as texts.
+fn borrowed(alloc: Global, words: &[String]) -> Result<Vec<&str>, AllocError>
+    ensures { IfOk result (λ all. texts all.items ≡ map string_bytes words.now) }
+{
+    words.iter().map(|word| word.as_str()).collect(alloc)
+}
+
+/// The run on the words that the system gave: the status is that of `run` on all of them, in their
+/// order. Where there are none, or no memory for them, nothing is touched.
+pub(crate) fn run_on<R, S: Source, O: Sink, E: Sink>(
+    rt: &R,
+    alloc: Global,
+    words: io::Result<Args>,
+    source: &mut S,
+    out: &mut O,
+    err: &mut E,
+) -> u8
+    ensures rows { IfOk words (λ given.
+        ((result ≡ OUT_OF_MEMORY) × (source.new ≡ source.old) × (out.new ≡ out.old) × (err.new ≡ err.old))
+        ⊎ outcome.Rows (name_of (map string_bytes (into_iter_items given)))
+        (source_run S.file S.left S.reading S.faults source.old source.new)
+        (sink_run O.writing O.faults out.old out.new) (sink_run E.writing E.faults err.old err.new) result) }
+    ensures no_words { OnErr words (((result ≡ OUT_OF_MEMORY) ⊎ (result ≡ NO_WORDS)) × (source.new ≡ source.old) × (out.new ≡ out.old) × (err.new ≡ err.old)) }
+{
+    let words = match words {
+        Ok(words) => words,
+        Err(error) if error.kind() == ErrorKind::OutOfMemory => return OUT_OF_MEMORY,
+        Err(_) => return NO_WORDS,
+    };
+    let Ok(words) = collected(alloc, words) else {
+        return OUT_OF_MEMORY;
+    };
+    match borrowed(alloc, words.as_slice()) {
+        Ok(texts) => run(rt, alloc, texts.as_slice(), source, out, err),
+        Err(_) => OUT_OF_MEMORY,
+    }
+}

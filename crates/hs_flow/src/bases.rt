@@ -1,0 +1,100 @@
+//! What parameters may become, as far as the points with them at their head have passed it on.
+
+ghost use Rattle.std.specs.Prelude.{◌≡◌, ◌<◌, ◌↔◌, ◌⊎◌, ℕ, length, Contains, IfOk, OnOk};
+ghost use Rattle.hs_flow.specs.declared.bases.Base.{Base as AnyBase};
+ghost use Rattle.hs_flow.specs.Bases.{HasFlag, HasBase, IsNew};
+
+use crate::rows::empty;
+use hs_scheme::{OutOfMemory, Parameters};
+use indexmap::IndexSet;
+use std::alloc::Global;
+
+/// The most parameters of a scheme whose bases are kept as flags: 64 MiB for all of them at most.
+const MOST_IN_ROWS: u32 = 8_192;
+
+/// The parameter may become the nonterminal of rule `base` with `given` arguments.
+#[derive(Clone, Copy, Debug, PartialEq, Eq, Hash)]
+pub(crate) struct Base {
+    pub(crate) rule: u32,
+    pub(crate) param: u32,
+    pub(crate) base: u32,
+    pub(crate) given: u32,
+}
+
+/// A set of bases of parameters. A base is itself the number of a parameter, the first that is still
+/// missing, so that few parameters have few bases: then it is a flag in the parameter's row.
+#[derive(Drop)]
+pub(crate) struct Bases {
+    /// For each parameter, by its number, its bases, by theirs. A parameter without bases has an
+    /// empty row, and there is no row where the parameters are too many.
+    rows: Vec<Vec<bool>>,
+    others: IndexSet<Base>,
+}
+
+/// Sets a flag in the row of this number, and answers whether it wasn't set.
+fn set_flag(
+    rows: &mut Vec<Vec<bool>>,
+    number: usize,
+    flag: usize,
+    width: usize,
+) -> Result<bool, OutOfMemory>
+    requires row { number < length rows.old.items }
+    requires flag { flag < width }
+    ensures len { length rows.new.items ≡ length rows.old.items }
+    ensures flags { OnOk result ((k j : ℕ) → HasFlag rows.new.items k j ↔ (HasFlag rows.old.items k j ⊎ ((k ≡ number) × (j ≡ flag)))) }
+    ensures added { IfOk result (IsNew (HasFlag rows.old.items number flag)) }
+{
+    let row = &mut rows[number];
+    if row.len() <= flag {
+        row.resize(width, false)?;
+    }
+    if row[flag] {
+        return Ok(false);
+    }
+    row[flag] = true;
+    Ok(true)
+}
+
+/// Adds a base to the set, and answers whether it is new.
+fn add_other(others: &mut IndexSet<Base>, base: Base) -> Result<bool, OutOfMemory>
+    ensures bases { OnOk result ((b : AnyBase) → Contains others.new.keys b ↔ (Contains others.old.keys b ⊎ (b ≡ base))) }
+    ensures added { IfOk result (IsNew (Contains others.old.keys base)) }
+{
+    let added = others.insert(base)?;
+    Ok(added)
+}
+
+impl Bases {
+    /// No bases.
+    pub(crate) fn new(alloc: Global, params: &Parameters) -> Result<Bases, OutOfMemory>
+        ensures { IfOk result (λ bases. (b : AnyBase) → HasBase params.now bases b → ⊥) }
+    {
+        let count = if params.count() <= MOST_IN_ROWS {
+            params.count() as usize
+        } else {
+            0
+        };
+        Ok(Bases {
+            rows: empty(alloc, count)?,
+            others: IndexSet::new(alloc),
+        })
+    }
+
+    /// Adds a base, and answers whether it is new. Constant time on average.
+    pub(crate) fn insert(&mut self, params: &Parameters, base: Base) -> Result<bool, OutOfMemory>
+        ensures bases { OnOk result ((b : AnyBase) → HasBase params.now self.new b ↔ (HasBase params.now self.old b ⊎ (b ≡ base))) }
+        ensures added { IfOk result (IsNew (HasBase params.now self.old base)) }
+    {
+        let Some(number) = params.number(base.rule, base.param) else {
+            return add_other(&mut self.others, base);
+        };
+        let Some(flag) = params.number(base.base, base.given) else {
+            return add_other(&mut self.others, base);
+        };
+        if number as usize >= self.rows.len() {
+            return add_other(&mut self.others, base);
+        }
+        let width = params.count() as usize;
+        set_flag(&mut self.rows, number as usize, flag as usize, width)
+    }
+}

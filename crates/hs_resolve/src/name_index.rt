@@ -1,0 +1,108 @@
+//! Names by number.
+
+ghost use Rattle.std.specs.Prelude.{◌≡◌, ◌<◌, [], not, IfOk, OnOk, IfSome, length, map};
+ghost use Rattle.hs_resolve.specs.Names.{is_among, number_of, with_name};
+ghost use Rattle.hs_resolve.specs.Lengths.{length_of};
+
+use hs_scheme::{Name, OutOfMemory};
+use indexmap::{IndexMap, IndexSet};
+use std::alloc::Global;
+use std::marker::Model;
+
+/// Names without repeats. The number of a name is its place, counted from 0.
+#[derive(Drop)]
+pub(crate) struct NameIndex<'a> {
+    names: IndexSet<&'a [u8]>,
+}
+
+impl<'a> Model for NameIndex<'a> {
+    ghost use Rattle.std.specs.Prelude.{List, ℕ, map};
+
+    ghost Value = { List (List ℕ) };
+
+    ghost view = { λ a. map (λ name. name.now) a.names.keys };
+}
+
+impl<'a> NameIndex<'a> {
+    pub(crate) fn new(alloc: Global) -> NameIndex<'a>
+        ensures { result ≡ [] }
+    {
+        NameIndex {
+            names: IndexSet::new(alloc),
+        }
+    }
+
+    /// The number of names. Takes no memory.
+    pub(crate) fn len(&self) -> usize
+        ensures { result ≡ length self.now }
+    {
+        self.names.len()
+    }
+
+    /// Puts a name at the end, where it isn't there yet, and answers whether it was new. Constant
+    /// time on average in the number of names.
+    pub(crate) fn add(&mut self, name: &'a [u8]) -> Result<bool, OutOfMemory>
+        ensures new { IfOk result (λ fresh. fresh ≡ not (is_among self.old name.now)) }
+        ensures added { OnOk result (self.new ≡ with_name self.old name.now) }
+    {
+        let (_, fresh) = self.names.insert_full(name)?;
+        Ok(fresh)
+    }
+
+    /// Whether a name is there. Takes no memory, and constant time on average.
+    pub(crate) fn has(&self, name: &[u8]) -> bool
+        ensures { result ≡ is_among self.now name.now }
+    {
+        self.names.contains(name)
+    }
+
+    /// The number of a name. Takes no memory, and constant time on average.
+    pub(crate) fn number(&self, name: &[u8]) -> Option<usize>
+        ensures number { result ≡ number_of self.now name.now }
+        ensures within { IfSome result (λ n. n < length self.now) }
+    {
+        self.names.get_index_of(name)
+    }
+
+    /// A copy of each of the names, in order.
+    pub(crate) fn copies(&self, alloc: Global) -> Result<Vec<Name>, OutOfMemory>
+        ensures { IfOk result (λ names. names.items ≡ self.now) }
+    {
+        copies_of(alloc, self.names.as_slice())
+    }
+
+    /// For each of the names the value that the map has for it.
+    pub(crate) fn values_in(
+        &self,
+        alloc: Global,
+        table: &IndexMap<&'a [u8], u32>,
+    ) -> Result<Vec<Option<u32>>, OutOfMemory>
+        ensures { IfOk result (λ values. values.items ≡ map (length_of table.now) self.now) }
+    {
+        values_of(alloc, self.names.as_slice(), table)
+    }
+}
+
+fn copies_of(alloc: Global, texts: &[&[u8]]) -> Result<Vec<Name>, OutOfMemory>
+    ensures { IfOk result (λ names. names.items ≡ map (λ t. t.now) texts.now) }
+{
+    let mut names = Vec::with_capacity(alloc, texts.len())?;
+    for text in texts {
+        names.push(Name::of(alloc, text)?)?;
+    }
+    Ok(names)
+}
+
+fn values_of<'a>(
+    alloc: Global,
+    texts: &[&'a [u8]],
+    table: &IndexMap<&'a [u8], u32>,
+) -> Result<Vec<Option<u32>>, OutOfMemory>
+    ensures { IfOk result (λ values. values.items ≡ map (λ t. length_of table.now t.now) texts.now) }
+{
+    let mut values = Vec::with_capacity(alloc, texts.len())?;
+    for text in texts {
+        values.push(table.get(*text).copied())?;
+    }
+    Ok(values)
+}

@@ -1,0 +1,12 @@
+-- A sorted scheme that was made of an unsorted one by lengthening its rules.
+use Rattle.std.specs.Prelude.{◌≡◌, length}
+use Rattle.hs_scheme.specs.Unsorted.{UnsortedData}
+use Rattle.hs_scheme.specs.Sorting.{IsSorting}
+use Rattle.hs_scheme.specs.Sorted.{SortedData, sorts_of}
+use Rattle.hs_scheme.specs.Lengthening.{lengthening}
+
+-- the sorts are a sorting of the unsorted scheme's rules, the rules are these rules lengthened, and the automaton is its own
+pub record IsLengthened (u : UnsortedData) (s : SortedData) : Type 0 where
+  pub sorting : IsSorting u.rules u.ranks (length u.rules) (sorts_of s.sorts s.scheme.ranks)
+  pub rules : s.scheme.rules ≡ lengthening u.rules s.sorts
+  pub automaton : s.automaton ≡ u.automaton
