@@ -1,0 +1,3 @@
+pub mod Evidence
+pub mod Naming
+pub mod NamingExamples

@@ -1,0 +1,10 @@
+pub mod Lists
+pub mod TermLemmas
+pub mod Moves
+pub mod Good
+pub mod Counts
+pub mod Paths
+pub mod Unions
+pub mod Complete
+pub mod Verdict
+pub mod Supports

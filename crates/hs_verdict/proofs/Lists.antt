@@ -1,0 +1,65 @@
+-- Places of joined lists and of images, and members of lists of pairs.
+use Rattle.std.proofs.Common.{◌≡◌, refl, subst, ap, ℕ, zero, suc, ◌+◌, List, [], ◌∷◌, ◌++◌, length, map, slice_get, Some, arith, Contains, ◌⊎◌, inl, inr}
+use Rattle.std.proofs.lemmas.List.Elements.{Contains-append_cases}
+use Rattle.hs_scheme.specs.declared.flow.FlowPair.{FlowPair}
+use Rattle.hs_scheme.specs.declared.flow.HeadPair.{HeadPair}
+use Rattle.hs_scheme.specs.declared.flow.Pair.{Pair}
+use Rattle.hs_scheme.specs.declared.flow.Pair.TheVariants.{OfFlow, OfHead}
+use Rattle.hs_scheme.specs.Flow.{pairs_of}
+use Rattle.hs_steps.proofs.Terms.{same_some}
+use Rattle.hs_table_laws.proofs.Places.{none_in, here, later, uncons}
+
+pub record Behind {A : Type 0} (xs ys : List A) (i : ℕ) (x : A) : Type 0 where
+  pub place : ℕ
+  pub is : i ≡ length xs + place
+  pub at : slice_get ys place ≡ Some x
+
+pub place-append : {A : Type 0} (xs ys : List A) (i : ℕ) (x : A) → slice_get (xs ++ ys) i ≡ Some x → (slice_get xs i ≡ Some x) ⊎ Behind xs ys i x
+place-append [] ys i x e = inr (record { place = i; is = omega arith; at = e })
+place-append (y ∷ xs) ys zero x e = inl e
+place-append (y ∷ xs) ys (suc i) x e = elim (place-append xs ys i x e) [
+  | inl h ↦ inl h
+  | inr b ↦ inr (record { place = b.place; is = omega (arith, b.is); at = b.at })
+]
+
+pub record Image {A B : Type 0} (f : A → B) (xs : List A) (i : ℕ) (y : B) : Type 0 where
+  pub item : A
+  pub at : slice_get xs i ≡ Some item
+  pub is : f item ≡ y
+
+pub place-map : {A B : Type 0} (f : A → B) (xs : List A) (i : ℕ) (y : B) → slice_get (map f xs) i ≡ Some y → Image f xs i y
+place-map f [] i y e = absurd (cc)
+place-map f (x ∷ xs) zero y e = record { item = x; at = refl; is = same_some (f x) y e }
+place-map f (x ∷ xs) (suc i) y e = let r = place-map f xs i y e in record { item = r.item; at = r.at; is = r.is }
+
+-- a flow pair of the two lists in one is in the first
+flow_of : Pair → FlowPair → FlowPair
+flow_of (OfFlow f) g = f
+flow_of (OfHead h) g = g
+
+same_flow : (f g : FlowPair) → OfFlow f ≡ OfFlow g → f ≡ g
+unfolding flow_of
+same_flow f g e = ap (λ pair. flow_of pair f) e
+
+no_head : (h : HeadPair) (f : FlowPair) → OfFlow f ≡ OfHead h → ⊥
+no_head h f e = (cc)
+
+in_flows : (flows : List FlowPair) (f : FlowPair) → Contains (map (λ f. OfFlow f) flows) (OfFlow f) → Contains flows f
+in_flows [] f h = absurd (none_in (OfFlow f) h)
+in_flows (g ∷ flows) f h = elim (uncons (OfFlow g) (OfFlow f) (map (λ f. OfFlow f) flows) h) [
+  | inl e ↦ subst (λ k. Contains (k ∷ flows) f) (same_flow f g e) (here f flows)
+  | inr there ↦ later g f flows (in_flows flows f there)
+]
+
+not_in_heads : (heads : List HeadPair) (f : FlowPair) → Contains (map (λ h. OfHead h) heads) (OfFlow f) → ⊥
+not_in_heads [] f h = none_in (OfFlow f) h
+not_in_heads (g ∷ heads) f h = elim (uncons (OfHead g) (OfFlow f) (map (λ h. OfHead h) heads) h) [
+  | inl e ↦ no_head g f e
+  | inr there ↦ not_in_heads heads f there
+]
+
+pub flow_pair : (flows : List FlowPair) (heads : List HeadPair) (f : FlowPair) → Contains (pairs_of flows heads) (OfFlow f) → Contains flows f
+flow_pair flows heads f h = elim (Contains-append_cases (map (λ f. OfFlow f) flows) (map (λ h. OfHead h) heads) (OfFlow f) h) [
+  | inl own ↦ in_flows flows f own
+  | inr other ↦ absurd (not_in_heads heads f other)
+]

@@ -1,0 +1,4 @@
+pub mod Premises
+pub mod Terms
+pub mod Closures
+pub mod Typed
