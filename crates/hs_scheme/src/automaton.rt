@@ -127,6 +127,13 @@ impl Automaton {
         states_at(&self.by_child, terminal, child, state)
     }
 
+    /// What holds of each automaton. Takes no memory and no time.
+    pub fn is_automaton(&self)
+        ensures { IsAutomaton self.now }
+    {
+        let _ = &self.states;
+    }
+
     /// The number of states.
     pub fn states(&self) -> u32
         ensures { result ≡ self.now.states }
