@@ -101,6 +101,13 @@ module _ (u : UnsortedData) (s : SortedData) (unsorted : IsUnsorted u) (sorted :
       (subst (λ (rules : List Rule). Fails u.rules ts n 0 start path ↔ Fails rules ts n 0 start path) (sym made.rules)
       (same_failures u.rules (length u.ranks) u.ranks ts sorts are_sorted s.sorts are_sorts n 0 start path made.sorting.start))
 
+  pub reaches_of_file : (n : ℕ) (path : Path) (q : ℕ) (t : Tree Head)
+      → Reaches u.rules ts n 0 start path q t ↔ Reaches s.scheme.rules s.automaton.transitions n 0 start path q t
+  reaches_of_file n path q t =
+      subst (λ (l : List TransitionData). Reaches u.rules ts n 0 start path q t ↔ Reaches s.scheme.rules l n 0 start path q t) transitions_are
+      (subst (λ (rules : List Rule). Reaches u.rules ts n 0 start path q t ↔ Reaches rules ts n 0 start path q t) (sym made.rules)
+      (same_steps u.rules (length u.ranks) u.ranks ts sorts are_sorted s.sorts are_sorts n 0 q start t path made.sorting.start))
+
   pub refusals_of_file : (n : ℕ) → (run ts 0 (cut u.rules n start) ≡ false) ↔ (run s.automaton.transitions 0 (cut s.scheme.rules n start) ≡ false)
   refusals_of_file n =
       subst (λ (l : List TransitionData). (run ts 0 (cut u.rules n start) ≡ false) ↔ (run l 0 (cut s.scheme.rules n start) ≡ false)) transitions_are

@@ -38,11 +38,14 @@ pub fn lengthening_keeps_the_tree()
 {}
 
 /// A sorted scheme and the unsorted one that it was made of by lengthening have the same tree, come
-/// along the same paths to terminals without transition after the same numbers of steps, and have
-/// the same cuts refused.
+/// along the same paths to the same terms, and so to terminals without transition, after the same
+/// numbers of steps, and have the same cuts refused.
 pub fn lengthened_schemes_have_the_same_tree()
     ensures tree { (u : UnsortedData) (s : SortedData) → IsUnsorted u → IsSorted s → IsLengthened u s →
         HaveSameTree s.scheme.ranks u.rules s.scheme.rules }
+    ensures reaching { (u : UnsortedData) (s : SortedData) → IsUnsorted u → IsSorted s → IsLengthened u s →
+        (n : ℕ) (path : Path) (q : ℕ) (t : Tree Head) →
+        Reaches u.rules u.automaton.transitions n 0 start path q t ↔ Reaches s.scheme.rules s.automaton.transitions n 0 start path q t }
     ensures failures { (u : UnsortedData) (s : SortedData) → IsUnsorted u → IsSorted s → IsLengthened u s →
         (n : ℕ) (path : Path) →
         Fails u.rules u.automaton.transitions n 0 start path ↔ Fails s.scheme.rules s.automaton.transitions n 0 start path }
