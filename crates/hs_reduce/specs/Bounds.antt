@@ -1,0 +1,30 @@
+-- What reduction along every path, up to n steps, finds.
+--     IsErrorWithin     a path to an error in fewer than n steps
+--     IsFound           no path, and the cut at n is read to its end; or such a path
+--     IsVerdict         so for the start
+use Rattle.std.specs.Prelude.{◌≡◌, ℕ, ◌<◌, false, IsTrue, Option, Some, None}
+use Rattle.hs_scheme.specs.declared.term.Head.{Head}
+use Rattle.hs_scheme.specs.Tree.{Tree}
+use Rattle.hs_scheme.specs.Cut.{cut}
+use Rattle.hs_scheme.specs.Run.{run, start}
+use Rattle.hs_scheme.specs.Sorted.{SortedData}
+use Rattle.hs_reduce.specs.declared.answers.Bounded.{Bounded}
+use Rattle.hs_reduce.specs.declared.answers.Bounded.TheVariants.{NoError, Error}
+use Rattle.hs_trace.specs.Path.{PathData}
+use Rattle.hs_reduce.specs.Path.{IsErrorFrom}
+
+-- the automaton reads the tree of t, cut at n, to its end
+abbrev pub ReadsCut : SortedData → ℕ → ℕ → Tree Head → Type 0
+ReadsCut s n q t = IsTrue (run s.automaton.transitions q (cut s.scheme.rules n t))
+
+pub record IsErrorWithin (s : SortedData) (n q : ℕ) (t : Tree Head) (path : PathData) : Type 0 where
+  pub within : path.used < n
+  pub error : IsErrorFrom s.scheme.rules s.automaton.transitions q t path
+
+abbrev pub IsFound : SortedData → ℕ → ℕ → Tree Head → Option PathData → Type 0
+IsFound s n q t None = ReadsCut s n q t
+IsFound s n q t (Some path) = IsErrorWithin s n q t path
+
+abbrev pub IsVerdict : SortedData → ℕ → Bounded → Type 0
+IsVerdict s n NoError = ReadsCut s n 0 start
+IsVerdict s n (Error path) = (run s.automaton.transitions 0 (cut s.scheme.rules n start) ≡ false) × IsErrorWithin s n 0 start path

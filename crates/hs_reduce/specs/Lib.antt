@@ -1,0 +1,7 @@
+pub mod Graph
+pub mod Path
+pub mod Replays
+pub mod Advances
+pub mod Bounds
+pub mod Followed
+pub mod Labelled

@@ -1,0 +1,20 @@
+//! Plain reduction of a sorted scheme: along the child numbers of a path, and along every path up to
+//! a number of steps.
+//!
+//! A step replaces the nonterminal in front of a term by its rule's body, or goes down from the
+//! terminal in front, along a transition of the automaton, to one of its children.
+#![tactic(auto)]
+
+mod answers;
+mod cutting;
+mod following;
+mod graph;
+mod limits;
+mod replacement;
+mod replaying;
+
+pub use answers::{Bounded, Followed, Replay};
+pub use cutting::bounded;
+pub use following::follow;
+pub use limits::{MAX_CUT, MAX_STEPS};
+pub use replaying::replay;
