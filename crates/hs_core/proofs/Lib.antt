@@ -1,0 +1,4 @@
+pub mod Telling
+pub mod Stepping
+pub mod Slots
+pub mod Moving

@@ -1,0 +1,481 @@
+-- What one worker does, step by step.
+use Rattle.std.proofs.Common.{◌≡◌, refl, sym, ◌∙◌, ap, subst, ℕ, zero, suc, ◌+◌, ◌-◌, ◌*◌, ◌<◌, ◌≤◌, Bool, true, false, List, [], ◌∷◌, ◌++◌, map, length, take, slice_get, get_or, Option, Some, None, IsSome, All, arith, Contains, inl, inr, length-append, append_assoc, Result, Ok, Err}
+use Rattle.std.specs.Bool.{MatchBool}
+use Rattle.std.specs.Borrow.{Bor}
+use Rattle.std.specs.Option.{option_map, option_copied, is_some, unwrap_or}
+use Rattle.std.specs.Result.{IfOk}
+use Rattle.std.proofs.lemmas.Bool.{cases_Bool, cases_eq, cond-true, cond-false, false≢true}
+use Rattle.std.proofs.lemmas.List.{take_all, take-append-le}
+use Rattle.std.proofs.lemmas.List.Elements.{All-nil, All-cons, All-append, All-map, All-contains, All-weaker, Contains-append_left, Contains-append_right, Contains-push}
+use Rattle.hs_scheme.specs.Problem.{ProblemData}
+use Rattle.hs_scheme.specs.declared.flow.FlowPair.{FlowPair}
+use Rattle.hs_scheme.specs.Points.{PointsData}
+use Rattle.hs_scheme.specs.Dependents.{IsDependent}
+use Rattle.hs_flow.specs.Dependents.{HasDependents, list_of}
+use Rattle.hs_table.specs.Entries.{EntryData}
+use Rattle.hs_table.specs.Follows.{Support, FollowsBy, premises}
+use Rattle.hs_table_laws.proofs.Places.{none_in, here, member_at, place_of, within_from, uncons}
+use Rattle.hs_table_laws.proofs.Least.{supports_support}
+use Rattle.hs_table_laws.proofs.Growing.{by_append, by_take}
+use Rattle.hs_types.specs.Interned.{InternerData, IsRow, entry_of}
+use Rattle.hs_rules.specs.Conclusions.{DeducedData, IsDeduced, AnySupport, Uses, AreConclusions}
+use Rattle.hs_history.specs.declared.step.Work.{Work}
+use Rattle.hs_history.specs.declared.step.Work.TheVariants.{Place}
+use Rattle.hs_history.specs.declared.step.Flight.{Flight}
+use Rattle.hs_history.specs.Story.{Base, Deduction, Action, takes, adds, passes, finishes, gives_back, CoreStep, Story}
+use Rattle.hs_history.specs.CoreStep.{State, without, is_work, put, IsClosedSeed, IsClosedPlace, GoesOn, CanTake, acted}
+use Rattle.hs_history.specs.History.{state_after, IsLegal, IsWork, IsPast}
+use Rattle.hs_history.proofs.Histories.{state_push, grown, holds_after, fits_at_rest}
+use Rattle.hs_history.proofs.Sound.{least_at_rest}
+use Rattle.hs_history.proofs.Logs.{at_within}
+use Rattle.hs_history.proofs.Works.{put_here, put_other, is_work_itself}
+use Rattle.hs_core.specs.declared.answers.Taken.{Taken}
+use Rattle.hs_core.specs.declared.answers.Taken.TheVariants.{Item, Quiet, Idle, Over, Found}
+use Rattle.hs_core.specs.declared.answers.Published.{Published}
+use Rattle.hs_core.specs.declared.answers.Published.TheVariants.{Known, Added, Over as NoRoom}
+use Rattle.hs_core.specs.Core.{CoreData, state_of, log_of, deduction_of, stepped}
+use Rattle.hs_core.specs.Answers.{IsFound, Takes, Publishes, Passes, IsLeastAnswer, IsOverAnswer}
+use Rattle.hs_core.specs.Saturation.{IsAlone}
+use Rattle.hs_core.specs.Draining.{weight, GoesAlone, SameFlight, NothingFlies, IsReady, IsThere, Ends}
+
+-- worker 0 did some steps, after which the same works are in flight and not more are left
+pub record Moves (old new : CoreData) : Type 0 where
+  pub alone : GoesAlone old new
+  pub flight : SameFlight old new
+  pub lighter : weight new ≤ weight old
+
+-- the state is that of the base and the story
+pub state_same : (a b : CoreData) → b.base ≡ a.base → b.story ≡ a.story → state_of b ≡ state_of a
+state_same a b base story = λ i. state_after (base i) (story i)
+
+pub alone_same : (a b : CoreData) → b.base ≡ a.base → b.story ≡ a.story → GoesAlone a b
+alone_same a b base story = record { base = base; more = []; story = story ∙ sym (append_none a.story); alone = All-nil (λ (s : CoreStep). s.worker ≡ 0) }
+  where
+    append_none : (xs : List CoreStep) → xs ++ [] ≡ xs
+    append_none [] = refl
+    append_none (x ∷ xs) = ap (λ ys. x ∷ ys) (append_none xs)
+
+pub alone_step : (a b : CoreData) (action : Action) (spare : ℕ) → b ≡ stepped a 0 action spare → GoesAlone a b
+alone_step a b action spare is = record {
+  base = ap (λ (c : CoreData). c.base) is;
+  more = (record { worker = 0; action = action }) ∷ [];
+  story = ap (λ (c : CoreData). c.story) is;
+  alone = All-cons (λ (s : CoreStep). s.worker ≡ 0) (record { worker = 0; action = action }) [] refl (All-nil (λ (s : CoreStep). s.worker ≡ 0));
+}
+
+pub alone_trans : (a b c : CoreData) → GoesAlone a b → GoesAlone b c → GoesAlone a c
+alone_trans a b c f g = record {
+  base = g.base ∙ f.base;
+  more = f.more ++ g.more;
+  story = g.story ∙ ap (λ xs. xs ++ g.more) f.story ∙ append_assoc a.story f.more g.more;
+  alone = All-append (λ (s : CoreStep). s.worker ≡ 0) f.more g.more f.alone g.alone;
+}
+
+pub moves_trans : (a b c : CoreData) → Moves a b → Moves b c → Moves a c
+moves_trans a b c f g = record {
+  alone = alone_trans a b c f.alone g.alone;
+  flight = λ t. g.flight t ∙ f.flight t;
+  lighter = omega (arith, f.lighter, g.lighter);
+}
+
+-- a call that isn't a step
+pub moves_same : (a b : CoreData) → b.base ≡ a.base → b.story ≡ a.story → Moves a b
+moves_same a b base story = record {
+  alone = alone_same a b base story;
+  flight = λ t. ap (λ (s : State). s.flight t) (state_same a b base story);
+  lighter = subst (λ n. n ≤ weight a) (sym same) (omega arith);
+}
+  where
+    same : weight b ≡ weight a
+    same = λ i. 2 * ((base i).budget - length (state_after (base i) (story i)).log) + length (state_after (base i) (story i)).pending
+
+pub state_stepped : (a b : CoreData) (worker : ℕ) (action : Action) (spare : ℕ) → b ≡ stepped a worker action spare → state_of b ≡ acted (state_of a) worker action
+state_stepped a b worker action spare is = ap (λ (c : CoreData). state_of c) is ∙ state_push a.base a.story (record { worker = worker; action = action })
+
+-- the log of a later core begins with that of an earlier one
+pub record Longer (a b : CoreData) : Type 0 where
+  pub more : List EntryData
+  pub log : log_of b ≡ log_of a ++ more
+
+pub longer_by : (a b : CoreData) (more : Story) → b.base ≡ a.base → b.story ≡ a.story ++ more → Longer a b
+longer_by a b more base story =
+    let g = grown a.base a.story more in
+    record { more = g.entries; log = ap (λ (s : State). s.log) (λ i. state_after (base i) (story i)) ∙ g.log }
+
+pub longer : (a b : CoreData) → GoesAlone a b → Longer a b
+longer a b g = longer_by a b g.more g.base g.story
+
+pub longer_has : (a b : CoreData) → Longer a b → (e : EntryData) → Contains (log_of a) e → Contains (log_of b) e
+longer_has a b l e c = subst (λ xs. Contains xs e) (sym l.log) (Contains-append_left (log_of a) l.more e c)
+
+-- a publication by worker 0
+module _ (old new : CoreData) (ticket : ℕ) (d : Deduction) where
+  passes_moves : (kept : Option Deduction) → Passes old 0 ticket d new kept → Moves old new
+  passes_moves None is =
+      let s = state_stepped old new 0 (passes ticket d) (old.spare - 1) is in
+      record {
+        alone = alone_step old new (passes ticket d) (old.spare - 1) is;
+        flight = λ t. ap (λ (x : State). x.flight t) s;
+        lighter = subst (λ (x : State). 2 * (new.base.budget - length x.log) + length x.pending ≤ weight old) (sym s)
+            (subst (λ (b : Base). 2 * (b.budget - length (log_of old)) + length (state_of old).pending ≤ weight old) (sym (ap (λ (c : CoreData). c.base) is)) (omega arith));
+      }
+  passes_moves (Some k) is = moves_same old new (ap (λ (c : CoreData). c.base) is) (ap (λ (c : CoreData). c.story) is)
+
+  pub publish_moves : (answer : Published) → Publishes old 0 ticket d answer new → Moves old new
+  publish_moves (Known place) h = moves_same old new (ap (λ (c : CoreData). c.base) h.1) (ap (λ (c : CoreData). c.story) h.1)
+  publish_moves (Added place) h =
+      let s = state_stepped old new 0 (adds ticket d) (old.spare - 1) h.3 in
+      record {
+        alone = alone_step old new (adds ticket d) (old.spare - 1) h.3;
+        flight = λ t. ap (λ (x : State). x.flight t) s;
+        lighter = subst (λ (x : State). 2 * (new.base.budget - length x.log) + length x.pending ≤ weight old) (sym s)
+            (subst (λ (b : Base). 2 * (b.budget - length (log_of old ++ d.entry ∷ [])) + length ((state_of old).pending ++ Place (length (log_of old)) ∷ []) ≤ weight old) (sym (ap (λ (c : CoreData). c.base) h.3))
+            (lighter_with old.base.budget (log_of old) d.entry (state_of old).pending (Place (length (log_of old))) h.1));
+      }
+    where
+      lighter_with : (budget : ℕ) (log : List EntryData) (e : EntryData) (pending : List Work) (w : Work) → length log < budget
+          → 2 * (budget - length (log ++ e ∷ [])) + length (pending ++ w ∷ []) ≤ 2 * (budget - length log) + length pending
+      lighter_with budget log e pending w room = omega (arith, room, length-append log (e ∷ []), length-append pending (w ∷ []))
+  publish_moves NoRoom h = passes_moves (state_of old).kept h.2
+
+  pub publish_ids : (answer : Published) → Publishes old 0 ticket d answer new → new.ids ≡ old.ids
+  publish_ids (Known place) h = ap (λ (c : CoreData). c.ids) h.1
+  publish_ids (Added place) h = ap (λ (c : CoreData). c.ids) h.3
+  publish_ids NoRoom h = go (state_of old).kept h.2
+    where
+      go : (kept : Option Deduction) → Passes old 0 ticket d new kept → new.ids ≡ old.ids
+      go None is = ap (λ (c : CoreData). c.ids) is
+      go (Some k) is = ap (λ (c : CoreData). c.ids) is
+
+  -- then the entry is there, or there was no room
+  pub known_there : (place : ℕ) → Publishes old 0 ticket d (Known place) new → Contains (log_of new) d.entry
+  known_there place h = subst (λ (c : CoreData). Contains (log_of c) d.entry) (sym h.1) (member_at (log_of old) place d.entry h.0)
+
+  pub added_there : (place : ℕ) → Publishes old 0 ticket d (Added place) new → Contains (log_of new) d.entry
+  added_there place h =
+      let s = state_stepped old new 0 (adds ticket d) (old.spare - 1) h.3 in
+      subst (λ (x : State). Contains x.log d.entry) (sym s) (Contains-push (log_of old) d.entry)
+
+  pub no_room_kept : Publishes old 0 ticket d NoRoom new → IsSome (state_of new).kept
+  no_room_kept h = go (state_of old).kept refl h.2
+    where
+      go : (kept : Option Deduction) → (state_of old).kept ≡ kept → Passes old 0 ticket d new kept → IsSome (state_of new).kept
+      go None e is = subst (λ (x : State). IsSome x.kept) (sym (state_stepped old new 0 (passes ticket d) (old.spare - 1) is)) refl
+      go (Some k) e is = subst (λ (c : CoreData). IsSome (state_of c).kept) (sym is) (subst (λ o. IsSome o) (sym e) refl)
+
+-- deductions keep their meaning
+pub ready_still : (a b : CoreData) (d : DeducedData) → GoesAlone a b → b.ids ≡ a.ids → IsReady a d → IsReady b d
+ready_still a b d goes ids ready =
+    let l = longer a b goes in
+    record {
+      row = subst (λ (i : InternerData). IsRow i d.row) (sym ids) ready.row;
+      follows = subst (λ (i : InternerData). FollowsBy b.base.problem (log_of b) d.support (entry_of i d.row)) (sym ids)
+          (subst (λ (base : Base). FollowsBy base.problem (log_of b) d.support (entry_of a.ids d.row)) (sym goes.base)
+          (subst (λ xs. FollowsBy a.base.problem xs d.support (entry_of a.ids d.row)) (sym l.log) (by_append a.base.problem (log_of a) l.more d.support (entry_of a.ids d.row) ready.follows)));
+    }
+
+pub there_still : (a b : CoreData) (d : DeducedData) → GoesAlone a b → b.ids ≡ a.ids → IsThere a d → IsThere b d
+there_still a b d goes ids there = subst (λ (i : InternerData). Contains (log_of b) (entry_of i d.row)) (sym ids) (longer_has a b (longer a b goes) (entry_of a.ids d.row) there)
+
+-- what is closed once all is there
+module _ (p : ProblemData) (ids : InternerData) (L : List EntryData) (found : List DeducedData) (there : All (λ (d : DeducedData). Contains L (entry_of ids d.row)) found) where
+  in_log : (e : EntryData) → Contains (map (λ (d : DeducedData). entry_of ids d.row) found) e → Contains L e
+  in_log e c = All-contains (λ x. Contains L x) (map (λ (d : DeducedData). entry_of ids d.row) found) e (All-map (λ x. Contains L x) (λ (d : DeducedData). entry_of ids d.row) found there) c
+
+  pub seed_closed : (point : ℕ) → AreConclusions p ids [] point AnySupport found → IsClosedSeed p L point
+  seed_closed point are e at (s, follows) = in_log e (are.each s e at follows tt)
+
+-- all that follows at a point by the place is in the log
+abbrev pub HasAll : ProblemData → List EntryData → ℕ → ℕ → List EntryData → Type 0
+HasAll p from place d L = (s : Support) (e : EntryData) → e.point ≡ d → FollowsBy p (take (place + 1) from) s e → Contains (premises s) place → Contains L e
+
+pub has_all : (p : ProblemData) (ids : InternerData) (from L : List EntryData) (place d : ℕ) (found : List DeducedData) → All (λ (x : DeducedData). Contains L (entry_of ids x.row)) found
+    → AreConclusions p ids (take (place + 1) from) d (Uses place) found → HasAll p from place d L
+has_all p ids from L place d found there are s e at follows among = in_log p ids L found there e (are.each s e at follows among)
+
+module _ (p : ProblemData) (from more L : List EntryData) (place : ℕ) (within : place < length from) (grown_to : L ≡ from ++ more) where
+  pub place_closed : (at : EntryData) (lists : List (List ℕ)) (items : List ℕ) → slice_get from place ≡ Some at → HasDependents p.points p.flow.pairs lists → items ≡ list_of lists at.point
+      → ((k : ℕ) → k < length items → HasAll p from place (get_or items k 0) L) → IsClosedPlace p L place
+  place_closed at lists items here dependents is all at' e s here' depends follows among =
+      let before : slice_get from place ≡ Some at' = at_within from more place at' within (subst (λ xs. slice_get xs place ≡ Some at') grown_to here') in
+      let same : at' ≡ at = some_same at' at (sym before ∙ here) in
+      let depends' = subst (λ (x : EntryData). IsDependent p.points p.flow.pairs x.point e.point) same depends in
+      let listed = subst (λ xs. Contains xs e.point) (sym is) ((dependents.exact at.point e.point).1 depends') in
+      let front : take (place + 1) L ≡ take (place + 1) from = ap (λ xs. take (place + 1) xs) grown_to ∙ take-append-le (place + 1) from more (omega arith) in
+      all listed.0 listed.1 s e (at_number items listed.0 e.point listed.1 listed.2) (subst (λ E. FollowsBy p E s e) front follows) among
+    where
+      some_same : (x y : EntryData) → Some x ≡ Some y → x ≡ y
+      some_same x y h = (cc)
+
+      at_number : (xs : List ℕ) (k d : ℕ) → k < length xs → get_or xs k d ≡ d → d ≡ get_or xs k 0
+      at_number [] k d lt h = absurd (omega arith)
+      at_number (x ∷ xs) zero d lt h = sym h
+      at_number (x ∷ xs) (suc k) d lt h = at_number xs k d (omega arith) h
+
+-- taking a work, and leaving it
+pub shorter : (w : Work) (vs : List Work) → Contains vs w → suc (length (without w vs)) ≡ length vs
+shorter w [] c = absurd (none_in w c)
+shorter w (v ∷ vs) c = elim (cases_Bool (is_work w v)) [
+  | inl same ↦ ap (λ xs. suc (length xs)) (cond-true (is_work w v) vs (v ∷ without w vs) same)
+  | inr other ↦ ap (λ xs. suc (length xs)) (cond-false (is_work w v) vs (v ∷ without w vs) other) ∙ ap suc (shorter w vs (elim (uncons v w vs c) [
+    | inl is ↦ absurd (both w v is other)
+    | inr there ↦ there
+  ]))
+]
+  where
+    both : (a b : Work) → a ≡ b → is_work a b ≡ false → ⊥
+    both a b is other = false≢true (sym other ∙ ap (λ x. is_work a x) (sym is) ∙ is_work_itself a)
+
+pub published_there : (old new : CoreData) (ticket : ℕ) (d : Deduction) (answer : Published) → (answer ≡ NoRoom → ⊥) → Publishes old 0 ticket d answer new → Contains (log_of new) d.entry
+published_there old new ticket d (Known place) room h = known_there old new ticket d place h
+published_there old new ticket d (Added place) room h = added_there old new ticket d place h
+published_there old new ticket d NoRoom room h = absurd (room refl)
+
+-- any steps
+pub record GoesOnFrom (old new : CoreData) : Type 0 where
+  pub base : new.base ≡ old.base
+  pub more : Story
+  pub story : new.story ≡ old.story ++ more
+
+pub goes_on_none : (a : CoreData) → GoesOnFrom a a
+goes_on_none a = let g = alone_same a a refl refl in record { base = refl; more = g.more; story = g.story }
+
+pub goes_on_step : (a b c : CoreData) (worker : ℕ) (action : Action) (spare : ℕ) → GoesOnFrom a b → c ≡ stepped b worker action spare → GoesOnFrom a c
+goes_on_step a b c worker action spare g is = record {
+  base = ap (λ (x : CoreData). x.base) is ∙ g.base;
+  more = g.more ++ (record { worker = worker; action = action }) ∷ [];
+  story = ap (λ (x : CoreData). x.story) is ∙ ap (λ xs. xs ++ (record { worker = worker; action = action }) ∷ []) g.story ∙ append_assoc a.story g.more ((record { worker = worker; action = action }) ∷ []);
+}
+
+pub goes_on_same : (a b c : CoreData) → GoesOnFrom a b → c ≡ b → GoesOnFrom a c
+goes_on_same a b c g same = subst (λ (x : CoreData). GoesOnFrom a x) (sym same) g
+
+-- a ticket is free once its work is given back
+pub given_free : (a b : CoreData) (worker ticket : ℕ) (spare : ℕ) → b ≡ stepped a worker (gives_back ticket) spare → (state_of b).flight ticket ≡ None
+given_free a b worker ticket spare is = ap (λ (s : State). s.flight ticket) (state_stepped a b worker (gives_back ticket) spare is) ∙ put_here ticket None (state_of a).flight
+
+pub given_other : (a b : CoreData) (worker ticket : ℕ) (spare : ℕ) → b ≡ stepped a worker (gives_back ticket) spare → (other : ℕ) → (state_of a).flight other ≡ None → (state_of b).flight other ≡ None
+given_other a b worker ticket spare is other none = elim (cases_eq other ticket) [
+  | inl same ↦ ap (λ t. (state_of b).flight t) same ∙ given_free a b worker ticket spare is
+  | inr ne ↦ ap (λ (s : State). s.flight other) (state_stepped a b worker (gives_back ticket) spare is) ∙ put_other ticket other None (state_of a).flight ne ∙ none
+]
+
+-- a turn: a work is taken, something is published, and the work is closed or given back
+module _ (a b c d : CoreData) (work : Work) (ticket k l : ℕ) (free : NothingFlies a) (can : CanTake a.base (state_of a) work ticket) (took : b ≡ stepped a 0 (takes work ticket) k) (moves : Moves b c) where
+  taken_flight : (t : ℕ) → (t ≡ ticket → ⊥) → (state_of c).flight t ≡ None
+  taken_flight t ne = moves.flight t ∙ ap (λ (s : State). s.flight t) (state_stepped a b 0 (takes work ticket) k took) ∙ put_other ticket t (Some (record { worker = 0; work = work })) (state_of a).flight ne ∙ free t
+
+  pub holds_taken : (state_of b).flight ticket ≡ Some (record { worker = 0; work = work })
+  holds_taken = ap (λ (s : State). s.flight ticket) (state_stepped a b 0 (takes work ticket) k took) ∙ put_here ticket (Some (record { worker = 0; work = work })) (state_of a).flight
+
+  pub holds_then : (state_of c).flight ticket ≡ Some (record { worker = 0; work = work })
+  holds_then = moves.flight ticket ∙ holds_taken
+
+  pub turn_goes : (action : Action) → d ≡ stepped c 0 action l → GoesAlone a d
+  turn_goes action is = alone_trans a c d (alone_trans a b c (alone_step a b (takes work ticket) k took) moves.alone) (alone_step c d action l is)
+
+  pub turn_flight_finished : d ≡ stepped c 0 (finishes ticket) l → NothingFlies d
+  turn_flight_finished is t = elim (cases_eq t ticket) [
+    | inl same ↦ ap (λ (s : State). s.flight t) (state_stepped c d 0 (finishes ticket) l is) ∙ ap (λ n. put ticket None (state_of c).flight n) same ∙ put_here ticket None (state_of c).flight
+    | inr ne ↦ ap (λ (s : State). s.flight t) (state_stepped c d 0 (finishes ticket) l is) ∙ put_other ticket t None (state_of c).flight ne ∙ taken_flight t ne
+  ]
+
+  pub turn_flight_given : d ≡ stepped c 0 (gives_back ticket) l → NothingFlies d
+  turn_flight_given is t = elim (cases_eq t ticket) [
+    | inl same ↦ ap (λ n. (state_of d).flight n) same ∙ given_free c d 0 ticket l is
+    | inr ne ↦ given_other c d 0 ticket l is t (taken_flight t ne)
+  ]
+
+  pub turn_lighter : d ≡ stepped c 0 (finishes ticket) l → weight d < weight a
+  turn_lighter is =
+      let first : weight b < weight a = taken_lighter in
+      let last : weight d ≡ weight c = (λ i. weight_of (((ap (λ (x : CoreData). x.base) is) i)) ((state_stepped c d 0 (finishes ticket) l is) i)) in
+      omega (arith, first, last, moves.lighter)
+    where
+      weight_of : Base → State → ℕ
+      weight_of base s = 2 * (base.budget - length s.log) + length s.pending
+
+      lighter_with : (m n i j p q r : ℕ) → m ≡ n → i ≡ j → p ≡ q → suc q ≡ r → 2 * (m - i) + p < 2 * (n - j) + r
+      lighter_with m n i j p q r e f g h = let same : m - i ≡ n - j = λ t. e t - f t in omega (arith, same, g, h)
+
+      taken_lighter : weight b < weight a
+      taken_lighter =
+          let s = state_stepped a b 0 (takes work ticket) k took in
+          let base : b.base.budget ≡ a.base.budget = ap (λ (x : CoreData). x.base.budget) took in
+          let log : length (log_of b) ≡ length (log_of a) = ap (λ (x : State). length x.log) s in
+          let pending : length (state_of b).pending ≡ length (without work (state_of a).pending) = ap (λ (x : State). length x.pending) s in
+          lighter_with b.base.budget a.base.budget (length (log_of b)) (length (log_of a)) (length (state_of b).pending) (length (without work (state_of a).pending)) (length (state_of a).pending) base log pending (shorter work (state_of a).pending can.pending)
+
+never_found : (c : CoreData) → ((place : ℕ) → IsFound c place → ⊥) → GoesOn c.base (log_of c)
+never_found c never first (e, (start, there)) = let at = place_of (log_of c) e there in never at.0 (record { first = first; start = record { entry = e; at = at.1; is_start = start } })
+
+-- the answers
+pub least_answer : (c : CoreData) → IsLegal c.base c.story → ((place : ℕ) → IsFound c place → ⊥) → Ends c → (state_of c).kept ≡ None → IsLeastAnswer c
+least_answer c legal never ends kept =
+    let on = never_found c never in
+    let rest = ends kept on in
+    record {
+      rest = rest;
+      least = least_at_rest c.base (state_of c) (holds_after c.base c.story legal).sound rest;
+      fits = fits_at_rest c.base c.story legal rest;
+      goes_on = on;
+    }
+
+pub over_answer : (c : CoreData) → IsLegal c.base c.story → ((place : ℕ) → IsFound c place → ⊥) → IsSome (state_of c).kept → IsOverAnswer c
+over_answer c legal never some =
+    let past = (past_of (state_of c).kept refl some).1 in
+    record { kept = some; full = past.full; exceeds = past.exceeds; goes_on = never_found c never }
+  where
+    past_of : (kept : Option Deduction) → (state_of c).kept ≡ kept → IsSome kept → (d : Deduction) × IsPast c.base (log_of c) d
+    past_of None e h = absurd (false≢true h)
+    past_of (Some d) e h = (d, (holds_after c.base c.story legal).sound.kept d e)
+
+-- in a loop that publishes
+pub moves_reserved : (a b c : CoreData) (spare : ℕ) → Moves a b → c ≡ record { base = b.base; ids = b.ids; story = b.story; spare = spare } → Moves a c
+moves_reserved a b c spare moves is = moves_trans a b c moves (moves_same b c (ap (λ (x : CoreData). x.base) is) (ap (λ (x : CoreData). x.story) is))
+
+pub next_ready : (a : CoreData) (found ys rest : List DeducedData) (x : DeducedData) → All (IsReady a) found → ys ++ x ∷ rest ≡ found → IsReady a x
+next_ready a found ys rest x ready whole = All-contains (IsReady a) found x ready (subst (λ xs. Contains xs x) whole (Contains-append_right ys (x ∷ rest) x (here x rest)))
+
+pub next_there : (b c : CoreData) (ticket : ℕ) (d : DeducedData) (answer : Published) → (answer ≡ NoRoom → ⊥) → Publishes b 0 ticket (deduction_of b.ids d) answer c → IsThere c d
+next_there b c ticket d answer room h =
+    subst (λ (ids : InternerData). Contains (log_of c) (entry_of ids d.row)) (sym (publish_ids b c ticket (deduction_of b.ids d) answer h)) (published_there b c ticket (deduction_of b.ids d) answer room h)
+
+pub all_there : (b c : CoreData) (xs : List DeducedData) → GoesAlone b c → c.ids ≡ b.ids → All (IsThere b) xs → All (IsThere c) xs
+all_there b c xs goes ids = All-weaker (IsThere b) (IsThere c) (λ d. there_still b c d goes ids) xs
+
+pub all_yielded : (P : DeducedData → Type 0) (ys rest found : List DeducedData) → length rest ≡ 0 → ys ++ rest ≡ found → All P ys → All P found
+all_yielded P ys [] found none whole all = subst (λ xs. All P xs) (sym (none_more ys) ∙ whole) all
+  where
+    none_more : (xs : List DeducedData) → xs ++ [] ≡ xs
+    none_more [] = refl
+    none_more (x ∷ xs) = ap (λ zs. x ∷ zs) (none_more xs)
+all_yielded P ys (x ∷ rest) found none whole all = absurd (omega arith)
+
+-- what follows may be published
+pub seed_ready : (a b : CoreData) (point : ℕ) (found : List DeducedData) → b ≡ record { base = a.base; ids = b.ids; story = a.story; spare = a.spare } → AreConclusions a.base.problem b.ids [] point AnySupport found → All (IsReady b) found
+seed_ready a b point found is are = All-weaker (IsDeduced a.base.problem b.ids []) (IsReady b) (λ d h. record {
+  row = h.row;
+  follows = subst (λ (base : Base). FollowsBy base.problem (log_of b) d.support (entry_of b.ids d.row)) (sym (ap (λ (c : CoreData). c.base) is)) (by_append a.base.problem [] (log_of b) d.support (entry_of b.ids d.row) h.follows);
+}) found are.deduced
+
+pub place_ready : (a b : CoreData) (point place : ℕ) (found : List DeducedData) → b ≡ record { base = a.base; ids = b.ids; story = a.story; spare = a.spare } → place < length (log_of a)
+    → AreConclusions a.base.problem b.ids (take (place + 1) (log_of a)) point (Uses place) found → All (IsReady b) found
+place_ready a b point place found is within are = All-weaker (IsDeduced a.base.problem b.ids (take (place + 1) (log_of a))) (IsReady b) (λ d h. record {
+  row = h.row;
+  follows =
+      let whole : take (length (log_of a)) (log_of a) ≡ log_of a = take_all (length (log_of a)) (log_of a) (omega arith) in
+      let same : log_of b ≡ log_of a = ap (λ (c : CoreData). log_of c) is in
+      subst (λ (base : Base). FollowsBy base.problem (log_of b) d.support (entry_of b.ids d.row)) (sym (ap (λ (c : CoreData). c.base) is))
+      (subst (λ xs. FollowsBy a.base.problem xs d.support (entry_of b.ids d.row)) (whole ∙ sym same)
+      (by_take a.base.problem (log_of a) (place + 1) (length (log_of a)) d.support (entry_of b.ids d.row) (omega (arith, within)) h.follows));
+}) found are.deduced
+
+-- points in range
+pub point_within : (c : CoreData) (i : ℕ) (e : EntryData) → IsLegal c.base c.story → slice_get (log_of c) i ≡ Some e → e.point < length c.base.problem.points.points
+point_within c i e legal at =
+    let supports = (holds_after c.base c.story legal).sound.supports in
+    let by = (supports_support c.base.problem (log_of c) (state_of c).supports supports).follows i e at in
+    within_from c.base.problem.points.points e.point by.1.of by.1.at
+
+pub dependent_within : (points : PointsData) (flows : List FlowPair) (lists : List (List ℕ)) (p d : ℕ) → HasDependents points flows lists → Contains (list_of lists p) d → d < length points.points
+dependent_within points flows lists p d has c = let depends = (has.exact p d).0 c in within_from points.points d depends.of depends.at
+
+-- an answer that says more
+pub answer_more : (E P Q R : Type 0) (r : Result Bool E) → (P → Q) → IfOk r (λ all. MatchBool all P R) → IfOk r (λ all. MatchBool all Q R)
+answer_more E P Q R (Ok true) f h = f h
+answer_more E P Q R (Ok false) f h = h
+answer_more E P Q R (Err e) f h = h
+
+-- an option that is looked at
+pub mapped_some : {D : Type 0} (f : D → Deduction) (o : Option (Bor D)) → is_some o ≡ true → IsSome (option_map f (option_copied o))
+mapped_some f None h = absurd (false≢true h)
+mapped_some f (Some x) h = refl
+
+pub mapped_none : {D : Type 0} (f : D → Deduction) (o : Option (Bor D)) → is_some o ≡ false → option_map f (option_copied o) ≡ None
+mapped_none f None h = refl
+mapped_none f (Some x) h = absurd (false≢true (sym h))
+
+pub none_unless : {X : Type 0} (o : Option X) → ((x : X) → o ≡ Some x → ⊥) → o ≡ None
+none_unless None h = refl
+none_unless (Some x) h = absurd (h x refl)
+
+-- in a loop over dependents
+pub moves_asked : (a b c : CoreData) → Moves a b → c ≡ record { base = b.base; ids = c.ids; story = b.story; spare = b.spare } → Moves a c
+moves_asked a b c moves is = moves_trans a b c moves (moves_same b c (ap (λ (x : CoreData). x.base) is) (ap (λ (x : CoreData). x.story) is))
+
+pub has_more : (p : ProblemData) (from : List EntryData) (place d : ℕ) (b e : CoreData) → GoesAlone b e → HasAll p from place d (log_of b) → HasAll p from place d (log_of e)
+has_more p from place d b e goes h = λ s x at follows among. longer_has b e (longer b e goes) x (h s x at follows among)
+
+pub has_new : (a b m e : CoreData) (place d : ℕ) (found : List DeducedData) → place < length (log_of a) → GoesAlone a b → e.ids ≡ m.ids
+    → AreConclusions b.base.problem m.ids (take (place + 1) (log_of b)) d (Uses place) found → All (IsThere e) found → HasAll a.base.problem (log_of a) place d (log_of e)
+has_new a b m e place d found within goes ids are there =
+    let l = longer a b goes in
+    let front : take (place + 1) (log_of b) ≡ take (place + 1) (log_of a) = ap (λ xs. take (place + 1) xs) l.log ∙ take-append-le (place + 1) (log_of a) l.more (omega arith) in
+    has_all a.base.problem m.ids (log_of a) (log_of e) place d found
+    (subst (λ (i : InternerData). All (λ (x : DeducedData). Contains (log_of e) (entry_of i x.row)) found) ids there)
+    (subst (λ (base : Base). AreConclusions base.problem m.ids (take (place + 1) (log_of a)) d (Uses place) found) goes.base
+    (subst (λ xs. AreConclusions b.base.problem m.ids xs d (Uses place) found) front are))
+
+pub closed_at_end : (a e : CoreData) (place : ℕ) (at : EntryData) (lists : List (List ℕ)) (items : List ℕ) (index : ℕ) → place < length (log_of a) → GoesAlone a e → slice_get (log_of a) place ≡ Some at
+    → HasDependents a.base.problem.points a.base.problem.flow.pairs lists → slice_get lists at.point ≡ Some items → length items ≤ index
+    → ((k : ℕ) → k < index → HasAll a.base.problem (log_of a) place (get_or items k 0) (log_of e)) → IsClosedPlace e.base.problem (log_of e) place
+closed_at_end a e place at lists items index within goes here dependents listed done all =
+    let l = longer a e goes in
+    subst (λ (base : Base). IsClosedPlace base.problem (log_of e) place) (sym goes.base)
+    (place_closed a.base.problem (log_of a) l.more (log_of e) place within l.log at lists items here dependents (sym (ap (λ o. unwrap_or o []) listed)) (λ k lt. all k (omega (arith, lt))))
+
+pub in_log_still : (a b : CoreData) (place : ℕ) → GoesAlone a b → place < length (log_of a) → place < length (log_of b)
+in_log_still a b place goes within = let l = longer a b goes in omega (arith, within, ap (λ xs. length xs) l.log, length-append (log_of a) l.more)
+
+-- a work that is taken is one
+pub taken_work : (c : CoreData) (work : Work) → IsLegal c.base c.story → Contains (state_of c).pending work → IsWork c.base.problem (log_of c) work
+taken_work c work legal pending = (holds_after c.base c.story legal).sound.real work (inl pending)
+
+pub work_taken : (a b : CoreData) (work : Work) (ticket spare : ℕ) → IsWork a.base.problem (log_of a) work → b ≡ stepped a 0 (takes work ticket) spare → IsWork b.base.problem (log_of b) work
+work_taken a b work ticket spare is_work is =
+    subst (λ (base : Base). IsWork base.problem (log_of b) work) (sym (ap (λ (c : CoreData). c.base) is))
+    (subst (λ xs. IsWork a.base.problem xs work) (sym (ap (λ (s : State). s.log) (state_stepped a b 0 (takes work ticket) spare is))) is_work)
+
+-- no work was given out
+pub not_taken : (a b : CoreData) (answer : Taken) → ((work : Work) (ticket : ℕ) → answer ≡ Item work ticket → ⊥) → NothingFlies a → Takes a 0 answer b → (b ≡ a) × Ends b
+not_taken a b (Found place) other none h = (h.1, subst (λ (c : CoreData). Ends c) (sym h.1) (λ kept on. absurd (on h.0.first (h.0.start.entry, (h.0.start.is_start, member_at (log_of a) place h.0.start.entry h.0.start.at)))))
+not_taken a b Over other none h = (h.2, subst (λ (c : CoreData). Ends c) (sym h.2) (λ kept on. absurd (some_none (state_of a).kept h.1 kept)))
+  where
+    some_none : (o : Option Deduction) → IsSome o → o ≡ None → ⊥
+    some_none None s e = false≢true s
+    some_none (Some x) s e = cc
+not_taken a b (Item work ticket) other none h = absurd (other work ticket refl)
+not_taken a b Idle other none h = absurd (some_none (h.1.flown) (sym h.1.flight ∙ none h.1.ticket))
+  where
+    some_none : (x : Flight) → Some x ≡ None → ⊥
+    some_none x e = cc
+not_taken a b Quiet other none h = (h.2, subst (λ (c : CoreData). Ends c) (sym h.2) (λ kept on. h.1))
+
+pub seed_closed_after : (a m e : CoreData) (point : ℕ) (found : List DeducedData) → m ≡ record { base = a.base; ids = m.ids; story = a.story; spare = a.spare } → e.base ≡ m.base → e.ids ≡ m.ids
+    → AreConclusions a.base.problem m.ids [] point AnySupport found → All (IsThere e) found → IsClosedSeed e.base.problem (log_of e) point
+seed_closed_after a m e point found is base ids are there =
+    let same : e.base ≡ a.base = base ∙ ap (λ (c : CoreData). c.base) is in
+    subst (λ (b : Base). IsClosedSeed b.problem (log_of e) point) (sym same)
+    (seed_closed a.base.problem m.ids (log_of e) found (subst (λ (i : InternerData). All (λ (x : DeducedData). Contains (log_of e) (entry_of i x.row)) found) ids there) point are)
+
+-- from nothing on
+pub alone_whole : (base : Base) (a b : CoreData) → a ≡ record { base = base; ids = record { types = []; sets = []; envs = [] }; story = []; spare = 0 } → GoesAlone a b → IsAlone base b
+alone_whole base a b is goes = record {
+  same = goes.base ∙ ap (λ (c : CoreData). c.base) is;
+  alone = subst (λ (story : Story). All (λ (s : CoreStep). s.worker ≡ 0) story) (sym (goes.story ∙ ap (λ (c : CoreData). c.story ++ goes.more) is)) goes.alone;
+}
+
+pub holds_new : (a b : CoreData) (work : Work) (ticket spare : ℕ) → b ≡ stepped a 0 (takes work ticket) spare → (state_of b).flight ticket ≡ Some (record { worker = 0; work = work })
+holds_new a b work ticket spare is = ap (λ (s : State). s.flight ticket) (state_stepped a b 0 (takes work ticket) spare is) ∙ put_here ticket (Some (record { worker = 0; work = work })) (state_of a).flight
+
+pub nothing_flies : (a b : CoreData) → b.base ≡ a.base → b.story ≡ a.story → NothingFlies a → NothingFlies b
+nothing_flies a b base story none t = ap (λ (s : State). s.flight t) (state_same a b base story) ∙ none t
+
+-- past the budget no work is given out
+pub kept_ends : (a b : CoreData) (ticket spare : ℕ) → IsSome (state_of a).kept → b ≡ stepped a 0 (gives_back ticket) spare → Ends b
+kept_ends a b ticket spare some is none on = absurd (some_none (state_of a).kept some (sym (ap (λ (s : State). s.kept) (state_stepped a b 0 (gives_back ticket) spare is)) ∙ none))
+  where
+    some_none : (o : Option Deduction) → IsSome o → o ≡ None → ⊥
+    some_none None s e = false≢true s
+    some_none (Some x) s e = cc

@@ -1,0 +1,67 @@
+use Rattle.std.proofs.Common.{◌≡◌, refl, sym, ap, subst, ◌∙◌, ◌<◌, [], length, get_or, slice_get, unwrap_or, Contains, arith, inl, inr}
+use Rattle.std.proofs.lemmas.Bool.{cases_lt, MatchBool-at_true}
+use Rattle.std.proofs.lemmas.List.Elements.{Contains-get_or}
+use Rattle.hs_types.specs.Interned.{entry_of}
+use Rattle.hs_history.specs.Story.{Base}
+use Rattle.hs_core.specs.Core.{log_of}
+use Rattle.hs_core.proofs.Moving.{Moves, HasAll, moves_same, moves_asked, moves_trans, place_ready, point_within, dependent_within, in_log_still, has_more, has_new, closed_at_end}
+use Rattle.hs_core.proofs.draining.conclude_place.Goals as goal
+
+pub list-dependent-items-requires : goal.list-dependent-items-requires
+list-dependent-items-requires c =
+    let at = ap (λ xs. slice_get xs c.args.place) (sym c.replica.ensures.log) ∙ c.row-point.ensures.entry in
+    omega (arith, point_within c.args.core.now c.args.place (entry_of c.replica.result.now.ids c.row-point.result) c.is_core.ensures.legal at, c.requires.dependents.each)
+
+pub at_place-requires-clause-point : goal.at_place-requires-clause-point
+at_place-requires-clause-point c =
+    let items = c.list-dependent-items.result.now in
+    let listed = subst (λ xs. Contains xs (get_or items c.loop-dependent.dependent-index 0)) (sym (ap (λ o. unwrap_or o []) c.list-dependent-items.ensures)) (Contains-get_or items c.loop-dependent.dependent-index 0 c.loop-dependent-test.true) in
+    let p = c.args.core.now.base.problem in
+    let within = dependent_within p.points p.flow.pairs c.args.dependents.now c.row-point.result.point (get_or items c.loop-dependent.dependent-index 0) c.requires.dependents listed in
+    subst (λ (b : Base). get_or items c.loop-dependent.dependent-index 0 < length b.problem.points.points) (sym c.loop-dependent.invariant.moves.alone.base) within
+
+pub at_place-requires-clause-place : goal.at_place-requires-clause-place
+at_place-requires-clause-place c = in_log_still c.args.core.now c.loop-dependent.core c.args.place c.loop-dependent.invariant.moves.alone c.requires.place
+
+pub publish_all-requires-clause-ready : goal.publish_all-requires-clause-ready
+publish_all-requires-clause-ready c =
+    place_ready c.loop-dependent.core c.at_place.new.self _ c.args.place c.in_ok-found.found.items c.in_ok-found.ensures.kept
+    (in_log_still c.args.core.now c.loop-dependent.core c.args.place c.loop-dependent.invariant.moves.alone c.requires.place) c.in_ok-found.ensures.found
+
+pub returns-in_err-publish_all-clause-goes : goal.returns-in_err-publish_all-clause-goes
+returns-in_err-publish_all-clause-goes c =
+    (moves_trans c.args.core.now c.at_place.new.self c.publish_all.new.core (moves_asked c.args.core.now c.loop-dependent.core c.at_place.new.self c.loop-dependent.invariant.moves c.in_ok-found.ensures.kept)
+    (record { alone = c.in_err-publish_all.ensures.goes; flight = c.in_err-publish_all.ensures.flight; lighter = c.in_err-publish_all.ensures.weight })).alone
+
+pub returns-then-not-branch-clause-goes : goal.returns-then-not-branch-clause-goes
+returns-then-not-branch-clause-goes c =
+    (moves_trans c.args.core.now c.at_place.new.self c.publish_all.new.core (moves_asked c.args.core.now c.loop-dependent.core c.at_place.new.self c.loop-dependent.invariant.moves c.in_ok-found.ensures.kept)
+    (record { alone = c.in_ok-publish_all.ensures.goes; flight = c.in_ok-publish_all.ensures.flight; lighter = c.in_ok-publish_all.ensures.weight })).alone
+
+pub loop-dependent-preserved : goal.loop-dependent-preserved
+loop-dependent-preserved c =
+    let a = c.args.core.now in
+    let b = c.loop-dependent.core in
+    let m = c.at_place.new.self in
+    let e = c.publish_all.new.core in
+    let published : Moves m e = record { alone = c.in_ok-publish_all.ensures.goes; flight = c.in_ok-publish_all.ensures.flight; lighter = c.in_ok-publish_all.ensures.weight } in
+    let asked = moves_asked b b m (moves_same b b refl refl) c.in_ok-found.ensures.kept in
+    let later = moves_trans b m e asked published in
+    let items = c.list-dependent-items.result.now in
+    let n = c.loop-dependent.dependent-index in
+    record {
+      moves = moves_trans a b e c.loop-dependent.invariant.moves later;
+      all = λ k lt. elim (cases_lt k n) [
+        | inl below ↦ has_more a.base.problem (log_of a) c.args.place (get_or items k 0) b e later.alone (c.loop-dependent.invariant.all k below)
+        | inr above ↦
+            let same : n ≡ k = omega arith in
+            subst (λ j. HasAll a.base.problem (log_of a) c.args.place (get_or items j 0) (log_of e)) same
+            (has_new a b m e c.args.place (get_or items n 0) c.in_ok-found.found.items c.requires.place c.loop-dependent.invariant.moves.alone c.in_ok-publish_all.ensures.ids c.in_ok-found.ensures.found (MatchBool-at_true _ _ c.if-not-branch.false c.in_ok-publish_all.ensures.all))
+      ];
+    }
+
+pub returns-clause-closed : goal.returns-clause-closed
+returns-clause-closed c =
+    let at = ap (λ xs. slice_get xs c.args.place) (sym c.replica.ensures.log) ∙ c.row-point.ensures.entry in
+    closed_at_end c.args.core.now c.loop-dependent.core c.args.place (entry_of c.replica.result.now.ids c.row-point.result) c.args.dependents.now c.list-dependent-items.result.now c.loop-dependent.dependent-index
+    c.requires.place c.loop-dependent.invariant.moves.alone at c.requires.dependents c.list-dependent-items.ensures c.loop-dependent-test.false c.loop-dependent.invariant.all

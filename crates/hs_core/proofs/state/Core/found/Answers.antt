@@ -1,0 +1,8 @@
+use Rattle.hs_core.proofs.Stepping.{base_of, fields_of, found_here, only_here}
+use Rattle.hs_core.proofs.state.Core.found.Goals as goal
+
+pub returns-then-self : goal.returns-then-self
+returns-then-self c = λ place. (
+  λ here. found_here (base_of c.self.inside) (fields_of c.self.inside) c.self.invariant.0 c.self.inside.spare c.args.self.now c.self.view_is place c.if-self.true here,
+  λ found. only_here (base_of c.self.inside) (fields_of c.self.inside) c.self.invariant.0 c.self.inside.spare c.args.self.now c.self.view_is place found,
+)

@@ -1,0 +1,6 @@
+pub mod Core
+pub mod Answers
+pub mod Saturation
+pub mod Tickets
+pub mod Inside
+pub mod Draining

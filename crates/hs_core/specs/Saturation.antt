@@ -1,0 +1,36 @@
+-- What saturation answers.
+--     IsDrained                  of a core that was drained
+--     IsDone                     of a new core
+--     IsVerdict                  what the core of a least answer says of the automaton
+use Rattle.std.specs.Prelude.{◌≡◌, ◌↔◌}
+use Rattle.hs_scheme.specs.Problem.{ProblemData}
+use Rattle.hs_scheme.specs.Run.{Accepts}
+use Rattle.hs_table.specs.Tables.{HasStart}
+use Rattle.hs_history.specs.Story.{Base}
+use Rattle.hs_core.specs.declared.answers.Drained.{Drained}
+use Rattle.hs_core.specs.declared.answers.Drained.TheVariants.{Quiet, Over as PastBudget, Found}
+use Rattle.hs_core.specs.declared.answers.Done.{Done}
+use Rattle.hs_core.specs.declared.answers.Done.TheVariants.{Least, Over, First}
+use Rattle.hs_core.specs.Core.{CoreData, log_of}
+use Rattle.hs_core.specs.Answers.{IsFound, IsLeastAnswer, IsOverAnswer, IsFirstAnswer, AreOfWorker}
+
+abbrev pub IsDrained : CoreData → Drained → Type 0
+IsDrained c Quiet = IsLeastAnswer c
+IsDrained c PastBudget = IsOverAnswer c
+IsDrained c (Found place) = IsFound c place
+
+-- a core for this, in which worker 0 did everything
+pub record IsAlone (base : Base) (c : CoreData) : Type 0 where
+  pub same : c.base ≡ base
+  pub alone : AreOfWorker 0 c.story
+
+abbrev pub IsDone : Base → Done → Type 0
+IsDone base (Least c) = IsAlone base c × IsLeastAnswer c
+IsDone base (Over c) = IsAlone base c × IsOverAnswer c
+IsDone base (First c) = IsAlone base c × IsFirstAnswer c
+
+-- the automaton accepts the value tree exactly where the core's log lacks the start entry
+abbrev pub IsVerdict : ProblemData → Done → Type 0
+IsVerdict p (Least c) = Accepts p.sorted.scheme.rules p.sorted.automaton.transitions ↔ (HasStart p (log_of c) → ⊥)
+IsVerdict p (Over c) = Unit {0}
+IsVerdict p (First c) = Unit {0}

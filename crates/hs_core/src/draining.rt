@@ -1,0 +1,188 @@
+//! The works that are left, done by one worker.
+
+ghost use Rattle.std.specs.Prelude.{◌≡◌, ◌<◌, ◌≤◌, ◌++◌, ℕ, All, IfOk, OnOk, MatchBool, IsSome, length};
+ghost use Rattle.hs_flow.specs.Dependents.{HasDependents};
+ghost use Rattle.hs_history.specs.Story.{Story};
+ghost use Rattle.hs_history.specs.CoreStep.{Holds, IsClosedWork, IsClosedPlace};
+ghost use Rattle.hs_history.specs.History.{IsWork};
+ghost use Rattle.hs_core.specs.Core.{state_of, log_of};
+ghost use Rattle.hs_core.specs.Draining.{weight, GoesAlone, SameFlight, NothingFlies, IsReady, IsThere, Ends};
+ghost use Rattle.hs_core.specs.Saturation.{IsDrained};
+
+use crate::answers::{Drained, Published, Taken};
+use crate::state::Core;
+use hs_flow::Dependents;
+use hs_history::Work;
+use hs_rules::Deduced;
+use hs_scheme::OutOfMemory;
+use std::alloc::Global;
+
+/// Gives back every ticket in flight, in the name of its worker.
+fn give_back_all(core: &mut Core)
+    ensures base { core.new.base ≡ core.old.base }
+    ensures story { (more : Story) × (core.new.story ≡ core.old.story ++ more) }
+    ensures flight { NothingFlies core.new }
+{
+    for ticket in 0..core.tickets_bound() {
+        if let Some(flight) = core.flight(ticket) {
+            core.give_back(flight.worker, ticket);
+        }
+    }
+}
+
+/// Publishes what was found under the ticket, which worker 0 holds. Answers whether the budget had
+/// room for all of it.
+fn publish_all(core: &mut Core, ticket: u32, found: Vec<Deduced>) -> Result<bool, OutOfMemory>
+    requires holds { Holds (state_of core.old) 0 ticket }
+    requires ready { All (IsReady core.old) found.items }
+    ensures goes { GoesAlone core.old core.new }
+    ensures flight { SameFlight core.old core.new }
+    ensures weight { weight core.new ≤ weight core.old }
+    ensures ids { core.new.ids ≡ core.old.ids }
+    ensures all { IfOk result (λ all. MatchBool all
+        (All (IsThere core.new) found.items) (IsSome (state_of core.new).kept)) }
+{
+    for deduced in found {
+        core.reserve(1)?;
+        if let Published::Over = core.publish(0, ticket, deduced) {
+            return Ok(false);
+        }
+    }
+    Ok(true)
+}
+
+/// Publishes what follows by the place, which worker 0 has taken under the ticket. Answers whether
+/// the budget had room for all of it.
+fn conclude_place(
+    alloc: Global,
+    core: &mut Core,
+    dependents: &Dependents,
+    place: u32,
+    ticket: u32,
+) -> Result<bool, OutOfMemory>
+    requires holds { Holds (state_of core.old) 0 ticket }
+    requires place { place < length (log_of core.old) }
+    requires dependents { HasDependents core.old.base.problem.points core.old.base.problem.flow.pairs dependents.now }
+    ensures goes { GoesAlone core.old core.new }
+    ensures flight { SameFlight core.old core.new }
+    ensures weight { weight core.new ≤ weight core.old }
+    ensures closed { IfOk result (λ all. MatchBool all
+        (IsClosedPlace core.new.base.problem (log_of core.new) place) (IsSome (state_of core.new).kept)) }
+{
+    core.is_core();
+    let point = core.replica().row(place).point;
+    for dependent in dependents.list(point) {
+        let found = core.at_place(alloc, *dependent, place)?;
+        if !publish_all(core, ticket, found)? {
+            return Ok(false);
+        }
+    }
+    Ok(true)
+}
+
+/// Publishes what follows by the work, which worker 0 has taken under the ticket. Answers whether the
+/// budget had room for all of it.
+fn conclude(
+    alloc: Global,
+    core: &mut Core,
+    dependents: &Dependents,
+    work: Work,
+    ticket: u32,
+) -> Result<bool, OutOfMemory>
+    requires holds { Holds (state_of core.old) 0 ticket }
+    requires work { IsWork core.old.base.problem (log_of core.old) work }
+    requires dependents { HasDependents core.old.base.problem.points core.old.base.problem.flow.pairs dependents.now }
+    ensures goes { GoesAlone core.old core.new }
+    ensures flight { SameFlight core.old core.new }
+    ensures weight { weight core.new ≤ weight core.old }
+    ensures closed { IfOk result (λ all. MatchBool all
+        (IsClosedWork core.new.base.problem (log_of core.new) work) (IsSome (state_of core.new).kept)) }
+{
+    match work {
+        Work::Seed(point) => {
+            let found = core.at_seed(alloc, point)?;
+            publish_all(core, ticket, found)
+        }
+        Work::Place(place) => conclude_place(alloc, core, dependents, place, ticket),
+    }
+}
+
+/// Takes a work as worker 0 and does it. Answers whether there was one and the budget had room for
+/// what follows by it.
+fn turn(alloc: Global, core: &mut Core, dependents: &Dependents) -> Result<bool, OutOfMemory>
+    requires flight { NothingFlies core.old }
+    requires dependents { HasDependents core.old.base.problem.points core.old.base.problem.flow.pairs dependents.now }
+    ensures goes { GoesAlone core.old core.new }
+    ensures flight { NothingFlies core.new }
+    ensures more { IfOk result (λ more. MatchBool more (weight core.new < weight core.old) (Ends core.new)) }
+{
+    core.reserve(1)?;
+    core.is_core();
+    let Taken::Item { work, ticket } = core.take(0) else {
+        return Ok(false);
+    };
+    match conclude(alloc, core, dependents, work, ticket) {
+        Ok(true) => {
+            core.finish(0, ticket);
+            Ok(true)
+        }
+        Ok(false) => {
+            core.give_back(0, ticket);
+            Ok(false)
+        }
+        Err(refused) => {
+            core.give_back(0, ticket);
+            Err(refused)
+        }
+    }
+}
+
+/// Does the works that are pending, as worker 0, until nothing is left or no work is given out.
+pub(crate) fn work_alone(
+    alloc: Global,
+    core: &mut Core,
+    dependents: &Dependents,
+) -> Result<(), OutOfMemory>
+    requires flight { NothingFlies core.old }
+    requires dependents { HasDependents core.old.base.problem.points core.old.base.problem.flow.pairs dependents.now }
+    ensures goes { GoesAlone core.old core.new }
+    ensures flight { NothingFlies core.new }
+    ensures ends { OnOk result (Ends core.new) }
+{
+    while turn(alloc, core, dependents)? {}
+    Ok(())
+}
+
+/// What has come of it.
+pub(crate) fn answer(core: &Core) -> Drained
+    requires { Ends core.now }
+    ensures { IsDrained core.now result }
+{
+    core.is_core();
+    if let Some(place) = core.found() {
+        return Drained::Found { place };
+    }
+    if core.past().is_some() {
+        return Drained::Over;
+    }
+    Drained::Quiet
+}
+
+/// Gives back every ticket in flight, in the name of its worker, and then does the works that are
+/// pending, as worker 0, until nothing is left or `take` gives out none. The dependents are those of
+/// the core's problem. After a refusal of memory the story has gone on, and nothing is in flight.
+pub fn drain(
+    alloc: Global,
+    core: &mut Core,
+    dependents: &Dependents,
+) -> Result<Drained, OutOfMemory>
+    requires { HasDependents core.old.base.problem.points core.old.base.problem.flow.pairs dependents.now }
+    ensures drained { IfOk result (IsDrained core.new) }
+    ensures base { core.new.base ≡ core.old.base }
+    ensures story { (more : Story) × (core.new.story ≡ core.old.story ++ more) }
+    ensures flight { NothingFlies core.new }
+{
+    give_back_all(core);
+    work_alone(alloc, core, dependents)?;
+    Ok(answer(core))
+}

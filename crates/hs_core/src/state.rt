@@ -1,0 +1,279 @@
+//! The core.
+
+ghost use Rattle.std.specs.Prelude.{◌≡◌, ◌-◌, ◌<◌, ◌≤◌, ◌↔◌, ◌++◌, ◌∷◌, [], ℕ, length, max, slice_get, Some, None, IfOk, IfSome, IfNone, IsTrue, OnOk, OnErr};
+ghost use Rattle.std.specs.Option.{option_map, option_copied};
+ghost use Rattle.hs_table.specs.Tables.{HasStart};
+ghost use Rattle.hs_types.specs.Interned.{IsRow};
+ghost use Rattle.hs_history.specs.CoreStep.{seeds};
+ghost use Rattle.hs_history.specs.History.{IsAtRest, told};
+ghost use Rattle.hs_core.specs.Core.{state_of, log_of, deduction_of, StartsAt, IsCore};
+ghost use Rattle.hs_core.specs.Answers.{IsFound};
+
+use crate::backing::Backing;
+use crate::tickets::Tickets;
+use hs_history::{Flight, Step, Work};
+use hs_rules::{Deduced, Replica};
+use hs_scheme::{OutOfMemory, Problem};
+use hs_table::{Entry, HeadBy};
+use std::alloc::Global;
+use std::collections::VecDeque;
+use std::marker::Model;
+
+/// A log of entries with the support of each, the works that are pending and in flight, perhaps an
+/// entry past the budget, and what has happened so far. It borrows its problem.
+///
+/// Contracts see what stays the same (the problem, the budget and the flag `first`), the types that
+/// have numbers, the story of what has happened, to which each event adds one step, and `spare`, the
+/// number of events for which there is room. All else is a function of these: the state that the
+/// story leads to.
+///
+/// Beside what the replica needs, an entry costs a support of some 50 bytes with 8 for each chosen
+/// argument, and some four events of 24 bytes; a work is one of these events more where it is given
+/// back.
+#[derive(Drop)]
+pub struct Core<'p> {
+    pub(crate) problem: &'p Problem,
+    pub(crate) budget: u32,
+    pub(crate) first: bool,
+    pub(crate) replica: Replica,
+    /// The support of each entry of the log.
+    pub(crate) supports: Vec<Backing>,
+    /// The pending works, of which the front is taken first.
+    pub(crate) pending: VecDeque<Work>,
+    pub(crate) tickets: Tickets,
+    pub(crate) past: Option<Deduced>,
+    pub(crate) journal: Vec<Step>,
+    /// The place of the start entry.
+    pub(crate) start: Option<u32>,
+    pub(crate) spare: u32,
+}
+
+impl<'p> Model for Core<'p> {
+    ghost use Rattle.std.specs.VecDeque.{deque_len, deque_capacity};
+    ghost use Rattle.std.specs.Vec.{vec_len, vec_capacity};
+    ghost use Rattle.hs_core.specs.Core.{CoreData, coded_core};
+    ghost use Rattle.hs_core.specs.Tickets.{under, held};
+    ghost use Rattle.hs_core.specs.Inside.{story_in, HasRoom, IsInside};
+
+    ghost Value = { CoreData };
+
+    ghost coded = { coded_core };
+
+    ghost view = { λ a. record {
+      base = record { problem = a.problem.now; budget = a.budget; first = a.first };
+      ids = a.replica.ids;
+      story = story_in a.replica.ids a.replica.log a.supports.items a.past a.journal.items;
+      spare = a.spare;
+    } };
+
+    ghost invariant = { λ a.
+        IsInside (record { problem = a.problem.now; budget = a.budget; first = a.first }) (record {
+          ids = a.replica.ids;
+          log = a.replica.log;
+          supports = a.supports.items;
+          pending = a.pending.items;
+          flight = under a.tickets;
+          past = a.past;
+          journal = a.journal.items;
+          start = a.start;
+        })
+        × HasRoom (record {
+          spare = a.spare;
+          replica = a.replica.spare;
+          held = held a.tickets;
+          tickets = a.tickets.capacity;
+          supports = vec_len a.supports;
+          supports_room = vec_capacity a.supports;
+          pending = deque_len a.pending;
+          pending_room = deque_capacity a.pending;
+          journal = vec_len a.journal;
+          journal_room = vec_capacity a.journal;
+        }) };
+}
+
+/// The seeds of the points below n, in their order.
+fn all_seeds(alloc: Global, n: u32) -> Result<VecDeque<Work>, OutOfMemory>
+    ensures { IfOk result (λ pending. pending.items ≡ seeds n) }
+{
+    let mut pending = VecDeque::with_capacity(alloc, n as usize)?;
+    for point in 0..n {
+        pending.push_back(Work::Seed(point))?;
+    }
+    Ok(pending)
+}
+
+impl<'p> Core<'p> {
+    /// A core for the problem in which nothing has happened: the log is empty, and the seed of each
+    /// point is pending. The log is to hold at most `budget` entries, 1 to 1,000,000. Where `first`
+    /// is set, no work is given out once the log has the start entry.
+    ///
+    /// Memory and time are in proportion to the points.
+    pub fn new(
+        alloc: Global,
+        problem: &'p Problem,
+        budget: u32,
+        first: bool,
+    ) -> Result<Core<'p>, OutOfMemory>
+        requires least { 1 ≤ budget }
+        requires greatest { budget ≤ 1000000 }
+        ensures { IfOk result (λ core. core ≡ record {
+          base = record { problem = problem.now; budget = budget; first = first };
+          ids = record { types = []; sets = []; envs = [] };
+          story = [];
+          spare = 0;
+        }) }
+    {
+        let pending = all_seeds(alloc, problem.points.count())?;
+        Ok(Core {
+            problem,
+            budget,
+            first,
+            replica: Replica::new(alloc),
+            supports: Vec::new(alloc),
+            pending,
+            tickets: Tickets::new(alloc),
+            past: None,
+            journal: Vec::new(alloc),
+            start: None,
+            spare: 0,
+        })
+    }
+
+    /// What holds of each core. Takes no memory and no time.
+    pub fn is_core(&self)
+        ensures { IsCore self.now }
+    {
+        self.replica.interner().numbers_are_exact();
+    }
+
+    /// Makes room for `k` events, at most 1,000,000. After a refusal of memory nothing has changed.
+    pub fn reserve(&mut self, k: u32) -> Result<(), OutOfMemory>
+        requires { k ≤ 1000000 }
+        ensures ok { OnOk result (self.new ≡ record self.old { spare = max self.old.spare k }) }
+        ensures err { OnErr result (self.new ≡ self.old) }
+    {
+        if k <= self.spare {
+            return Ok(());
+        }
+        let held = self.tickets.count();
+        self.replica.reserve(k)?;
+        self.supports.reserve(k as usize)?;
+        self.pending.reserve(held + k as usize)?;
+        self.tickets.reserve(k)?;
+        self.journal.reserve(held + 2 * k as usize)?;
+        self.spare = k;
+        Ok(())
+    }
+
+    /// Whether nothing is pending, in flight or kept: then the log is the least table. This and the
+    /// next take no memory, and constant time.
+    pub fn quiet(&self) -> bool
+        ensures { IsTrue result ↔ IsAtRest (state_of self.now) }
+    {
+        self.pending.is_empty() && self.tickets.count() == 0 && self.past.is_none()
+    }
+
+    /// Where `first` is set and the log has the start entry, its place. `take` then answers `Found`.
+    pub fn found(&self) -> Option<u32>
+        ensures { (place : ℕ) → (result ≡ Some place) ↔ IsFound self.now place }
+    {
+        if self.first { self.start } else { None }
+    }
+
+    /// The place of the start entry, which has the start's body and the initial state, or `None`
+    /// where the log lacks it.
+    pub fn start(&self) -> Option<u32>
+        ensures place { IfSome result (StartsAt self.now.base.problem (log_of self.now)) }
+        ensures none { IfNone result (HasStart self.now.base.problem (log_of self.now) → ⊥) }
+    {
+        self.start
+    }
+
+    /// The number of entries in the log.
+    pub fn len(&self) -> u32
+        ensures { result ≡ length (log_of self.now) }
+    {
+        self.replica.len()
+    }
+
+    /// The log, with the interner that reads it.
+    pub fn replica(&self) -> &Replica
+        ensures log { result.now.log ≡ log_of self.now }
+        ensures ids { result.now.ids ≡ self.now.ids }
+    {
+        &self.replica
+    }
+
+    /// What the entry at this place of the log follows from: where the type of its point's head comes
+    /// from, and the chosen arguments with their places.
+    pub fn support(&self, place: u32) -> (&HeadBy, &[(u32, u32)])
+        requires { place < length (log_of self.now) }
+        ensures { slice_get (state_of self.now).supports place ≡ Some (record { head = result.0.now; args = result.1.now }) }
+    {
+        let backing = &self.supports[place as usize];
+        (&backing.head, backing.args.as_slice())
+    }
+
+    /// The entry past the budget, where one is kept.
+    pub fn past(&self) -> Option<&Deduced>
+        ensures row { IfSome result (λ d. IsRow self.now.ids d.now.row) }
+        ensures kept { (state_of self.now).kept ≡ option_map (deduction_of self.now.ids) (option_copied result) }
+    {
+        self.past.as_ref()
+    }
+
+    /// What has happened, the first step first. An entry that was added is told by its place in the
+    /// log, and one past the budget is the kept one.
+    pub fn journal(&self) -> &[Step]
+        ensures { told (log_of self.now) (state_of self.now).supports (state_of self.now).kept result.now ≡ self.now.story }
+    {
+        self.journal.as_slice()
+    }
+
+    /// How many entries the log is to hold at most.
+    pub fn budget(&self) -> u32
+        ensures { result ≡ self.now.base.budget }
+    {
+        self.budget
+    }
+
+    /// Whether only the start entry is sought.
+    pub fn first(&self) -> bool
+        ensures { result ≡ self.now.base.first }
+    {
+        self.first
+    }
+
+    /// The problem.
+    pub fn problem(&self) -> &'p Problem
+        ensures { result.now ≡ self.now.base.problem }
+    {
+        self.problem
+    }
+
+    /// The work under the ticket, with the worker who took it, or `None` where the ticket is free.
+    pub fn flight(&self, ticket: u32) -> Option<Flight>
+        ensures { result ≡ (state_of self.now).flight ticket }
+    {
+        self.tickets.get(ticket)
+    }
+
+    /// Each ticket in use is less than this.
+    pub(crate) fn tickets_bound(&self) -> u32
+        ensures { (ticket : ℕ) → result ≤ ticket → (state_of self.now).flight ticket ≡ None }
+    {
+        self.tickets.bound()
+    }
+
+    /// The log's entries, in the log's order. Time and memory are in proportion to their size.
+    pub fn table(&self, alloc: Global) -> Result<Vec<Entry>, OutOfMemory>
+        ensures { IfOk result (λ table. table.items ≡ log_of self.now) }
+    {
+        let interner = self.replica.interner();
+        let mut table = Vec::with_capacity(alloc, self.replica.len() as usize)?;
+        for place in 0..self.replica.len() {
+            table.push(interner.tree(alloc, self.replica.row(place))?)?;
+        }
+        Ok(table)
+    }
+}

@@ -1,0 +1,200 @@
+-- What a replica keeps, while its interner grows and rows are added.
+use Rattle.std.proofs.Common.{◌≡◌, ◌≢◌, refl, sym, ◌∙◌, ap, subst, ℕ, zero, suc, ◌+◌, ◌<◌, ◌≤◌, ◌^◌, Bool, true, false, true≢false, ◌&&◌, nat_eq, List, [], ◌∷◌, ◌++◌, length, get_or, slice_get, Some, cond, map, arith, Contains, All, AllPairs, length-append, position, ◌↔◌, Result, Ok, Err, OnErr, IfOk}
+use Rattle.std.specs.Bool.{Decides}
+use Rattle.std.specs.List.{list_any}
+use Rattle.std.specs.List.Sorted.{IsStrictlyIncreasing}
+use Rattle.std.proofs.lemmas.Bool.{eqb-true, eq-eqb}
+use Rattle.std.proofs.lemmas.List.{map-append, length-map, get_or-map}
+use Rattle.std.proofs.lemmas.List.Elements.{All-push, Contains-get_or}
+use Rattle.std.proofs.lemmas.List.Quantifiers.{all_pairs_push, position-Some}
+use Rattle.std.proofs.lemmas.Map.Made.{is_member-Decides}
+use Rattle.std.proofs.lemmas.Option.{slice_get_within}
+use Rattle.indexmap.specs.IndexSet.{insert_key}
+use Rattle.hs_scheme.proofs.DemandLemmas.{slice_get-read}
+use Rattle.hs_table.specs.Entries.{EntryData}
+use Rattle.hs_types.specs.Interned.{InternerData, RowData, entry_of, IsRow, IsInterner, Grows}
+use Rattle.hs_types.specs.contracts.ids.RowPartialEq.TheImpl.{eq-value}
+use Rattle.hs_types.proofs.Numbers.{type_within, type_stays, row_within, row_stays, same_row}
+use Rattle.hs_replica.specs.declared.key.Key.{Key}
+use Rattle.hs_replica.specs.declared.key.Key.TheVariants.{At, Typed, Asking, Taking}
+use Rattle.hs_replica.specs.Places.{Question, here, typed, asks, takes, Meets, Answers, ArePlaces}
+use Rattle.hs_replica.specs.Replica.{ReplicaData, IsReplica, KeepsLog}
+use Rattle.hs_replica.specs.Index.{log_of, question, IsKey, IsIndex, IsKept}
+use Rattle.hs_replica.proofs.RowLemmas.{same_key}
+
+-- rows are equal where they are found to be
+both : (b c : Bool) → b && c ≡ true → (b ≡ true) × (c ≡ true)
+both true true h = (refl, refl)
+both true false h = absurd (cc)
+both false c h = absurd (cc)
+
+row_true : (a b : RowData) → eq-value.it a b ≡ true → a ≡ b
+row_true a b h =
+    let e = both (nat_eq a.point b.point) (nat_eq a.env b.env && nat_eq a.ty b.ty) h in
+    let f = both (nat_eq a.env b.env) (nat_eq a.ty b.ty) e.1 in
+    λ i. record { point = eqb-true a.point b.point e.0 i; env = eqb-true a.env b.env f.0 i; ty = eqb-true a.ty b.ty f.1 i }
+
+row_own : (a : RowData) → eq-value.it a a ≡ true
+row_own a = rw (eq-eqb a.point a.point refl, eq-eqb a.env a.env refl, eq-eqb a.ty a.ty refl)
+
+pub row_same : (a b : RowData) → Decides (eq-value.it a b) (a ≡ b)
+row_same a b = (row_true a b, λ e. subst (λ (c : RowData). eq-value.it a c ≡ true) e (row_own a))
+
+-- where a row is found
+pub found_at : (row : RowData) (rows : List RowData) (i : ℕ) → position (eq-value.it row) rows ≡ Some i → slice_get rows i ≡ Some row
+found_at row rows i e =
+    let h = position-Some (eq-value.it row) rows i row e in
+    slice_get-read rows i row h.0 (sym (row_true row (get_or rows i row) h.1))
+
+pub found_nowhere : (row : RowData) (rows : List RowData) → false ≡ list_any (eq-value.it row) rows → Contains rows row → ⊥
+found_nowhere row rows e h = true≢false (sym ((is_member-Decides row_same rows row).1 h) ∙ sym e)
+
+map_same : {X Y : Type 0} (f g : X → Y) (xs : List X) → ((k : ℕ) (d : X) → k < length xs → f (get_or xs k d) ≡ g (get_or xs k d)) → map f xs ≡ map g xs
+map_same f g [] same = refl
+map_same f g (x ∷ xs) same = λ i. same 0 x (omega arith) i ∷ map_same f g xs (λ k d lt. same (suc k) d (omega arith)) i
+
+slice_get-append : {X : Type 0} (xs ys : List X) (i : ℕ) → i < length xs → slice_get (xs ++ ys) i ≡ slice_get xs i
+slice_get-append [] ys i lt = absurd (omega arith)
+slice_get-append (x ∷ xs) ys zero lt = refl
+slice_get-append (x ∷ xs) ys (suc i) lt = slice_get-append xs ys i (omega arith)
+
+-- while the interner grows
+module _ (ids new : InternerData) (g : Grows ids new) where
+  pub log_stays : (rows : List RowData) → All (IsRow ids) rows → log_of new rows ≡ log_of ids rows
+  log_stays rows all = map_same (entry_of new) (entry_of ids) rows (λ k d lt. row_stays ids new g (get_or rows k d) (all k d lt))
+
+  key_within : (k : Key) → IsKey ids k → IsKey new k
+  key_within (At p) h = tt
+  key_within (Typed p t) h = type_within ids new g t h
+  key_within (Asking p j t) h = type_within ids new g t h
+  key_within (Taking p j t) h = type_within ids new g t h
+
+  question_stays : (k : Key) → IsKey ids k → question new k ≡ question ids k
+  question_stays (At p) h = refl
+  question_stays (Typed p t) h = ap (typed p) (type_stays ids new g t h)
+  question_stays (Asking p j t) h = ap (asks p j) (type_stays ids new g t h)
+  question_stays (Taking p j t) h = ap (takes p j) (type_stays ids new g t h)
+
+  index_grows : (log : List EntryData) (n : ℕ) (list : Key → List ℕ) → IsIndex ids log n list → IsIndex new log n list
+  index_grows log n list was = record {
+    known = λ k i h. key_within k (was.known k i h);
+    sound = λ k i h. subst (λ (q : Question). Answers log i q) (sym (question_stays k (was.known k i h))) (was.sound k i h);
+    complete = λ i q lt a. let l = was.complete i q lt a in record { key = l.key; known = key_within l.key l.known; for = question_stays l.key l.known ∙ l.for; among = l.among };
+    rises = was.rises;
+  }
+
+  pub kept_grows : (rows : List RowData) (room reserved indexed : ℕ) (list : Key → List ℕ) → IsKept ids rows room reserved indexed list → IsKept new rows room reserved indexed list
+  kept_grows rows room reserved indexed list was =
+      let same = log_stays rows was.known in
+      record {
+        known = λ k d lt. row_within ids new g (get_or rows k d) (was.known k d lt);
+        distinct = subst (λ (log : List EntryData). AllPairs (λ a b. a ≢ b) log) (sym same) was.distinct;
+        short = was.short;
+        fits = was.fits;
+        within = was.within;
+        index = subst (λ (log : List EntryData). IsIndex new log indexed list) (sym same) (index_grows (log_of ids rows) indexed list was.index);
+      }
+
+-- while the log grows
+module _ (log more : List EntryData) where
+  meets_front : (i : ℕ) (e : EntryData) (q : Question) → i < length log → Meets log i e q → Meets (log ++ more) i e q
+  meets_front i e (here p) lt m = m
+  meets_front i e (typed p a) lt m = m
+  meets_front i e (asks p j a) lt m = m
+  meets_front i e (takes p j a) lt m = (m.0, (m.1.0, λ k d less at. m.1.1 k d less (sym (slice_get-append log more k (omega arith)) ∙ at)))
+
+  meets_back : (i : ℕ) (e : EntryData) (q : Question) → i < length log → Meets (log ++ more) i e q → Meets log i e q
+  meets_back i e (here p) lt m = m
+  meets_back i e (typed p a) lt m = m
+  meets_back i e (asks p j a) lt m = m
+  meets_back i e (takes p j a) lt m = (m.0, (m.1.0, λ k d less at. m.1.1 k d less (slice_get-append log more k (omega arith) ∙ at)))
+
+  index_front : (ids : InternerData) (n : ℕ) (list : Key → List ℕ) → n ≤ length log → IsIndex ids log n list → IsIndex ids (log ++ more) n list
+  index_front ids n list le was = record {
+    known = was.known;
+    sound = λ k i h.
+        let a = was.sound k i h in
+        let lt = slice_get_within log i a.entry a.at in
+        record { entry = a.entry; at = slice_get-append log more i lt ∙ a.at; meets = meets_front i a.entry (question ids k) lt a.meets };
+    complete = λ i q lt a. was.complete i q lt (record { entry = a.entry; at = sym (slice_get-append log more i (omega arith)) ∙ a.at; meets = meets_back i a.entry q (omega arith) a.meets });
+    rises = was.rises;
+  }
+
+pub log_push : (ids : InternerData) (rows : List RowData) (row : RowData) → log_of ids (rows ++ row ∷ []) ≡ log_of ids rows ++ entry_of ids row ∷ []
+log_push ids rows row = map-append (entry_of ids) rows (row ∷ [])
+
+pub kept_push : (ids : InternerData) (rows : List RowData) (row : RowData) (room later reserved kept indexed : ℕ) (list : Key → List ℕ) → IsKept ids rows room reserved indexed list
+    → IsRow ids row → (Contains (log_of ids rows) (entry_of ids row) → ⊥) → length rows + 1 < 2 ^ 32 → kept ≤ later → IsKept ids (rows ++ row ∷ []) later kept indexed list
+kept_push ids rows row room later reserved kept indexed list was known absent short fits =
+    let log = log_of ids rows in
+    let same = log_push ids rows row in
+    record {
+      known = All-push (IsRow ids) rows row was.known known;
+      distinct = subst (λ (es : List EntryData). AllPairs (λ a b. a ≢ b) es) (sym same)
+          (all_pairs_push (λ a b. a ≢ b) log (entry_of ids row) was.distinct (λ k d lt e. absent (subst (λ (x : EntryData). Contains log x) e (Contains-get_or log k d lt))));
+      short = omega (arith, length-append rows (row ∷ []));
+      fits = fits;
+      within = omega (arith, length-append rows (row ∷ []), was.within);
+      index = subst (λ (es : List EntryData). IsIndex ids es indexed list) (sym same)
+          (index_front log (entry_of ids row ∷ []) ids indexed list (omega (arith, length-map rows (entry_of ids), was.within)) was.index);
+    }
+
+-- a row whose entry the log lacks goes last
+row_absent : (ids : InternerData) (rows : List RowData) (row : RowData) → (Contains (log_of ids rows) (entry_of ids row) → ⊥) → Contains rows row → ⊥
+row_absent ids rows row absent h =
+    absent (h.0, omega (arith, length-map rows (entry_of ids), h.1), get_or-map (entry_of ids) rows h.0 row (entry_of ids row) h.1 ∙ ap (entry_of ids) h.2)
+
+pub insert_last : (ids : InternerData) (rows : List RowData) (row : RowData) → (Contains (log_of ids rows) (entry_of ids row) → ⊥) → insert_key eq-value.it rows row ≡ rows ++ row ∷ []
+insert_last ids rows row absent = by (list_any (eq-value.it row) rows) refl
+  where
+    by : (b : Bool) → list_any (eq-value.it row) rows ≡ b → cond b rows (rows ++ row ∷ []) ≡ rows ++ row ∷ []
+    by true e = absurd (row_absent ids rows row absent ((is_member-Decides row_same rows row).0 e))
+    by false e = refl
+
+-- a row whose entry is in the log is one of its rows
+pub row_there : (ids : InternerData) → IsInterner ids → (rows : List RowData) → All (IsRow ids) rows → (row : RowData) → IsRow ids row → Contains (log_of ids rows) (entry_of ids row) → Contains rows row
+row_there ids is rows all row known h =
+    let lt : h.0 < length rows = omega (arith, length-map rows (entry_of ids), h.1) in
+    (h.0, lt, same_row ids is (get_or rows h.0 row) row (all h.0 row lt) known (sym (get_or-map (entry_of ids) rows h.0 row (entry_of ids row) lt) ∙ h.2))
+
+-- the places of a key, without that which may be listed too early
+pub places_of : (ids : InternerData) → IsInterner ids → (log : List EntryData) (n : ℕ) (list : Key → List ℕ) → IsIndex ids log n list → (k : Key) → IsKey ids k → (xs : List ℕ) → IsStrictlyIncreasing xs
+    → ((i : ℕ) → Contains xs i ↔ ((i < n) × Contains (list k) i)) → ArePlaces log n (question ids k) xs
+places_of ids is log n list index k known xs up exact = record {
+  ascending = up;
+  exact = λ i. (
+    λ h. let w = (exact i).0 h in (w.0, index.sound k i w.1),
+    λ h. let l = index.complete i (question ids k) h.0 h.1 in
+        (exact i).1 (h.0, subst (λ (m : Key). Contains (list m) i) (same_key ids is l.key k l.known known l.for) l.among),
+  );
+}
+
+-- what contracts see of these fields
+abbrev pub view_of : InternerData → List RowData → ℕ → ℕ → ReplicaData
+view_of ids rows reserved indexed = record { ids = ids; log = log_of ids rows; spare = reserved; indexed = indexed }
+
+pub keeps_log : (ids new : InternerData) → Grows ids new → (rows : List RowData) (room reserved indexed : ℕ) (list : Key → List ℕ) → IsKept ids rows room reserved indexed list
+    → (was : ReplicaData) → view_of ids rows reserved indexed ≡ was → KeepsLog was (view_of new rows reserved indexed)
+keeps_log ids new g rows room reserved indexed list kept was is =
+    subst (λ (r : ReplicaData). KeepsLog r (view_of new rows reserved indexed)) is
+    (record { log = log_stays ids new g rows kept.known; spare = refl; indexed = refl; grows = g })
+
+pub is_replica : (ids : InternerData) (rows : List RowData) (room reserved indexed : ℕ) (list : Key → List ℕ) → IsKept ids rows room reserved indexed list
+    → (was : ReplicaData) → view_of ids rows reserved indexed ≡ was → IsReplica was
+is_replica ids rows room reserved indexed list kept was is = subst IsReplica is (record {
+  distinct = kept.distinct;
+  short = omega (arith, length-map rows (entry_of ids), kept.short);
+  indexed = omega (arith, length-map rows (entry_of ids), kept.within);
+})
+
+-- other room
+pub kept_room : (ids : InternerData) (rows : List RowData) (room later reserved indexed : ℕ) (list : Key → List ℕ) → IsKept ids rows room reserved indexed list → reserved ≤ later → IsKept ids rows later reserved indexed list
+kept_room ids rows room later reserved indexed list was fits =
+    record { known = was.known; distinct = was.distinct; short = was.short; fits = fits; within = was.within; index = was.index }
+
+pub on_err : {T E P : Type 0} (r : Result T E) → P → OnErr r P
+on_err (Ok x) p = tt
+on_err (Err e) p = p
+
+pub at_ok : {T E : Type 0} (r : Result T E) (x : T) (P : T → Type 0) → r ≡ Ok x → IfOk r P → P x
+at_ok {T} {E} r x P is h = subst (λ (s : Result T E). IfOk s P) is h

@@ -1,0 +1,8 @@
+pub mod GainLemmas
+pub mod SetLemmas
+pub mod EnvLemmas
+pub mod TypeLemmas
+pub mod RowLemmas
+pub mod KeptLemmas
+pub mod BelowLemmas
+pub mod Firsts

@@ -1,0 +1,14 @@
+-- so many places are listed
+use Rattle.std.proofs.Common.{◌-◌, ◌≤◌, length}
+use Rattle.hs_replica.specs.Index.{log_of, list_at, IsIndex}
+use Rattle.hs_replica.proofs.indexing.add_places.Given as goal
+
+abbrev pub invariant-loop-indexed : goal.invariant-loop-indexed
+invariant-loop-indexed l = record {
+  more : l.initial.indexed ≤ l.indexed;
+  within : l.indexed ≤ length l.rows;
+  index : IsIndex l.interner (log_of l.interner l.rows) l.indexed (list_at l.lists);
+}
+
+abbrev pub decreases-loop-indexed : goal.decreases-loop-indexed
+decreases-loop-indexed l = length l.rows - l.indexed

@@ -1,0 +1,107 @@
+-- How places are kept by what they answer.
+--     list_at lists k       the list of this key
+--     question ids k        what the key asks for
+--     IsIndex               the lists have just the places that answer what their keys ask for, of the first n
+--     Gains, HasAll         lists that gain a place
+use Rattle.std.specs.Prelude.{◌≡◌, ◌≢◌, ◌^◌, AllPairs, Some, slice_get, ℕ, ◌<◌, ◌≤◌, List, [], length, map, All, Contains, ◌⊎◌}
+use Rattle.std.specs.Option.{option_map_or}
+use Rattle.std.specs.List.Sorted.{IsStrictlyIncreasing}
+use Rattle.indexmap.specs.IndexMap.{IndexMap, get}
+use Rattle.smallvec.specs.SmallVec.{SmallVec}
+use Rattle.hs_table.specs.Types.{TypeTree}
+use Rattle.hs_table.specs.Entries.{Env, EntryData, Has}
+use Rattle.hs_types.specs.Interned.{InternerData, RowData, type_of_id, env_of_id, entry_of, IsRow}
+use Rattle.hs_replica.specs.declared.key.Key.{Key}
+use Rattle.hs_replica.specs.declared.key.Key.TheVariants.{At, Typed, Asking, Taking}
+use Rattle.hs_replica.specs.contracts.key.KeyPartialEq.TheImpl.{eq-value}
+use Rattle.hs_replica.specs.Places.{Question, here, typed, asks, takes, IsState, Takes, Answers}
+
+-- the entries of these rows
+abbrev pub log_of : InternerData → List RowData → List EntryData
+log_of ids rows = map (entry_of ids) rows
+
+-- the list of this key, empty where there is none
+abbrev pub list_at : {S : Type 0} → IndexMap Key (SmallVec ℕ) S → Key → List ℕ
+list_at lists k = option_map_or (λ (v : SmallVec ℕ). v.items) (get eq-value.it lists k) []
+
+abbrev pub question : InternerData → Key → Question
+question ids (At p) = here p
+question ids (Typed p t) = typed p (type_of_id ids t)
+question ids (Asking p j t) = asks p j (type_of_id ids t)
+question ids (Taking p j t) = takes p j (type_of_id ids t)
+
+-- its type has a number
+abbrev pub IsKey : InternerData → Key → Type 0
+IsKey ids (At p) = Unit {0}
+IsKey ids (Typed p t) = t < length ids.types
+IsKey ids (Asking p j t) = t < length ids.types
+IsKey ids (Taking p j t) = t < length ids.types
+
+-- an ascending list of numbers up to the place
+pub record RisesTo (place : ℕ) (xs : List ℕ) : Type 0 where
+  pub ascending : IsStrictlyIncreasing xs
+  pub below : All (λ x. x ≤ place) xs
+
+-- some key asks for this, and has the place in its list
+pub record IsListed (ids : InternerData) (list : Key → List ℕ) (place : ℕ) (q : Question) : Type 0 where
+  pub key : Key
+  pub known : IsKey ids key
+  pub for : question ids key ≡ q
+  pub among : Contains (list key) place
+
+-- The place n may stand in some of the lists already: in those that were reached before memory was refused.
+pub record IsIndex (ids : InternerData) (log : List EntryData) (n : ℕ) (list : Key → List ℕ) : Type 0 where
+  pub known : (k : Key) (i : ℕ) → Contains (list k) i → IsKey ids k
+  pub sound : (k : Key) (i : ℕ) → Contains (list k) i → Answers log i (question ids k)
+  pub complete : (i : ℕ) (q : Question) → i < n → Answers log i q → IsListed ids list i q
+  pub rises : (k : Key) → RisesTo n (list k)
+
+-- the list of this key gains nothing but the place, and the others stay
+pub record AddsAt (key : Key) (place : ℕ) (old new : Key → List ℕ) : Type 0 where
+  pub only : (k : Key) (i : ℕ) → Contains (new k) i → Contains (old k) i ⊎ ((i ≡ place) × (k ≡ key))
+  pub keeps : (k : Key) (i : ℕ) → Contains (old k) i → Contains (new k) i
+  pub rises : (k : Key) → RisesTo place (old k) → RisesTo place (new k)
+
+-- the lists gain nothing but the place, under keys that ask for what P holds of
+pub record Gains (ids : InternerData) (P : Question → Type 0) (place : ℕ) (old new : Key → List ℕ) : Type 0 where
+  pub only : (k : Key) (i : ℕ) → Contains (new k) i → Contains (old k) i ⊎ ((i ≡ place) × (IsKey ids k × P (question ids k)))
+  pub keeps : (k : Key) (i : ℕ) → Contains (old k) i → Contains (new k) i
+  pub rises : (k : Key) → RisesTo place (old k) → RisesTo place (new k)
+
+-- all that P holds of is listed
+abbrev pub HasAll : InternerData → (Question → Type 0) → ℕ → (Key → List ℕ) → Type 0
+HasAll ids P place list = (q : Question) → P q → IsListed ids list place q
+
+-- types of this set are asked for at parameter j, of an environment at any
+abbrev pub AsksAt : ℕ → ℕ → List TypeTree → Question → Type 0
+AsksAt point j s (asks p i a) = (p ≡ point) × ((i ≡ j) × Contains s a)
+AsksAt point j s q = ⊥
+
+abbrev pub AsksIn : ℕ → Env → Question → Type 0
+AsksIn point env (asks p j a) = (p ≡ point) × Has env j a
+AsksIn point env q = ⊥
+
+-- types of this set are taken as argument j, of the sets of a type as any
+abbrev pub TakesAt : ℕ → ℕ → List TypeTree → Question → Type 0
+TakesAt point j s (takes p i a) = (p ≡ point) × ((i ≡ j) × Contains s a)
+TakesAt point j s q = ⊥
+
+abbrev pub TakesBy : ℕ → TypeTree → Question → Type 0
+TakesBy point ty (takes p j a) = (p ≡ point) × Takes ty j a
+TakesBy point ty q = ⊥
+
+-- what the row's environment asks for, where its type is a state, and what its type takes, where the list of its point and type begins
+-- with the place
+abbrev pub PlaysRole : InternerData → RowData → (Key → List ℕ) → ℕ → Question → Type 0
+PlaysRole ids row list place (asks p j a) = IsState (type_of_id ids row.ty) × AsksIn row.point (env_of_id ids row.env) (asks p j a)
+PlaysRole ids row list place (takes p j a) = (slice_get (list (Typed row.point row.ty)) 0 ≡ Some place) × TakesBy row.point (type_of_id ids row.ty) (takes p j a)
+PlaysRole ids row list place q = ⊥
+
+-- what a replica keeps: room for so many rows, and the lists of the first of them
+pub record IsKept (ids : InternerData) (rows : List RowData) (room reserved indexed : ℕ) (list : Key → List ℕ) : Type 0 where
+  pub known : All (IsRow ids) rows
+  pub distinct : AllPairs (λ a b. a ≢ b) (log_of ids rows)
+  pub short : length rows < 2 ^ 32
+  pub fits : reserved ≤ room
+  pub within : indexed ≤ length rows
+  pub index : IsIndex ids (log_of ids rows) indexed list

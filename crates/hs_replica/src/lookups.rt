@@ -1,0 +1,52 @@
+//! Places of the entries that answer a question.
+
+ghost use Rattle.std.specs.Prelude.{◌≡◌, ◌<◌, ℕ, List, Some, length, slice_get};
+ghost use Rattle.hs_table.specs.Entries.{EntryData};
+ghost use Rattle.hs_types.specs.Interned.{type_of_id};
+ghost use Rattle.hs_replica.specs.Places.{here, typed, asks, takes, IsFirstLike, ArePlaces};
+
+use crate::key::Key;
+use crate::replica::Replica;
+use hs_types::TyId;
+
+/// Each entry of a log has a first one with its point and its type, so that `taking` misses no type.
+/// A law; does nothing.
+pub fn each_entry_has_a_first()
+    ensures { (log : List EntryData) (i : ℕ) (e : EntryData) → slice_get log i ≡ Some e → IsFirstLike log i e }
+{}
+
+impl Replica {
+    /// The places of the entries at this point, ascending, of those that are indexed. This and the
+    /// next take no memory, and constant time on average.
+    pub fn at_point(&self, point: u32) -> &[u32]
+        ensures { ArePlaces self.now.log self.now.indexed (here point) result.now }
+    {
+        self.places(Key::At(point))
+    }
+
+    /// The places of the entries at this point with this type.
+    pub fn with_type(&self, point: u32, ty: TyId) -> &[u32]
+        requires { ty < length self.now.ids.types }
+        ensures { ArePlaces self.now.log self.now.indexed (typed point (type_of_id self.now.ids ty)) result.now }
+    {
+        self.places(Key::Typed(point, ty))
+    }
+
+    /// The places of the entries at this point whose type is a state, and whose environment has
+    /// this type at this parameter, counted from 0.
+    pub fn asking(&self, point: u32, param: u32, ty: TyId) -> &[u32]
+        requires { ty < length self.now.ids.types }
+        ensures { ArePlaces self.now.log self.now.indexed (asks point param (type_of_id self.now.ids ty)) result.now }
+    {
+        self.places(Key::Asking(point, param as usize, ty))
+    }
+
+    /// The places of the entries at this point whose type takes as this argument, counted from 0,
+    /// something with this type: of each such type the first place.
+    pub fn taking(&self, point: u32, arg: u32, ty: TyId) -> &[u32]
+        requires { ty < length self.now.ids.types }
+        ensures { ArePlaces self.now.log self.now.indexed (takes point arg (type_of_id self.now.ids ty)) result.now }
+    {
+        self.places(Key::Taking(point, arg as usize, ty))
+    }
+}

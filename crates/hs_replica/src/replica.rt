@@ -1,0 +1,184 @@
+//! The log.
+
+ghost use Rattle.std.specs.Prelude.{◌≡◌, ◌+◌, ◌-◌, ◌^◌, ◌<◌, ◌≤◌, ◌++◌, ◌∷◌, [], length, max, slice_get, Some, Contains, IfNone, IfOk, IfSome, OnErr, OnOk};
+ghost use Rattle.hs_types.specs.Interned.{IsRow, entry_of, Grows};
+ghost use Rattle.hs_replica.specs.Replica.{IsReplica, KeepsLog};
+ghost use Rattle.hs_replica.specs.Places.{ArePlaces};
+ghost use Rattle.hs_replica.specs.Index.{question, IsKey};
+
+use crate::indexing::add_places;
+use crate::key::Key;
+use crate::lists::{Lists, below, list_of};
+use hs_scheme::OutOfMemory;
+use hs_types::{Interner, Row};
+use indexmap::{IndexMap, IndexSet};
+use std::alloc::Global;
+use std::marker::Model;
+
+/// A log of entries without repeats, each a row of three numbers, with the interner that reads
+/// them. It finds the place of an entry, and the places of entries by their point, by their type, by
+/// what they ask of a parameter and by what they take as an argument.
+///
+/// Contracts see the entries themselves, and how many can be added without memory. An entry takes a
+/// row of 24 bytes and about as much again for finding it, beside what its environment and its type
+/// take in the interner, which entries share, and what `index` adds.
+#[derive(Drop)]
+pub struct Replica {
+    pub(crate) interner: Interner,
+    rows: IndexSet<Row>,
+    lists: Lists,
+    /// So many rows can be added without memory; there may be room for more.
+    reserved: u32,
+    /// So many places are listed.
+    indexed: u32,
+}
+
+impl Model for Replica {
+    ghost use Rattle.indexmap.specs.IndexSet.{spare};
+    ghost use Rattle.hs_replica.specs.Replica.{ReplicaData, coded_replica};
+    ghost use Rattle.hs_replica.specs.Index.{log_of, list_at, IsKept};
+
+    ghost Value = { ReplicaData };
+
+    ghost coded = { coded_replica };
+
+    ghost view = { λ a. record { ids = a.interner; log = log_of a.interner a.rows.keys; spare = a.reserved; indexed = a.indexed } };
+
+    ghost invariant = { λ a. IsKept a.interner a.rows.keys (spare a.rows) a.reserved a.indexed (list_at a.lists) };
+}
+
+impl Replica {
+    /// A replica without entries. Takes no memory.
+    pub fn new(alloc: Global) -> Replica
+        ensures { result ≡ record { ids = record { types = []; sets = []; envs = [] }; log = []; spare = 0; indexed = 0 } }
+    {
+        Replica {
+            interner: Interner::new(alloc),
+            rows: IndexSet::new(alloc),
+            lists: IndexMap::new(alloc),
+            reserved: 0,
+            indexed: 0,
+        }
+    }
+
+    /// The number of entries. Takes no memory.
+    pub fn len(&self) -> u32
+        ensures len { result ≡ length self.now.log }
+        ensures replica { IsReplica self.now }
+    {
+        self.rows.len() as u32
+    }
+
+    /// The row of the entry at this place, counted from 0. Takes no memory.
+    pub fn row(&self, place: u32) -> Row
+        requires { place < length self.now.log }
+        ensures row { IsRow self.now.ids result }
+        ensures entry { slice_get self.now.log place ≡ Some (entry_of self.now.ids result) }
+    {
+        self.rows[place as usize]
+    }
+
+    /// The interner that reads the rows. Takes no memory.
+    pub fn interner(&self) -> &Interner
+        ensures { result.now ≡ self.now.ids }
+    {
+        &self.interner
+    }
+
+    /// The place of the entry of this row of the replica's interner, or `None` where the log lacks
+    /// it. Takes no memory, and constant time on average.
+    pub fn find(&self, row: Row) -> Option<u32>
+        requires { IsRow self.now.ids row }
+        ensures found { IfSome result (λ place. slice_get self.now.log place ≡ Some (entry_of self.now.ids row)) }
+        ensures absent { IfNone result (Contains self.now.log (entry_of self.now.ids row) → ⊥) }
+    {
+        self.interner.numbers_are_exact();
+        match self.rows.get_index_of(&row) {
+            Some(place) => Some(place as u32),
+            None => None,
+        }
+    }
+
+    /// Adds the entry of a row of `from` at the end, where the log lacks it. Constant time on
+    /// average, beside the import. After a refusal of memory the log is as before.
+    pub fn append(&mut self, from: &Interner, row: Row) -> Result<(), OutOfMemory>
+        requires row { IsRow from.now row }
+        requires absent { Contains self.old.log (entry_of from.now row) → ⊥ }
+        requires room { length self.old.log + 1 < 2 ^ 32 }
+        ensures ok { OnOk result (self.new.log ≡ self.old.log ++ entry_of from.now row ∷ []) }
+        ensures err { OnErr result (self.new.log ≡ self.old.log) }
+        ensures spare { self.new.spare ≡ self.old.spare }
+        ensures indexed { self.new.indexed ≡ self.old.indexed }
+        ensures grows { Grows self.old.ids self.new.ids }
+    {
+        let own = self.interner.import(from, row)?;
+        self.rows.reserve(self.reserved as usize + 1)?;
+        self.rows.insert(own)?;
+        Ok(())
+    }
+
+    /// The row of the replica's interner that stands for the entry for which this row of `from`
+    /// stands.
+    pub fn import(&mut self, from: &Interner, row: Row) -> Result<Row, OutOfMemory>
+        requires { IsRow from.now row }
+        ensures row { IfOk result (λ r. IsRow self.new.ids r) }
+        ensures entry { IfOk result (λ r. entry_of self.new.ids r ≡ entry_of from.now row) }
+        ensures kept { KeepsLog self.old self.new }
+    {
+        self.interner.import(from, row)
+    }
+
+    /// Makes room for `k` entries, at most 1,000,000, so that they can be added without memory.
+    /// After a refusal of memory nothing has changed.
+    pub fn reserve(&mut self, k: u32) -> Result<(), OutOfMemory>
+        requires { k ≤ 1000000 }
+        ensures ok { OnOk result (self.new ≡ record self.old { spare = max self.old.spare k }) }
+        ensures err { OnErr result (self.new ≡ self.old) }
+    {
+        self.rows.reserve(k as usize)?;
+        self.reserved = self.reserved.max(k);
+        Ok(())
+    }
+
+    /// Adds the entry of a row of the replica's interner at the end, where the log lacks it. Takes no
+    /// memory, and constant time on average.
+    pub fn add(&mut self, row: Row)
+        requires spare { 1 ≤ self.old.spare }
+        requires row { IsRow self.old.ids row }
+        requires absent { Contains self.old.log (entry_of self.old.ids row) → ⊥ }
+        requires room { length self.old.log + 1 < 2 ^ 32 }
+        ensures { self.new ≡ record self.old { log = self.old.log ++ entry_of self.old.ids row ∷ []; spare = self.old.spare - 1 } }
+    {
+        let _added = self.rows.insert(row).unwrap();
+        self.reserved -= 1;
+    }
+
+    /// Makes the look-ups tell of the whole log. After a refusal of memory they tell of as much as
+    /// before or of more.
+    ///
+    /// An entry is listed by its point and by its point and type. If its type is a state, it is
+    /// listed by each type in its environment, too; if it is an arrow and no entry before it has its
+    /// point and type, by each type in the sets of its type. A place in a list costs 4 bytes, and a
+    /// list with its first four places about 80. Time is in proportion to the places, on average.
+    pub fn index(&mut self) -> Result<(), OutOfMemory>
+        ensures ok { OnOk result (self.new.indexed ≡ length self.new.log) }
+        ensures kept { self.new ≡ record self.old { indexed = self.new.indexed } }
+        ensures more { self.old.indexed ≤ self.new.indexed }
+    {
+        add_places(
+            &mut self.lists,
+            &self.interner,
+            self.rows.as_slice(),
+            &mut self.indexed,
+        )
+    }
+
+    /// The places that are listed by this key.
+    pub(crate) fn places(&self, key: Key) -> &[u32]
+        requires { IsKey self.now.ids key }
+        ensures { ArePlaces self.now.log self.now.indexed (question self.now.ids key) result.now }
+    {
+        self.interner.numbers_are_exact();
+        below(list_of(&self.lists, key), self.indexed)
+    }
+}

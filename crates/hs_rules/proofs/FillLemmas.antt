@@ -1,0 +1,172 @@
+-- The candidates for slots, found in a log.
+use Rattle.std.proofs.Common.{◌≡◌, refl, sym, ◌∙◌, ap, subst, ℕ, zero, suc, ◌+◌, ◌<◌, ◌≤◌, List, [], ◌∷◌, ◌++◌, length, map, take, get_or, slice_get, Option, Some, None, arith, append_assoc, Contains, inl, inr, ◌↔◌}
+use Rattle.std.specs.List.Sorted.{IsStrictlyIncreasing}
+use Rattle.std.proofs.lemmas.List.Kept.{AllPairs-from_increasing}
+use Rattle.std.proofs.lemmas.List.{map-append, append-nil, length-take-le, length-map}
+use Rattle.std.proofs.lemmas.Bool.{cases_order}
+use Rattle.hs_table.specs.Types.{TypeTree}
+use Rattle.hs_table.specs.Entries.{Env, EntryData, set_at}
+use Rattle.hs_table_laws.proofs.Places.{place_of, member_at, read_from, at_take, to_take, within_from, none_in, uncons, here, later}
+use Rattle.hs_types.specs.Interned.{InternerData, type_of_id, set_of_id}
+use Rattle.hs_replica.specs.Places.{typed, ArePlaces}
+use Rattle.hs_rules.specs.declared.search.Fixed.{Fixed}
+use Rattle.hs_rules.specs.Slots.{SlotData, slots_of, slots, FixedData, FilledData, Respects, IsCandidate, Picked, none_left, pick}
+use Rattle.hs_rules.specs.Filling.{entry_at, fixed_of, IsFilled, AreFilled, GainsFilled, LacksCandidate}
+use Rattle.hs_rules.proofs.Lists.{read_other, taken_next}
+use Rattle.hs_rules.proofs.SlotLemmas.{into_slots}
+
+-- the places below the limit are the first ones, up to one that isn't
+module _ (places out : List ℕ) (limit k : ℕ) (are : out ≡ take k places) (low : (j : ℕ) → j < k → get_or places j 0 < limit) where
+  from_taken : (place : ℕ) → Contains out place → Contains places place × (place < limit)
+  from_taken place c =
+      let p = place_of (take k places) place (subst (λ (xs : List ℕ). Contains xs place) are c) in
+      let q = at_take k places p.0 place p.1 in
+      (member_at places p.0 place q.1, subst (λ (n : ℕ). n < limit) (read_from places p.0 place 0 q.1) (low p.0 q.0))
+
+  into_taken : (place j : ℕ) → slice_get places j ≡ Some place → j < k → Contains out place
+  into_taken place j at lt = subst (λ (xs : List ℕ). Contains xs place) (sym are) (member_at (take k places) j place (to_take k places j place lt at))
+
+  pub all_below : length places ≤ k → (place : ℕ) → Contains out place ↔ (Contains places place × (place < limit))
+  all_below whole place = (from_taken place, λ h. let p = place_of places place h.0 in into_taken place p.0 p.1 (omega (arith, within_from places p.0 place p.1)))
+
+  pub some_below : IsStrictlyIncreasing places → k < length places → limit ≤ get_or places k 0 → (place : ℕ) → Contains out place ↔ (Contains places place × (place < limit))
+  some_below rises lt high place = (from_taken place, λ h. back h)
+    where
+      back : Contains places place × (place < limit) → Contains out place
+      back h =
+          let p = place_of places place h.0 in
+          let within = within_from places p.0 place p.1 in
+          let is : get_or places p.0 0 ≡ place = read_from places p.0 place 0 p.1 in
+          into_taken place p.0 p.1 (elim (cases_order p.0 k) [
+            | inl same ↦ absurd (let e : get_or places k 0 ≡ place = ap (λ n. get_or places n 0) (sym same) ∙ is in omega (arith, e, h.1, high))
+            | inr (inl less) ↦ less
+            | inr (inr more) ↦ absurd (let up = AllPairs-from_increasing places rises k p.0 0 more within in omega (arith, up, is, h.1, high))
+          ])
+
+-- nothing fixed stands in the way
+module _ (log : List EntryData) (o : Option Fixed) (arg point : ℕ) (ty : TypeTree) (place : ℕ) where
+  abbrev Free : Type 0
+  Free = Respects (fixed_of log o) (record { arg = arg; point = point; ty = ty }) place
+
+  pub free_none : o ≡ None → Free
+  free_none e = subst (λ (x : Option Fixed). Respects (fixed_of log x) (record { arg = arg; point = point; ty = ty }) place) (sym e) tt
+
+  pub free_arg : (f : Fixed) → o ≡ Some f → (f.arg ≡ arg → ⊥) → Free
+  free_arg f e ne = subst (λ (x : Option Fixed). Respects (fixed_of log x) (record { arg = arg; point = point; ty = ty }) place) (sym e) (λ a t. absurd (ne (sym a)))
+
+  pub free_type : (f : Fixed) → o ≡ Some f → ((entry_at log f.place).ty ≡ ty → ⊥) → Free
+  free_type f e ne = subst (λ (x : Option Fixed). Respects (fixed_of log x) (record { arg = arg; point = point; ty = ty }) place) (sym e) (λ a t. absurd (ne (sym t)))
+
+-- the places of a look-up below the limit are the candidates
+pub free_candidates : (log : List EntryData) (n limit arg point : ℕ) (ty : TypeTree) (fixed : Option FixedData) (places out : List ℕ) → n ≡ length log → limit ≤ length log
+    → ((place : ℕ) → Respects fixed (record { arg = arg; point = point; ty = ty }) place) → ArePlaces log n (typed point ty) places
+    → ((place : ℕ) → Contains out place ↔ (Contains places place × (place < limit)))
+    → (place : ℕ) → Contains out place ↔ ((e : EntryData) × IsCandidate (take limit log) fixed (record { arg = arg; point = point; ty = ty }) place e)
+free_candidates log n limit arg point ty fixed places out indexed limited free are below place = (
+  λ c.
+      let b = (below place).0 c in
+      let a = ((are.exact place).0 b.0).1 in
+      (a.entry, record { at = to_take limit log place a.entry b.1 a.at; point = a.meets.0; ty = a.meets.1; respects = free place }),
+  λ (e, c).
+      let t = at_take limit log place e c.at in
+      let w = within_from log place e t.1 in
+      let lt : place < n = omega (arith, w, indexed) in
+      (below place).1 ((are.exact place).1 (lt, record { entry = e; at = t.1; meets = (c.point, c.ty) }), t.0),
+)
+
+-- slots that are filled one after another
+pub filled_append : (E : List EntryData) (fixed : Option FixedData) (ss ts : List SlotData) (fs gs : List FilledData) → AreFilled E fixed ss fs → AreFilled E fixed ts gs → AreFilled E fixed (ss ++ ts) (fs ++ gs)
+filled_append E fixed [] ts [] gs h k = k
+filled_append E fixed [] ts (f ∷ fs) gs h k = absurd h
+filled_append E fixed (s ∷ ss) ts [] gs h k = absurd h
+filled_append E fixed (s ∷ ss) ts (f ∷ fs) gs h k = (h.0, filled_append E fixed ss ts fs gs h.1 k)
+
+pub gains_then : (E : List EntryData) (fixed : Option FixedData) (ss ts : List SlotData) (old mid new : List FilledData) → GainsFilled E fixed ss old mid → GainsFilled E fixed ts mid new → GainsFilled E fixed (ss ++ ts) old new
+gains_then E fixed ss ts old mid new g h = record {
+  added = g.added ++ h.added;
+  is = h.is ∙ (ap (λ (xs : List FilledData). xs ++ h.added) g.is ∙ append_assoc old g.added h.added);
+  filled = filled_append E fixed ss ts g.added h.added g.filled h.filled;
+}
+
+pub gains_one : (E : List EntryData) (fixed : Option FixedData) (s : SlotData) (old new : List FilledData) (f : FilledData) → new ≡ old ++ f ∷ [] → IsFilled E fixed s f → GainsFilled E fixed (s ∷ []) old new
+gains_one E fixed s old new f is h = record { added = f ∷ []; is = is; filled = (h, tt) }
+
+slots_of-append : (i u : ℕ) (xs ys : List TypeTree) → slots_of i u (xs ++ ys) ≡ slots_of i u xs ++ slots_of i u ys
+slots_of-append i u [] ys = refl
+slots_of-append i u (x ∷ xs) ys = ap (λ (ss : List SlotData). (let s : SlotData = record { arg = i; point = u; ty = x } in s) ∷ ss) (slots_of-append i u xs ys)
+
+-- one more type of a set
+pub next_of_set : (I : InternerData) (i u k : ℕ) (ids : List ℕ) (t : ℕ) → k < length ids → t ≡ get_or ids k t
+    → slots_of i u (map (type_of_id I) (take (k + 1) ids)) ≡ slots_of i u (map (type_of_id I) (take k ids)) ++ (record { arg = i; point = u; ty = type_of_id I t }) ∷ []
+next_of_set I i u k ids t lt is =
+    ap (λ (xs : List ℕ). slots_of i u (map (type_of_id I) xs)) (taken_next ids k t lt is)
+    ∙ (ap (slots_of i u) (map-append (type_of_id I) (take k ids) (t ∷ [])) ∙ slots_of-append i u (map (type_of_id I) (take k ids)) (type_of_id I t ∷ []))
+
+slots-append : (i : ℕ) (us : List ℕ) (ss : Env) (u : ℕ) (s : List TypeTree) → length us ≡ length ss → slots i (us ++ u ∷ []) (ss ++ s ∷ []) ≡ slots i us ss ++ slots_of (i + length us) u s
+slots-append i [] [] u s long = let z : i ≡ i + 0 = omega arith in append-nil (slots_of i u s) ∙ ap (λ n. slots_of n u s) z
+slots-append i [] (t ∷ ss) u s long = absurd (omega arith)
+slots-append i (v ∷ us) [] u s long = absurd (omega arith)
+slots-append i (v ∷ us) (t ∷ ss) u s long =
+    let z : suc i + length us ≡ i + length (v ∷ us) = omega arith in
+    ap (λ (xs : List SlotData). slots_of i v t ++ xs) (slots-append (suc i) us ss u s (omega arith) ∙ ap (λ n. slots (suc i) us ss ++ slots_of n u s) z)
+    ∙ sym (append_assoc (slots_of i v t) (slots (suc i) us ss) (slots_of (i + length (v ∷ us)) u s))
+
+-- one more argument
+pub next_of_args : (I : InternerData) (k : ℕ) (args ids : List ℕ) (u s : ℕ) → length ids ≡ length args → k < length ids → slice_get args k ≡ Some u → s ≡ get_or ids k s
+    → slots 0 (take (k + 1) args) (map (set_of_id I) (take (k + 1) ids)) ≡ slots 0 (take k args) (map (set_of_id I) (take k ids)) ++ slots_of k u (set_of_id I s)
+next_of_args I k args ids u s long lt at is =
+    let small : k < length args = omega (arith, long) in
+    let read : u ≡ get_or args k u = sym (read_from args k u u at) in
+    let first = taken_next args k u small read in
+    let second = ap (map (set_of_id I)) (taken_next ids k s lt is) ∙ map-append (set_of_id I) (take k ids) (s ∷ []) in
+    let many : length (take k args) ≡ k = length-take-le k args (omega arith) in
+    let same : length (take k args) ≡ length (map (set_of_id I) (take k ids)) = many ∙ sym (length-map (take k ids) (set_of_id I) ∙ length-take-le k ids (omega arith)) in
+    let z : 0 + length (take k args) ≡ k = omega (arith, many) in
+    (λ i. slots 0 (first i) (second i)) ∙ (slots-append 0 (take k args) (map (set_of_id I) (take k ids)) u (set_of_id I s) same
+    ∙ ap (λ n. slots 0 (take k args) (map (set_of_id I) (take k ids)) ++ slots_of n u (set_of_id I s)) z)
+
+-- the first place of an ascending list isn't below the limit, so none is
+pub none_below : (log : List EntryData) (indexed limit point : ℕ) (ty : TypeTree) (places : List ℕ) → indexed ≡ length log → ArePlaces log indexed (typed point ty) places → ((place : ℕ) → Contains places place → place < limit → ⊥)
+    → (place : ℕ) (e : EntryData) → slice_get (take limit log) place ≡ Some e → e.point ≡ point → e.ty ≡ ty → ⊥
+none_below log indexed limit point ty places all are none place e at point_is ty_is =
+    let t = at_take limit log place e at in
+    let w = within_from log place e t.1 in
+    none place ((are.exact place).1 (omega (arith, w, all), record { entry = e; at = t.1; meets = (point_is, ty_is) })) t.0
+
+pub none_first : (places : List ℕ) (limit : ℕ) → IsStrictlyIncreasing places → 0 < length places → limit ≤ get_or places 0 0 → (place : ℕ) → Contains places place → place < limit → ⊥
+none_first places limit rises some high place c lt = elim (cases_order c.0 0) [
+  | inl same ↦
+      let is : get_or places 0 0 ≡ place = ap (λ n. get_or places n 0) (sym same) ∙ read_other places c.0 place 0 c.1 c.2 in
+      omega (arith, is, high, lt)
+  | inr (inl less) ↦ omega arith
+  | inr (inr more) ↦
+      let up = AllPairs-from_increasing places rises 0 c.0 0 more c.1 in
+      let is = read_other places c.0 place 0 c.1 c.2 in
+      omega (arith, up, is, high, lt)
+]
+
+-- a slot without candidates leaves nothing to pick
+pub slot_filled : (E : List EntryData) (fixed : Option FixedData) {ss : List SlotData} {args : List (ℕ × ℕ)} {es : List EntryData} (s : SlotData) → Contains ss s → Picked (λ x. x.arg) (IsCandidate E fixed) ss args es
+    → (place : ℕ) × (e : EntryData) × IsCandidate E fixed s place e
+slot_filled E fixed s c none_left = absurd (none_in s c)
+slot_filled E fixed s c (pick {x = x} {xs = xs} {place = place} {e = e} h k) = elim (uncons x s xs c) [
+  | inl is ↦ (place, e, subst (λ (y : SlotData). IsCandidate E fixed y place e) (sym is) h)
+  | inr there ↦ slot_filled E fixed s there k
+]
+
+pub nothing_picked : (E : List EntryData) (fixed : Option FixedData) (us : List ℕ) (sets : Env) (j u : ℕ) → slice_get us j ≡ Some u → LacksCandidate E u (set_at sets j) → (args : List (ℕ × ℕ)) (es : List EntryData)
+    → Picked (λ x. x.arg) (IsCandidate E fixed) (slots 0 us sets) args es → ⊥
+nothing_picked E fixed us sets j u at lacks args es k =
+    let s : SlotData = record { arg = 0 + j; point = u; ty = lacks.ty } in
+    let f = slot_filled E fixed s (into_slots 0 us sets j u lacks.ty at lacks.among) k in
+    lacks.none f.0 f.1 f.2.at f.2.point f.2.ty
+
+pub set_of_place : (I : InternerData) (ids : List ℕ) (j : ℕ) → j < length ids → set_of_id I (get_or ids j 0) ≡ set_at (map (set_of_id I) ids) j
+set_of_place I [] j lt = absurd (omega arith)
+set_of_place I (x ∷ ids) zero lt = refl
+set_of_place I (x ∷ ids) (suc j) lt = set_of_place I ids j (omega arith)
+
+pub type_of_place : (I : InternerData) (ids : List ℕ) (j t : ℕ) → j < length ids → t ≡ get_or ids j t → Contains (map (type_of_id I) ids) (type_of_id I t)
+type_of_place I [] j t lt is = absurd (omega arith)
+type_of_place I (x ∷ ids) zero t lt is = subst (λ (y : ℕ). Contains (map (type_of_id I) (x ∷ ids)) (type_of_id I y)) (sym is) (here (type_of_id I x) (map (type_of_id I) ids))
+type_of_place I (x ∷ ids) (suc j) t lt is = later (type_of_id I x) (type_of_id I t) (map (type_of_id I) ids) (type_of_place I ids j t (omega arith) is)

@@ -1,0 +1,185 @@
+-- Environments joined slot by slot.
+use Rattle.std.proofs.Common.{◌≡◌, refl, sym, ◌∙◌, ap, subst, ℕ, ◌<◌, ◌≤◌, List, [], ◌∷◌, ◌++◌, length, get_or, slice_get, Some, arith, ◌⊎◌, inl, inr, Contains}
+use Rattle.std.proofs.lemmas.List.Elements.{Contains-append_left, Contains-push}
+use Rattle.hs_table.specs.Entries.{Env, EntryData, IsEnv}
+use Rattle.hs_types.specs.Interned.{InternerData, env_of_id, RowData, entry_of, Grows, IsUnionEnv}
+use Rattle.hs_types.proofs.Numbers.{env_within, env_stays}
+use Rattle.hs_table_laws.proofs.Places.{some_same, here, within_from}
+use Rattle.hs_rules.specs.Slots.{FilledData, Picked, none_left, pick, IsJoin}
+use Rattle.hs_rules.specs.Joins.{PartialData, FillsBy, IsPlaced, ArePlaced, SeenAre, IsMade, IsMadeOf, IsCovered, CanExtend, AreJoined}
+use Rattle.hs_rules.proofs.Lists.{read_in, read_other}
+use Rattle.hs_rules.proofs.SetLemmas.{only}
+use Rattle.hs_rules.proofs.SlotLemmas.{picked_append, last_of, none_of, join_none, join_more}
+
+-- one more is seen, and is in the list
+pub seen_pushed : (seen more : List ℕ) (list pushed : List PartialData) (x : PartialData) → SeenAre seen list → ((n : ℕ) → Contains more n → Contains seen n ⊎ (n ≡ x.env)) → pushed ≡ list ++ x ∷ [] → SeenAre more pushed
+seen_pushed seen more list pushed x h cases is env c = elim (cases env c) [
+  | inl was ↦ let r = h env was in (r.0, subst (λ (ys : List PartialData). Contains ys r.0) (sym is) (Contains-append_left list (x ∷ []) r.0 r.1), r.2)
+  | inr own ↦ (x, subst (λ (ys : List PartialData). Contains ys x) (sym is) (Contains-push list x), sym own)
+]
+
+pub pushed_there : (list pushed : List PartialData) (x : PartialData) → pushed ≡ list ++ x ∷ [] → (y : PartialData) × Contains pushed y × (y.env ≡ x.env)
+pushed_there list pushed x is = (x, subst (λ (ys : List PartialData). Contains ys x) (sym is) (Contains-push list x), refl)
+
+-- one more candidate for a slot
+module _ (I J K : InternerData) (log : List EntryData) (from : PartialData) (f : FilledData) (g : Grows I J) (h : Grows J K) (known : from.env < length I.envs) where
+  pub made_stays : (x : PartialData) → IsMade I J log from f x → IsMade I K log from f x
+  made_stays x m = record {
+    place = m.place;
+    entry = m.entry;
+    fills = m.fills;
+    args = m.args;
+    within = env_within J K h x.env m.within;
+    union = subst (λ (e : Env). IsUnionEnv (env_of_id I from.env) m.entry.env e) (sym (env_stays J K h x.env m.within)) m.union;
+  }
+
+  pub covered_stays : (entry : EntryData) (old new : List PartialData) → ((x : PartialData) → Contains old x → Contains new x) → IsCovered I J from entry old → IsCovered I K from entry new
+  covered_stays entry old new keeps c = record {
+    item = c.item;
+    there = keeps c.item c.there;
+    within = env_within J K h c.item.env c.within;
+    union = subst (λ (e : Env). IsUnionEnv (env_of_id I from.env) entry.env e) (sym (env_stays J K h c.item.env c.within)) c.union;
+  }
+
+  module _ (row : RowData) (place id : ℕ) (at : slice_get log place ≡ Some (entry_of J row)) (there : Contains f.places place) (within : id < length K.envs)
+      (union : IsUnionEnv (env_of_id J from.env) (env_of_id J row.env) (env_of_id K id)) where
+    union_here : IsUnionEnv (env_of_id I from.env) (env_of_id J row.env) (env_of_id K id)
+    union_here = subst (λ (e : Env). IsUnionEnv e (env_of_id J row.env) (env_of_id K id)) (env_stays I J g from.env known) union
+
+    pub made_next : (old mid new : List PartialData) → ((x : PartialData) → Contains mid x → Contains old x ⊎ IsMade I J log from f x)
+        → ((x : PartialData) → Contains new x → Contains mid x ⊎ (x ≡ record { env = id; args = from.args ++ (f.arg, place) ∷ [] }))
+        → (x : PartialData) → Contains new x → Contains old x ⊎ IsMade I K log from f x
+    made_next old mid new before added x c = elim (added x c) [
+      | inl was ↦ elim (before x was) [
+        | inl first ↦ inl first
+        | inr made ↦ inr (made_stays x made)
+      ]
+      | inr is ↦ inr (subst (λ (y : PartialData). IsMade I K log from f y) (sym is) (record {
+        place = place;
+        entry = entry_of J row;
+        fills = record { among = there; at = at };
+        args = refl;
+        within = within;
+        union = union_here;
+      }))
+    ]
+
+    pub covered_next : (new : List PartialData) → ((x : PartialData) × Contains new x × (x.env ≡ id)) → (e : EntryData) → slice_get log place ≡ Some e → IsCovered I K from e new
+    covered_next new found e is = subst (λ (y : EntryData). IsCovered I K from y new) (some_same (entry_of J row) e (sym at ∙ is)) (record {
+      item = found.0;
+      there = found.1;
+      within = subst (λ (n : ℕ). n < length K.envs) (sym found.2) within;
+      union = subst (λ (n : ℕ). IsUnionEnv (env_of_id I from.env) (env_of_id J row.env) (env_of_id K n)) (sym found.2) union_here;
+    })
+
+-- the environments are of one length
+pub same_length : (I J : InternerData) (log : List EntryData) (env place : ℕ) (row : RowData) → Grows I J → env < length I.envs → IsPlaced log (length (env_of_id I env)) place
+    → slice_get log place ≡ Some (entry_of J row) → length (env_of_id J env) ≡ length (env_of_id J row.env)
+same_length I J log env place row g known placed at =
+    ap (λ (e : Env). length e) (env_stays I J g env known) ∙ (sym placed.env.long ∙ ap (λ (e : EntryData). length e.env) (some_same placed.entry (entry_of J row) (sym placed.at ∙ at)))
+
+-- one more slot
+module _ (I K : InternerData) (log : List EntryData) (n : ℕ) (own : Env) (fs : List FilledData) (f : FilledData) (old new : List PartialData) (joined : AreJoined I log n own fs old)
+    (some : (x : PartialData) → Contains new x → IsMadeOf I K log old f x)
+    (all : (from : PartialData) → Contains old from → (place : ℕ) (e : EntryData) → FillsBy log f place e → IsCovered I K from e new) where
+  next_join : (env : Env) (e : EntryData) (union : Env) (chosen : List EntryData) → IsUnionEnv env e.env union → IsJoin n own chosen env → IsJoin n own (chosen ++ e ∷ []) union
+  next_join env e union chosen u j =
+      join_more n own env union chosen e j (record { long = u.long ∙ j.is_env.long; sets = λ k. (u.sets k).ascends }) (λ k a. (u.sets k).exact a)
+
+  pub joined_next : AreJoined K log n own (fs ++ f ∷ []) new
+  joined_next = record {
+    sound = λ x c.
+        let m = some x c in
+        let before = joined.sound m.from m.among in
+        record {
+          within = m.made.within;
+          chosen = before.chosen ++ m.made.entry ∷ [];
+          picked = subst (λ (args : List (ℕ × ℕ)). Picked (λ (y : FilledData). y.arg) (FillsBy log) (fs ++ f ∷ []) args (before.chosen ++ m.made.entry ∷ [])) (sym m.made.args)
+              (picked_append (λ (y : FilledData). y.arg) (FillsBy log) before.picked (pick m.made.fills none_left));
+          join = next_join (env_of_id I m.from.env) m.made.entry (env_of_id K x.env) before.chosen m.made.union before.join;
+        };
+    all = λ args chosen p.
+        let l = last_of (λ (y : FilledData). y.arg) (FillsBy log) fs f args chosen p in
+        let before = joined.all l.before l.entries l.picked in
+        let c = all before.item before.there l.place l.entry l.fills in
+        record {
+          item = c.item;
+          there = c.there;
+          join = subst (λ (es : List EntryData). IsJoin n own es (env_of_id K c.item.env)) (sym l.entries_are) (next_join (env_of_id I before.item.env) l.entry (env_of_id K c.item.env) l.entries c.union before.join);
+        };
+  }
+
+-- no slots
+pub joined_none : (I : InternerData) (log : List EntryData) (own : ℕ) (found : List PartialData) (x : PartialData) → own < length I.envs → IsEnv (length (env_of_id I own)) (env_of_id I own)
+    → found ≡ x ∷ [] → x.env ≡ own → x.args ≡ [] → AreJoined I log (length (env_of_id I own)) (env_of_id I own) [] found
+joined_none I log own found x known is_env is env args = record {
+  sound = λ y c.
+      let e = only x y (subst (λ (ys : List PartialData). Contains ys y) is c) in
+      let same : y.env ≡ own = ap (λ (z : PartialData). z.env) e ∙ env in
+      let nothing : y.args ≡ [] = ap (λ (z : PartialData). z.args) e ∙ args in
+      record {
+        within = subst (λ (k : ℕ). k < length I.envs) (sym same) known;
+        chosen = [];
+        picked = subst (λ (bs : List (ℕ × ℕ)). Picked (λ (z : FilledData). z.arg) (FillsBy log) [] bs []) (sym nothing) none_left;
+        join = subst (λ (k : ℕ). IsJoin (length (env_of_id I own)) (env_of_id I own) [] (env_of_id I k)) (sym same) (join_none (length (env_of_id I own)) (env_of_id I own) is_env);
+      };
+  all = λ bs chosen p.
+      let n = none_of (λ (z : FilledData). z.arg) (FillsBy log) bs chosen p in
+      record {
+        item = x;
+        there = subst (λ (ys : List PartialData). Contains ys x) (sym is) (here x []);
+        join = subst (λ (es : List EntryData). IsJoin (length (env_of_id I own)) (env_of_id I own) es (env_of_id I x.env)) (sym n.1)
+            (subst (λ (k : ℕ). IsJoin (length (env_of_id I own)) (env_of_id I own) [] (env_of_id I k)) (sym env) (join_none (length (env_of_id I own)) (env_of_id I own) is_env));
+      };
+}
+
+-- a place of a slot is in the log
+pub place_within : (first log : List EntryData) (f : FilledData) (n k : ℕ) (items : List ℕ) → log ≡ first → items ≡ f.places → k < length items → ArePlaced first n f → get_or items k 0 < length log
+place_within first log f n k items same is lt placed =
+    let p = placed (get_or items k 0) (subst (λ (xs : List ℕ). Contains xs (get_or items k 0)) is (read_in items k 0 lt)) in
+    subst (λ (l : List EntryData). get_or items k 0 < length l) (sym same) (within_from first (get_or items k 0) p.entry p.at)
+
+pub place_placed : (first : List EntryData) (f : FilledData) (n k : ℕ) (items : List ℕ) → items ≡ f.places → k < length items → ArePlaced first n f → IsPlaced first n (get_or items k 0)
+place_placed first f n k items is lt placed = placed (get_or items k 0) (subst (λ (xs : List ℕ). Contains xs (get_or items k 0)) is (read_in items k 0 lt))
+
+pub record Reached (log : List EntryData) (items : List ℕ) (index : ℕ) (e : EntryData) : Type 0 where
+  pub k : ℕ
+  pub lt : k < index
+  pub at : slice_get log (get_or items k 0) ≡ Some e
+
+pub reached : (log : List EntryData) (f : FilledData) (items : List ℕ) (index place : ℕ) (e : EntryData) → items ≡ f.places → length items ≤ index → FillsBy log f place e → Reached log items index e
+reached log f items index place e is all h =
+    let c = subst (λ (xs : List ℕ). Contains xs place) (sym is) h.among in
+    record { k = c.0; lt = omega (arith, c.1, all); at = ap (λ n. slice_get log n) (read_other items c.0 place 0 c.1 c.2) ∙ h.at }
+
+-- read in an earlier interner
+module _ (I J K : InternerData) (log later : List EntryData) (from : PartialData) (f : FilledData) (g : Grows I J) (known : from.env < length I.envs) (same : later ≡ log) where
+  pub made_earlier : (x : PartialData) → IsMade J K later from f x → IsMade I K log from f x
+  made_earlier x m = record {
+    place = m.place;
+    entry = m.entry;
+    fills = record { among = m.fills.among; at = subst (λ (l : List EntryData). slice_get l m.place ≡ Some m.entry) same m.fills.at };
+    args = m.args;
+    within = m.within;
+    union = subst (λ (e : Env). IsUnionEnv e m.entry.env (env_of_id K x.env)) (env_stays I J g from.env known) m.union;
+  }
+
+  pub covered_earlier : (entry : EntryData) (found : List PartialData) → IsCovered J K from entry found → IsCovered I K from entry found
+  covered_earlier entry found c = record {
+    item = c.item;
+    there = c.there;
+    within = c.within;
+    union = subst (λ (e : Env). IsUnionEnv e entry.env (env_of_id K c.item.env)) (env_stays I J g from.env known) c.union;
+  }
+
+  -- what extending one environment requires
+  pub placed_later : ArePlaced log (length (env_of_id I from.env)) f → ArePlaced later (length (env_of_id J from.env)) f
+  placed_later h = subst (λ (l : List EntryData). ArePlaced l (length (env_of_id J from.env)) f) (sym same)
+      (subst (λ (e : Env). ArePlaced log (length e) f) (sym (env_stays I J g from.env known)) h)
+
+-- what extending environments that slots lead to requires
+pub can_extend : (I : InternerData) (log later : List EntryData) (n : ℕ) (own : Env) (fs : List FilledData) (f : FilledData) (found : List PartialData) → later ≡ log → AreJoined I log n own fs found → ArePlaced log n f
+    → CanExtend I later found f
+can_extend I log later n own fs f found same joined placed = λ x c.
+    let s = joined.sound x c in
+    (s.within, subst (λ (l : List EntryData). ArePlaced l (length (env_of_id I x.env)) f) (sym same) (subst (λ (k : ℕ). ArePlaced log k f) (sym s.join.is_env.long) placed))

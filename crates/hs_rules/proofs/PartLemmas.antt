@@ -1,0 +1,131 @@
+-- Conclusions as they are gathered.
+use Rattle.std.proofs.Common.{◌≡◌, ◌≢◌, refl, sym, ◌∙◌, ap, subst, ℕ, zero, suc, ◌<◌, List, [], ◌∷◌, length, map, get_or, slice_get, slice_index, Option, None, Some, arith, AllPairs, Contains, ◌⊎◌, inl, inr, ◌↔◌}
+use Rattle.std.proofs.lemmas.Option.{slice_get-get_or}
+use Rattle.std.proofs.lemmas.List.{length-map}
+use Rattle.std.proofs.lemmas.List.Elements.{Contains-append_cases}
+use Rattle.hs_scheme.specs.declared.term.Head.{Head}
+use Rattle.hs_scheme.specs.declared.term.Head.TheVariants.{Var, Nt, Tm}
+use Rattle.hs_scheme.specs.declared.points.Argument.{Argument}
+use Rattle.hs_scheme.specs.Points.{PointData, PointsData, IsArgument, NonterminalWithin, ParameterWithin, point_at, points_of}
+use Rattle.hs_scheme.specs.Problem.{ProblemData}
+use Rattle.hs_table.specs.declared.support.HeadBy.{HeadBy}
+use Rattle.hs_table.specs.declared.support.HeadBy.TheVariants.{Terminal, Rule, Param}
+use Rattle.hs_table.specs.Entries.{EntryData, InShape, IsEnv, params_of}
+use Rattle.hs_table.specs.Follows.{Support, head_premise}
+use Rattle.hs_table_laws.proofs.Places.{some_same, place_of, none_in}
+use Rattle.hs_types.specs.Interned.{InternerData, RowData, entry_of, Grows}
+use Rattle.hs_types.proofs.Numbers.{row_stays}
+use Rattle.hs_replica.specs.Replica.{ReplicaData, KeepsLog}
+use Rattle.hs_rules.specs.declared.search.Fixed.{Fixed}
+use Rattle.hs_rules.specs.Conclusions.{DeducedData, IsDeduced, Uses, AreConclusions}
+use Rattle.hs_rules.specs.Filling.{CanSearch, IsWithin}
+use Rattle.hs_rules.specs.Found.{HaveEnvs, RowsAre}
+use Rattle.hs_rules.specs.Parts.{ArePart, HasAll, UsesArgument, IsPlaceOf, IsInRule}
+use Rattle.hs_rules.proofs.Lists.{into_map, all_from}
+use Rattle.hs_rules.specs.Heads.{IsHeadWithin}
+use Rattle.hs_rules.proofs.PointLemmas.{params_are}
+use Rattle.hs_rules.proofs.SetLemmas.{only}
+
+-- each row once
+read_map : (found : List DeducedData) (i : ℕ) (d : DeducedData) → get_or (map (λ (x : DeducedData). x.row) found) i d.row ≡ (get_or found i d).row
+read_map [] i d = refl
+read_map (x ∷ found) zero d = refl
+read_map (x ∷ found) (suc i) d = read_map found i d
+
+rows_once : (rows : List RowData) (found : List DeducedData) → RowsAre rows found → AllPairs (λ a b. a.row ≢ b.row) found
+rows_once rows found h = λ i j d lt below e.
+    let long = ap (λ (rs : List RowData). length rs) h.same ∙ length-map found (λ (x : DeducedData). x.row) in
+    let at : (k : ℕ) → get_or rows k d.row ≡ (get_or found k d).row = λ k. ap (λ (rs : List RowData). get_or rs k d.row) h.same ∙ read_map found k d in
+    h.once i j d.row lt (omega (arith, below, long)) (at i ∙ (e ∙ sym (at j)))
+
+pub part_conclusions : (p : ProblemData) (ids : InternerData) (E : List EntryData) (point : ℕ) (Counts : Support → Type 0) (rows : List RowData) (found : List DeducedData) → ArePart p ids E point Counts rows found → HasAll p ids E point Counts found
+    → AreConclusions p ids E point Counts found
+part_conclusions p ids E point Counts rows found part all = record {
+  deduced = all_from (IsDeduced p ids E) found (λ d c. (part.each d c).0);
+  count = all_from (λ d. Counts d.support) found (λ d c. (part.each d c).1);
+  at = all_from (λ d. d.row.point ≡ point) found (λ d c. (part.each d c).2);
+  each = λ s e here_is f counts.
+      let h = all s e here_is f counts in
+      subst (λ (x : EntryData). Contains (map (λ (d : DeducedData). entry_of ids d.row) found) x) h.is (into_map (λ (d : DeducedData). entry_of ids d.row) found h.item h.there);
+  once = rows_once rows found part.once;
+}
+
+-- nothing found
+pub part_none : (p : ProblemData) (ids : InternerData) (E : List EntryData) (point : ℕ) (Counts : Support → Type 0) (rows : List RowData) (found : List DeducedData) → rows ≡ [] → found ≡ [] → ArePart p ids E point Counts rows found
+part_none p ids E point Counts rows found no_rows none = record {
+  once = record {
+    same = no_rows ∙ sym (ap (map (λ (d : DeducedData). d.row)) none);
+    once = subst (λ (rs : List RowData). AllPairs (λ a b. a ≢ b) rs) (sym no_rows) (λ i j d lt below. absurd (omega arith));
+  };
+  each = λ d c. absurd (none_in d (subst (λ (ds : List DeducedData). Contains ds d) none c));
+}
+
+-- a support with a premise at a place has it at its head or at an argument
+head_used : (by : HeadBy) (place : ℕ) → Contains (head_premise by) place → head_premise by ≡ place ∷ []
+head_used (Terminal q child) place c = absurd (none_in place c)
+head_used (Rule k) place c = ap (λ (n : ℕ). n ∷ []) (sym (only k place c))
+head_used (Param x k) place c = ap (λ (n : ℕ). n ∷ []) (sym (only k place c))
+
+pub uses_cases : (s : Support) (place : ℕ) → Uses place s → (head_premise s.head ≡ place ∷ []) ⊎ UsesArgument place s
+uses_cases s place c = elim (Contains-append_cases (head_premise s.head) (map (λ a. a.1) s.args) place c) [ inl h ↦ inl (head_used s.head place h) | inr a ↦ inr a ]
+
+-- what was found by the one kind and then by the other
+pub both_kinds : (p : ProblemData) (J K : InternerData) (E : List EntryData) (point place : ℕ) (rows : List RowData) (old new : List DeducedData) → Grows J K → ArePart p J E point (Uses place) rows old → ((d : DeducedData) → Contains old d → Contains new d)
+    → HasAll p J E point (λ s. head_premise s.head ≡ place ∷ []) old → HasAll p K E point (UsesArgument place) new → HasAll p K E point (Uses place) new
+both_kinds p J K E point place rows old new g part keeps by_head by_argument = λ s e here_is f uses. elim (uses_cases s place uses) [
+  | inl head ↦
+      let h = by_head s e here_is f head in
+      record { item = h.item; there = keeps h.item h.there; is = row_stays J K g h.item.row (part.each h.item h.there).0.row ∙ h.is }
+  | inr argument ↦ by_argument s e here_is f argument
+]
+
+-- while the replica keeps its log
+pub can_search_later : (r t : ReplicaData) (args : List ℕ) (limit : ℕ) (fixed : Option Fixed) → KeepsLog r t → CanSearch r args limit fixed → CanSearch t args limit fixed
+can_search_later r t args limit fixed k h = record {
+  indexed = k.indexed ∙ (h.indexed ∙ sym (ap (λ (l : List EntryData). length l) k.log));
+  limited = omega (arith, h.limited, ap (λ (l : List EntryData). length l) k.log);
+  few = h.few;
+  fixed_within = subst (λ (l : List EntryData). IsWithin l args limit fixed) (sym k.log) h.fixed_within;
+}
+
+-- entries at the arguments of a point have an environment for its rule
+pub have_envs : (p : ProblemData) (E : List EntryData) (args : List ℕ) (rule params : ℕ) → params ≡ params_of p rule → ((e : EntryData) → Contains E e → InShape p e) → ((j a : ℕ) → slice_get args j ≡ Some a → IsInRule p.points a rule) → HaveEnvs E args params
+have_envs p E args rule params is shapes in_rule = λ e c among.
+    let s = shapes e c in
+    let at = place_of args e.point among in
+    let r = in_rule at.0 e.point at.1 in
+    let same : s.of ≡ r.of = some_same s.of r.of (sym s.at ∙ r.at) in
+    let rule_is : s.of.rule ≡ rule = ap (λ (d : PointData). d.rule) same ∙ r.in_rule in
+    let n_is : params_of p s.of.rule ≡ params = ap (params_of p) rule_is ∙ sym is in
+    subst (λ (n : ℕ). IsEnv n e.env) n_is s.env
+
+-- whose argument a point is
+module _ (points : PointsData) (point a : ℕ) (result : Option Argument) (exact : (q place : ℕ) → (result ≡ Some (record { point = q; place = place })) ↔ IsArgument points q place a) where
+  pub nobodys : result ≡ None → (i : ℕ) → IsArgument points point i a → ⊥
+  nobodys none i is = let e = sym none ∙ (exact point i).1 is in absurd (cc)
+
+  pub anothers : (whose : Argument) → result ≡ Some whose → (whose.point ≡ point → ⊥) → (i : ℕ) → IsArgument points point i a → ⊥
+  anothers whose found other i is =
+      let e = some_same whose (let x : Argument = record { point = point; place = i } in x) (sym found ∙ (exact point i).1 is) in other (ap (λ (x : Argument). x.point) e)
+
+  pub its_place : (whose : Argument) → result ≡ Some whose → whose.point ≡ point → IsPlaceOf points point a whose.place
+  its_place whose found same = record {
+    there = (exact point whose.place).0 (found ∙ ap (λ (x : Argument). Some x) (let e : whose ≡ record { point = point; place = whose.place } = λ i. record { point = same i; place = whose.place } in e));
+    only = λ q i is.
+        let e = some_same whose (let x : Argument = record { point = q; place = i } in x) (sym found ∙ (exact q i).1 is) in
+        (sym (ap (λ (x : Argument). x.point) e) ∙ same, sym (ap (λ (x : Argument). x.place) e));
+  }
+
+-- the point of a number, by its parts
+pub point_parts : (x : PointsData) (point rule : ℕ) (head : Head) (args : List ℕ) → point < length x.points → rule ≡ (point_at x point).rule → head ≡ (point_at x point).head → args ≡ (point_at x point).args
+    → slice_get x.points point ≡ Some (record { rule = rule; head = head; args = args })
+point_parts x point rule head args lt r h a =
+    slice_get-get_or x.points point (record { rule = 0; head = Tm 0; args = [] }) lt ∙ (λ i. Some (let d : PointData = record { rule = sym r i; head = sym h i; args = sym a i } in d))
+
+-- heads are within what the problem has
+pub head_within : (p : ProblemData) (rule params : ℕ) (head : Head) → p.points ≡ points_of p.sorted.scheme.rules → NonterminalWithin (length p.points.bodies) head → ParameterWithin p.points.params rule head → params ≡ params_of p rule → IsHeadWithin p params head
+head_within p rule params (Var x) points within parameter is =
+    let counts : slice_index p.points.params rule ≡ params_of p rule = ap (λ (y : PointsData). slice_index y.params rule) points ∙ params_are p.sorted.scheme.rules rule in
+    omega (arith, parameter, counts, is)
+head_within p rule params (Nt f) points within parameter is = within
+head_within p rule params (Tm a) points within parameter is = tt

@@ -1,0 +1,48 @@
+-- Transitions agree with ranks; and a list with one number or none.
+use Rattle.std.proofs.Common.{◌≡◌, refl, sym, ◌∙◌, ap, subst, ℕ, zero, suc, Bool, true, false, nat_eq, cond, List, [], ◌∷◌, ◌++◌, length, find, slice_get, unwrap_or, Option, Some, option_map, Contains, IsTrue, ◌↔◌}
+use Rattle.std.proofs.lemmas.Bool.{eqb-true}
+use Rattle.std.proofs.lemmas.List.Elements.{All-contains}
+use Rattle.hs_scheme.specs.Transition.{TransitionData}
+use Rattle.hs_scheme.specs.Automaton.{next, is_of}
+use Rattle.hs_scheme.specs.Sorted.{SortedData, IsSorted, known}
+use Rattle.hs_table_laws.proofs.Places.{some_same, none_in, here, later}
+use Rattle.hs_rules.proofs.Lists.{and_true}
+use Rattle.hs_rules.proofs.SetLemmas.{only}
+
+pub record Moved (ts : List TransitionData) (a : ℕ) (to : List ℕ) : Type 0 where
+  pub transition : TransitionData
+  pub among : Contains ts transition
+  pub terminal : transition.terminal ≡ a
+  pub leads : transition.to ≡ to
+
+moved : (ts : List TransitionData) (q a : ℕ) (to : List ℕ) → next ts q a ≡ Some to → Moved ts a to
+moved [] q a to e = absurd (cc)
+moved (t ∷ ts) q a to e = elim (is_of q a t) as (λ b. is_of q a t ≡ b → option_map (λ (x : TransitionData). x.to) (cond b (Some t) (find (is_of q a) ts)) ≡ Some to → Moved (t ∷ ts) a to) [
+  | true ↦ λ is k. record { transition = t; among = here t ts; terminal = eqb-true t.terminal a (and_true (nat_eq t.from q) (nat_eq t.terminal a) is).1; leads = some_same t.to to k }
+  | false ↦ λ is k. let m = moved ts q a to k in record { transition = m.transition; among = later t m.transition ts m.among; terminal = m.terminal; leads = m.leads }
+] refl e
+
+from_known : (ranks : List ℕ) (a n : ℕ) → slice_get (known ranks) a ≡ Some (Some n) → slice_get ranks a ≡ Some n
+from_known [] a n e = absurd (cc)
+from_known (r ∷ ranks) zero n e = some_same (Some r) (Some n) e
+from_known (r ∷ ranks) (suc a) n e = from_known ranks a n e
+
+pub ranks_agree : (s : SortedData) → IsSorted s → (q a : ℕ) (to : List ℕ) → next s.automaton.transitions q a ≡ Some to → length to ≡ unwrap_or (slice_get s.scheme.ranks a) 0
+ranks_agree s is q a to e =
+    let m = moved s.automaton.transitions q a to e in
+    let r = All-contains (λ (t : TransitionData). slice_get (known s.scheme.ranks) t.terminal ≡ Some (Some (length t.to))) s.automaton.transitions m.transition is.ranks m.among in
+    let k = from_known s.scheme.ranks m.transition.terminal (length m.transition.to) r in
+    ap (λ (xs : List ℕ). length xs) (sym m.leads) ∙ sym (ap (λ (o : Option ℕ). unwrap_or o 0) (ap (λ x. slice_get s.scheme.ranks x) (sym m.terminal) ∙ k))
+
+pub none_listed : (places : List ℕ) (test : Bool) (place : ℕ) → places ≡ [] → test ≡ false → (q : ℕ) → Contains places q ↔ (IsTrue test × (q ≡ place))
+none_listed places test place is no_test q = (
+  λ c. absurd (none_in q (subst (λ (xs : List ℕ). Contains xs q) is c)),
+  λ h. absurd (let e : true ≡ false = sym h.0 ∙ no_test in cc),
+)
+
+pub one_listed : (none places : List ℕ) (test : Bool) (place : ℕ) → none ≡ [] → places ≡ none ++ place ∷ [] → test ≡ true → (q : ℕ) → Contains places q ↔ (IsTrue test × (q ≡ place))
+one_listed none places test place empty is passes q =
+    let one : places ≡ place ∷ [] = is ∙ ap (λ (xs : List ℕ). xs ++ place ∷ []) empty in (
+      λ c. (passes, only place q (subst (λ (xs : List ℕ). Contains xs q) one c)),
+      λ h. subst (λ (xs : List ℕ). Contains xs q) (sym one) (subst (λ (n : ℕ). Contains (place ∷ []) n) (sym h.1) (here place [])),
+    )

@@ -1,0 +1,33 @@
+use Rattle.std.proofs.Common.{◌≡◌, sym, ◌∙◌, ap, subst, map}
+use Rattle.hs_table.specs.declared.support.HeadBy.TheVariants.{Rule}
+use Rattle.hs_table.specs.Types.{state, arrows}
+use Rattle.hs_table.specs.Entries.{Env, EntryData}
+use Rattle.hs_table_laws.proofs.Places.{some_same}
+use Rattle.hs_types.specs.Interned.{InternerData, type_of_id, set_of_id, env_of_id, entry_of}
+use Rattle.hs_rules.specs.Heads.{GainsHeads, Just, BodyAt}
+use Rattle.hs_rules.proofs.Lists.{on_ok_map}
+use Rattle.hs_rules.proofs.HeadLemmas.{heads_same}
+use Rattle.hs_rules.proofs.heads.push_body.Goals as goal
+
+pub returns-clause-gains : goal.returns-clause-gains
+returns-clause-gains c =
+    let I = c.args.replica.now.ids in
+    let log = c.args.replica.now.log in
+    let K = c.push_given.new.replica.ids in
+    let row = c.row-row.result in
+    let own = env_of_id I c.args.own in
+    let full = c.as_slice.result.now in
+    let given = arrows (map (set_of_id I) full) (type_of_id I row.ty) in
+    let e = entry_of I row in
+    let sets_are : map (set_of_id I) full ≡ env_of_id I row.env =
+    ap (map (set_of_id I)) (c.as_slice.ensures.value ∙ c.in_ok-full.ensures.items_if_clones_equal (λ x y same. same))
+    ∙ subst (λ (J : InternerData). map (set_of_id J) c.sets.result.now ≡ env_of_id J row.env) c.interner-2.ensures c.sets.ensures.sets in
+    let is : given ≡ arrows e.env e.ty = ap (λ (ss : Env). arrows ss (type_of_id I row.ty)) sets_are in
+    on_ok_map c.push_given.result (GainsHeads K c.args.count (Just (Rule c.args.place) own given) c.args.out.now.items c.push_given.new.out.items)
+    (GainsHeads K c.args.count (BodyAt log own c.args.place) c.args.out.now.items c.push_given.new.out.items)
+    (heads_same K c.args.count (Just (Rule c.args.place) own given) (BodyAt log own c.args.place) c.args.out.now.items c.push_given.new.out.items
+    (λ by o t j. record { entry = e; at = c.row-row.ensures.entry; is_state = (c.in_default.field-0, subst (λ (J : InternerData). type_of_id J row.ty ≡ state c.in_default.field-0) c.interner.ensures c.in_default.ensures); just = (j.0, j.1, j.2 ∙ is) })
+    (λ by o t b.
+    let same = some_same b.entry e (sym b.at ∙ c.row-row.ensures.entry) in
+    (b.just.0, b.just.1, b.just.2 ∙ (ap (λ (x : EntryData). arrows x.env x.ty) same ∙ sym is))))
+    c.push_given.ensures.gains

@@ -1,0 +1,47 @@
+use Rattle.std.proofs.Common.{refl, sym, ◌∙◌, ap, subst, ℕ, List, ◌∷◌, [], ◌++◌, length, take, Contains}
+use Rattle.hs_table.specs.Entries.{EntryData}
+use Rattle.hs_types.specs.Interned.{env_of_id}
+use Rattle.hs_rules.specs.Slots.{FilledData}
+use Rattle.hs_rules.specs.Joins.{PartialData, FillsBy, CanExtend, IsMadeOf, IsCovered, AreJoined}
+use Rattle.hs_rules.proofs.Lists.{taken_next}
+use Rattle.hs_rules.proofs.KeepLemmas.{keeps_none, keeps_then}
+use Rattle.hs_rules.proofs.JoinLemmas.{joined_none, joined_next, can_extend}
+use Rattle.hs_rules.proofs.joining.joined.Goals as goal
+
+pub loop-slot-init : goal.loop-slot-init
+loop-slot-init c =
+    let x : PartialData = record { env = c.args.own; args = c.new.result.items } in
+    record {
+      kept = keeps_none c.args.replica.now;
+      joined = joined_none c.args.replica.now.ids c.args.replica.now.log c.args.own c.push.new.self.items x c.requires.own c.requires.is_env
+          (c.in_ok-push.ensures.items ∙ ap (λ xs. xs ++ x ∷ []) c.new-partials.ensures.items) refl c.new.ensures.items;
+    }
+
+pub extended-requires : goal.extended-requires
+extended-requires c =
+    subst (λ (xs : List PartialData). CanExtend c.loop-slot.replica.ids c.loop-slot.replica.log xs c.slot-item.result) (sym c.as_slice.ensures.value)
+    (can_extend c.loop-slot.replica.ids c.args.replica.now.log c.loop-slot.replica.log (length (env_of_id c.args.replica.now.ids c.args.own)) (env_of_id c.args.replica.now.ids c.args.own)
+    (take c.loop-slot.slot-index c.args.slots.now) c.slot-item.result c.loop-slot.partials.items c.loop-slot.invariant.kept.log c.loop-slot.invariant.joined
+    (c.requires.placed c.slot-item.result (c.loop-slot.slot-index, c.loop-slot-test.true, sym c.slot-item.is)))
+
+pub loop-slot-preserved : goal.loop-slot-preserved
+loop-slot-preserved c =
+    let J = c.loop-slot.replica.ids in
+    let K = c.extended.new.replica.ids in
+    let log = c.args.replica.now.log in
+    let f = c.slot-item.result in
+    let n = length (env_of_id c.args.replica.now.ids c.args.own) in
+    let own = env_of_id c.args.replica.now.ids c.args.own in
+    let old = c.loop-slot.partials.items in
+    let new = c.in_ok-partials.partials.items in
+    let same = c.loop-slot.invariant.kept.log in
+    let items = c.as_slice.ensures.value in
+    let some = subst (λ (l : List EntryData). (x : PartialData) → Contains new x → IsMadeOf J K l old f x) same
+    (subst (λ (xs : List PartialData). (x : PartialData) → Contains new x → IsMadeOf J K c.loop-slot.replica.log xs f x) items c.in_ok-partials.ensures.only) in
+    let all = subst (λ (l : List EntryData). (from : PartialData) → Contains old from → (place : ℕ) (e : EntryData) → FillsBy l f place e → IsCovered J K from e new) same
+    (subst (λ (xs : List PartialData). (from : PartialData) → Contains xs from → (place : ℕ) (e : EntryData) → FillsBy c.loop-slot.replica.log f place e → IsCovered J K from e new) items c.in_ok-partials.ensures.all) in
+    record {
+      kept = keeps_then c.args.replica.now c.loop-slot.replica c.extended.new.replica c.loop-slot.invariant.kept c.in_ok-partials.ensures.kept;
+      joined = subst (λ (fs : List FilledData). AreJoined K log n own fs new) (sym (taken_next c.args.slots.now c.loop-slot.slot-index f c.loop-slot-test.true c.slot-item.is))
+          (joined_next J K log n own (take c.loop-slot.slot-index c.args.slots.now) f old new c.loop-slot.invariant.joined some all);
+    }

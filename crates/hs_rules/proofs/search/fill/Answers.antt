@@ -1,0 +1,25 @@
+use Rattle.std.proofs.Common.{sym, subst, ◌+◌, ◌<◌, List, ◌++◌, map, take, get_or, arith, length}
+use Rattle.std.proofs.lemmas.Option.{slice_get-get_or}
+use Rattle.hs_types.specs.Interned.{set_of_id}
+use Rattle.hs_rules.specs.Slots.{SlotData, FilledData, slots, slots_of}
+use Rattle.hs_rules.specs.Filling.{fixed_of, AreFilled}
+use Rattle.hs_rules.proofs.FillLemmas.{filled_append, next_of_args}
+use Rattle.hs_rules.proofs.search.fill.Goals as goal
+
+pub loop-arg-preserved : goal.loop-arg-preserved
+loop-arg-preserved c =
+    let ids = c.args.replica.now.ids in
+    let E = take c.args.search.now.limit c.args.replica.now.log in
+    let fixed = fixed_of c.args.replica.now.log c.args.search.now.fixed in
+    let args = c.args.search.now.args.now in
+    let sets = c.args.sets.now in
+    let k = c.loop-arg.arg in
+    let u = get_or args k 0 in
+    let s = c.index-sets-arg.result in
+    let small : k < length args = omega (arith, c.requires.long, c.loop-arg-test.true) in
+    let old = slots 0 (take k args) (map (set_of_id ids) (take k sets)) in
+    let g = c.in_ok-fill_set.ensures in
+    subst (λ (fs : List FilledData). AreFilled E fixed (slots 0 (take (k + 1) args) (map (set_of_id ids) (take (k + 1) sets))) fs) (sym g.is)
+    (subst (λ (ss : List SlotData). AreFilled E fixed ss (c.loop-arg.out.items ++ g.added))
+    (sym (next_of_args ids k args sets u s c.requires.long c.loop-arg-test.true (slice_get-get_or args k 0 small) c.index-sets-arg.is))
+    (filled_append E fixed old (slots_of k u (set_of_id ids s)) c.loop-arg.out.items g.added c.loop-arg.invariant g.filled))

@@ -1,0 +1,20 @@
+use Rattle.std.proofs.Common.{◌∙◌, ◌<◌, length, set}
+use Rattle.std.proofs.lemmas.List.Elements.{All-set}
+use Rattle.hs_types.specs.Interned.{set_of_id}
+use Rattle.hs_rules.proofs.FoundLemmas.{sets_stay, sets_within}
+use Rattle.hs_rules.proofs.TerminalLemmas.{map-set}
+use Rattle.hs_rules.proofs.terminals.child_sets.Goals as goal
+
+pub returns-clause-range : goal.returns-clause-range
+returns-clause-range c =
+    let J = c.empty_sets.new.replica.ids in
+    let K = c.state_set.new.replica.ids in
+    All-set (λ s. s < length K.sets) c.in_ok-sets.sets.items c.args.place c.in_ok-one.one c.in_ok-one.ensures.range (sets_within J K c.in_ok-sets.sets.items c.in_ok-one.ensures.kept.grows c.in_ok-sets.ensures.range)
+
+pub returns-clause-are : goal.returns-clause-are
+returns-clause-are c =
+    let J = c.empty_sets.new.replica.ids in
+    let K = c.state_set.new.replica.ids in
+    let sets = c.in_ok-sets.sets.items in
+    let same = sets_stay J K sets c.in_ok-one.ensures.kept.grows c.in_ok-sets.ensures.range ∙ c.in_ok-sets.ensures.are in
+    map-set (set_of_id K) sets c.args.place c.in_ok-one.one ∙ (λ i. set (same i) c.args.place (c.in_ok-one.ensures.is i))

@@ -1,0 +1,11 @@
+-- the types in the states so far
+use Rattle.hs_types.specs.Interned.{env_of_id}
+use Rattle.hs_replica.specs.Replica.{KeepsLog}
+use Rattle.hs_rules.specs.Heads.{GainsHeads, AtRange, InState}
+use Rattle.hs_rules.proofs.terminals.push_terminal.Given as goal
+
+abbrev pub invariant-loop-q : goal.invariant-loop-q
+invariant-loop-q l = record {
+  kept : KeepsLog l.fn.replica l.replica;
+  gains : GainsHeads l.replica.ids l.count (AtRange (InState l.automaton.transitions l.terminal l.rank l.from (env_of_id l.fn.replica.ids l.own)) 0 l.q) l.fn.out.items l.out.items;
+}

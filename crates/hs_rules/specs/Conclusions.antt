@@ -1,0 +1,31 @@
+-- Conclusions: entries that follow from a log, as rows, each with a support.
+--     DeducedData        a row and a support
+--     IsDeduced          the row's entry follows from the log by the support
+--     AnySupport, Uses   the supports that count: all; those with a premise at the place
+--     AreConclusions     just the entries at a point that follow by a support that counts, each once
+use Rattle.std.specs.Prelude.{◌≡◌, ◌≢◌, ℕ, List, map, All, AllPairs, Contains}
+use Rattle.hs_scheme.specs.Problem.{ProblemData}
+use Rattle.hs_table.specs.Entries.{EntryData}
+use Rattle.hs_table.specs.Follows.{Support, FollowsBy, premises}
+use Rattle.hs_types.specs.Interned.{InternerData, RowData, IsRow, entry_of}
+
+pub record DeducedData : Type 0 where
+  pub row : RowData
+  pub support : Support
+
+pub record IsDeduced (p : ProblemData) (ids : InternerData) (log : List EntryData) (d : DeducedData) : Type 0 where
+  pub row : IsRow ids d.row
+  pub follows : FollowsBy p log d.support (entry_of ids d.row)
+
+abbrev pub AnySupport : Support → Type 0
+AnySupport s = Unit {0}
+
+abbrev pub Uses : ℕ → Support → Type 0
+Uses place s = Contains (premises s) place
+
+pub record AreConclusions (p : ProblemData) (ids : InternerData) (log : List EntryData) (point : ℕ) (Counts : Support → Type 0) (found : List DeducedData) : Type 0 where
+  pub deduced : All (IsDeduced p ids log) found
+  pub count : All (λ d. Counts d.support) found
+  pub at : All (λ d. d.row.point ≡ point) found
+  pub each : (s : Support) (e : EntryData) → e.point ≡ point → FollowsBy p log s e → Counts s → Contains (map (λ d. entry_of ids d.row) found) e
+  pub once : AllPairs (λ a b. a.row ≢ b.row) found

@@ -1,0 +1,80 @@
+-- What the types of a head lead to.
+--     SearchData, seek    where conclusions are sought
+--     HeadData            a type of the head in numbers, with where it comes from and what it asks for
+--     IsKnown             its numbers are known, and it has a set for each argument
+--     HaveEnvs            entries at the arguments have environments for n parameters
+--     RowsAre             the rows of what is found, each once
+--     IsRowOf, HasRow     rows for joined environments
+--     LeadsTo             the head's type leads to the environment, by these arguments
+--     IsConclusion        what is found comes of the head's type
+--     IsFound             the environment is found, with the point and the type
+use Rattle.std.specs.Prelude.{◌≡◌, ◌≢◌, ℕ, ◌<◌, List, length, map, take, Option, All, AllPairs, Contains}
+use Rattle.hs_table.specs.declared.support.HeadBy.{HeadBy}
+use Rattle.hs_table.specs.Entries.{Env, EntryData, IsEnv}
+use Rattle.hs_types.specs.Interned.{InternerData, set_of_id, env_of_id, RowData}
+use Rattle.hs_rules.specs.declared.search.Fixed.{Fixed}
+use Rattle.hs_rules.specs.declared.search.Search.{Search}
+use Rattle.hs_rules.specs.Conclusions.{DeducedData}
+use Rattle.hs_rules.specs.Slots.{Concludes}
+use Rattle.hs_rules.specs.Filling.{fixed_of}
+use Rattle.hs_rules.specs.Joins.{PartialData}
+
+pub record SearchData : Type 0 where
+  pub point : ℕ
+  pub args : List ℕ
+  pub limit : ℕ
+  pub fixed : Option Fixed
+
+abbrev pub seek : Search → SearchData
+seek s = record { point = s.point; args = s.args.now; limit = s.limit; fixed = s.fixed }
+
+pub record HeadData : Type 0 where
+  pub by : HeadBy
+  pub own : ℕ
+  pub sets : List ℕ
+  pub rest : ℕ
+
+pub record IsKnown (ids : InternerData) (args : List ℕ) (h : HeadData) : Type 0 where
+  pub own : h.own < length ids.envs
+  pub sets : All (λ s. s < length ids.sets) h.sets
+  pub rest : h.rest < length ids.types
+  pub long : length h.sets ≡ length args
+  pub is_env : IsEnv (length (env_of_id ids h.own)) (env_of_id ids h.own)
+
+abbrev pub HaveEnvs : List EntryData → List ℕ → ℕ → Type 0
+HaveEnvs E args n = (e : EntryData) → Contains E e → Contains args e.point → IsEnv n e.env
+
+pub record RowsAre (rows : List RowData) (found : List DeducedData) : Type 0 where
+  pub same : rows ≡ map (λ d. d.row) found
+  pub once : AllPairs (λ a b. a ≢ b) rows
+
+-- a row of one of these environments
+pub record IsRowOf (point : ℕ) (h : HeadData) (partials : List PartialData) (d : DeducedData) : Type 0 where
+  pub from : PartialData
+  pub among : Contains partials from
+  pub is : d ≡ record { row = record { point = point; env = from.env; ty = h.rest }; support = record { head = h.by; args = from.args } }
+
+-- a row of this environment is there
+pub record HasRow (point : ℕ) (h : HeadData) (x : PartialData) (found : List DeducedData) : Type 0 where
+  pub item : DeducedData
+  pub there : Contains found item
+  pub is : item.row ≡ record { point = point; env = x.env; ty = h.rest }
+
+abbrev pub LeadsTo : InternerData → List EntryData → SearchData → HeadData → List (ℕ × ℕ) → Env → Type 0
+LeadsTo ids log s h args env =
+    Concludes (take s.limit log) (fixed_of log s.fixed) (length (env_of_id ids h.own)) s.args (env_of_id ids h.own) (map (set_of_id ids) h.sets) args env
+
+pub record IsConclusion (old new : InternerData) (log : List EntryData) (s : SearchData) (h : HeadData) (d : DeducedData) : Type 0 where
+  pub point : d.row.point ≡ s.point
+  pub ty : d.row.ty ≡ h.rest
+  pub within : d.row.env < length new.envs
+  pub by : d.support.head ≡ h.by
+  pub leads : LeadsTo old log s h d.support.args (env_of_id new d.row.env)
+
+pub record IsFound (ids : InternerData) (s : SearchData) (h : HeadData) (env : Env) (found : List DeducedData) : Type 0 where
+  pub item : DeducedData
+  pub there : Contains found item
+  pub point : item.row.point ≡ s.point
+  pub ty : item.row.ty ≡ h.rest
+  pub within : item.row.env < length ids.envs
+  pub is : env_of_id ids item.row.env ≡ env

@@ -1,0 +1,170 @@
+//! What follows at a point.
+
+ghost use Rattle.std.specs.Prelude.{◌≡◌, ◌+◌, ◌^◌, ◌<◌, ◌≤◌, [], ℕ, length, slice_get, take, Some, All, IfOk};
+ghost use Rattle.hs_scheme.specs.Points.{point_at};
+ghost use Rattle.hs_table.specs.Entries.{InShape, params_of};
+ghost use Rattle.hs_types.specs.Interned.{Grows};
+ghost use Rattle.hs_replica.specs.Replica.{KeepsLog};
+ghost use Rattle.hs_rules.specs.Conclusions.{AnySupport, Uses, AreConclusions};
+ghost use Rattle.hs_rules.specs.Parts.{IsInRule};
+
+use crate::deduced::Deduced;
+use crate::found::Found;
+use crate::gathering::{add_all, add_by_argument, add_by_head, add_seeds};
+use crate::search::Search;
+use crate::sources::Spot;
+use hs_replica::Replica;
+use hs_scheme::{OutOfMemory, Problem};
+use indexmap::IndexSet;
+use std::alloc::Global;
+
+/// The points of the arguments of this point, which stand in its rule.
+fn arguments(problem: &Problem, point: u32) -> &[u32]
+    requires { point < length problem.now.points.points }
+    ensures args { result.now ≡ (point_at problem.now.points point).args }
+    ensures few { length result.now < 2 ^ 32 }
+    ensures in_rule { (j a : ℕ) → slice_get result.now j ≡ Some a → IsInRule problem.now.points a (point_at problem.now.points point).rule }
+{
+    let points = &problem.points;
+    let _ = points.count();
+    points.args_of(point)
+}
+
+/// The number of parameters of the rule.
+fn parameters(problem: &Problem, rule: u32) -> u32
+    ensures { result ≡ params_of problem.now rule }
+{
+    match problem.sorted.scheme.rules.get(rule as usize) {
+        None => 0,
+        Some(rule) => rule.params,
+    }
+}
+
+/// Nothing found.
+fn none_found(alloc: Global) -> Found
+    ensures list { result.list.items ≡ [] }
+    ensures rows { result.rows.keys ≡ [] }
+{
+    Found {
+        list: Vec::new(alloc),
+        rows: IndexSet::new(alloc),
+    }
+}
+
+/// Every entry at the point that follows from the log, each once. The point is in range, and the
+/// entries of the log are in shape.
+///
+/// For each type of the point's head the entries for its sets are joined slot by slot, each
+/// environment that comes of it once. The log stays; the interner gains the environments.
+pub fn conclusions(
+    alloc: Global,
+    problem: &Problem,
+    replica: &mut Replica,
+    point: u32,
+) -> Result<Vec<Deduced>, OutOfMemory>
+    requires point { point < length problem.now.points.points }
+    requires shape { All (InShape problem.now) replica.old.log }
+    ensures found { IfOk result (λ found.
+        AreConclusions problem.now replica.new.ids replica.old.log point AnySupport found.items) }
+    ensures log { replica.new.log ≡ replica.old.log }
+    ensures spare { replica.new.spare ≡ replica.old.spare }
+    ensures grows { Grows replica.old.ids replica.new.ids }
+{
+    replica.index()?;
+    let limit = replica.len();
+    let points = &problem.points;
+    let rule = points.rule_of(point);
+    let head = points.head_of(point);
+    let spot = Spot {
+        problem,
+        rule,
+        params: parameters(problem, rule),
+    };
+    let search = Search {
+        point,
+        args: arguments(problem, point),
+        limit,
+        fixed: None,
+    };
+    let mut found = none_found(alloc);
+    add_all(alloc, &spot, replica, &search, head, &mut found)?;
+    Ok(found.list)
+}
+
+/// Every entry at the point that follows from no entries, each once: where the point's head is a
+/// terminal, those by a state without a transition for it, and those by a child for which the point
+/// has no argument yet. The point is in range.
+///
+/// Time is in proportion to the states and the children.
+pub fn seed_conclusions(
+    alloc: Global,
+    problem: &Problem,
+    replica: &mut Replica,
+    point: u32,
+) -> Result<Vec<Deduced>, OutOfMemory>
+    requires point { point < length problem.now.points.points }
+    ensures found { IfOk result (λ found.
+        AreConclusions problem.now replica.new.ids [] point AnySupport found.items) }
+    ensures log { replica.new.log ≡ replica.old.log }
+    ensures spare { replica.new.spare ≡ replica.old.spare }
+    ensures grows { Grows replica.old.ids replica.new.ids }
+{
+    replica.index()?;
+    let points = &problem.points;
+    let rule = points.rule_of(point);
+    let head = points.head_of(point);
+    let spot = Spot {
+        problem,
+        rule,
+        params: parameters(problem, rule),
+    };
+    let args = arguments(problem, point);
+    let mut found = none_found(alloc);
+    add_seeds(alloc, &spot, replica, point, args, head, &mut found)?;
+    Ok(found.list)
+}
+
+/// Every entry at the point that follows from the log up to and with this place with the entry at
+/// the place as a premise, each once. The point is in range, the place is in the log, and the
+/// entries of the log are in shape.
+///
+/// Only the types of the point's head that want this entry are looked at: the entry is an argument
+/// of the point, a body of the nonterminal at its head, or one that may stand for the parameter
+/// there.
+pub fn conclusions_with(
+    alloc: Global,
+    problem: &Problem,
+    replica: &mut Replica,
+    point: u32,
+    place: u32,
+) -> Result<Vec<Deduced>, OutOfMemory>
+    requires point { point < length problem.now.points.points }
+    requires place { place < length replica.old.log }
+    requires shape { All (InShape problem.now) replica.old.log }
+    ensures found { IfOk result (λ found.
+        AreConclusions problem.now replica.new.ids (take (place + 1) replica.old.log) point (Uses place) found.items) }
+    ensures log { replica.new.log ≡ replica.old.log }
+    ensures spare { replica.new.spare ≡ replica.old.spare }
+    ensures grows { Grows replica.old.ids replica.new.ids }
+{
+    replica.index()?;
+    let _ = replica.len();
+    let points = &problem.points;
+    let rule = points.rule_of(point);
+    let head = points.head_of(point);
+    let spot = Spot {
+        problem,
+        rule,
+        params: parameters(problem, rule),
+    };
+    let search = Search {
+        point,
+        args: arguments(problem, point),
+        limit: place + 1,
+        fixed: None,
+    };
+    let mut found = none_found(alloc);
+    add_by_head(alloc, &spot, replica, &search, head, place, &mut found)?;
+    add_by_argument(alloc, &spot, replica, &search, head, place, &mut found)?;
+    Ok(found.list)
+}

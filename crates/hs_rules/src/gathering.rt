@@ -1,0 +1,149 @@
+//! Conclusions by the kinds of their supports.
+
+ghost use Rattle.std.specs.Prelude.{◌≡◌, ◌^◌, ◌<◌, ◌∷◌, [], ℕ, IfOk, MatchOption, OnOk, Some, None, length, slice_get, take, Contains};
+ghost use Rattle.hs_scheme.specs.Points.{IsArgument};
+ghost use Rattle.hs_table.specs.Entries.{params_of};
+ghost use Rattle.hs_table.specs.Follows.{head_premise};
+ghost use Rattle.hs_replica.specs.Replica.{KeepsLog};
+ghost use Rattle.hs_rules.specs.Conclusions.{DeducedData, AnySupport, Uses};
+ghost use Rattle.hs_rules.specs.Filling.{CanSearch};
+ghost use Rattle.hs_rules.specs.Found.{HaveEnvs};
+ghost use Rattle.hs_rules.specs.Heads.{IsSpot, IsHeadWithin};
+ghost use Rattle.hs_rules.specs.Parts.{ArePart, HasAll, UsesArgument, IsPlaceOf};
+
+use crate::found::{Found, conclude_all};
+use crate::search::{Fixed, Search};
+use crate::sources::{Spot, heads_all, heads_asking, heads_at, heads_nothing};
+use hs_replica::Replica;
+use hs_scheme::{Head, OutOfMemory, Points};
+use std::alloc::Global;
+
+/// The place at which one point is an argument of another, where it is one.
+fn place_of(points: &Points, point: u32, argument: u32) -> Option<u32>
+    requires { argument < length points.now.points }
+    ensures { MatchOption result ((i : ℕ) → IsArgument points.now point i argument → ⊥) (λ place. IsPlaceOf points.now point argument place) }
+{
+    let whose = points.argument_of(argument)?;
+    if whose.point != point {
+        return None;
+    }
+    Some(whose.place)
+}
+
+/// Adds what follows with the entry at the place as an argument.
+pub(crate) fn add_by_argument(
+    alloc: Global,
+    spot: &Spot,
+    replica: &mut Replica,
+    search: &Search,
+    head: Head,
+    place: u32,
+    found: &mut Found,
+) -> Result<(), OutOfMemory>
+    requires search { CanSearch replica.old search.now.args.now search.now.limit None }
+    requires spot { IsSpot spot.now.problem.now spot.now.rule spot.now.params (take search.now.limit replica.old.log) }
+    requires head { IsHeadWithin spot.now.problem.now spot.now.params head }
+    requires at { slice_get spot.now.problem.now.points.points search.now.point ≡ Some (record { rule = spot.now.rule; head = head; args = search.now.args.now }) }
+    requires envs { HaveEnvs (take search.now.limit replica.old.log) search.now.args.now spot.now.params }
+    requires place { place < search.now.limit }
+    requires part { ArePart spot.now.problem.now replica.old.ids (take search.now.limit replica.old.log) search.now.point (Uses place) found.old.rows.keys found.old.list.items }
+    ensures part { OnOk result (ArePart spot.now.problem.now replica.new.ids (take search.now.limit replica.old.log) search.now.point (Uses place) found.new.rows.keys found.new.list.items) }
+    ensures keeps { OnOk result ((d : DeducedData) → Contains found.old.list.items d → Contains found.new.list.items d) }
+    ensures all { OnOk result (HasAll spot.now.problem.now replica.new.ids (take search.now.limit replica.old.log) search.now.point (UsesArgument place) found.new.list.items) }
+    ensures kept { KeepsLog replica.old replica.new }
+{
+    let problem = spot.problem;
+    let row = replica.row(place);
+    let Some(arg) = place_of(&problem.points, search.point, row.point) else {
+        return Ok(());
+    };
+    let search = Search {
+        point: search.point,
+        args: search.args,
+        limit: search.limit,
+        fixed: Some(Fixed { arg, place }),
+    };
+    let heads = heads_asking(alloc, spot, replica, &search, head, arg, row.ty)?;
+    replica.interner().numbers_are_exact();
+    conclude_all(alloc, replica, &search, heads.as_slice(), found)
+}
+
+/// Adds what follows with the entry at the place as the head's.
+pub(crate) fn add_by_head(
+    alloc: Global,
+    spot: &Spot,
+    replica: &mut Replica,
+    search: &Search,
+    head: Head,
+    place: u32,
+    found: &mut Found,
+) -> Result<(), OutOfMemory>
+    requires search { CanSearch replica.old search.now.args.now search.now.limit search.now.fixed }
+    requires free { search.now.fixed ≡ None }
+    requires spot { IsSpot spot.now.problem.now spot.now.rule spot.now.params (take search.now.limit replica.old.log) }
+    requires head { IsHeadWithin spot.now.problem.now spot.now.params head }
+    requires at { slice_get spot.now.problem.now.points.points search.now.point ≡ Some (record { rule = spot.now.rule; head = head; args = search.now.args.now }) }
+    requires envs { HaveEnvs (take search.now.limit replica.old.log) search.now.args.now spot.now.params }
+    requires place { place < search.now.limit }
+    requires part { ArePart spot.now.problem.now replica.old.ids (take search.now.limit replica.old.log) search.now.point (Uses place) found.old.rows.keys found.old.list.items }
+    ensures part { OnOk result (ArePart spot.now.problem.now replica.new.ids (take search.now.limit replica.old.log) search.now.point (Uses place) found.new.rows.keys found.new.list.items) }
+    ensures keeps { OnOk result ((d : DeducedData) → Contains found.old.list.items d → Contains found.new.list.items d) }
+    ensures all { OnOk result (HasAll spot.now.problem.now replica.new.ids (take search.now.limit replica.old.log) search.now.point (λ s. head_premise s.head ≡ place ∷ []) found.new.list.items) }
+    ensures kept { KeepsLog replica.old replica.new }
+{
+    let heads = heads_at(alloc, spot, replica, search, head, place)?;
+    conclude_all(alloc, replica, search, heads.as_slice(), found)
+}
+
+/// Adds all that follows.
+pub(crate) fn add_all(
+    alloc: Global,
+    spot: &Spot,
+    replica: &mut Replica,
+    search: &Search,
+    head: Head,
+    found: &mut Found,
+) -> Result<(), OutOfMemory>
+    requires search { CanSearch replica.old search.now.args.now search.now.limit search.now.fixed }
+    requires free { search.now.fixed ≡ None }
+    requires spot { IsSpot spot.now.problem.now spot.now.rule spot.now.params (take search.now.limit replica.old.log) }
+    requires head { IsHeadWithin spot.now.problem.now spot.now.params head }
+    requires at { slice_get spot.now.problem.now.points.points search.now.point ≡ Some (record { rule = spot.now.rule; head = head; args = search.now.args.now }) }
+    requires envs { HaveEnvs (take search.now.limit replica.old.log) search.now.args.now spot.now.params }
+    requires part { ArePart spot.now.problem.now replica.old.ids (take search.now.limit replica.old.log) search.now.point AnySupport found.old.rows.keys found.old.list.items }
+    ensures part { OnOk result (ArePart spot.now.problem.now replica.new.ids (take search.now.limit replica.old.log) search.now.point AnySupport found.new.rows.keys found.new.list.items) }
+    ensures all { OnOk result (HasAll spot.now.problem.now replica.new.ids (take search.now.limit replica.old.log) search.now.point AnySupport found.new.list.items) }
+    ensures kept { KeepsLog replica.old replica.new }
+{
+    let heads = heads_all(alloc, spot, replica, search, head)?;
+    conclude_all(alloc, replica, search, heads.as_slice(), found)
+}
+
+/// Adds what follows from no entries.
+pub(crate) fn add_seeds(
+    alloc: Global,
+    spot: &Spot,
+    replica: &mut Replica,
+    point: u32,
+    args: &[u32],
+    head: Head,
+    found: &mut Found,
+) -> Result<(), OutOfMemory>
+    requires indexed { replica.old.indexed ≡ length replica.old.log }
+    requires few { length args.now < 2 ^ 32 }
+    requires params { spot.now.params ≡ params_of spot.now.problem.now spot.now.rule }
+    requires at { slice_get spot.now.problem.now.points.points point ≡ Some (record { rule = spot.now.rule; head = head; args = args.now }) }
+    requires part { ArePart spot.now.problem.now replica.old.ids [] point AnySupport found.old.rows.keys found.old.list.items }
+    ensures part { OnOk result (ArePart spot.now.problem.now replica.new.ids [] point AnySupport found.new.rows.keys found.new.list.items) }
+    ensures all { OnOk result (HasAll spot.now.problem.now replica.new.ids [] point AnySupport found.new.list.items) }
+    ensures kept { KeepsLog replica.old replica.new }
+{
+    let search = Search {
+        point,
+        args,
+        limit: 0,
+        fixed: None,
+    };
+    let heads = heads_nothing(alloc, spot, replica, args, head)?;
+    conclude_all(alloc, replica, &search, heads.as_slice(), found)
+}

@@ -1,0 +1,209 @@
+//! The types of a head, in numbers.
+
+ghost use Rattle.std.specs.Prelude.{◌≡◌, ◌≤◌, ◌<◌, ◌∷◌, [], ℕ, All, Contains, IfOk, MatchOption, OnOk, drop, length, map, replicate, slice_index, slice_set};
+ghost use Rattle.hs_table.specs.declared.support.HeadBy.TheVariants.{Terminal};
+ghost use Rattle.hs_table.specs.Types as types;
+ghost use Rattle.hs_table.specs.Types.{TypeTree};
+ghost use Rattle.hs_table.specs.Entries.{Env, EntryData};
+ghost use Rattle.hs_types.specs.Interned.{type_of_id, set_of_id, env_of_id};
+ghost use Rattle.hs_replica.specs.Places.{IsState};
+ghost use Rattle.hs_replica.specs.Replica.{KeepsLog};
+ghost use Rattle.hs_rules.specs.Heads.{GainsHeads, Just, BodyAt, ParamAt, AtSome, IsSplit};
+
+use crate::found::HeadType;
+use hs_replica::Replica;
+use hs_scheme::OutOfMemory;
+use hs_table::HeadBy;
+use hs_types::{EnvId, Interner, SetId, TyId, View};
+use std::alloc::Global;
+
+/// The first sets of a type, so many of them, and what is left of it; `None` where it has fewer.
+fn split(
+    alloc: Global,
+    interner: &Interner,
+    ty: TyId,
+    count: usize,
+) -> Result<Option<(Vec<SetId>, TyId)>, OutOfMemory>
+    requires { ty < length interner.now.types }
+    ensures { IfOk result (λ r. MatchOption r
+        ((sets : Env) (rest : TypeTree) → length sets ≡ count → type_of_id interner.now ty ≡ types.arrows sets rest → ⊥)
+        (λ s. IsSplit interner.now ty count s.0.items s.1)) }
+{
+    let mut sets = Vec::new(alloc);
+    let mut rest = ty;
+    for _ in 0..count {
+        match interner.view(rest) {
+            View::State(_) => return Ok(None),
+            View::Arrow(set, next) => {
+                sets.push(set)?;
+                rest = next;
+            }
+        }
+    }
+    Ok(Some((sets, rest)))
+}
+
+/// The type that asks for these sets from number `from` on, and then is the other.
+fn rest_of(
+    replica: &mut Replica,
+    full: &[SetId],
+    from: usize,
+    ty: TyId,
+) -> Result<TyId, OutOfMemory>
+    requires full { All (λ s. s < length replica.old.ids.sets) full.now }
+    requires ty { ty < length replica.old.ids.types }
+    requires from { from ≤ length full.now }
+    ensures range { IfOk result (λ id. id < length replica.new.ids.types) }
+    ensures is { IfOk result (λ id. type_of_id replica.new.ids id
+        ≡ types.arrows (drop from (map (set_of_id replica.old.ids) full.now)) (type_of_id replica.old.ids ty)) }
+    ensures kept { KeepsLog replica.old replica.new }
+{
+    let mut rest = ty;
+    let mut left = full.len();
+    while left > from {
+        left -= 1;
+        rest = replica.arrow(full[left], rest)?;
+    }
+    Ok(rest)
+}
+
+/// Adds the type that asks for these sets and then is a state, where it has `count` sets.
+pub(crate) fn push_given(
+    alloc: Global,
+    replica: &mut Replica,
+    by: HeadBy,
+    own: EnvId,
+    full: &[SetId],
+    ty: TyId,
+    count: usize,
+    out: &mut Vec<HeadType>,
+) -> Result<(), OutOfMemory>
+    requires own { own < length replica.old.ids.envs }
+    requires full { All (λ s. s < length replica.old.ids.sets) full.now }
+    requires ty { ty < length replica.old.ids.types }
+    requires state { IsState (type_of_id replica.old.ids ty) }
+    ensures gains { OnOk result (GainsHeads replica.new.ids count
+        (Just by (env_of_id replica.old.ids own) (types.arrows (map (set_of_id replica.old.ids) full.now) (type_of_id replica.old.ids ty)))
+        out.old.items out.new.items) }
+    ensures kept { KeepsLog replica.old replica.new }
+{
+    if full.len() < count {
+        return Ok(());
+    }
+    let rest = rest_of(replica, full, count, ty)?;
+    let sets = (&full[..count]).to_vec(alloc)?;
+    out.push(HeadType {
+        by,
+        own,
+        sets,
+        rest,
+    })?;
+    Ok(())
+}
+
+/// Adds the type of a nonterminal that the entry at this place, one at its body, gives.
+fn push_body(
+    alloc: Global,
+    replica: &mut Replica,
+    place: u32,
+    own: EnvId,
+    count: usize,
+    out: &mut Vec<HeadType>,
+) -> Result<(), OutOfMemory>
+    requires place { place < length replica.old.log }
+    requires own { own < length replica.old.ids.envs }
+    ensures gains { OnOk result (GainsHeads replica.new.ids count
+        (BodyAt replica.old.log (env_of_id replica.old.ids own) place) out.old.items out.new.items) }
+    ensures kept { KeepsLog replica.old replica.new }
+{
+    let row = replica.row(place);
+    if let View::Arrow(_, _) = replica.interner().view(row.ty) {
+        return Ok(());
+    }
+    let full = replica.interner().sets(row.env).to_vec(alloc)?;
+    push_given(
+        alloc,
+        replica,
+        HeadBy::Rule { place },
+        own,
+        full.as_slice(),
+        row.ty,
+        count,
+        out,
+    )
+}
+
+/// Adds the types of a nonterminal that the entries at these places, all at its body, give.
+pub(crate) fn push_bodies(
+    alloc: Global,
+    replica: &mut Replica,
+    places: &[u32],
+    own: EnvId,
+    count: usize,
+    out: &mut Vec<HeadType>,
+) -> Result<(), OutOfMemory>
+    requires places { All (λ place. place < length replica.old.log) places.now }
+    requires own { own < length replica.old.ids.envs }
+    ensures gains { OnOk result (GainsHeads replica.new.ids count
+        (AtSome (BodyAt replica.old.log (env_of_id replica.old.ids own)) places.now) out.old.items out.new.items) }
+    ensures kept { KeepsLog replica.old replica.new }
+{
+    for place in places {
+        push_body(alloc, replica, *place, own, count, out)?;
+    }
+    Ok(())
+}
+
+/// Adds the type of the parameter x of `params` that the entry at this place, one at a point that
+/// may stand for it, gives.
+fn push_param(
+    alloc: Global,
+    replica: &mut Replica,
+    place: u32,
+    params: usize,
+    x: u32,
+    count: usize,
+    out: &mut Vec<HeadType>,
+) -> Result<(), OutOfMemory>
+    requires place { place < length replica.old.log }
+    requires x { x < params }
+    ensures gains { OnOk result (GainsHeads replica.new.ids count
+        (ParamAt replica.old.log params x place) out.old.items out.new.items) }
+    ensures kept { KeepsLog replica.old replica.new }
+{
+    let row = replica.row(place);
+    let Some((sets, rest)) = split(alloc, replica.interner(), row.ty, count)? else {
+        return Ok(());
+    };
+    let own = replica.single_env(params, x, row.ty)?;
+    out.push(HeadType {
+        by: HeadBy::Param { param: x, place },
+        own,
+        sets,
+        rest,
+    })?;
+    Ok(())
+}
+
+/// Adds the types of the parameter that the entries at these places, all at points that may stand
+/// for it, give.
+pub(crate) fn push_params(
+    alloc: Global,
+    replica: &mut Replica,
+    places: &[u32],
+    params: usize,
+    x: u32,
+    count: usize,
+    out: &mut Vec<HeadType>,
+) -> Result<(), OutOfMemory>
+    requires places { All (λ place. place < length replica.old.log) places.now }
+    requires x { x < params }
+    ensures gains { OnOk result (GainsHeads replica.new.ids count
+        (AtSome (ParamAt replica.old.log params x) places.now) out.old.items out.new.items) }
+    ensures kept { KeepsLog replica.old replica.new }
+{
+    for place in places {
+        push_param(alloc, replica, *place, params, x, count, out)?;
+    }
+    Ok(())
+}

@@ -1,0 +1,150 @@
+//! Environments joined slot by slot.
+
+ghost use Rattle.std.specs.Prelude.{◌≡◌, ◌<◌, ◌++◌, ◌∷◌, ◌⊎◌, [], ℕ, List, length, Contains, IfOk, OnOk};
+ghost use Rattle.hs_table.specs.Entries.{EntryData, IsEnv};
+ghost use Rattle.hs_types.specs.Interned.{env_of_id};
+ghost use Rattle.hs_replica.specs.Replica.{KeepsLog};
+ghost use Rattle.hs_rules.specs.Slots.{FilledData};
+ghost use Rattle.hs_rules.specs.Joins.{PartialData, FillsBy, ArePlaced, SeenAre, IsMade, IsMadeOf, IsCovered, CanExtend, AreJoined};
+
+use crate::search::Filled;
+use hs_replica::Replica;
+use hs_scheme::OutOfMemory;
+use hs_types::EnvId;
+use indexmap::IndexSet;
+use smallvec::SmallVec;
+use std::alloc::Global;
+use std::marker::Model;
+
+/// An environment that some slots lead to, and for each of these slots the number of its argument
+/// with the place of the entry that fills it.
+#[derive(Drop)]
+pub(crate) struct Partial {
+    pub(crate) env: EnvId,
+    pub(crate) args: SmallVec<(u32, u32), 4>,
+}
+
+impl Model for Partial {
+    ghost use Rattle.hs_rules.specs.Joins.{PartialData};
+
+    ghost Value = { PartialData };
+
+    ghost view = { λ a. record { env = a.env; args = a.args.items } };
+}
+
+/// Environments, each once.
+#[derive(Drop)]
+struct Partials {
+    list: Vec<Partial>,
+    seen: IndexSet<EnvId>,
+}
+
+/// Adds the environment, unless it is there.
+fn add(
+    alloc: Global,
+    out: &mut Partials,
+    env: EnvId,
+    from: &[(u32, u32)],
+    arg: u32,
+    place: u32,
+) -> Result<(), OutOfMemory>
+    requires { SeenAre out.old.seen.keys out.old.list.items }
+    ensures seen { OnOk result (SeenAre out.new.seen.keys out.new.list.items) }
+    ensures keeps { OnOk result ((x : PartialData) → Contains out.old.list.items x → Contains out.new.list.items x) }
+    ensures only { OnOk result ((x : PartialData) → Contains out.new.list.items x →
+        Contains out.old.list.items x ⊎ (x ≡ record { env = env; args = from.now ++ (arg, place) ∷ [] })) }
+    ensures there { OnOk result ((x : PartialData) × Contains out.new.list.items x × (x.env ≡ env)) }
+{
+    let added = out.seen.insert(env)?;
+    if !added {
+        return Ok(());
+    }
+    let mut args = SmallVec::from_slice(alloc, from)?;
+    args.push((arg, place))?;
+    out.list.push(Partial { env, args })?;
+    Ok(())
+}
+
+/// Adds what comes of one environment and each candidate for a slot.
+fn extend(
+    alloc: Global,
+    replica: &mut Replica,
+    partial: &Partial,
+    slot: &Filled,
+    out: &mut Partials,
+) -> Result<(), OutOfMemory>
+    requires env { partial.now.env < length replica.old.ids.envs }
+    requires placed { ArePlaced replica.old.log (length (env_of_id replica.old.ids partial.now.env)) slot.now }
+    requires seen { SeenAre out.old.seen.keys out.old.list.items }
+    ensures seen { OnOk result (SeenAre out.new.seen.keys out.new.list.items) }
+    ensures keeps { OnOk result ((x : PartialData) → Contains out.old.list.items x → Contains out.new.list.items x) }
+    ensures only { OnOk result ((x : PartialData) → Contains out.new.list.items x →
+        Contains out.old.list.items x ⊎ IsMade replica.old.ids replica.new.ids replica.old.log partial.now slot.now x) }
+    ensures all { OnOk result ((place : ℕ) (e : EntryData) → FillsBy replica.old.log slot.now place e →
+        IsCovered replica.old.ids replica.new.ids partial.now e out.new.list.items) }
+    ensures kept { KeepsLog replica.old replica.new }
+{
+    let env = partial.env;
+    let arg = slot.arg;
+    let from = partial.args.as_slice();
+    for place in &slot.places {
+        let candidate = replica.row(*place).env;
+        let joined = replica.union_envs(env, candidate)?;
+        add(alloc, out, joined, from, arg, *place)?;
+    }
+    Ok(())
+}
+
+/// What comes of each environment and each candidate for a slot, each environment once.
+fn extended(
+    alloc: Global,
+    replica: &mut Replica,
+    partials: &[Partial],
+    slot: &Filled,
+) -> Result<Vec<Partial>, OutOfMemory>
+    requires { CanExtend replica.old.ids replica.old.log partials.now slot.now }
+    ensures only { IfOk result (λ out. (x : PartialData) → Contains out.items x →
+        IsMadeOf replica.old.ids replica.new.ids replica.old.log partials.now slot.now x) }
+    ensures all { IfOk result (λ out. (from : PartialData) → Contains partials.now from →
+        (place : ℕ) (e : EntryData) → FillsBy replica.old.log slot.now place e →
+        IsCovered replica.old.ids replica.new.ids from e out.items) }
+    ensures kept { KeepsLog replica.old replica.new }
+{
+    let mut out = Partials {
+        list: Vec::new(alloc),
+        seen: IndexSet::new(alloc),
+    };
+    for partial in partials {
+        extend(alloc, replica, partial, slot, &mut out)?;
+    }
+    Ok(out.list)
+}
+
+/// The environments that the slots lead to from the head's own, each once, with one choice of
+/// candidates for each.
+///
+/// Slot by slot, so that time is in the number of distinct environments and the candidates, and not
+/// in the number of choices.
+pub(crate) fn joined(
+    alloc: Global,
+    replica: &mut Replica,
+    own: EnvId,
+    slots: &[Filled],
+) -> Result<Vec<Partial>, OutOfMemory>
+    requires own { own < length replica.old.ids.envs }
+    requires is_env { IsEnv (length (env_of_id replica.old.ids own)) (env_of_id replica.old.ids own) }
+    requires placed { (f : FilledData) → Contains slots.now f → ArePlaced replica.old.log (length (env_of_id replica.old.ids own)) f }
+    ensures joined { IfOk result (λ out. AreJoined replica.new.ids replica.old.log
+        (length (env_of_id replica.old.ids own)) (env_of_id replica.old.ids own) slots.now out.items) }
+    ensures kept { KeepsLog replica.old replica.new }
+{
+    let mut partials = Vec::new(alloc);
+    partials.push(Partial {
+        env: own,
+        args: SmallVec::new(alloc),
+    })?;
+    for slot in slots {
+        partials = extended(alloc, replica, partials.as_slice(), slot)?;
+    }
+    Ok(partials)
+}

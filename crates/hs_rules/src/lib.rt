@@ -1,0 +1,17 @@
+//! What follows from a log: all of it at a point, what needs no premises, and what needs one certain
+//! entry.
+#![tactic(auto)]
+
+mod deduced;
+mod following;
+mod found;
+mod gathering;
+mod heads;
+mod joining;
+mod search;
+mod sources;
+mod terminals;
+
+pub use deduced::Deduced;
+pub use following::{conclusions, conclusions_with, seed_conclusions};
+pub use hs_replica::Replica;

@@ -1,0 +1,185 @@
+//! Where conclusions are sought, and the candidates for the slots there.
+
+ghost use Rattle.std.specs.Prelude.{◌≡◌, ◌<◌, ◌↔◌, ℕ, List, length, map, take, slice_get, Some, All, Contains, IfOk, OnOk};
+ghost use Rattle.std.specs.List.Sorted.{IsStrictlyIncreasing};
+ghost use Rattle.hs_table.specs.Entries.{EntryData};
+ghost use Rattle.hs_types.specs.Interned.{type_of_id, set_of_id};
+ghost use Rattle.std.specs.Bool.{OnFalse};
+ghost use Rattle.hs_rules.specs.Slots.{slots_of, slots, IsCandidate, Picked};
+ghost use Rattle.hs_rules.specs.Filling.{CanSearch, fixed_of, AreFilled, GainsFilled, LacksCandidate};
+
+use hs_replica::Replica;
+use hs_scheme::OutOfMemory;
+use hs_types::{SetId, TyId};
+use std::alloc::Global;
+use std::marker::Model;
+
+/// The entry at this place has to fill the slot of its type at this argument, counted from 0.
+#[derive(Clone, Copy, Debug, PartialEq, Eq)]
+pub(crate) struct Fixed {
+    pub(crate) arg: u32,
+    pub(crate) place: u32,
+}
+
+/// A point with the points of its arguments, and how many places of the log count, from the first.
+#[derive(Clone, Copy, Debug)]
+pub(crate) struct Search<'a> {
+    pub(crate) point: u32,
+    pub(crate) args: &'a [u32],
+    pub(crate) limit: u32,
+    pub(crate) fixed: Option<Fixed>,
+}
+
+/// A slot: the number of its argument, and the places of its candidates.
+#[derive(Drop)]
+pub(crate) struct Filled {
+    pub(crate) arg: u32,
+    pub(crate) places: Vec<u32>,
+}
+
+impl Model for Filled {
+    ghost use Rattle.hs_rules.specs.Slots.{FilledData};
+
+    ghost Value = { FilledData };
+
+    ghost view = { λ a. record { arg = a.arg; places = a.places.items } };
+}
+
+/// The places below the limit.
+pub(crate) fn below(alloc: Global, places: &[u32], limit: u32) -> Result<Vec<u32>, OutOfMemory>
+    requires { IsStrictlyIncreasing places.now }
+    ensures { IfOk result (λ out. (place : ℕ) → Contains out.items place ↔ (Contains places.now place × (place < limit))) }
+{
+    let mut out = Vec::new(alloc);
+    for place in places {
+        if *place >= limit {
+            return Ok(out);
+        }
+        out.push(*place)?;
+    }
+    Ok(out)
+}
+
+/// The places of the candidates for the slot of this type at this argument.
+fn places_for(
+    alloc: Global,
+    replica: &Replica,
+    search: &Search,
+    arg: u32,
+    point: u32,
+    ty: TyId,
+) -> Result<Vec<u32>, OutOfMemory>
+    requires search { CanSearch replica.now search.now.args.now search.now.limit search.now.fixed }
+    requires ty { ty < length replica.now.ids.types }
+    requires point { slice_get search.now.args.now arg ≡ Some point }
+    ensures { IfOk result (λ places. (place : ℕ) → Contains places.items place ↔ ((e : EntryData) ×
+        IsCandidate (take search.now.limit replica.now.log) (fixed_of replica.now.log search.now.fixed)
+        (record { arg = arg; point = point; ty = type_of_id replica.now.ids ty }) place e)) }
+{
+    replica.interner().numbers_are_exact();
+    if let Some(fixed) = search.fixed {
+        if fixed.arg == arg && replica.row(fixed.place).ty == ty {
+            let mut only = Vec::new(alloc);
+            only.push(fixed.place)?;
+            return Ok(only);
+        }
+    }
+    below(alloc, replica.with_type(point, ty), search.limit)
+}
+
+/// Adds the slots of one argument.
+fn fill_set(
+    alloc: Global,
+    replica: &Replica,
+    search: &Search,
+    arg: u32,
+    point: u32,
+    set: SetId,
+    out: &mut Vec<Filled>,
+) -> Result<(), OutOfMemory>
+    requires search { CanSearch replica.now search.now.args.now search.now.limit search.now.fixed }
+    requires set { set < length replica.now.ids.sets }
+    requires point { slice_get search.now.args.now arg ≡ Some point }
+    ensures { OnOk result (GainsFilled (take search.now.limit replica.now.log) (fixed_of replica.now.log search.now.fixed)
+        (slots_of arg point (set_of_id replica.now.ids set)) out.old.items out.new.items) }
+{
+    for ty in replica.interner().members(set) {
+        let places = places_for(alloc, replica, search, arg, point, *ty)?;
+        out.push(Filled { arg, places })?;
+    }
+    Ok(())
+}
+
+/// Whether there may be candidates for the slots of this type at this point: some place below the
+/// limit has an entry there with the type.
+fn has_candidate(replica: &Replica, limit: u32, point: u32, ty: TyId) -> bool
+    requires indexed { replica.now.indexed ≡ length replica.now.log }
+    requires ty { ty < length replica.now.ids.types }
+    ensures { OnFalse result ((place : ℕ) (e : EntryData) → slice_get (take limit replica.now.log) place ≡ Some e →
+        e.point ≡ point → e.ty ≡ type_of_id replica.now.ids ty → ⊥) }
+{
+    let places = replica.with_type(point, ty);
+    if places.len() == 0 {
+        return false;
+    }
+    if places[0] >= limit {
+        return false;
+    }
+    true
+}
+
+/// Whether there may be candidates for all slots of one argument.
+fn is_set_open(replica: &Replica, limit: u32, point: u32, set: SetId) -> bool
+    requires indexed { replica.now.indexed ≡ length replica.now.log }
+    requires set { set < length replica.now.ids.sets }
+    ensures { OnFalse result (LacksCandidate (take limit replica.now.log) point (set_of_id replica.now.ids set)) }
+{
+    for ty in replica.interner().members(set) {
+        if !has_candidate(replica, limit, point, *ty) {
+            return false;
+        }
+    }
+    true
+}
+
+/// Whether there may be candidates for all slots: where there are none for one of them, the others
+/// needn't be filled.
+pub(crate) fn is_open(replica: &Replica, search: &Search, sets: &[SetId]) -> bool
+    requires search { CanSearch replica.now search.now.args.now search.now.limit search.now.fixed }
+    requires sets { All (λ s. s < length replica.now.ids.sets) sets.now }
+    requires long { length sets.now ≡ length search.now.args.now }
+    ensures { OnFalse result ((args : List (ℕ × ℕ)) (es : List EntryData) →
+        Picked (λ s. s.arg) (IsCandidate (take search.now.limit replica.now.log) (fixed_of replica.now.log search.now.fixed))
+        (slots 0 search.now.args.now (map (set_of_id replica.now.ids) sets.now)) args es → ⊥) }
+{
+    let args = search.args;
+    for (arg, set) in sets.iter().enumerate() {
+        if !is_set_open(replica, search.limit, args[arg], *set) {
+            return false;
+        }
+    }
+    true
+}
+
+/// The slots for these sets, one set for each argument.
+pub(crate) fn fill(
+    alloc: Global,
+    replica: &Replica,
+    search: &Search,
+    sets: &[SetId],
+) -> Result<Vec<Filled>, OutOfMemory>
+    requires search { CanSearch replica.now search.now.args.now search.now.limit search.now.fixed }
+    requires sets { All (λ s. s < length replica.now.ids.sets) sets.now }
+    requires long { length sets.now ≡ length search.now.args.now }
+    ensures { IfOk result (λ out. AreFilled (take search.now.limit replica.now.log) (fixed_of replica.now.log search.now.fixed)
+        (slots 0 search.now.args.now (map (set_of_id replica.now.ids) sets.now)) out.items) }
+{
+    let mut out = Vec::new(alloc);
+    let args = search.args;
+    for (arg, set) in sets.iter().enumerate() {
+        fill_set(
+            alloc, replica, search, arg as u32, args[arg], *set, &mut out,
+        )?;
+    }
+    Ok(out)
+}

@@ -1,0 +1,11 @@
+pub mod Numbers
+pub mod ListLemmas
+pub mod NodeLemmas
+pub mod AddLemmas
+pub mod OrderLemmas
+pub mod MergeLemmas
+pub mod MakeLemmas
+pub mod SearchLemmas
+pub mod UnionLemmas
+pub mod JoinLemmas
+pub mod TestLemmas

@@ -1,0 +1,123 @@
+-- Lists that grow at their end, and what is read from them.
+use Rattle.std.proofs.Common.{◌≡◌, refl, sym, ◌∙◌, ap, subst, ℕ, zero, suc, ◌+◌, ◌<◌, ◌≤◌, List, [], ◌∷◌, ◌++◌, length, map, get_or, slice_get, Some, arith, Contains, All, ◌⊎◌, inl, inr, take, set, replicate, length-append}
+use Rattle.std.proofs.lemmas.List.{get_or_append_left, map_more}
+use Rattle.std.proofs.lemmas.Option.{get_or_from_slice_get}
+use Rattle.std.proofs.lemmas.List.Elements.{All-head, All-tail, All-weaker, All-push}
+use Rattle.hs_table_laws.proofs.Places.{at_append, within_from, some_same}
+use Rattle.hs_types.proofs.Numbers.{within_begun, same_begun}
+use Rattle.hs_types.specs.Interned.{Begins, IsNumbering}
+use Rattle.hs_types.specs.Nodes.{items_at, AllBelow}
+
+pub Begins-push : {X : Type 0} (xs : List X) (y : X) → Begins xs (xs ++ y ∷ [])
+Begins-push xs y = λ i x h. at_append xs (y ∷ []) i x h
+
+pub slice_get-push : {X : Type 0} (xs : List X) (y : X) → slice_get (xs ++ y ∷ []) (length xs) ≡ Some y
+slice_get-push [] y = refl
+slice_get-push (x ∷ xs) y = slice_get-push xs y
+
+pub push_cases : {X : Type 0} (xs : List X) (y x : X) (k : ℕ) → slice_get (xs ++ y ∷ []) k ≡ Some x → (slice_get xs k ≡ Some x) ⊎ ((k ≡ length xs) × (y ≡ x))
+push_cases [] y x zero h = inr (refl, some_same y x h)
+push_cases [] y x (suc k) h = absurd (cc)
+push_cases (z ∷ xs) y x zero h = inl h
+push_cases (z ∷ xs) y x (suc k) h = elim (push_cases xs y x k h) [ inl was ↦ inl was | inr (e, is) ↦ inr (ap suc e, is) ]
+
+pub length-push : {X : Type 0} (xs : List X) (y : X) → length (xs ++ y ∷ []) ≡ length xs + 1
+length-push xs y = length-append xs (y ∷ [])
+
+pub map-push : {X Y : Type 0} (f : X → Y) (xs : List X) (x : X) → map f (xs ++ x ∷ []) ≡ map f xs ++ f x ∷ []
+map-push f [] x = refl
+map-push f (y ∷ xs) x = ap (λ ys. f y ∷ ys) (map-push f xs x)
+
+-- a new item makes no second number
+pub IsNumbering-push : {X : Type 0} (xs : List X) (y : X) → IsNumbering xs → (Contains xs y → ⊥) → IsNumbering (xs ++ y ∷ [])
+IsNumbering-push xs y n fresh i j x h k = elim (push_cases xs y x i h) [
+  | inl a ↦ elim (push_cases xs y x j k) [
+    | inl b ↦ n i j x a b
+    | inr (e, is) ↦ absurd (fresh (i, within_from xs i y (a ∙ ap (λ z. Some z) (sym is)), read xs i y (a ∙ ap (λ z. Some z) (sym is))))
+  ]
+  | inr (e, is) ↦ elim (push_cases xs y x j k) [
+    | inl b ↦ absurd (fresh (j, within_from xs j y (b ∙ ap (λ z. Some z) (sym is)), read xs j y (b ∙ ap (λ z. Some z) (sym is))))
+    | inr (f, is') ↦ e ∙ sym f
+  ]
+]
+  where
+    read : {X : Type 0} (xs : List X) (k : ℕ) (x : X) → slice_get xs k ≡ Some x → get_or xs k x ≡ x
+    read [] k x e = absurd (cc)
+    read (y ∷ ys) zero x e = some_same y x e
+    read (y ∷ ys) (suc k) x e = read ys k x e
+
+-- what is read from a list stays where the list grows
+pub items_at-append : {X : Type 0} (xs ys : List X) (d : X) (ids : List ℕ) → All (λ i. i < length xs) ids → items_at (xs ++ ys) d ids ≡ items_at xs d ids
+items_at-append xs ys d [] h = refl
+items_at-append xs ys d (i ∷ ids) h =
+    let is = get_or_append_left xs ys d i (All-head (λ i. i < length xs) i ids h) in
+    let rest = items_at-append xs ys d ids (All-tail (λ i. i < length xs) i ids h) in
+    λ k. is k ∷ rest k
+
+-- items that are read before and after
+pub items_at-begun : {X : Type 0} (xs ys : List X) (d : X) (ids : List ℕ) → Begins xs ys → All (λ i. i < length xs) ids → items_at ys d ids ≡ items_at xs d ids
+items_at-begun xs ys d [] g h = refl
+items_at-begun xs ys d (i ∷ ids) g h =
+    let is = same_begun xs ys d i g (All-head (λ i. i < length xs) i ids h) in
+    let rest = items_at-begun xs ys d ids g (All-tail (λ i. i < length xs) i ids h) in
+    λ k. is k ∷ rest k
+
+pub all_at-append : {X : Type 0} (xs ys : List X) (d : X) (lists : List (List ℕ)) → AllBelow (length xs) lists → map (items_at (xs ++ ys) d) lists ≡ map (items_at xs d) lists
+all_at-append xs ys d [] h = refl
+all_at-append {X} xs ys d (ids ∷ lists) h =
+    let P : List ℕ → Type 0 = λ ids. All (λ i. i < length xs) ids in
+    let is = items_at-append xs ys d ids (All-head P ids lists h) in
+    let rest = all_at-append xs ys d lists (All-tail P ids lists h) in
+    λ k. is k ∷ rest k
+
+pub AllBelow-more : (m n : ℕ) (lists : List (List ℕ)) → m ≤ n → AllBelow m lists → AllBelow n lists
+AllBelow-more m n lists le h = All-weaker (λ (ids : List ℕ). All (λ i. i < m) ids) (λ (ids : List ℕ). All (λ i. i < n) ids)
+    (λ ids k. All-weaker (λ i. i < m) (λ i. i < n) (λ i lt. omega arith) ids k) lists h
+
+pub AllBelow-push : (n : ℕ) (lists : List (List ℕ)) (ids : List ℕ) → AllBelow n lists → All (λ i. i < n) ids → AllBelow n (lists ++ ids ∷ [])
+AllBelow-push n lists ids h k = All-push (λ (ids : List ℕ). All (λ i. i < n) ids) lists ids h k
+
+-- items that are told apart by their places: equal lists of items have equal lists of places
+pub same_places : {X : Type 0} (xs : List X) (d : X) (is js : List ℕ) → ((i j : ℕ) → i < length xs → j < length xs → get_or xs i d ≡ get_or xs j d → i ≡ j)
+    → All (λ i. i < length xs) is → All (λ i. i < length xs) js → items_at xs d is ≡ items_at xs d js → is ≡ js
+same_places xs d [] [] one h k e = refl
+same_places xs d [] (j ∷ js) one h k e = absurd (cc)
+same_places xs d (i ∷ is) [] one h k e = absurd (cc)
+same_places xs d (i ∷ is) (j ∷ js) one h k e =
+    let P : ℕ → Type 0 = λ i. i < length xs in
+    let first = one i j (All-head P i is h) (All-head P j js k) (head_same (get_or xs i d) (get_or xs j d) (items_at xs d is) (items_at xs d js) e) in
+    let rest = same_places xs d is js one (All-tail P i is h) (All-tail P j js k) (tail_same (get_or xs i d) (get_or xs j d) (items_at xs d is) (items_at xs d js) e) in
+    λ k. first k ∷ rest k
+  where
+    head_same : {X : Type 0} (x y : X) (xs ys : List X) → x ∷ xs ≡ y ∷ ys → x ≡ y
+    head_same x y xs ys e = (cc)
+
+    tail_same : {X : Type 0} (x y : X) (xs ys : List X) → x ∷ xs ≡ y ∷ ys → xs ≡ ys
+    tail_same x y xs ys e = (cc)
+
+-- one more number is known for what F gives of the places of ms
+module _ {X : Type 0} (xs ys : List X) (d : X) (F : ℕ → X) (ids new ms : List ℕ) (k own m : ℕ) (g : Begins xs ys) (range : All (λ i. i < length xs) ids) (same : items_at xs d ids ≡ map F (take k ms))
+    (at : slice_get ys own ≡ Some (F m)) (lt : k < length ms) (is : m ≡ get_or ms k m) (e : new ≡ ids ++ own ∷ []) where
+  pub more_range : All (λ i. i < length ys) new
+  more_range =
+      let old = All-weaker (λ i. i < length xs) (λ i. i < length ys) (λ i h. within_begun xs ys d i g h) ids range in
+      subst (λ (zs : List ℕ). All (λ i. i < length ys) zs) (sym e) (All-push (λ i. i < length ys) ids own old (within_from ys own (F m) at))
+
+  pub more_same : items_at ys d new ≡ map F (take (k + 1) ms)
+  more_same =
+      ap (λ (zs : List ℕ). items_at ys d zs) e ∙ map-push (λ i. get_or ys i d) ids own
+      ∙ (λ q. (items_at-begun xs ys d ids g range ∙ same) q ++ (read_own ∙ ap F is) q ∷ [])
+      ∙ sym (map_more F ms k m lt)
+    where
+      read_own : get_or ys own d ≡ F m
+      read_own = get_or_from_slice_get ys own (F m) d at
+
+-- the same number over and over, and another at one place
+pub map-replicate : {X Y : Type 0} (f : X → Y) (n : ℕ) (x : X) → map f (replicate n x) ≡ replicate n (f x)
+map-replicate f zero x = refl
+map-replicate f (suc n) x = ap (λ ys. f x ∷ ys) (map-replicate f n x)
+
+pub map-set_at : {X Y : Type 0} (f : X → Y) (xs : List X) (i : ℕ) (x : X) → map f (set xs i x) ≡ set (map f xs) i (f x)
+map-set_at f [] i x = refl
+map-set_at f (y ∷ xs) zero x = refl
+map-set_at f (y ∷ xs) (suc i) x = ap (λ ys. f y ∷ ys) (map-set_at f xs i x)

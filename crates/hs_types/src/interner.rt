@@ -1,0 +1,314 @@
+//! The interner.
+#![tactic(auto, using(crate::proofs::UnionLemmas::unions_grow))]
+
+ghost use Rattle.std.specs.Prelude.{◌≡◌, ◌<◌, ◌∷◌, [], IfOk, IfSome, All, Some, length, map, replicate, slice_get, slice_set, Contains, IsTrue, ◌↔◌};
+ghost use Rattle.hs_table.specs.Types.{TypeTree, state, arrow, type_cmp};
+ghost use Rattle.hs_types.specs.Unions.{IsSetUnion, IsEnvUnion};
+ghost use Rattle.hs_types.specs.Interned.{type_of_id, set_of_id, env_of_id, IsRow, entry_of, IsView, IsInterner, Grows, IsSetOf, IsUnion, IsUnionEnv};
+
+use crate::ids::{EnvId, Row, SetId, TyId, View};
+use crate::nodes::Nodes;
+use crate::unions::Unions;
+use hs_scheme::OutOfMemory;
+use hs_table::Entry;
+use std::alloc::Global;
+use std::cmp::Ordering;
+use std::marker::Model;
+
+/// Types, sets of types and environments, each with one number.
+///
+/// Contracts see the three lists of what has numbers. Every call that takes `&mut self` lets the
+/// lists only grow at their ends, also where it answers want of memory.
+///
+/// A type takes some 60 bytes, a set or an environment some 80, and 8 for each of its items. Beside
+/// these the latest unions are kept, at most 524,288 of sets and as many of environments, in some
+/// 24 MiB each.
+#[derive(Drop)]
+pub struct Interner {
+    alloc: Global,
+    nodes: Nodes,
+    set_unions: Unions,
+    env_unions: Unions,
+}
+
+impl Model for Interner {
+    ghost use Rattle.hs_types.specs.Interned.{InternerData, coded_interner};
+    ghost use Rattle.hs_types.specs.Unions.{AreUnions};
+
+    ghost Value = { InternerData };
+
+    ghost coded = { coded_interner };
+
+    ghost view = { λ a. a.nodes };
+
+    ghost invariant = { λ a. AreUnions a.nodes a.set_unions.known.entries a.env_unions.known.entries };
+}
+
+impl Interner {
+    /// An interner in which nothing has a number. Takes no memory.
+    pub fn new(alloc: Global) -> Interner
+        ensures { result ≡ record { types = []; sets = []; envs = [] } }
+    {
+        Interner {
+            alloc,
+            nodes: Nodes::new(alloc),
+            set_unions: Unions::new(alloc),
+            env_unions: Unions::new(alloc),
+        }
+    }
+
+    /// Two numbers are equal exactly where they stand for one thing, and all sets are in order. A
+    /// law; does nothing.
+    pub fn numbers_are_exact(&self)
+        ensures { IsInterner self.now }
+    {
+        self.nodes.numbers_are_exact();
+    }
+
+    /// The type that is this state, counted from 0. Constant time on average.
+    pub fn base(&mut self, q: u32) -> Result<TyId, OutOfMemory>
+        ensures ok { IfOk result (λ id. slice_get self.new.types id ≡ Some (state q)) }
+        ensures grows { Grows self.old self.new }
+    {
+        let id = self.nodes.add_type(View::State(q))?;
+        Ok(id)
+    }
+
+    /// The type with this set and this result. Constant time on average.
+    pub fn arrow(&mut self, set: SetId, rest: TyId) -> Result<TyId, OutOfMemory>
+        requires set { set < length self.old.sets }
+        requires rest { rest < length self.old.types }
+        ensures ok { IfOk result (λ id. slice_get self.new.types id
+            ≡ Some (arrow (set_of_id self.old set) (type_of_id self.old rest))) }
+        ensures grows { Grows self.old self.new }
+    {
+        let id = self.nodes.add_type(View::Arrow(set, rest))?;
+        Ok(id)
+    }
+
+    /// The set of these types, which may come in any order and more than once. Compares about as
+    /// often as a merge sort.
+    pub fn set(&mut self, ids: &[TyId]) -> Result<SetId, OutOfMemory>
+        requires { All (λ t. t < length self.old.types) ids.now }
+        ensures ok { IfOk result (λ id. (id < length self.new.sets)
+            × IsSetOf (map (type_of_id self.old) ids.now) (set_of_id self.new id)) }
+        ensures grows { Grows self.old self.new }
+    {
+        let id = self.nodes.set(self.alloc, ids)?;
+        Ok(id)
+    }
+
+    /// The environment with these sets. Time in proportion to their number, on average.
+    pub fn env(&mut self, sets: &[SetId]) -> Result<EnvId, OutOfMemory>
+        requires { All (λ s. s < length self.old.sets) sets.now }
+        ensures ok { IfOk result (λ id. slice_get self.new.envs id ≡ Some (map (set_of_id self.old) sets.now)) }
+        ensures grows { Grows self.old self.new }
+    {
+        let id = self.nodes.add_env(sets)?;
+        Ok(id)
+    }
+
+    /// The environment of n empty sets.
+    pub fn empty_env(&mut self, n: usize) -> Result<EnvId, OutOfMemory>
+        ensures ok { IfOk result (λ id. slice_get self.new.envs id ≡ Some (replicate n [])) }
+        ensures grows { Grows self.old self.new }
+    {
+        let id = self.nodes.empty_env(self.alloc, n)?;
+        Ok(id)
+    }
+
+    /// The environment of n sets, of which the one at x, counted from 0, has this type alone, and the
+    /// others are empty.
+    pub fn single_env(&mut self, n: usize, x: u32, ty: TyId) -> Result<EnvId, OutOfMemory>
+        requires x { x < n }
+        requires ty { ty < length self.old.types }
+        ensures ok { IfOk result (λ id. slice_get self.new.envs id
+            ≡ Some (slice_set (replicate n []) x (type_of_id self.old ty ∷ []))) }
+        ensures grows { Grows self.old self.new }
+    {
+        let id = self.nodes.single_env(self.alloc, n, x as usize, ty)?;
+        Ok(id)
+    }
+
+    /// The number here of a type of the other interner. Walks the whole type, as deep as it is.
+    pub fn import_ty(&mut self, from: &Interner, ty: TyId) -> Result<TyId, OutOfMemory>
+        requires { ty < length from.now.types }
+        ensures ok { IfOk result (λ id. slice_get self.new.types id ≡ Some (type_of_id from.now ty)) }
+        ensures grows { Grows self.old self.new }
+    {
+        let id = self.nodes.import_type(self.alloc, &from.nodes, ty)?;
+        Ok(id)
+    }
+
+    /// The number here of an environment of the other interner. Walks all its types.
+    pub fn import_env(&mut self, from: &Interner, env: EnvId) -> Result<EnvId, OutOfMemory>
+        requires { env < length from.now.envs }
+        ensures ok { IfOk result (λ id. slice_get self.new.envs id ≡ Some (env_of_id from.now env)) }
+        ensures grows { Grows self.old self.new }
+    {
+        let id = self.nodes.import_env(self.alloc, &from.nodes, env)?;
+        Ok(id)
+    }
+
+    /// The row that stands here for the entry that `row` stands for in the other interner.
+    pub fn import(&mut self, from: &Interner, row: Row) -> Result<Row, OutOfMemory>
+        requires { IsRow from.now row }
+        ensures row { IfOk result (λ r. IsRow self.new r) }
+        ensures entry { IfOk result (λ r. entry_of self.new r ≡ entry_of from.now row) }
+        ensures grows { Grows self.old self.new }
+    {
+        let env = self.import_env(from, row.env)?;
+        let ty = self.import_ty(from, row.ty)?;
+        Ok(Row {
+            point: row.point,
+            env,
+            ty,
+        })
+    }
+
+    /// What the type is. Constant time, and takes no memory.
+    pub fn view(&self, id: TyId) -> View
+        requires { id < length self.now.types }
+        ensures { IsView self.now id result }
+    {
+        self.nodes.view(id)
+    }
+
+    /// The types of the set, in their order. Constant time, and takes no memory.
+    pub fn members(&self, id: SetId) -> &[TyId]
+        requires { id < length self.now.sets }
+        ensures members { map (type_of_id self.now) result.now ≡ set_of_id self.now id }
+        ensures range { All (λ t. t < length self.now.types) result.now }
+    {
+        self.nodes.members(id)
+    }
+
+    /// The sets of the environment, by parameter. Constant time, and takes no memory.
+    pub fn sets(&self, id: EnvId) -> &[SetId]
+        requires { id < length self.now.envs }
+        ensures sets { map (set_of_id self.now) result.now ≡ env_of_id self.now id }
+        ensures range { All (λ s. s < length self.now.sets) result.now }
+    {
+        self.nodes.sets(id)
+    }
+
+    /// The order of types, whichever came first. Walks types only where their numbers differ, and
+    /// takes no memory.
+    pub fn compare(&self, a: TyId, b: TyId) -> Ordering
+        requires a { a < length self.now.types }
+        requires b { b < length self.now.types }
+        ensures { result ≡ type_cmp (type_of_id self.now a) (type_of_id self.now b) }
+    {
+        self.nodes.compare(a, b)
+    }
+
+    /// Whether the set has the type. Compares about as often as the binary logarithm of the set's
+    /// size, and takes no memory.
+    pub fn contains(&self, set: SetId, ty: TyId) -> bool
+        requires set { set < length self.now.sets }
+        requires ty { ty < length self.now.types }
+        ensures { IsTrue result ↔ Contains (set_of_id self.now set) (type_of_id self.now ty) }
+    {
+        self.nodes.contains(set, ty)
+    }
+
+    /// The entry that the row stands for, as a tree.
+    pub fn tree(&self, alloc: Global, row: Row) -> Result<Entry, OutOfMemory>
+        requires { IsRow self.now row }
+        ensures { IfOk result (λ e. e ≡ entry_of self.now row) }
+    {
+        let entry = self.nodes.tree(alloc, row)?;
+        Ok(entry)
+    }
+
+    /// The union of the two sets, where it is at hand: they are equal, or one is empty, or it is known.
+    fn known_union_sets(&self, a: SetId, b: SetId) -> Option<SetId>
+        requires a { a < length self.now.sets }
+        requires b { b < length self.now.sets }
+        ensures { IfSome result (λ id. IsSetUnion self.now a b id) }
+    {
+        self.nodes.numbers_are_exact();
+        if a == b {
+            return Some(a);
+        }
+        if self.nodes.members(b).is_empty() {
+            return Some(a);
+        }
+        if self.nodes.members(a).is_empty() {
+            return Some(b);
+        }
+        let union = self.set_unions.find(a.number(), b.number())?;
+        Some(SetId::at(union))
+    }
+
+    /// The set with the types of both. Constant time on average for equal sets, the empty set, and a
+    /// pair that was asked for not too long ago; else time in proportion to the sets.
+    pub fn union_sets(&mut self, a: SetId, b: SetId) -> Result<SetId, OutOfMemory>
+        requires a { a < length self.old.sets }
+        requires b { b < length self.old.sets }
+        ensures ok { IfOk result (λ id. (id < length self.new.sets)
+            × IsUnion (set_of_id self.old a) (set_of_id self.old b) (set_of_id self.new id)) }
+        ensures grows { Grows self.old self.new }
+    {
+        if let Some(union) = self.known_union_sets(a, b) {
+            return Ok(union);
+        }
+        let union = self.nodes.union_sets(self.alloc, a, b)?;
+        self.set_unions
+            .keep(a.number(), b.number(), union.number())?;
+        Ok(union)
+    }
+
+    /// The union of the two environments, where it is at hand: they are equal, or it is known.
+    fn known_union_envs(&self, a: EnvId, b: EnvId) -> Option<EnvId>
+        requires a { a < length self.now.envs }
+        requires b { b < length self.now.envs }
+        ensures { IfSome result (λ id. IsEnvUnion self.now a b id) }
+    {
+        self.nodes.numbers_are_exact();
+        if a == b {
+            return Some(a);
+        }
+        let union = self.env_unions.find(a.number(), b.number())?;
+        Some(EnvId::at(union))
+    }
+
+    /// The unions of the sets, each made.
+    fn join_envs(&mut self, a: EnvId, b: EnvId) -> Result<EnvId, OutOfMemory>
+        requires a { a < length self.old.envs }
+        requires b { b < length self.old.envs }
+        requires long { length (env_of_id self.old a) ≡ length (env_of_id self.old b) }
+        ensures ok { IfOk result (λ id. (id < length self.new.envs)
+            × IsUnionEnv (env_of_id self.old a) (env_of_id self.old b) (env_of_id self.new id)) }
+        ensures grows { Grows self.old self.new }
+    {
+        let count = self.sets(a).len();
+        let mut unions = Vec::with_capacity(self.alloc, count)?;
+        for place in 0..count {
+            let first = self.sets(a)[place];
+            let second = self.sets(b)[place];
+            unions.push(self.union_sets(first, second)?)?;
+        }
+        let id = self.env(unions.as_slice())?;
+        Ok(id)
+    }
+
+    /// The environment whose sets have the types of both, set by set. Constant time on average for
+    /// equal environments and a pair that was asked for not too long ago; else a union for each set.
+    pub fn union_envs(&mut self, a: EnvId, b: EnvId) -> Result<EnvId, OutOfMemory>
+        requires a { a < length self.old.envs }
+        requires b { b < length self.old.envs }
+        requires long { length (env_of_id self.old a) ≡ length (env_of_id self.old b) }
+        ensures ok { IfOk result (λ id. (id < length self.new.envs)
+            × IsUnionEnv (env_of_id self.old a) (env_of_id self.old b) (env_of_id self.new id)) }
+        ensures grows { Grows self.old self.new }
+    {
+        if let Some(union) = self.known_union_envs(a, b) {
+            return Ok(union);
+        }
+        let union = self.join_envs(a, b)?;
+        self.env_unions
+            .keep(a.number(), b.number(), union.number())?;
+        Ok(union)
+    }
+}
