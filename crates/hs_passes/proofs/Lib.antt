@@ -1,0 +1,16 @@
+pub mod Chaining
+pub mod Choosing
+pub mod Renaming
+pub mod Reaching
+pub mod Selected
+pub mod Weights
+pub mod Searching
+pub mod Unreachable
+pub mod AliasLemmas
+pub mod Scanning
+pub mod Folding
+pub mod FoldedAll
+pub mod Folds
+pub mod Linking
+pub mod Parameters
+pub mod Simulation

@@ -1,0 +1,9 @@
+pub mod Weight
+pub mod Passing
+pub mod Occurrences
+pub mod Selection
+pub mod Reachable
+pub mod Marking
+pub mod Aliases
+pub mod Links
+pub mod Scan
