@@ -1,6 +1,6 @@
 //! The scheme whose automaton goes round a cycle of states.
 
-ghost use Rattle.std.specs.Prelude.{◌≡◌, ◌≤◌, ◌++◌, IfOk, OnOk};
+ghost use Rattle.std.specs.Prelude.{◌≡◌, ◌≤◌, ◌++◌, ℕ, length, IfOk, OnOk};
 ghost use Rattle.std.specs.List.{flat_map, range_with_len};
 ghost use Rattle.hs_gen.specs.Cycle as cycle;
 ghost use Rattle.hs_gen.specs.Cycle.{cycle_file_text};
@@ -95,3 +95,8 @@ pub fn cycle_file(alloc: Global, k: u32) -> Result<Vec<u8>, OutOfMemory>
     text.extend_from_slice(b"%ENDA\n")?;
     Ok(text)
 }
+
+/// A generated file is far within the limits on a file: it has at most 65,536 bytes.
+pub fn cycle_files_are_short()
+    ensures { (k : ℕ) → 1 ≤ k → k ≤ 300 → length (cycle_file_text k) ≤ 65536 }
+{}

@@ -3,7 +3,7 @@
 
 mod cycle;
 
-pub use cycle::{MAX_CYCLE, cycle_file};
+pub use cycle::{MAX_CYCLE, cycle_file, cycle_files_are_short};
 
 #[cfg(test)]
 mod tests;

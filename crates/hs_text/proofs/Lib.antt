@@ -1,1 +1,4 @@
 pub mod Texts
+pub mod Joins
+pub mod Types
+pub mod Ascending

@@ -32,7 +32,7 @@ argument-more names params args n t first old opened written new at was o w e =
     ∙ ap (λ r. first ++ r) (sym (ap (λ ts. args_text names params (forest ts)) more ∙ args-push names params (take n args) t))))
 
 -- one more rule
-enumerate-push : {A : Type 0} (k : ℕ) (xs : List A) (n : ℕ) (x : A) → slice_get xs n ≡ Some x → enumerate_from k (take (suc n) xs) ≡ enumerate_from k (take n xs) ++ (k + n, x) ∷ []
+pub enumerate-push : {A : Type 0} (k : ℕ) (xs : List A) (n : ℕ) (x : A) → slice_get xs n ≡ Some x → enumerate_from k (take (suc n) xs) ≡ enumerate_from k (take n xs) ++ (k + n, x) ∷ []
 enumerate-push k [] n x at = absurd (cc)
 enumerate-push k (y ∷ ys) zero x at = let e : k ≡ k + 0 = omega arith in λ i. (e i, same_Some y x at i) ∷ []
 enumerate-push k (y ∷ ys) (suc n) x at =

@@ -3,20 +3,10 @@
 ghost use Rattle.std.specs.Prelude.{◌≡◌, ◌++◌, IfOk, OnOk};
 ghost use Rattle.std.specs.List.{flat_map};
 ghost use Rattle.hs_text.specs.Canonical as canonical;
-ghost use Rattle.hs_text.specs.Canonical.{name_at, params_at};
 
+use crate::pieces::{params_of, push_name};
 use hs_scheme::{Head, Name, Names, OutOfMemory, Rule, Term, Transition, Unsorted};
 use std::alloc::Global;
-
-/// Puts the name with this number at the end.
-fn push_name(names: &[Name], number: usize, text: &mut Vec<u8>) -> Result<(), OutOfMemory>
-    ensures { OnOk result (text.new.items ≡ text.old.items ++ name_at names.now number) }
-{
-    if let Some(name) = names.get(number) {
-        text.extend_from_slice(name.bytes())?;
-    }
-    Ok(())
-}
 
 /// Puts the name of a head at the end, where these are the names of the parameters.
 fn push_head(
@@ -105,16 +95,6 @@ fn push_rule(
     push_term(names, params, &rule.body, text)?;
     text.extend_from_slice(b".\n")?;
     Ok(())
-}
-
-/// The names of the parameters of the rule with this number.
-fn params_of(names: &Names, number: usize) -> &[Name]
-    ensures { result.now ≡ params_at names.now.params number }
-{
-    match names.params.get(number) {
-        Some(params) => params.as_slice(),
-        None => &[],
-    }
 }
 
 /// Puts the rules at the end.

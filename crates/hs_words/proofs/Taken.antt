@@ -1,0 +1,43 @@
+-- What `clap` makes of the words.
+use Rattle.std.proofs.Common.{◌≡◌, refl, sym, ◌∙◌, ap, subst, true, List, [], Option, Some, None}
+use Rattle.std.specs.Prelude.{if◌then◌else◌, Result, Ok, Err, option_map, IfOk, IsErrOf}
+use Rattle.std.specs.Option.{ok_or}
+use Rattle.clap.specs.Kinds.{Kinds}
+use Rattle.clap.specs.Faults.{fault_of, is_simple_and_free}
+use Rattle.clap.specs.Simple.{App, HasMatchesOf, is_simple, matches_of}
+use Rattle.clap.specs.Matches.{found_of}
+use Rattle.clap.specs.Walk.{Text, is_empty, rows_of}
+use Rattle.clap.specs.declared.parser.matches.ArgMatches.{ArgMatches}
+use Rattle.clap.proofs.OnLiterals.{clap_on_literals}
+use Rattle.hs_words.specs.declared.fault.WordsFault.{WordsFault}
+use Rattle.hs_words.specs.declared.fault.WordsFault.TheVariants as words
+use Rattle.hs_words.specs.declared.options.Options.{Options}
+use Rattle.hs_words.specs.Words.{OptionsData, horsat, said, said_by, options_of}
+
+simple_and_free : is_simple_and_free horsat ≡ true
+unfolding clap_on_literals
+simple_and_free = refl
+
+simple : is_simple horsat ≡ true
+unfolding clap_on_literals
+simple = refl
+
+module _ (app : App) (same : app ≡ horsat) (texts : List Text) where
+  pub is_simple_and_free_app : is_simple_and_free app ≡ true
+  is_simple_and_free_app = ap is_simple_and_free same ∙ simple_and_free
+
+  pub taken : (m : ArgMatches) → HasMatchesOf app texts m → fault_of app texts ≡ [] → options_of texts ≡ said (rows_of (found_of m))
+  taken m matches none =
+      let faultless : fault_of horsat texts ≡ [] = ap (λ a. fault_of a texts) (sym same) ∙ none in
+      let rows : rows_of (found_of m) ≡ matches_of horsat texts = (matches (ap is_simple same ∙ simple)).0 ∙ ap (λ a. matches_of a texts) same in
+      ap (λ (f : Kinds). if is_empty f then said (matches_of horsat texts) else None) faultless ∙ ap said (sym rows)
+
+-- the answer, where the words are taken, from what the matches say
+module _ (r : Result Options WordsFault) (all : Option OptionsData) where
+  pub answered : (o : Option Options) → r ≡ ok_or o words.Usage → option_map said_by o ≡ all → IfOk r (λ x. all ≡ Some (said_by x))
+  answered None e s = subst (λ q. IfOk q (λ x. all ≡ Some (said_by x))) (sym e) tt
+  answered (Some x) e s = subst (λ q. IfOk q (λ y. all ≡ Some (said_by y))) (sym e) (sym s)
+
+  pub unanswered : (o : Option Options) → r ≡ ok_or o words.Usage → option_map said_by o ≡ all → IsErrOf r words.Usage → all ≡ None
+  unanswered None e s h = sym s
+  unanswered (Some x) e s h = absurd (let both : Ok x ≡ Err words.Usage = sym e ∙ h in cc)

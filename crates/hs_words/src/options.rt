@@ -1,0 +1,20 @@
+//! What the words say.
+
+/// What the words of the command line say.
+#[derive(Clone, Copy, Debug, PartialEq, Eq)]
+pub struct Options<'a> {
+    /// The most entries of a table, 1 to 1,000,000.
+    pub entries: u32,
+    /// The most reduction steps of a path, 1 to 4,000,000.
+    pub steps: u64,
+    /// Whether the table is asked for.
+    pub table: bool,
+    /// Whether saturation ends with the start entry.
+    pub first: bool,
+    /// The number of states of the generated file that is read in place of a file, 1 to 300: the
+    /// value of `--gen`.
+    pub cycle: Option<u32>,
+    /// The name of the file to read. There is none where there is a `cycle`; where neither is given,
+    /// standard input is read.
+    pub file: Option<&'a str>,
+}
