@@ -2,9 +2,10 @@
 
 ghost use Rattle.std.specs.Prelude.{◌≡◌, ◌⊎◌, map, IfOk, OnErr, string_bytes};
 ghost use Rattle.std.specs.Vec.Iter.{into_iter_items};
-ghost use Rattle.hs_app.specs.Words.{name_of, texts};
+ghost use Rattle.hs_words.specs.Words.{texts};
 ghost use Rattle.hs_app.specs.Outcome as outcome;
-ghost use Rattle.hs_app.specs.Outcome.{source_run, sink_run};
+ghost use Rattle.hs_app.specs.Order.{ordered, source_run};
+ghost use Rattle.hs_app.specs.Outcome.{sink_run};
 
 use hs_app::run;
 use hs_edge::{Sink, Source};
@@ -44,7 +45,7 @@ pub(crate) fn run_on<R, S: Source, O: Sink, E: Sink>(
 ) -> u8
     ensures rows { IfOk words (λ given.
         ((result ≡ OUT_OF_MEMORY) × (source.new ≡ source.old) × (out.new ≡ out.old) × (err.new ≡ err.old))
-        ⊎ outcome.Rows (name_of (map string_bytes (into_iter_items given)))
+        ⊎ outcome.Rows (ordered (map string_bytes (into_iter_items given)))
         (source_run S.file S.left S.reading S.faults source.old source.new)
         (sink_run O.writing O.faults out.old out.new) (sink_run E.writing E.faults err.old err.new) result) }
     ensures no_words { OnErr words (((result ≡ OUT_OF_MEMORY) ⊎ (result ≡ NO_WORDS)) × (source.new ≡ source.old) × (out.new ≡ out.old) × (err.new ≡ err.old)) }

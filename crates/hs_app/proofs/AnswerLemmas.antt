@@ -1,8 +1,7 @@
--- The bytes of a file have one answer, want of memory aside.
-use Rattle.std.proofs.Common.{◌≡◌, refl, sym, ◌∙◌, ap, subst, ℕ, List, slice_get, Some, Result, Ok, Err, true, false, ◌⊎◌, inl, inr}
-use Rattle.hs_scheme.specs.declared.term.Rule.{Rule}
-use Rattle.hs_scheme.specs.Transition.{TransitionData}
+-- The bytes of a file come to one answer, want of memory and the length of a path aside.
+use Rattle.std.proofs.Common.{◌≡◌, refl, sym, ◌∙◌, ap, subst, ℕ, ◌<◌, ◌≤◌, List, slice_get, Some, Result, Ok, Err, Bool, true, false, length, ◌⊎◌, inl, inr, arith}
 use Rattle.hs_scheme.specs.Unsorted.{UnsortedData}
+use Rattle.hs_scheme.specs.Problem.{ProblemData}
 use Rattle.hs_scheme.specs.Run.{Accepts}
 use Rattle.hs_reader.specs.Raw.{File}
 use Rattle.hs_reader.specs.declared.fault.ReadFault.{ReadFault}
@@ -17,195 +16,384 @@ use Rattle.hs_sorts.specs.declared.fault.SortFault.{SortFault}
 use Rattle.hs_sorts.specs.declared.fault.SortFault.TheVariants as sorts
 use Rattle.hs_sorts.specs.Inference.{IsInferable, IsFaultOf}
 use Rattle.hs_sorts.proofs.Excluding.{only_memory, inferred_inferable, one_fault_is as one_sort_fault}
+use Rattle.hs_table.specs.Entries.{EntryData}
+use Rattle.hs_table.specs.Tables.{IsLeastTable, HasStart, Exceeds}
+use Rattle.hs_table_laws.proofs.Least.{least_decides}
 use Rattle.hs_app.specs.declared.refusal.Refusal.{Refusal}
-use Rattle.hs_app.specs.declared.refusal.Refusal.TheVariants.{Usage, Source, FileTooLong, Syntax, Limit, Names, IllSorted, NotFirstOrder, SortTooLarge, RuleTooLong, NotYet, Sink, OutOfMemory}
+use Rattle.hs_app.specs.declared.refusal.Refusal.TheVariants.{Usage, Source, FileTooLong, Syntax, Limit, Names, IllSorted, NotFirstOrder, SortTooLarge, RuleTooLong, PointLimit, FlowLimit, EntryLimit, Sink, OutOfMemory}
+use Rattle.hs_app.specs.declared.verdict.Settings.{Settings}
 use Rattle.hs_app.specs.declared.verdict.Verdict.{Verdict}
-use Rattle.hs_app.specs.declared.verdict.Verdict.TheVariants.{Accepted, Rejected}
-use Rattle.hs_app.specs.Saturation.{Rejects}
-use Rattle.hs_app.specs.Verdict.{IsScheme, IsSound, AreTrees, HasFunction, Decides, DecidesScheme, Answers}
+use Rattle.hs_app.specs.declared.verdict.Verdict.TheVariants.{Accepted, Rejected, Long}
+use Rattle.hs_app.specs.declared.verdict.Decided.{Decided}
+use Rattle.hs_app.specs.Problems.{IsProblemOf, HasManyPoints, HasMuchFlow, IsReportedTable}
+use Rattle.hs_app.specs.Verdict.{max_bytes, Has, IsScheme, IsSound, Reports, IsOverBudget, Decides, Refused, Answers, HasDecision, IsWithinBudget, IsBoundToExceed, WarrantsOnScheme, HasWarrant, Warrants, IsReadable}
+use Rattle.hs_app.proofs.OneProblem.{one_problem, not_many_points, not_much_flow, many_not_much}
 
--- ---- what an answer says of each layer
+-- ---- what comes of a file, layer by layer: a refusal, of which R holds, or a scheme with sorts, of which S holds
 
-abbrev TellsSort : UnsortedData → SortFault → Result Verdict Refusal → Type 0
-TellsSort u (sorts.IllSorted rule) r = r ≡ Err (IllSorted rule)
-TellsSort u (sorts.TerminalNotFirstOrder a) r = (name : List ℕ) × (slice_get u.names.terminals a ≡ Some name) × (r ≡ Err (NotFirstOrder name))
-TellsSort u (sorts.SortTooLarge rule) r = r ≡ Err (SortTooLarge rule)
-TellsSort u (sorts.RuleTooLong rule) r = r ≡ Err (RuleTooLong rule)
+abbrev TellsSort : UnsortedData → SortFault → Refusal → Type 0
+TellsSort u (sorts.IllSorted rule) r = r ≡ IllSorted rule
+TellsSort u (sorts.TerminalNotFirstOrder a) r = (name : List ℕ) × (slice_get u.names.terminals a ≡ Some name) × (r ≡ NotFirstOrder name)
+TellsSort u (sorts.SortTooLarge rule) r = r ≡ SortTooLarge rule
+TellsSort u (sorts.RuleTooLong rule) r = r ≡ RuleTooLong rule
 TellsSort u sorts.OutOfMemory r = ⊥
 
-abbrev Wants : Result Verdict Refusal → Type 0
-Wants r = r ≡ Err OutOfMemory
-
-abbrev AtSorted : UnsortedData → Result Verdict Refusal → Type 0
-AtSorted u r = DecidesScheme u r
-
-abbrev AtScheme : UnsortedData → Result Verdict Refusal → Type 0
-AtScheme u r = ((f : SortFault) × IsFaultOf u.rules u.ranks f × TellsSort u f r) ⊎ (IsInferable u.rules u.ranks × AtSorted u r)
-
-abbrev AtFile : File → Result Verdict Refusal → Type 0
-AtFile file r = ((f : NameFault) × IsAnswered file f × (r ≡ Err (Names f))) ⊎ (IsFaultless file × AtScheme (unsorted_of file) r)
-
-abbrev AtBytes : Result File ReadFault → Result Verdict Refusal → Type 0
-AtBytes (Ok file) r = AtFile file r
-AtBytes (Err (read.Syntax line)) r = r ≡ Err (Syntax line)
-AtBytes (Err (read.Limit which)) r = r ≡ Err (Limit which)
-AtBytes (Err read.OutOfMemory) r = ⊥
-
-record Layered (bytes : List ℕ) (r : Result Verdict Refusal) : Type 0 where
-  answer : Result File ReadFault
-  is : IsAnswer bytes answer
-  at : AtBytes answer r
-
-module _ (bytes : List ℕ) where
-  of_scheme : (u : UnsortedData) (r : Result Verdict Refusal) → IsScheme bytes u → AtScheme u r → Layered bytes r
-  of_scheme u r s h = record { answer = Ok s.file; is = s.reads; at = inr (s.faultless, subst (λ (v : UnsortedData). AtScheme v r) s.is h) }
-
-  of_sound : (u : UnsortedData) (r : Result Verdict Refusal) → IsSound bytes u → AtSorted u r → Layered bytes r
-  of_sound u r s h = of_scheme u r s.of_bytes (inr (inferred_inferable u s.sorted s.inferred, h))
-
-  layered : (r : Result Verdict Refusal) → Answers bytes r → Wants r ⊎ Layered bytes r
-  layered (Ok Accepted) h = inr (of_sound h.scheme (Ok Accepted) h.sound (h.plain, h.accepts))
-  layered (Ok Rejected) h = inr (of_sound h.scheme (Ok Rejected) h.sound (h.plain, h.rejects))
-  layered (Err Usage) h = absurd h
-  layered (Err Source) h = absurd h
-  layered (Err FileTooLong) h = absurd h
-  layered (Err (Syntax line)) h = inr (record { answer = Err (read.Syntax line); is = h; at = refl })
-  layered (Err (Limit which)) h = inr (record { answer = Err (read.Limit which); is = h; at = refl })
-  layered (Err (Names fault)) h = inr (record { answer = Ok h.file; is = h.reads; at = inl (fault, h.fault, refl) })
-  layered (Err (IllSorted rule)) h = inr (of_scheme h.scheme (Err (IllSorted rule)) h.of_bytes (inl (sorts.IllSorted rule, h.fault, refl)))
-  layered (Err (NotFirstOrder terminal)) h =
-      inr (of_scheme h.scheme (Err (NotFirstOrder terminal)) h.of_bytes (inl (sorts.TerminalNotFirstOrder h.fault.number, h.fault.fault, (terminal, h.fault.named, refl))))
-  layered (Err (SortTooLarge rule)) h = inr (of_scheme h.scheme (Err (SortTooLarge rule)) h.of_bytes (inl (sorts.SortTooLarge rule, h.fault, refl)))
-  layered (Err (RuleTooLong rule)) h = inr (of_scheme h.scheme (Err (RuleTooLong rule)) h.of_bytes (inl (sorts.RuleTooLong rule, h.fault, refl)))
-  layered (Err NotYet) h = inr (of_sound h.scheme (Err NotYet) h.sound h.function)
-  layered (Err Sink) h = absurd h
-  layered (Err OutOfMemory) h = inl refl
-
--- ---- two answers, layer by layer
-
-not_accepted : (rules : List Rule) (ts : List TransitionData) → Accepts rules ts → Rejects rules ts → ⊥
-not_accepted rules ts accepted (n, refused) = let e : true ≡ false = sym (accepted n) ∙ refused in (cc)
-
-not_plain : (u : UnsortedData) → AreTrees u → HasFunction u → ⊥
-not_plain u trees h = h.takes (trees h.sorts h.least h.number h.in_range)
-
--- what is answered on a scheme with sorts
-abbrev Decided : UnsortedData → Result Verdict Refusal → Type 0
-Decided u a =
-    ((a ≡ Ok Accepted) × AreTrees u × Accepts u.rules u.automaton.transitions)
-    ⊎ (((a ≡ Ok Rejected) × AreTrees u × Rejects u.rules u.automaton.transitions)
-    ⊎ ((a ≡ Err NotYet) × HasFunction u))
-
-decided_as : (u : UnsortedData) (a : Result Verdict Refusal) → DecidesScheme u a → Wants a ⊎ Decided u a
-decided_as u (Ok Accepted) p = inr (inl (refl, p.0, p.1))
-decided_as u (Ok Rejected) p = inr (inr (inl (refl, p.0, p.1)))
-decided_as u (Err NotYet) p = inr (inr (inr (refl, p)))
-decided_as u (Err OutOfMemory) p = inl refl
-decided_as u (Err Usage) p = absurd p
-decided_as u (Err Source) p = absurd p
-decided_as u (Err FileTooLong) p = absurd p
-decided_as u (Err (Syntax line)) p = absurd p
-decided_as u (Err (Limit which)) p = absurd p
-decided_as u (Err (Names fault)) p = absurd p
-decided_as u (Err (IllSorted rule)) p = absurd p
-decided_as u (Err (NotFirstOrder terminal)) p = absurd p
-decided_as u (Err (SortTooLarge rule)) p = absurd p
-decided_as u (Err (RuleTooLong rule)) p = absurd p
-decided_as u (Err Sink) p = absurd p
-
-same_decision : (u : UnsortedData) (a b : Result Verdict Refusal) → Decided u a → Decided u b → a ≡ b
-same_decision u a b (inl (e, plain, reads)) (inl (d, plain', reads')) = e ∙ sym d
-same_decision u a b (inl (e, plain, reads)) (inr (inl (d, plain', refused))) = absurd (not_accepted u.rules u.automaton.transitions reads refused)
-same_decision u a b (inl (e, plain, reads)) (inr (inr (d, has))) = absurd (not_plain u plain has)
-same_decision u a b (inr (inl (e, plain, refused))) (inl (d, plain', reads)) = absurd (not_accepted u.rules u.automaton.transitions reads refused)
-same_decision u a b (inr (inl (e, plain, refused))) (inr (inl (d, plain', refused'))) = e ∙ sym d
-same_decision u a b (inr (inl (e, plain, refused))) (inr (inr (d, has))) = absurd (not_plain u plain has)
-same_decision u a b (inr (inr (e, has))) (inl (d, plain, reads)) = absurd (not_plain u plain has)
-same_decision u a b (inr (inr (e, has))) (inr (inl (d, plain, refused))) = absurd (not_plain u plain has)
-same_decision u a b (inr (inr (e, has))) (inr (inr (d, has'))) = e ∙ sym d
-
-decided_once : (u : UnsortedData) (a b : Result Verdict Refusal) → DecidesScheme u a → DecidesScheme u b → Wants a ⊎ (Wants b ⊎ (a ≡ b))
-decided_once u a b p q =
-    elim (decided_as u a p) [
-      | inl e ↦ inl e
-      | inr d ↦ elim (decided_as u b q) [
-        | inl e ↦ inr (inl e)
-        | inr d' ↦ inr (inr (same_decision u a b d d'))
-      ]
-    ]
-
-told_once : (u : UnsortedData) (f : SortFault) (a b : Result Verdict Refusal) → TellsSort u f a → TellsSort u f b → a ≡ b
+told_once : (u : UnsortedData) (f : SortFault) (a b : Refusal) → TellsSort u f a → TellsSort u f b → a ≡ b
 told_once u (sorts.IllSorted rule) a b p q = p ∙ sym q
 told_once u (sorts.TerminalNotFirstOrder t) a b (m, at, is) (n, at', is') =
-    let e : m ≡ n = cc in is ∙ (ap (λ (name : List ℕ). Err (NotFirstOrder name)) e ∙ sym is')
+    let e : m ≡ n = cc in is ∙ (ap (λ (name : List ℕ). NotFirstOrder name) e ∙ sym is')
 told_once u (sorts.SortTooLarge rule) a b p q = p ∙ sym q
 told_once u (sorts.RuleTooLong rule) a b p q = p ∙ sym q
 told_once u sorts.OutOfMemory a b p q = absurd p
 
-told_of_memory : (u : UnsortedData) (f : SortFault) (a : Result Verdict Refusal) → f ≡ sorts.OutOfMemory → TellsSort u f a → ⊥
+told_of_memory : (u : UnsortedData) (f : SortFault) (a : Refusal) → f ≡ sorts.OutOfMemory → TellsSort u f a → ⊥
 told_of_memory u f a e h = subst (λ (g : SortFault). TellsSort u g a) e h
 
-scheme_once : (u : UnsortedData) (a b : Result Verdict Refusal) → AtScheme u a → AtScheme u b → Wants a ⊎ (Wants b ⊎ (a ≡ b))
-scheme_once u a b (inl (f, is, tells)) (inl (g, is', tells')) =
-    elim (one_sort_fault u.rules u.ranks f g is is') [
-      | inl e ↦ absurd (told_of_memory u f a e tells)
-      | inr (inl e) ↦ absurd (told_of_memory u g b e tells')
-      | inr (inr e) ↦ inr (inr (told_once u g a b (subst (λ (k : SortFault). TellsSort u k a) e tells) tells'))
-    ]
-scheme_once u a b (inl (f, is, tells)) (inr (small, at)) = absurd (told_of_memory u f a (only_memory u.rules u.ranks f small is) tells)
-scheme_once u a b (inr (small, at)) (inl (g, is, tells)) = absurd (told_of_memory u g b (only_memory u.rules u.ranks g small is) tells)
-scheme_once u a b (inr (small, at)) (inr (small', at')) = decided_once u a b at at'
+abbrev AtScheme : (Refusal → Type 0) → (UnsortedData → Type 0) → UnsortedData → Type 0
+AtScheme R S u = ((f : SortFault) × (IsFaultOf u.rules u.ranks f × ((r : Refusal) × (TellsSort u f r × R r)))) ⊎ (IsInferable u.rules u.ranks × S u)
 
-file_once : (file : File) (a b : Result Verdict Refusal) → AtFile file a → AtFile file b → Wants a ⊎ (Wants b ⊎ (a ≡ b))
-file_once file a b (inl (f, is, e)) (inl (g, is', e')) = inr (inr (e ∙ (ap (λ (k : NameFault). Err (Names k)) (one_name_fault file f g is is') ∙ sym e')))
-file_once file a b (inl (f, is, e)) (inr (clean, at)) = absurd (not_both file f clean is)
-file_once file a b (inr (clean, at)) (inl (g, is, e)) = absurd (not_both file g clean is)
-file_once file a b (inr (clean, at)) (inr (clean', at')) = scheme_once (unsorted_of file) a b at at'
+abbrev AtFile : (Refusal → Type 0) → (UnsortedData → Type 0) → File → Type 0
+AtFile R S file = ((f : NameFault) × (IsAnswered file f × R (Names f))) ⊎ (IsFaultless file × AtScheme R S (unsorted_of file))
 
-bytes_once : (answer : Result File ReadFault) (a b : Result Verdict Refusal) → AtBytes answer a → AtBytes answer b → Wants a ⊎ (Wants b ⊎ (a ≡ b))
-bytes_once (Ok file) a b p q = file_once file a b p q
-bytes_once (Err (read.Syntax line)) a b p q = inr (inr (p ∙ sym q))
-bytes_once (Err (read.Limit which)) a b p q = inr (inr (p ∙ sym q))
-bytes_once (Err read.OutOfMemory) a b p q = absurd p
+abbrev AtBytes : (Refusal → Type 0) → (UnsortedData → Type 0) → Result File ReadFault → Type 0
+AtBytes R S (Ok file) = AtFile R S file
+AtBytes R S (Err (read.Syntax line)) = R (Syntax line)
+AtBytes R S (Err (read.Limit which)) = R (Limit which)
+AtBytes R S (Err read.OutOfMemory) = ⊥
 
--- the two answers are the same
-pub answered_once : (bytes : List ℕ) (a b : Result Verdict Refusal) → Answers bytes a → Answers bytes b → Wants a ⊎ (Wants b ⊎ (a ≡ b))
-answered_once bytes a b p q =
-    elim (layered bytes a p) [
-      | inl e ↦ inl e
-      | inr l ↦ elim (layered bytes b q) [
-        | inl e ↦ inr (inl e)
-        | inr m ↦ bytes_once m.answer a b (subst (λ (r : Result File ReadFault). AtBytes r a) (one_answer_is bytes l.answer m.answer l.is m.is) l.at) m.at
+record Layered (R : Refusal → Type 0) (S : UnsortedData → Type 0) (bytes : List ℕ) : Type 0 where
+  answer : Result File ReadFault
+  is : IsAnswer bytes answer
+  at : AtBytes R S answer
+
+module _ (R : Refusal → Type 0) (S : UnsortedData → Type 0) (bytes : List ℕ) where
+  of_scheme : (u : UnsortedData) → IsScheme bytes u → AtScheme R S u → Layered R S bytes
+  of_scheme u s h = record { answer = Ok s.file; is = s.reads; at = inr (s.faultless, subst (λ (v : UnsortedData). AtScheme R S v) s.is h) }
+
+  of_sound : (u : UnsortedData) → IsSound bytes u → S u → Layered R S bytes
+  of_sound u s h = of_scheme u s.of_bytes (inr (inferred_inferable u s.sorted s.inferred, h))
+
+  -- the refusals of what comes before a scheme has its sorts
+  of_refusal : (settings : Settings) (r : Refusal) → Refused settings bytes r → R r
+      → (r ≡ OutOfMemory) ⊎ (HasDecision settings bytes (Err r) ⊎ Layered R S bytes)
+  of_refusal settings Usage h k = absurd h
+  of_refusal settings Source h k = absurd h
+  of_refusal settings FileTooLong h k = absurd h
+  of_refusal settings (Syntax line) h k = inr (inr (record { answer = Err (read.Syntax line); is = h; at = k }))
+  of_refusal settings (Limit which) h k = inr (inr (record { answer = Err (read.Limit which); is = h; at = k }))
+  of_refusal settings (Names fault) h k = inr (inr (record { answer = Ok h.file; is = h.reads; at = inl (fault, (h.fault, k)) }))
+  of_refusal settings (IllSorted rule) h k = inr (inr (of_scheme h.scheme h.of_bytes (inl (sorts.IllSorted rule, (h.fault, (IllSorted rule, (refl, k)))))))
+  of_refusal settings (NotFirstOrder terminal) h k =
+      inr (inr (of_scheme h.scheme h.of_bytes (inl (sorts.TerminalNotFirstOrder h.fault.number, (h.fault.fault, (NotFirstOrder terminal, ((terminal, h.fault.named, refl), k)))))))
+  of_refusal settings (SortTooLarge rule) h k = inr (inr (of_scheme h.scheme h.of_bytes (inl (sorts.SortTooLarge rule, (h.fault, (SortTooLarge rule, (refl, k)))))))
+  of_refusal settings (RuleTooLong rule) h k = inr (inr (of_scheme h.scheme h.of_bytes (inl (sorts.RuleTooLong rule, (h.fault, (RuleTooLong rule, (refl, k)))))))
+  of_refusal settings PointLimit h k = inr (inl h)
+  of_refusal settings FlowLimit h k = inr (inl h)
+  of_refusal settings EntryLimit h k = inr (inl h)
+  of_refusal settings Sink h k = absurd h
+  of_refusal settings OutOfMemory h k = inl refl
+
+-- ---- two that come of one file
+
+module _ (Q R : Refusal → Type 0) (P S : UnsortedData → Type 0) (G : Type 0) (same : (r : Refusal) → Q r → R r → G) (both : (u : UnsortedData) → P u → S u → G) where
+  meet_told : (u : UnsortedData) (f : SortFault) (a b : Refusal) → TellsSort u f a → Q a → TellsSort u f b → R b → G
+  meet_told u f a b p q p' r = same b (subst Q (told_once u f a b p p') q) r
+
+  meet_scheme : (u : UnsortedData) → AtScheme Q P u → AtScheme R S u → G
+  meet_scheme u (inl (f, (is, (a, (tells, q))))) (inl (g, (is', (b, (tells', r))))) =
+      elim (one_sort_fault u.rules u.ranks f g is is') [
+        | inl e ↦ absurd (told_of_memory u f a e tells)
+        | inr (inl e) ↦ absurd (told_of_memory u g b e tells')
+        | inr (inr e) ↦ meet_told u g a b (subst (λ (k : SortFault). TellsSort u k a) e tells) q tells' r
       ]
-    ]
+  meet_scheme u (inl (f, (is, (a, (tells, q))))) (inr (small, s)) = absurd (told_of_memory u f a (only_memory u.rules u.ranks f small is) tells)
+  meet_scheme u (inr (small, p)) (inl (g, (is, (b, (tells, r))))) = absurd (told_of_memory u g b (only_memory u.rules u.ranks g small is) tells)
+  meet_scheme u (inr (small, p)) (inr (small', s)) = both u p s
 
--- ---- the answer on bytes without faults
+  meet_file : (file : File) → AtFile Q P file → AtFile R S file → G
+  meet_file file (inl (f, (is, q))) (inl (g, (is', r))) = same (Names g) (subst (λ (k : NameFault). Q (Names k)) (one_name_fault file f g is is') q) r
+  meet_file file (inl (f, (is, q))) (inr (clean, at)) = absurd (not_both file f clean is)
+  meet_file file (inr (clean, at)) (inl (g, (is, r))) = absurd (not_both file g clean is)
+  meet_file file (inr (clean, at)) (inr (clean', at')) = meet_scheme (unsorted_of file) at at'
 
-verdict_of : (u : UnsortedData) (r : Result Verdict Refusal) → AreTrees u → AtSorted u r → Wants r ⊎ ((v : Verdict) × (r ≡ Ok v))
-verdict_of u r plain h =
-    elim (decided_as u r h) [
-      | inl e ↦ inl e
-      | inr (inl (e, plain', reads)) ↦ inr (Accepted, e)
-      | inr (inr (inl (e, plain', refused))) ↦ inr (Rejected, e)
-      | inr (inr (inr (e, has))) ↦ absurd (not_plain u plain has)
-    ]
+  meet_bytes : (answer : Result File ReadFault) → AtBytes Q P answer → AtBytes R S answer → G
+  meet_bytes (Ok file) p q = meet_file file p q
+  meet_bytes (Err (read.Syntax line)) p q = same (Syntax line) p q
+  meet_bytes (Err (read.Limit which)) p q = same (Limit which) p q
+  meet_bytes (Err read.OutOfMemory) p q = absurd p
 
-at_scheme : (u : UnsortedData) (r : Result Verdict Refusal) → IsInferable u.rules u.ranks → AtScheme u r → AtSorted u r
-at_scheme u r small (inl (f, is, tells)) = absurd (told_of_memory u f r (only_memory u.rules u.ranks f small is) tells)
-at_scheme u r small (inr (small', at)) = at
+  meet : (bytes : List ℕ) → Layered Q P bytes → Layered R S bytes → G
+  meet bytes l m = meet_bytes m.answer (subst (λ (r : Result File ReadFault). AtBytes Q P r) (one_answer_is bytes l.answer m.answer l.is m.is) l.at) m.at
 
-at_file : (file : File) (r : Result Verdict Refusal) → IsFaultless file → AtFile file r → AtScheme (unsorted_of file) r
-at_file file r clean (inl (f, is, e)) = absurd (not_both file f clean is)
-at_file file r clean (inr (clean', at)) = at
+-- ---- an answer and a warrant on a scheme
 
-pub sound_has_verdict : (bytes : List ℕ) (u : UnsortedData) (r : Result Verdict Refusal) → IsSound bytes u → AreTrees u → Answers bytes r
-    → Wants r ⊎ ((v : Verdict) × (r ≡ Ok v))
-sound_has_verdict bytes u r s plain h =
-    elim (layered bytes r h) [
-      | inl e ↦ inl e
-      | inr l ↦
-          let of = s.of_bytes in
-          let at = subst (λ (a : Result File ReadFault). AtBytes a r) (one_answer_is bytes l.answer (Ok of.file) l.is of.reads) l.at in
-          let here : AtScheme u r = subst (λ (v : UnsortedData). AtScheme v r) (sym of.is) (at_file of.file r of.faultless at) in
-          verdict_of u r plain (at_scheme u r (inferred_inferable u s.sorted s.inferred) here)
-    ]
+-- the answer is one of those that the warrant allows
+abbrev pub Matches : Result Verdict Refusal → Result Decided Refusal → Type 0
+Matches (Ok Accepted) (Ok decided) = decided.verdict ≡ Accepted
+Matches (Ok Rejected) (Ok decided) = (decided.verdict ≡ Rejected) ⊎ (decided.verdict ≡ Long)
+Matches (Ok Long) (Ok decided) = ⊥
+Matches (Ok verdict) (Err refusal) = ⊥
+Matches (Err refusal) (Ok decided) = ⊥
+Matches (Err refusal) (Err other) = refusal ≡ other
+
+abbrev pub Wants : Result Decided Refusal → Type 0
+Wants a = a ≡ Err OutOfMemory
+
+abbrev pub Right : Result Verdict Refusal → Result Decided Refusal → Type 0
+Right d a = Wants a ⊎ Matches d a
+
+matching : (c d : Result Verdict Refusal) (a b : Result Decided Refusal) → d ≡ c → a ≡ b → Matches c b → Matches d a
+matching c d a b e f h = subst (λ (x : Result Verdict Refusal). Matches x a) (sym e) (subst (λ (y : Result Decided Refusal). Matches c y) (sym f) h)
+
+module _ (settings : Settings) (u : UnsortedData) where
+  -- a tree that isn't accepted; where the first start entry isn't asked for, within the budget
+  record IsLost : Type 0 where
+    rejects : Accepts u.rules u.automaton.transitions → ⊥
+    problem : ProblemData
+    of : IsProblemOf u problem
+    budget : (settings.first ≡ true) ⊎ (Exceeds problem settings.entries → ⊥)
+
+  -- what an answer says of the scheme
+  abbrev Told : Result Decided Refusal → Type 0
+  Told a =
+      Wants a
+      ⊎ (((d : Decided) × ((a ≡ Ok d) × ((d.verdict ≡ Accepted) × (Accepts u.rules u.automaton.transitions × IsWithinBudget settings u))))
+      ⊎ (((d : Decided) × ((a ≡ Ok d) × (((d.verdict ≡ Rejected) ⊎ (d.verdict ≡ Long)) × IsLost)))
+      ⊎ (((a ≡ Err PointLimit) × HasManyPoints u)
+      ⊎ (((a ≡ Err FlowLimit) × HasMuchFlow u)
+      ⊎ ((a ≡ Err EntryLimit) × IsOverBudget settings u)))))
+
+  least_within : (p : ProblemData) (T : List EntryData) → IsLeastTable p T → length T ≤ settings.entries → Exceeds p settings.entries → ⊥
+  least_within p T least within exceeds = omega (arith, (least_decides p T settings.entries least).0 exceeds, within)
+
+  reported_within : (first : Bool) (p : ProblemData) (T : List EntryData) → IsReportedTable first p T → length T ≤ settings.entries
+      → (first ≡ true) ⊎ (Exceeds p settings.entries → ⊥)
+  reported_within true p T h within = inl refl
+  reported_within false p T h within = inr (least_within p T h.0 within)
+
+  told_verdict : (d : Decided) (v : Verdict) → d.verdict ≡ v → Reports settings u v d.report.items → Told (Ok d)
+  told_verdict d Accepted e (p, (of, r)) =
+      inr (inl (d, (refl, (e, (r.accepts, record { problem = p; of = of; few = least_within p r.table r.least r.within })))))
+  told_verdict d Rejected e (p, (of, r)) =
+      inr (inr (inl (d, (refl, (inl e, record { rejects = r.rejects; problem = p; of = of; budget = reported_within settings.first p r.table r.reported r.within })))))
+  told_verdict d Long e (p, (of, r)) =
+      inr (inr (inl (d, (refl, (inr e, record { rejects = r.rejects; problem = p; of = of; budget = reported_within settings.first p r.table r.reported r.within })))))
+
+  told : (a : Result Decided Refusal) → Decides settings u a → Told a
+  told (Ok d) h = told_verdict d d.verdict refl h
+  told (Err PointLimit) h = inr (inr (inr (inl (refl, h))))
+  told (Err FlowLimit) h = inr (inr (inr (inr (inl (refl, h)))))
+  told (Err EntryLimit) h = inr (inr (inr (inr (inr (refl, h)))))
+  told (Err OutOfMemory) h = inl refl
+  told (Err Usage) h = absurd h
+  told (Err Source) h = absurd h
+  told (Err FileTooLong) h = absurd h
+  told (Err (Syntax line)) h = absurd h
+  told (Err (Limit which)) h = absurd h
+  told (Err (Names fault)) h = absurd h
+  told (Err (IllSorted rule)) h = absurd h
+  told (Err (NotFirstOrder terminal)) h = absurd h
+  told (Err (SortTooLarge rule)) h = absurd h
+  told (Err (RuleTooLong rule)) h = absurd h
+  told (Err Sink) h = absurd h
+
+  abbrev Warranted : Result Verdict Refusal → Type 0
+  Warranted d =
+      ((d ≡ Ok Accepted) × (Accepts u.rules u.automaton.transitions × IsWithinBudget settings u))
+      ⊎ (((d ≡ Ok Rejected) × ((Accepts u.rules u.automaton.transitions → ⊥) × IsWithinBudget settings u))
+      ⊎ (((d ≡ Err PointLimit) × HasManyPoints u)
+      ⊎ (((d ≡ Err FlowLimit) × HasMuchFlow u)
+      ⊎ ((d ≡ Err EntryLimit) × IsBoundToExceed settings u))))
+
+  warranted : (d : Result Verdict Refusal) → WarrantsOnScheme settings u d → Warranted d
+  warranted (Ok Accepted) h = inl (refl, (h.0, h.1))
+  warranted (Ok Rejected) h = inr (inl (refl, (h.0, h.1)))
+  warranted (Err PointLimit) h = inr (inr (inl (refl, h)))
+  warranted (Err FlowLimit) h = inr (inr (inr (inl (refl, h))))
+  warranted (Err EntryLimit) h = inr (inr (inr (inr (refl, h))))
+  warranted (Ok Long) h = absurd h
+  warranted (Err OutOfMemory) h = absurd h
+  warranted (Err Usage) h = absurd h
+  warranted (Err Source) h = absurd h
+  warranted (Err FileTooLong) h = absurd h
+  warranted (Err (Syntax line)) h = absurd h
+  warranted (Err (Limit which)) h = absurd h
+  warranted (Err (Names fault)) h = absurd h
+  warranted (Err (IllSorted rule)) h = absurd h
+  warranted (Err (NotFirstOrder terminal)) h = absurd h
+  warranted (Err (SortTooLarge rule)) h = absurd h
+  warranted (Err (RuleTooLong rule)) h = absurd h
+  warranted (Err Sink) h = absurd h
+
+  -- the scheme has one problem, and what is said of one is said of another
+  exceeds_too : (p q : ProblemData) → IsProblemOf u p → IsProblemOf u q → Exceeds p settings.entries → Exceeds q settings.entries
+  exceeds_too p q is other h = subst (λ (x : ProblemData). Exceeds x settings.entries) (one_problem u p q is other) h
+
+  not_over : IsWithinBudget settings u → IsOverBudget settings u → ⊥
+  not_over w o = w.few (exceeds_too o.0 w.problem o.1.0 w.of o.1.1.exceeds)
+
+  not_bound : IsWithinBudget settings u → IsBoundToExceed settings u → ⊥
+  not_bound w b = w.few (exceeds_too b.problem w.problem b.of w.of b.exceeds)
+
+  not_first : settings.first ≡ true → settings.first ≡ false → ⊥
+  not_first e f = let g : true ≡ false = sym e ∙ f in (cc)
+
+  not_lost : IsLost → IsBoundToExceed settings u → ⊥
+  not_lost l b =
+      elim l.budget [
+        | inr few ↦ few (exceeds_too b.problem l.problem b.of l.of b.exceeds)
+        | inl first ↦ elim b.tells [
+          | inl all ↦ not_first first all
+          | inr accepts ↦ l.rejects accepts
+        ]
+      ]
+
+  -- an answer beside a scheme that has a problem
+  beside_problem : (d : Result Verdict Refusal) (a : Result Decided Refusal) (p : ProblemData) → IsProblemOf u p → Told a
+      → ((x : Decided) → a ≡ Ok x → x.verdict ≡ Accepted → Accepts u.rules u.automaton.transitions → IsWithinBudget settings u → Matches d a)
+      → ((x : Decided) → a ≡ Ok x → (x.verdict ≡ Rejected) ⊎ (x.verdict ≡ Long) → IsLost → Matches d a)
+      → (a ≡ Err EntryLimit → IsOverBudget settings u → Matches d a)
+      → Right d a
+  beside_problem d a p is h accepted rejected over =
+      elim h [
+        | inl wants ↦ inl wants
+        | inr (inl (x, (e, (v, (accepts, within))))) ↦ inr (accepted x e v accepts within)
+        | inr (inr (inl (x, (e, (v, lost))))) ↦ inr (rejected x e v lost)
+        | inr (inr (inr (inl (e, many)))) ↦ absurd (not_many_points u p is many)
+        | inr (inr (inr (inr (inl (e, much))))) ↦ absurd (not_much_flow u p is much)
+        | inr (inr (inr (inr (inr (e, o))))) ↦ inr (over e o)
+      ]
+
+  -- an answer beside a scheme that has none
+  beside_limit : (d : Result Verdict Refusal) (a : Result Decided Refusal) → Told a
+      → ((p : ProblemData) → IsProblemOf u p → ⊥)
+      → (a ≡ Err PointLimit → HasManyPoints u → Matches d a)
+      → (a ≡ Err FlowLimit → HasMuchFlow u → Matches d a)
+      → Right d a
+  beside_limit d a h none many much =
+      elim h [
+        | inl wants ↦ inl wants
+        | inr (inl (x, (e, (v, (accepts, within))))) ↦ absurd (none within.problem within.of)
+        | inr (inr (inl (x, (e, (v, lost))))) ↦ absurd (none lost.problem lost.of)
+        | inr (inr (inr (inl (e, m)))) ↦ inr (many e m)
+        | inr (inr (inr (inr (inl (e, m))))) ↦ inr (much e m)
+        | inr (inr (inr (inr (inr (e, o))))) ↦ absurd (none o.0 o.1.0)
+      ]
+
+  pub scheme_matches : (d : Result Verdict Refusal) (a : Result Decided Refusal) → WarrantsOnScheme settings u d → Decides settings u a → Right d a
+  scheme_matches d a w h =
+      elim (warranted d w) [
+        | inl (is, (accepts, within)) ↦
+            beside_problem d a within.problem within.of (told a h)
+            (λ x e v accepts' within'. matching (Ok Accepted) d a (Ok x) is e v)
+            (λ x e v lost. absurd (lost.rejects accepts))
+            (λ e o. absurd (not_over within o))
+        | inr (inl (is, (rejects, within))) ↦
+            beside_problem d a within.problem within.of (told a h)
+            (λ x e v accepts' within'. absurd (rejects accepts'))
+            (λ x e v lost. matching (Ok Rejected) d a (Ok x) is e v)
+            (λ e o. absurd (not_over within o))
+        | inr (inr (inl (is, many))) ↦
+            beside_limit d a (told a h) (λ p of. not_many_points u p of many)
+            (λ e m. matching (Err PointLimit) d a (Err PointLimit) is e refl)
+            (λ e m. absurd (many_not_much u many m))
+        | inr (inr (inr (inl (is, much)))) ↦
+            beside_limit d a (told a h) (λ p of. not_much_flow u p of much)
+            (λ e m. absurd (many_not_much u m much))
+            (λ e m. matching (Err FlowLimit) d a (Err FlowLimit) is e refl)
+        | inr (inr (inr (inr (is, bound)))) ↦
+            beside_problem d a bound.problem bound.of (told a h)
+            (λ x e v accepts' within'. absurd (not_bound within' bound))
+            (λ x e v lost. absurd (not_lost lost bound))
+            (λ e o. matching (Err EntryLimit) d a (Err EntryLimit) is e refl)
+      ]
+
+-- ---- an answer and a warrant on the bytes of a file
+
+module _ (settings : Settings) (bytes : List ℕ) where
+  answer_layers : (a : Result Decided Refusal) → Answers settings bytes a → Wants a ⊎ Layered (λ r. a ≡ Err r) (λ u. Decides settings u a) bytes
+  answer_layers (Ok d) h = inr (of_sound (λ r. Ok d ≡ Err r) (λ u. Decides settings u (Ok d)) bytes h.scheme h.sound h.decides)
+  answer_layers (Err r) h =
+      elim (of_refusal (λ s. Err r ≡ Err s) (λ u. Decides settings u (Err r)) bytes settings r h refl) [
+        | inl e ↦ inl (ap (λ (s : Refusal). Err s) e)
+        | inr (inl d) ↦ inr (of_sound (λ s. Err r ≡ Err s) (λ u. Decides settings u (Err r)) bytes d.scheme d.sound d.decides)
+        | inr (inr l) ↦ inr l
+      ]
+
+  module _ (d : Result Verdict Refusal) where
+    abbrev IsRefusal : Refusal → Type 0
+    IsRefusal r = d ≡ Err r
+
+    abbrev OnScheme : UnsortedData → Type 0
+    OnScheme u = WarrantsOnScheme settings u d
+
+    abbrev Layers : Type 0
+    Layers = Layered IsRefusal OnScheme bytes
+
+    at_scheme : (u : UnsortedData) → IsScheme bytes u → (f : SortFault) → IsFaultOf u.rules u.ranks f → (r : Refusal) → TellsSort u f r → d ≡ Err r → Layers
+    at_scheme u of f fault r tells e = of_scheme IsRefusal OnScheme bytes u of (inl (f, (fault, (r, (tells, e)))))
+
+    of_warrant : HasWarrant settings bytes d → Layers
+    of_warrant w = of_sound IsRefusal OnScheme bytes w.scheme w.sound w.warrants
+
+  -- the file is too long, or not, and then there are the layers
+  abbrev Lies : Result Verdict Refusal → Type 0
+  Lies d = (max_bytes < length bytes) ⊎ ((length bytes ≤ max_bytes) × Layers d)
+
+  warrant_layers : (d : Result Verdict Refusal) → Warrants settings d bytes → Lies d
+  warrant_layers (Ok v) h = inr (h.0, of_warrant (Ok v) h.1)
+  warrant_layers (Err Usage) h = absurd h
+  warrant_layers (Err Source) h = absurd h
+  warrant_layers (Err Sink) h = absurd h
+  warrant_layers (Err OutOfMemory) h = absurd h
+  warrant_layers (Err FileTooLong) h = inl h
+  warrant_layers (Err (Syntax line)) h = inr (h.0, record { answer = Err (read.Syntax line); is = h.1; at = refl })
+  warrant_layers (Err (Limit which)) h = inr (h.0, record { answer = Err (read.Limit which); is = h.1; at = refl })
+  warrant_layers (Err (Names fault)) h = inr (h.0, record { answer = Ok h.1.file; is = h.1.reads; at = inl (fault, (h.1.fault, refl)) })
+  warrant_layers (Err (IllSorted rule)) h = inr (h.0, at_scheme (Err (IllSorted rule)) h.1.scheme h.1.of_bytes (sorts.IllSorted rule) h.1.fault (IllSorted rule) refl refl)
+  warrant_layers (Err (NotFirstOrder terminal)) h =
+      inr (h.0, at_scheme (Err (NotFirstOrder terminal)) h.1.scheme h.1.of_bytes (sorts.TerminalNotFirstOrder h.1.fault.number) h.1.fault.fault (NotFirstOrder terminal) (terminal, h.1.fault.named, refl) refl)
+  warrant_layers (Err (SortTooLarge rule)) h = inr (h.0, at_scheme (Err (SortTooLarge rule)) h.1.scheme h.1.of_bytes (sorts.SortTooLarge rule) h.1.fault (SortTooLarge rule) refl refl)
+  warrant_layers (Err (RuleTooLong rule)) h = inr (h.0, at_scheme (Err (RuleTooLong rule)) h.1.scheme h.1.of_bytes (sorts.RuleTooLong rule) h.1.fault (RuleTooLong rule) refl refl)
+  warrant_layers (Err PointLimit) h = inr (h.0, of_warrant (Err PointLimit) h.1)
+  warrant_layers (Err FlowLimit) h = inr (h.0, of_warrant (Err FlowLimit) h.1)
+  warrant_layers (Err EntryLimit) h = inr (h.0, of_warrant (Err EntryLimit) h.1)
+
+  -- what the file warrants is answered, want of memory aside
+  pub answer_meets : (d : Result Verdict Refusal) (a : Result Decided Refusal) → Warrants settings d bytes → Has settings a bytes → Right d a
+  answer_meets d a w h =
+      elim (answer_layers a h.1) [
+        | inl wants ↦ inl wants
+        | inr l ↦ elim (warrant_layers d w) [
+          | inl long ↦ absurd (omega (arith, long, h.0))
+          | inr (short, k) ↦
+              meet (λ r. d ≡ Err r) (λ r. a ≡ Err r) (λ u. WarrantsOnScheme settings u d) (λ u. Decides settings u a) (Right d a)
+              (λ r e f. inr (matching (Err r) d a (Err r) e f refl)) (λ u p s. scheme_matches settings u d a p s) bytes k l
+        ]
+      ]
+
+  -- a verdict, want of memory, or too many entries
+  abbrev pub Comes : Result Decided Refusal → Type 0
+  Comes a = Wants a ⊎ (((x : Decided) × (a ≡ Ok x)) ⊎ (a ≡ Err EntryLimit))
+
+  comes_of : (u : UnsortedData) (a : Result Decided Refusal) (p : ProblemData) → IsProblemOf u p → Told settings u a → Comes a
+  comes_of u a p is h =
+      elim h [
+        | inl wants ↦ inl wants
+        | inr (inl (x, (e, v))) ↦ inr (inl (x, e))
+        | inr (inr (inl (x, (e, v)))) ↦ inr (inl (x, e))
+        | inr (inr (inr (inl (e, many)))) ↦ absurd (not_many_points u p is many)
+        | inr (inr (inr (inr (inl (e, much))))) ↦ absurd (not_much_flow u p is much)
+        | inr (inr (inr (inr (inr (e, o))))) ↦ inr (inr e)
+      ]
+
+  -- a file with a problem gets a verdict, unless memory is refused or there are too many entries
+  pub readable_comes : (a : Result Decided Refusal) → IsReadable bytes → Has settings a bytes → Comes a
+  readable_comes a r h =
+      elim (answer_layers a h.1) [
+        | inl wants ↦ inl wants
+        | inr l ↦
+            meet (λ s. ⊥) (λ s. a ≡ Err s) (λ u. (p : ProblemData) × IsProblemOf u p) (λ u. Decides settings u a) (Comes a)
+            (λ s never e. absurd never) (λ u q s. comes_of u a q.0 q.1 (told settings u a s)) bytes
+            (of_sound (λ s. ⊥) (λ u. (p : ProblemData) × IsProblemOf u p) bytes r.scheme r.sound (r.problem, r.of)) l
+      ]

@@ -1,7 +1,7 @@
-pub mod PointLemmas
-pub mod SaturationLemmas
-pub mod BareLemmas
-pub mod FullLemmas
+pub mod OneProblem
+pub mod CoreLemmas
+pub mod DecidingLemmas
+pub mod OrderLemmas
 pub mod AnswerLemmas
 pub mod OutcomeLemmas
 pub mod VerdictLemmas

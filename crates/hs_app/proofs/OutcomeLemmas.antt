@@ -2,22 +2,27 @@
 use Rattle.std.proofs.Common.{◌≡◌, ◌≢◌, refl, sym, ◌∙◌, ap, subst, ℕ, ◌+◌, ◌<◌, ◌≤◌, true, false, List, [], ◌++◌, append-nil, Option, Some, None, Result, Ok, Err, length, length-append, ◌⊎◌, inl, inr, arith}
 use Rattle.std.specs.Option.{IsSomeAnd, IsSome, is_some, IfSome}
 use Rattle.std.specs.Io.KnownBytes.{prepend_known}
+use Rattle.hs_gen.specs.Cycle.{cycle_file_text}
 use Rattle.hs_app.specs.declared.refusal.Refusal.{Refusal}
-use Rattle.hs_app.specs.declared.refusal.Refusal.TheVariants.{Usage, Source, FileTooLong, Syntax, Limit, Names, IllSorted, NotFirstOrder, SortTooLarge, RuleTooLong, NotYet, Sink, OutOfMemory}
+use Rattle.hs_app.specs.declared.refusal.Refusal.TheVariants.{Usage, Source, FileTooLong, Syntax, Limit, Names, IllSorted, NotFirstOrder, SortTooLarge, RuleTooLong, PointLimit, FlowLimit, EntryLimit, Sink, OutOfMemory}
+use Rattle.hs_app.specs.declared.verdict.Settings.{Settings}
 use Rattle.hs_app.specs.declared.verdict.Verdict.{Verdict}
-use Rattle.hs_app.specs.declared.verdict.Verdict.TheVariants.{Accepted, Rejected}
+use Rattle.hs_app.specs.declared.verdict.Verdict.TheVariants.{Accepted, Rejected, Long}
+use Rattle.hs_app.specs.declared.verdict.Decided.{Decided}
 use Rattle.hs_app.specs.declared.top.Ending.{Ending}
 use Rattle.hs_app.specs.declared.top.Ending.TheVariants.{Reported, CutOff, Refused}
-use Rattle.hs_app.specs.Refusal.{HasFixedLine}
-use Rattle.hs_app.specs.Verdict.{max_bytes, Has, IsPlainFile}
-use Rattle.hs_app.specs.Outcome.{SourceRun, SinkRun, IsWhole, IsPart, IsCalm, OfToldFile, HasCause, IsAnswer, IsDue, status_due, status_at, Ends, Complies, Rows}
-use Rattle.hs_app.proofs.AnswerLemmas.{answered_once, sound_has_verdict}
+use Rattle.hs_app.specs.Refusal.{HasFixedLine, status_of}
+use Rattle.hs_app.specs.Verdict.{max_bytes, Has, Warrants, Answers, IsReadable}
+use Rattle.hs_app.specs.Order.{Job, read_file, generate, Order, SourceRun, IsUntouched, bytes_of, IsWhole, IsPart, HasFault, OfTold}
+use Rattle.hs_app.specs.Outcome.{SinkRun, IsCalm, HasCause, IsOfBytes, IsAnswer, IsReadFault, IsDue, IsStatusOf, status_of_verdict, status_at, Ends, Complies, Rows}
+use Rattle.hs_app.proofs.AnswerLemmas.{Wants, Matches, Right, Comes, answer_meets, readable_comes}
 
--- ---- facts about the bytes of a file
+-- ---- facts about the bytes of a job's file
 
--- the same as `OfToldFile`, where the file need not be told
-abbrev OfFile : Option (List ℕ) → (List ℕ → Option (List ℕ)) → (List ℕ → Type 0) → Type 0
-OfFile name file P = IsSomeAnd name (λ n. IfSome (file n) P)
+-- the same as `OfTold`, where the file need not be told
+abbrev OfFile : Job → (List ℕ → Option (List ℕ)) → (List ℕ → Type 0) → Type 0
+OfFile (read_file n) file P = IfSome (file n) P
+OfFile (generate k) file P = P (cycle_file_text k)
 
 module _ (P Q R : List ℕ → Type 0) (f : (bytes : List ℕ) → P bytes → Q bytes → R bytes) where
   both_of_bytes : (o : Option (List ℕ)) → IsSomeAnd o P → IfSome o Q → IsSomeAnd o R
@@ -25,28 +30,18 @@ module _ (P Q R : List ℕ → Type 0) (f : (bytes : List ℕ) → P bytes → Q
   both_of_bytes (Some bytes) p q = f bytes p q
 
   -- two facts about the bytes of a told file
-  both_of_file : (o : Option (List ℕ)) (file : List ℕ → Option (List ℕ)) → OfToldFile o file P → OfFile o file Q → OfToldFile o file R
-  both_of_file None file p q = p
-  both_of_file (Some n) file p q = both_of_bytes (file n) p q
+  both_of_job : (j : Job) (file : List ℕ → Option (List ℕ)) → OfTold j file P → OfFile j file Q → OfTold j file R
+  both_of_job (read_file n) file p q = both_of_bytes (file n) p q
+  both_of_job (generate k) file p q = f (cycle_file_text k) p q
 
 -- what holds whatever the bytes are
 always_of_bytes : (R : Type 0) (o : Option (List ℕ)) → IsSomeAnd o (λ _. R) → R
 always_of_bytes R None h = absurd h
 always_of_bytes R (Some bytes) h = h
 
-always_of_file : (R : Type 0) (o : Option (List ℕ)) (file : List ℕ → Option (List ℕ)) → OfToldFile o file (λ _. R) → R
-always_of_file R None file h = absurd h
-always_of_file R (Some n) file h = always_of_bytes R (file n) h
-
-is_named : (o : Option (List ℕ)) (P : List ℕ → Type 0) → o ≡ None → IsSomeAnd o P → ⊥
-is_named o P e h = subst (λ (p : Option (List ℕ)). IsSomeAnd p P) e h
-
-some_named : (o : Option (List ℕ)) (P : List ℕ → Type 0) → IsSomeAnd o P → IsSome o
-some_named None P h = absurd h
-some_named (Some n) P h = refl
-
-none_named : (o : Option (List ℕ)) → o ≡ None → IsSome o → ⊥
-none_named o e h = let never : false ≡ true = sym (ap is_some e) ∙ h in absurd (cc)
+always_of_job : (R : Type 0) (j : Job) (file : List ℕ → Option (List ℕ)) → OfTold j file (λ _. R) → R
+always_of_job R (read_file n) file h = always_of_bytes R (file n) h
+always_of_job R (generate k) file h = h
 
 -- the file that was read up to its end has the bytes that were handed out
 whole_bytes : (P : List ℕ → Type 0) (given : List ℕ) (told left : Option (List ℕ)) → told ≡ prepend_known given left → IfSome left (λ l. l ≡ []) → P given → IfSome told P
@@ -61,220 +56,365 @@ part_bytes limit given told (Some l) is p =
     subst (λ (o : Option (List ℕ)). IfSome o (λ bytes. limit < length bytes)) (sym is) (rw (length-append given l) (omega (arith, p)))
 
 -- What was handed out says of these files what it says itself.
-record Shows (named : Option (List ℕ)) (source : SourceRun) (file : List ℕ → Option (List ℕ)) : Type 0 where
-  whole : (b : Result Verdict Refusal) → Has b source.after.given → IsWhole named source → OfFile named file (Has b)
-  part : max_bytes < length source.after.given → IsPart named source → OfFile named file (λ bytes. max_bytes < length bytes)
+record Shows (job : Job) (source : SourceRun) (file : List ℕ → Option (List ℕ)) : Type 1 where
+  whole : (P : List ℕ → Type 0) → P (bytes_of job source.after.given) → IsWhole job source → OfFile job file P
+  part : max_bytes < length source.after.given → IsPart job source → OfFile job file (λ bytes. max_bytes < length bytes)
 
-shows_told : (named : Option (List ℕ)) (source : SourceRun) → Shows named source source.file
-shows_told None source = record { whole = λ b h read. read; part = λ h read. read }
-shows_told (Some n) source = record {
-  whole = λ b h read. whole_bytes (Has b) source.after.given (source.file n) source.left read.told (read.all refl) h;
+shows_told : (job : Job) (source : SourceRun) → Shows job source source.file
+shows_told (read_file n) source = record {
+  whole = λ P h read. whole_bytes P source.after.given (source.file n) source.left read.told (read.all refl) h;
   part = λ h read. part_bytes max_bytes source.after.given (source.file n) source.left read.told h;
 }
+shows_told (generate k) source = record { whole = λ P h read. h; part = λ h read. absurd read }
 
-shows_handed : (named : Option (List ℕ)) (source : SourceRun) → Shows named source (λ _. Some source.after.given)
-shows_handed None source = record { whole = λ b h read. read; part = λ h read. read }
-shows_handed (Some n) source = record { whole = λ b h read. h; part = λ h read. h }
+shows_handed : (job : Job) (source : SourceRun) → Shows job source (λ _. Some source.after.given)
+shows_handed (read_file n) source = record { whole = λ P h read. h; part = λ h read. h }
+shows_handed (generate k) source = record { whole = λ P h read. h; part = λ h read. absurd read }
+
+-- ---- the answer of the words and the bytes
+
+-- the answer on the bytes of a job that was read up to its end
+pub of_bytes : (o : Order) (source : SourceRun) (r : Result Decided Refusal) → Has o.settings r (bytes_of o.job source.after.given) → IsWhole o.job source → IsAnswer (Some o) source r
+of_bytes o source (Ok d) h whole = (h, whole)
+of_bytes o source (Err Usage) h whole = absurd h.1
+of_bytes o source (Err Source) h whole = absurd h.1
+of_bytes o source (Err FileTooLong) h whole = absurd h.1
+of_bytes o source (Err (Syntax line)) h whole = (h, whole)
+of_bytes o source (Err (Limit which)) h whole = (h, whole)
+of_bytes o source (Err (Names fault)) h whole = (h, whole)
+of_bytes o source (Err (IllSorted rule)) h whole = (h, whole)
+of_bytes o source (Err (NotFirstOrder terminal)) h whole = (h, whole)
+of_bytes o source (Err (SortTooLarge rule)) h whole = (h, whole)
+of_bytes o source (Err (RuleTooLong rule)) h whole = (h, whole)
+of_bytes o source (Err PointLimit) h whole = (h, whole)
+of_bytes o source (Err FlowLimit) h whole = (h, whole)
+of_bytes o source (Err EntryLimit) h whole = (h, whole)
+of_bytes o source (Err Sink) h whole = absurd h.1
+of_bytes o source (Err OutOfMemory) h whole = inr (inr whole)
+
+-- a file that wasn't read whole
+pub of_fault : (name : List ℕ) (settings : Settings) (source : SourceRun) (r : Refusal) → IsReadFault name source r
+    → IsAnswer (Some (record { job = read_file name; settings = settings })) source (Err r)
+of_fault name settings source Source h = h
+of_fault name settings source FileTooLong h = h
+of_fault name settings source OutOfMemory h = inr (inl h)
+of_fault name settings source Usage h = absurd h
+of_fault name settings source (Syntax line) h = absurd h
+of_fault name settings source (Limit which) h = absurd h
+of_fault name settings source (Names fault) h = absurd h
+of_fault name settings source (IllSorted rule) h = absurd h
+of_fault name settings source (NotFirstOrder terminal) h = absurd h
+of_fault name settings source (SortTooLarge rule) h = absurd h
+of_fault name settings source (RuleTooLong rule) h = absurd h
+of_fault name settings source PointLimit h = absurd h
+of_fault name settings source FlowLimit h = absurd h
+of_fault name settings source EntryLimit h = absurd h
+of_fault name settings source Sink h = absurd h
+
+-- the answer on the bytes of a generated file, of which the source knows nothing
+pub of_cycle : (k : ℕ) (settings : Settings) (source : SourceRun) (r : Result Decided Refusal) → IsUntouched source → Has settings r (cycle_file_text k)
+    → IsAnswer (Some (record { job = generate k; settings = settings })) source r
+of_cycle k settings source r same h = of_bytes (record { job = generate k; settings = settings }) source r h same
+
+-- want of memory in the place of a refusal on bytes
+memory_too : (order : Option Order) (source : SourceRun) (r : Refusal) → IsOfBytes order source (Err r) → HasCause order source OutOfMemory
+memory_too None source r h = absurd h
+memory_too (Some o) source r h = inr (inr h.1)
 
 -- want of memory in the place of another refusal
-pub any_cause : (named : Option (List ℕ)) (source : SourceRun) (r : Refusal) → HasCause named source r → (HasFixedLine r → ⊥) → HasCause named source OutOfMemory
-any_cause named source Usage h changes = absurd (changes tt)
-any_cause named source Source h changes = absurd (changes tt)
-any_cause named source FileTooLong h changes = absurd (changes tt)
-any_cause named source (Syntax line) h changes = (some_named named _ h.1, inr (inr h.1))
-any_cause named source (Limit which) h changes = absurd (changes tt)
-any_cause named source (Names fault) h changes = (some_named named _ h.1, inr (inr h.1))
-any_cause named source (IllSorted rule) h changes = (some_named named _ h.1, inr (inr h.1))
-any_cause named source (NotFirstOrder terminal) h changes = (some_named named _ h.1, inr (inr h.1))
-any_cause named source (SortTooLarge rule) h changes = (some_named named _ h.1, inr (inr h.1))
-any_cause named source (RuleTooLong rule) h changes = (some_named named _ h.1, inr (inr h.1))
-any_cause named source NotYet h changes = absurd (changes tt)
-any_cause named source Sink h changes = absurd h
-any_cause named source OutOfMemory h changes = h
+pub any_cause : (order : Option Order) (source : SourceRun) (r : Refusal) → HasCause order source r → (HasFixedLine r → ⊥) → HasCause order source OutOfMemory
+any_cause order source Usage h changes = absurd (changes tt)
+any_cause order source Source h changes = absurd (changes tt)
+any_cause order source FileTooLong h changes = absurd (changes tt)
+any_cause order source (Syntax line) h changes = memory_too order source (Syntax line) h
+any_cause order source (Limit which) h changes = absurd (changes tt)
+any_cause order source (Names fault) h changes = memory_too order source (Names fault) h
+any_cause order source (IllSorted rule) h changes = memory_too order source (IllSorted rule) h
+any_cause order source (NotFirstOrder terminal) h changes = memory_too order source (NotFirstOrder terminal) h
+any_cause order source (SortTooLarge rule) h changes = memory_too order source (SortTooLarge rule) h
+any_cause order source (RuleTooLong rule) h changes = memory_too order source (RuleTooLong rule) h
+any_cause order source PointLimit h changes = absurd (changes tt)
+any_cause order source FlowLimit h changes = absurd (changes tt)
+any_cause order source EntryLimit h changes = absurd (changes tt)
+any_cause order source Sink h changes = absurd h
+any_cause order source OutOfMemory h changes = h
 
 -- ---- what is due, and what is answered
 
-module _ (named : Option (List ℕ)) (source : SourceRun) (file : List ℕ → Option (List ℕ)) (shows : Shows named source file) where
-  -- why something is due
-  abbrev Due : Result Verdict Refusal → Type 0
-  Due a = ((a ≡ Err Usage) × (named ≡ None))
-      ⊎ (((a ≡ Err FileTooLong) × OfToldFile named file (λ bytes. max_bytes < length bytes))
-      ⊎ ((a ≡ Err OutOfMemory → ⊥) × OfToldFile named file (Has a)))
+-- a failure, which nothing of the words and the bytes brings
+abbrev Fails : Result Decided Refusal → Type 0
+Fails b = (b ≡ Err Source) ⊎ Wants b
 
-  due_why : (a : Result Verdict Refusal) → IsDue named file a → Due a
-  due_why (Err Usage) h = inl (refl, h)
-  due_why (Err FileTooLong) h = inr (inl (refl, h))
-  due_why (Err OutOfMemory) h = absurd h
-  due_why (Ok v) h = inr (inr (λ e. absurd (cc), h))
-  due_why (Err Source) h = inr (inr (λ e. absurd (cc), h))
-  due_why (Err (Syntax line)) h = inr (inr (λ e. absurd (cc), h))
-  due_why (Err (Limit which)) h = inr (inr (λ e. absurd (cc), h))
-  due_why (Err (Names fault)) h = inr (inr (λ e. absurd (cc), h))
-  due_why (Err (IllSorted rule)) h = inr (inr (λ e. absurd (cc), h))
-  due_why (Err (NotFirstOrder terminal)) h = inr (inr (λ e. absurd (cc), h))
-  due_why (Err (SortTooLarge rule)) h = inr (inr (λ e. absurd (cc), h))
-  due_why (Err (RuleTooLong rule)) h = inr (inr (λ e. absurd (cc), h))
-  due_why (Err NotYet) h = inr (inr (λ e. absurd (cc), h))
-  due_why (Err Sink) h = inr (inr (λ e. absurd (cc), h))
+abbrev status_due : Result Decided Refusal → ℕ
+status_due (Ok decided) = status_of_verdict decided.verdict
+status_due (Err refusal) = status_of refusal
 
-  -- a failure, which nothing of the words and the bytes brings
-  abbrev Fails : Result Verdict Refusal → Type 0
-  Fails b = (b ≡ Err Source) ⊎ (b ≡ Err OutOfMemory)
+-- a file that is too long warrants that alone
+long_only : (settings : Settings) (bytes : List ℕ) (d : Result Verdict Refusal) → max_bytes < length bytes → Warrants settings d bytes → d ≡ Err FileTooLong
+long_only settings bytes (Ok v) l h = absurd (omega (arith, l, h.0))
+long_only settings bytes (Err Usage) l h = absurd h
+long_only settings bytes (Err Source) l h = absurd h
+long_only settings bytes (Err Sink) l h = absurd h
+long_only settings bytes (Err OutOfMemory) l h = absurd h
+long_only settings bytes (Err FileTooLong) l h = refl
+long_only settings bytes (Err (Syntax line)) l h = absurd (omega (arith, l, h.0))
+long_only settings bytes (Err (Limit which)) l h = absurd (omega (arith, l, h.0))
+long_only settings bytes (Err (Names fault)) l h = absurd (omega (arith, l, h.0))
+long_only settings bytes (Err (IllSorted rule)) l h = absurd (omega (arith, l, h.0))
+long_only settings bytes (Err (NotFirstOrder terminal)) l h = absurd (omega (arith, l, h.0))
+long_only settings bytes (Err (SortTooLarge rule)) l h = absurd (omega (arith, l, h.0))
+long_only settings bytes (Err (RuleTooLong rule)) l h = absurd (omega (arith, l, h.0))
+long_only settings bytes (Err PointLimit) l h = absurd (omega (arith, l, h.0))
+long_only settings bytes (Err FlowLimit) l h = absurd (omega (arith, l, h.0))
+long_only settings bytes (Err EntryLimit) l h = absurd (omega (arith, l, h.0))
 
-  abbrev Is : Result Verdict Refusal → Type 0
-  Is b = IsAnswer named source b
+-- the statuses of an answer that the warrant allows
+status_matches : (d : Result Verdict Refusal) (b : Result Decided Refusal) → Matches d b → IsStatusOf d (status_due b)
+status_matches (Ok Accepted) (Ok x) h = ap status_of_verdict h
+status_matches (Ok Rejected) (Ok x) (inl e) = inl (ap status_of_verdict e)
+status_matches (Ok Rejected) (Ok x) (inr e) = inr (ap status_of_verdict e)
+status_matches (Ok Long) (Ok x) h = absurd h
+status_matches (Ok Accepted) (Err r) h = absurd h
+status_matches (Ok Rejected) (Err r) h = absurd h
+status_matches (Ok Long) (Err r) h = absurd h
+status_matches (Err r) (Ok x) h = absurd h
+status_matches (Err r) (Err s) h = ap status_of (sym h)
+
+verdict_matches : (d : Result Verdict Refusal) (x : Decided) → Matches d (Ok x) → (v : Verdict) × (d ≡ Ok v)
+verdict_matches (Ok v) x h = (v, refl)
+verdict_matches (Err r) x h = absurd h
+
+verdict_status : (v : Verdict) → status_of_verdict v ≤ 2
+verdict_status Accepted = omega arith
+verdict_status Rejected = omega arith
+verdict_status Long = omega arith
+
+abbrev Follows : ℕ → Result Verdict Refusal → Type 0
+Follows status d = IsStatusOf d status ⊎ ((status ≡ 8) ⊎ (((status ≡ 9) × (v : Verdict) × (d ≡ Ok v)) ⊎ (status ≡ 10)))
+
+abbrev Completes : ℕ → Type 0
+Completes status = (status ≤ 3) ⊎ ((status ≡ 8) ⊎ ((status ≡ 9) ⊎ (status ≡ 10)))
+
+module _ (o : Order) (source : SourceRun) (file : List ℕ → Option (List ℕ)) (shows : Shows o.job source file) where
+  abbrev Told : (List ℕ → Type 0) → Type 0
+  Told P = OfTold o.job file P
+
+  abbrev InFile : (List ℕ → Type 0) → Type 0
+  InFile P = OfFile o.job file P
+
+  abbrev Is : Result Decided Refusal → Type 0
+  Is b = IsAnswer (Some o) source b
+
+  due_told : (d : Result Verdict Refusal) → IsDue (Some o) file d → Told (Warrants o.settings d)
+  due_told (Ok v) h = h
+  due_told (Err Usage) h = absurd (cc)
+  due_told (Err Source) h = h
+  due_told (Err Sink) h = h
+  due_told (Err OutOfMemory) h = h
+  due_told (Err FileTooLong) h = h
+  due_told (Err (Syntax line)) h = h
+  due_told (Err (Limit which)) h = h
+  due_told (Err (Names fault)) h = h
+  due_told (Err (IllSorted rule)) h = h
+  due_told (Err (NotFirstOrder terminal)) h = h
+  due_told (Err (SortTooLarge rule)) h = h
+  due_told (Err (RuleTooLong rule)) h = h
+  due_told (Err PointLimit) h = h
+  due_told (Err FlowLimit) h = h
+  due_told (Err EntryLimit) h = h
 
   -- why something is answered
-  abbrev Why : Result Verdict Refusal → Type 0
-  Why b = (Fails b × IsSome named)
-      ⊎ (((b ≡ Err Usage) × (named ≡ None))
-      ⊎ (((b ≡ Err FileTooLong) × OfFile named file (λ bytes. max_bytes < length bytes))
-      ⊎ OfFile named file (Has b)))
+  abbrev Why : Result Decided Refusal → Type 0
+  Why b = Fails b ⊎ (((b ≡ Err FileTooLong) × InFile (λ bytes. max_bytes < length bytes)) ⊎ InFile (Has o.settings b))
 
-  why : (b : Result Verdict Refusal) → Is b → Why b
-  why (Ok v) h = inr (inr (inr (shows.whole (Ok v) h.0 h.1)))
-  why (Err Usage) h = inr (inl (refl, h.0))
-  why (Err Source) h = inl (inl refl, some_named named _ h.0)
-  why (Err FileTooLong) h = inr (inr (inl (refl, shows.part h.0 h.1)))
-  why (Err (Syntax line)) h = inr (inr (inr (shows.whole (Err (Syntax line)) h.0 h.1)))
-  why (Err (Limit which)) h = inr (inr (inr (shows.whole (Err (Limit which)) h.0 h.1)))
-  why (Err (Names fault)) h = inr (inr (inr (shows.whole (Err (Names fault)) h.0 h.1)))
-  why (Err (IllSorted rule)) h = inr (inr (inr (shows.whole (Err (IllSorted rule)) h.0 h.1)))
-  why (Err (NotFirstOrder terminal)) h = inr (inr (inr (shows.whole (Err (NotFirstOrder terminal)) h.0 h.1)))
-  why (Err (SortTooLarge rule)) h = inr (inr (inr (shows.whole (Err (SortTooLarge rule)) h.0 h.1)))
-  why (Err (RuleTooLong rule)) h = inr (inr (inr (shows.whole (Err (RuleTooLong rule)) h.0 h.1)))
-  why (Err NotYet) h = inr (inr (inr (shows.whole (Err NotYet) h.0 h.1)))
+  by_bytes : (b : Result Decided Refusal) → Has o.settings b (bytes_of o.job source.after.given) × IsWhole o.job source → Why b
+  by_bytes b h = inr (inr (shows.whole (Has o.settings b) h.0 h.1))
+
+  why : (b : Result Decided Refusal) → Is b → Why b
+  why (Ok x) h = by_bytes (Ok x) h
+  why (Err Usage) h = let e = h.0 in absurd (cc)
+  why (Err Source) h = inl (inl refl)
+  why (Err FileTooLong) h = inr (inl (refl, shows.part h.0 h.1))
+  why (Err (Syntax line)) h = by_bytes (Err (Syntax line)) h
+  why (Err (Limit which)) h = by_bytes (Err (Limit which)) h
+  why (Err (Names fault)) h = by_bytes (Err (Names fault)) h
+  why (Err (IllSorted rule)) h = by_bytes (Err (IllSorted rule)) h
+  why (Err (NotFirstOrder terminal)) h = by_bytes (Err (NotFirstOrder terminal)) h
+  why (Err (SortTooLarge rule)) h = by_bytes (Err (SortTooLarge rule)) h
+  why (Err (RuleTooLong rule)) h = by_bytes (Err (RuleTooLong rule)) h
+  why (Err PointLimit) h = by_bytes (Err PointLimit) h
+  why (Err FlowLimit) h = by_bytes (Err FlowLimit) h
+  why (Err EntryLimit) h = by_bytes (Err EntryLimit) h
   why (Err Sink) h = absurd h
-  why (Err OutOfMemory) h = inl (inr refl, h.0)
+  why (Err OutOfMemory) h = inl (inr refl)
 
-  abbrev Meet : Result Verdict Refusal → Result Verdict Refusal → Type 0
-  Meet a b = Fails b ⊎ (a ≡ b)
+  abbrev Meet : Result Verdict Refusal → Result Decided Refusal → Type 0
+  Meet d b = Fails b ⊎ Matches d b
 
-  same_bytes : (a b : Result Verdict Refusal) → (a ≡ Err OutOfMemory → ⊥) → (bytes : List ℕ) → Has a bytes → Has b bytes → Meet a b
-  same_bytes a b never bytes p q =
-      elim (answered_once bytes a b p.1 q.1) [
-        | inl e ↦ absurd (never e)
-        | inr (inl e) ↦ inl (inr e)
-        | inr (inr e) ↦ inr e
+  meet_long : (d : Result Verdict Refusal) (b : Result Decided Refusal) → b ≡ Err FileTooLong → (bytes : List ℕ) → Warrants o.settings d bytes → max_bytes < length bytes → Meet d b
+  meet_long d b e bytes w l =
+      inr (subst (λ (x : Result Decided Refusal). Matches d x) (sym e)
+      (subst (λ (x : Result Verdict Refusal). Matches x (Err FileTooLong)) (sym (long_only o.settings bytes d l w)) refl))
+
+  meet_bytes : (d : Result Verdict Refusal) (b : Result Decided Refusal) (bytes : List ℕ) → Warrants o.settings d bytes → Has o.settings b bytes → Meet d b
+  meet_bytes d b bytes w h =
+      elim (answer_meets o.settings bytes d b w h) [
+        | inl wants ↦ inl (inr wants)
+        | inr matches ↦ inr matches
       ]
 
   -- what is due is answered, unless reading or memory fails
-  meets : (a b : Result Verdict Refusal) → IsDue named file a → Is b → Meet a b
-  meets a b d h =
-      elim (due_why a d) [
-        | inl (is, none) ↦ elim (why b h) [
-          | inl f ↦ inl f.0
-          | inr (inl (is', none')) ↦ inr (is ∙ sym is')
-          | inr (inr (inl (is', long))) ↦ absurd (is_named named _ none long)
-          | inr (inr (inr has)) ↦ absurd (is_named named _ none has)
-        ]
-        | inr (inl (is, long)) ↦ elim (why b h) [
-          | inl f ↦ inl f.0
-          | inr (inl (is', none)) ↦ absurd (is_named named _ none long)
-          | inr (inr (inl (is', long'))) ↦ inr (is ∙ sym is')
-          | inr (inr (inr has)) ↦
-              absurd (always_of_file ⊥ named file (both_of_file (λ bytes. max_bytes < length bytes) (Has b) (λ _. ⊥) (λ bytes p q. omega (arith, p, q.0)) named file long has))
-        ]
-        | inr (inr (never, has)) ↦ elim (why b h) [
-          | inl f ↦ inl f.0
-          | inr (inl (is', none)) ↦ absurd (is_named named _ none has)
-          | inr (inr (inl (is', long))) ↦
-              absurd (always_of_file ⊥ named file (both_of_file (Has a) (λ bytes. max_bytes < length bytes) (λ _. ⊥) (λ bytes p q. omega (arith, p.0, q)) named file has long))
-          | inr (inr (inr has')) ↦
-              always_of_file (Meet a b) named file (both_of_file (Has a) (Has b) (λ _. Meet a b) (same_bytes a b never) named file has has')
-        ]
-      ]
-
-  -- a file without faults and parameters has a verdict
-  plain_bytes : (b : Result Verdict Refusal) (bytes : List ℕ) → IsPlainFile bytes → Has b bytes → Fails b ⊎ ((v : Verdict) × (b ≡ Ok v))
-  plain_bytes b bytes p h =
-      elim (sound_has_verdict bytes p.scheme b p.sound p.plain h.1) [
-        | inl e ↦ inl (inr e)
-        | inr v ↦ inr v
-      ]
-
-  plain_has_verdict : (b : Result Verdict Refusal) → OfToldFile named file IsPlainFile → Is b → Fails b ⊎ ((v : Verdict) × (b ≡ Ok v))
-  plain_has_verdict b p h =
+  meets : (d : Result Verdict Refusal) (b : Result Decided Refusal) → IsDue (Some o) file d → Is b → Meet d b
+  meets d b due h =
+      let w = due_told d due in
       elim (why b h) [
-        | inl f ↦ inl f.0
-        | inr (inl (is, none)) ↦ absurd (is_named named _ none p)
-        | inr (inr (inl (is, long))) ↦
-            absurd (always_of_file ⊥ named file (both_of_file IsPlainFile (λ bytes. max_bytes < length bytes) (λ _. ⊥) (λ bytes q l. omega (arith, q.within, l)) named file p long))
-        | inr (inr (inr has)) ↦
-            always_of_file (Fails b ⊎ ((v : Verdict) × (b ≡ Ok v))) named file
-            (both_of_file IsPlainFile (Has b) (λ _. Fails b ⊎ ((v : Verdict) × (b ≡ Ok v))) (plain_bytes b) named file p has)
+        | inl fails ↦ inl fails
+        | inr (inl (e, long)) ↦
+            always_of_job (Meet d b) o.job file (both_of_job (Warrants o.settings d) (λ bytes. max_bytes < length bytes) (λ _. Meet d b) (meet_long d b e) o.job file w long)
+        | inr (inr has) ↦
+            always_of_job (Meet d b) o.job file (both_of_job (Warrants o.settings d) (Has o.settings b) (λ _. Meet d b) (meet_bytes d b) o.job file w has)
       ]
-
-  abbrev Comes : ℕ → Result Verdict Refusal → Type 0
-  Comes status a = (status ≡ status_due a) ⊎ ((status ≡ 8) ⊎ (((status ≡ 9) × (v : Verdict) × (a ≡ Ok v)) ⊎ (status ≡ 10)))
-
-  abbrev Completes : ℕ → Type 0
-  Completes status = (status ≤ 1) ⊎ ((status ≡ 8) ⊎ ((status ≡ 9) ⊎ (status ≡ 10)))
 
   -- from the answer to its status
-  comes : (a b : Result Verdict Refusal) → IsDue named file a → Is b → Comes (status_due b) a
-  comes a b d h =
-      elim (meets a b d h) [
+  follows : (d : Result Verdict Refusal) (b : Result Decided Refusal) → IsDue (Some o) file d → Is b → Follows (status_due b) d
+  follows d b due h =
+      elim (meets d b due h) [
         | inl (inl e) ↦ inr (inl (ap status_due e))
         | inl (inr e) ↦ inr (inr (inr (ap status_due e)))
-        | inr e ↦ inl (sym (ap status_due e))
+        | inr matches ↦ inl (status_matches d b matches)
       ]
 
-  verdict_status : (v : Verdict) → status_due (Ok v) ≤ 1
-  verdict_status Accepted = omega arith
-  verdict_status Rejected = omega arith
-
-  completes : (b : Result Verdict Refusal) → OfToldFile named file IsPlainFile → Is b → Completes (status_due b)
-  completes b p h =
-      elim (plain_has_verdict b p h) [
-        | inl (inl e) ↦ inr (inl (ap status_due e))
-        | inl (inr e) ↦ inr (inr (inr (ap status_due e)))
-        | inr (v, e) ↦ inl (subst (λ (r : Result Verdict Refusal). status_due r ≤ 1) (sym e) (verdict_status v))
-      ]
-
-  cut_off : (a : Result Verdict Refusal) (v : Verdict) → IsDue named file a → Is (Ok v) → Comes 9 a
-  cut_off a v d h =
-      elim (meets a (Ok v) d h) [
+  cut_off : (d : Result Verdict Refusal) (x : Decided) → IsDue (Some o) file d → Is (Ok x) → Follows 9 d
+  cut_off d x due h =
+      elim (meets d (Ok x) due h) [
         | inl (inl e) ↦ absurd (cc)
         | inl (inr e) ↦ absurd (cc)
-        | inr e ↦ inr (inr (inl (refl, v, e)))
+        | inr matches ↦ let v = verdict_matches d x matches in inr (inr (inl (refl, v.0, v.1)))
       ]
 
-  -- where the words have no name, that is answered
-  no_name : (b : Result Verdict Refusal) → named ≡ None → Is b → b ≡ Err Usage
-  no_name b e h =
+  -- a readable file has a verdict, or too many entries
+  abbrev Comes_to : Result Decided Refusal → Type 0
+  Comes_to b = Fails b ⊎ (((x : Decided) × (b ≡ Ok x)) ⊎ (b ≡ Err EntryLimit))
+
+  of_readable : (b : Result Decided Refusal) (bytes : List ℕ) → IsReadable bytes → Has o.settings b bytes → Comes_to b
+  of_readable b bytes r h =
+      elim (readable_comes o.settings bytes b r h) [
+        | inl wants ↦ inl (inr wants)
+        | inr comes ↦ inr comes
+      ]
+
+  readable_has : (b : Result Decided Refusal) → Told IsReadable → Is b → Comes_to b
+  readable_has b r h =
       elim (why b h) [
-        | inl f ↦ absurd (none_named named e f.1)
-        | inr (inl (is, none)) ↦ is
-        | inr (inr (inl (is, long))) ↦ absurd (is_named named _ e long)
-        | inr (inr (inr has)) ↦ absurd (is_named named _ e has)
+        | inl fails ↦ inl fails
+        | inr (inl (e, long)) ↦
+            absurd (always_of_job ⊥ o.job file (both_of_job IsReadable (λ bytes. max_bytes < length bytes) (λ _. ⊥) (λ bytes q l. omega (arith, q.within, l)) o.job file r long))
+        | inr (inr has) ↦
+            always_of_job (Comes_to b) o.job file (both_of_job IsReadable (Has o.settings b) (λ _. Comes_to b) (of_readable b) o.job file r has)
+      ]
+
+  completes : (b : Result Decided Refusal) → Told IsReadable → Is b → Completes (status_due b)
+  completes b r h =
+      elim (readable_has b r h) [
+        | inl (inl e) ↦ inr (inl (ap status_due e))
+        | inl (inr e) ↦ inr (inr (inr (ap status_due e)))
+        | inr (inl (x, e)) ↦ inl (subst (λ (y : Result Decided Refusal). status_due y ≤ 3) (sym e) (omega (arith, verdict_status x.verdict)))
+        | inr (inr e) ↦ inl (subst (λ (y : Result Decided Refusal). status_due y ≤ 3) (sym e) (omega arith))
       ]
 
   module _ (out err : SinkRun) where
-    complies : (e : Ending) → Ends named source out err e → Complies named file (status_at e)
-    complies (Reported v) h = record { due = λ a d. comes a (Ok v) d h.answer; complete = λ p. completes (Ok v) p h.answer }
-    complies (CutOff v) h = record { due = λ a d. cut_off a v d h.answer; complete = λ p. inr (inr (inl refl)) }
-    complies (Refused r) h = record { due = λ a d. comes a (Err r) d h.cause; complete = λ p. completes (Err r) p h.cause }
+    complies : (e : Ending) → Ends (Some o) source out err e → Complies (Some o) file (status_at e)
+    complies (Reported x) h = record { due = λ d due. follows d (Ok x) due h.answer; complete = λ r. completes (Ok x) r h.answer }
+    complies (CutOff x) h = record { due = λ d due. cut_off d x due h.answer; complete = λ r. inr (inr (inl refl)) }
+    complies (Refused s) h = record { due = λ d due. follows d (Err s) due h.cause; complete = λ r. completes (Err s) r h.cause }
 
-    usage_of : (e : Ending) → Ends named source out err e → named ≡ None → status_at e ≡ 4
-    usage_of (Reported v) h none = let never = no_name (Ok v) none h.answer in absurd (cc)
-    usage_of (CutOff v) h none = let never = no_name (Ok v) none h.answer in absurd (cc)
-    usage_of (Refused r) h none = ap status_due (no_name (Err r) none h.cause)
+-- ---- words that are refused
 
-pub rows : (named : Option (List ℕ)) (source : SourceRun) (out err : SinkRun) (e : Ending) (status : ℕ)
-    → Ends named source out err e
+module _ (source : SourceRun) where
+  no_order : (b : Result Decided Refusal) → IsAnswer None source b → (b ≡ Err Usage) ⊎ Wants b
+  no_order (Ok x) h = absurd h
+  no_order (Err Usage) h = inl refl
+  no_order (Err Source) h = absurd h
+  no_order (Err FileTooLong) h = absurd h
+  no_order (Err (Syntax line)) h = absurd h
+  no_order (Err (Limit which)) h = absurd h
+  no_order (Err (Names fault)) h = absurd h
+  no_order (Err (IllSorted rule)) h = absurd h
+  no_order (Err (NotFirstOrder terminal)) h = absurd h
+  no_order (Err (SortTooLarge rule)) h = absurd h
+  no_order (Err (RuleTooLong rule)) h = absurd h
+  no_order (Err PointLimit) h = absurd h
+  no_order (Err FlowLimit) h = absurd h
+  no_order (Err EntryLimit) h = absurd h
+  no_order (Err Sink) h = absurd h
+  no_order (Err OutOfMemory) h = inr refl
+
+  usage_only : (file : List ℕ → Option (List ℕ)) (d : Result Verdict Refusal) → IsDue None file d → d ≡ Err Usage
+  usage_only file (Ok v) h = absurd h
+  usage_only file (Err Usage) h = refl
+  usage_only file (Err Source) h = absurd h
+  usage_only file (Err FileTooLong) h = absurd h
+  usage_only file (Err (Syntax line)) h = absurd h
+  usage_only file (Err (Limit which)) h = absurd h
+  usage_only file (Err (Names fault)) h = absurd h
+  usage_only file (Err (IllSorted rule)) h = absurd h
+  usage_only file (Err (NotFirstOrder terminal)) h = absurd h
+  usage_only file (Err (SortTooLarge rule)) h = absurd h
+  usage_only file (Err (RuleTooLong rule)) h = absurd h
+  usage_only file (Err PointLimit) h = absurd h
+  usage_only file (Err FlowLimit) h = absurd h
+  usage_only file (Err EntryLimit) h = absurd h
+  usage_only file (Err Sink) h = absurd h
+  usage_only file (Err OutOfMemory) h = absurd h
+
+  module _ (out err : SinkRun) where
+    refused_status : (e : Ending) → Ends None source out err e → (status_at e ≡ 4) ⊎ (status_at e ≡ 10)
+    refused_status (Reported x) h = absurd h.answer
+    refused_status (CutOff x) h = absurd h.answer
+    refused_status (Refused s) h =
+        elim (no_order (Err s) h.cause) [
+          | inl e ↦ inl (ap status_due e)
+          | inr e ↦ inr (ap status_due e)
+        ]
+
+    no_order_complies : (file : List ℕ → Option (List ℕ)) (e : Ending) → Ends None source out err e → Complies None file (status_at e)
+    no_order_complies file e h = record {
+      due = λ d due. subst (λ (x : Result Verdict Refusal). Follows (status_at e) x) (sym (usage_only file d due)) (elim (refused_status e h) [
+        | inl is ↦ inl is
+        | inr is ↦ inr (inr (inr is))
+      ]);
+      complete = λ r. absurd r;
+    }
+
+-- ---- all rows
+
+abbrev Claims : Option Order → SourceRun → SinkRun → SinkRun → Ending → Type 0
+Claims order source out err e = Rows order source out err (status_at e)
+
+rows_of : (order : Option Order) (source : SourceRun) (out err : SinkRun) (e : Ending) → Ends order source out err e → (status_at e ≢ 8 → IsCalm source) → Claims order source out err e
+rows_of None source out err e h calm = record {
+  ending = e;
+  ends = h;
+  is = refl;
+  usage = λ none. refused_status source out err e h;
+  calm = calm;
+  told = no_order_complies source out err source.file e h;
+  handed = no_order_complies source out err (λ _. Some source.after.given) e h;
+}
+rows_of (Some o) source out err e h calm = record {
+  ending = e;
+  ends = h;
+  is = refl;
+  usage = λ none. absurd (cc);
+  calm = calm;
+  told = complies o source source.file (shows_told o.job source) out err e h;
+  handed = complies o source (λ _. Some source.after.given) (shows_handed o.job source) out err e h;
+}
+
+pub rows : (order : Option Order) (source : SourceRun) (out err : SinkRun) (e : Ending) (status : ℕ)
+    → Ends order source out err e
     → (e ≢ Refused Source → IsCalm source)
     → status ≡ status_at e
-    → Rows named source out err status
-rows named source out err e status h calm is =
-    let told = shows_told named source in
-    let handed = shows_handed named source in
-    subst (Rows named source out err) (sym is) record {
-      ending = e;
-      ends = h;
-      is = refl;
-      usage = usage_of named source source.file told out err e h;
-      calm = λ other. calm (λ same. other (ap status_at same));
-      told = complies named source source.file told out err e h;
-      handed = complies named source (λ _. Some source.after.given) handed out err e h;
-    }
+    → Rows order source out err status
+rows order source out err e status h calm is =
+    subst (Rows order source out err) (sym is) (rows_of order source out err e h (λ other. calm (λ same. other (ap status_at same))))

@@ -1,8 +1,7 @@
-pub mod Points
-pub mod Saturation
-pub mod Words
 pub mod Line
 pub mod Refusal
+pub mod Problems
 pub mod Verdict
+pub mod Order
 pub mod Outcome
 pub mod ReadAgain

@@ -12,7 +12,7 @@ use Rattle.hs_resolve.specs.declared.fault.NameFault.{NameFault}
 use Rattle.hs_resolve.specs.declared.fault.NameFault.TheVariants as name
 use Rattle.hs_app.specs.Line.{ended, line_with_name, line_with_number, on_line}
 use Rattle.hs_app.specs.declared.refusal.Refusal.{Refusal}
-use Rattle.hs_app.specs.declared.refusal.Refusal.TheVariants.{Usage, Source, FileTooLong, Syntax, Limit, Names, IllSorted, NotFirstOrder, SortTooLarge, RuleTooLong, NotYet, Sink, OutOfMemory}
+use Rattle.hs_app.specs.declared.refusal.Refusal.TheVariants.{Usage, Source, FileTooLong, Syntax, Limit, Names, IllSorted, NotFirstOrder, SortTooLarge, RuleTooLong, PointLimit, FlowLimit, EntryLimit, Sink, OutOfMemory}
 
 abbrev pub refusal_of_read : ReadFault → Refusal
 refusal_of_read (read.Syntax line) = Syntax line
@@ -41,7 +41,9 @@ status_of (Limit which) = 7
 status_of Source = 8
 status_of Sink = 9
 status_of OutOfMemory = 10
-status_of NotYet = 11
+status_of PointLimit = 7
+status_of FlowLimit = 7
+status_of EntryLimit = 3
 
 -- the line for a limit of the text
 abbrev pub limit_line : Which → List ℕ
@@ -65,7 +67,7 @@ names_line name.TooManyStates = ended (codes "limit: states")
 names_line name.OutOfMemory = ended (codes "out of memory")
 
 abbrev pub line_of : Refusal → List ℕ
-line_of Usage = ended (codes "usage: horsat [--workers N] [--entries N] [--steps N] [--table] [--simplify] [--gen K] [FILE]")
+line_of Usage = ended (codes "usage: horsat [--workers N] [--entries N] [--steps N] [--table] [--first] [--simplify] [--gen K] [FILE]")
 line_of Source = ended (codes "read fault")
 line_of FileTooLong = ended (codes "limit: file")
 line_of (Syntax line) = on_line line (codes ": syntax")
@@ -75,7 +77,9 @@ line_of (IllSorted rule) = line_with_number (codes "rule ") (rule + 1) (codes ":
 line_of (NotFirstOrder terminal) = line_with_name (codes "terminal ") terminal (codes ": not first order")
 line_of (SortTooLarge rule) = line_with_number (codes "limit: sort of rule ") (rule + 1) (codes "")
 line_of (RuleTooLong rule) = line_with_number (codes "limit: length of rule ") (rule + 1) (codes "")
-line_of NotYet = ended (codes "not yet")
+line_of PointLimit = ended (codes "limit: points")
+line_of FlowLimit = ended (codes "limit: flow")
+line_of EntryLimit = ended (codes "limit: entries")
 line_of Sink = ended (codes "write fault")
 line_of OutOfMemory = ended (codes "out of memory")
 

@@ -84,7 +84,10 @@ fn the_first_end_ends_the_file(rt: HostRuntime) -> Result<(), Fail> {
             &mut err,
         );
         assert_eq!(rt; status, 1);
-        assert_eq!(rt; out.bytes(), b"rejected\n".as_slice());
+        assert_eq!(rt;
+            out.bytes(),
+            b"rejected\nentries 2\npath a/1 b\nstate q0\n".as_slice()
+        );
         assert_eq!(rt; err.bytes(), b"".as_slice());
         assert_eq!(rt; source.starts, 1, "one start");
         assert_eq!(rt; source.next, 2, "nothing behind the end");

@@ -34,8 +34,12 @@ pub(crate) enum Refusal {
     SortTooLarge { rule: u32 },
     /// The rule, counted from 0, has too many parameters or arguments once it is lengthened.
     RuleTooLong { rule: u32 },
-    /// The scheme is of a kind that isn't decided yet.
-    NotYet,
+    /// The scheme has more points than the limit.
+    PointLimit,
+    /// The flow has more pairs than the limit.
+    FlowLimit,
+    /// The least table has more entries than are allowed.
+    EntryLimit,
     /// The sink failed.
     Sink,
     /// Memory was refused.
@@ -99,7 +103,9 @@ pub(crate) fn status(refusal: &Refusal) -> u8
         Refusal::Source => 8,
         Refusal::Sink => 9,
         Refusal::OutOfMemory => 10,
-        Refusal::NotYet => 11,
+        Refusal::PointLimit => 7,
+        Refusal::FlowLimit => 7,
+        Refusal::EntryLimit => 3,
     }
 }
 
@@ -151,7 +157,7 @@ pub(crate) fn line(alloc: Global, refusal: &Refusal) -> Result<Line, OutOfMemory
 {
     match refusal {
         Refusal::Usage => Ok(Line::Fixed(
-            b"usage: horsat [--workers N] [--entries N] [--steps N] [--table] [--simplify] [--gen K] [FILE]\n",
+            b"usage: horsat [--workers N] [--entries N] [--steps N] [--table] [--first] [--simplify] [--gen K] [FILE]\n",
         )),
         Refusal::Source => Ok(Line::Fixed(b"read fault\n")),
         Refusal::FileTooLong => Ok(Line::Fixed(b"limit: file\n")),
@@ -170,7 +176,9 @@ pub(crate) fn line(alloc: Global, refusal: &Refusal) -> Result<Line, OutOfMemory
         Refusal::RuleTooLong { rule } => {
             line_with_number(alloc, b"limit: length of rule ", u64::from(*rule) + 1, b"")
         }
-        Refusal::NotYet => Ok(Line::Fixed(b"not yet\n")),
+        Refusal::PointLimit => Ok(Line::Fixed(b"limit: points\n")),
+        Refusal::FlowLimit => Ok(Line::Fixed(b"limit: flow\n")),
+        Refusal::EntryLimit => Ok(Line::Fixed(b"limit: entries\n")),
         Refusal::Sink => Ok(Line::Fixed(b"write fault\n")),
         Refusal::OutOfMemory => Ok(Line::Fixed(OUT_OF_MEMORY.as_bytes())),
     }

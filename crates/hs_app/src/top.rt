@@ -1,46 +1,108 @@
 //! The top call.
 
-ghost use Rattle.std.specs.Prelude.{◌≡◌, ◌≢◌, ◌≤◌, ◌<◌, None, Some};
-ghost use Rattle.hs_app.specs.Words.{name_of, texts};
-ghost use Rattle.hs_app.specs.Outcome.{source_run, sink_run};
+ghost use Rattle.std.specs.Prelude.{◌≡◌, ◌≢◌, ◌≤◌, ◌<◌, None, Some, MatchResult};
+ghost use Rattle.hs_words.specs.Words.{texts, said_by};
+ghost use Rattle.hs_app.specs.Order.{read_file, ordered, settings_of, source_run};
+ghost use Rattle.hs_app.specs.Outcome.{sink_run};
 ghost use Rattle.hs_app.specs.Outcome as outcome;
+ghost use Rattle.hs_app.specs.Verdict.{AreWithin, Has};
+ghost use Rattle.hs_gen.specs.Cycle.{cycle_file_text};
 
 use crate::line::OUT_OF_MEMORY;
 use crate::refusal::{Refusal, line, status};
-use crate::verdict::{Verdict, decide};
-use crate::words::file_name;
+use crate::verdict::{Decided, Settings, Verdict, decide};
 use hs_edge::{ReadAll, Sink, Source, read_all, write_all};
+use hs_gen::cycle_file;
 use hs_reader::MAX_BYTES;
+use hs_words::{Options, WordsFault, read_words};
 use std::alloc::Global;
 
-/// Reads the file of this name, and gives the verdict on it.
-fn verdict_on<S: Source>(alloc: Global, name: &str, source: &mut S) -> Result<Verdict, Refusal>
-    ensures answer { outcome.IsAnswer (Some name.now) (source_run S.file S.left S.reading S.faults source.old source.new) result }
+/// The name under which standard input is read.
+const STANDARD_INPUT: &str = "-";
+
+/// Reads the file of this name.
+fn read<S: Source>(alloc: Global, name: &str, source: &mut S) -> Result<Vec<u8>, Refusal>
+    ensures answer { MatchResult result
+        (λ bytes. outcome.IsReadWhole name.now (source_run S.file S.left S.reading S.faults source.old source.new) bytes.items)
+        (outcome.IsReadFault name.now (source_run S.file S.left S.reading S.faults source.old source.new)) }
     ensures calm { result ≢ Err Refusal.Source → outcome.IsCalm (source_run S.file S.left S.reading S.faults source.old source.new) }
     ensures keeps { outcome.KeepsSource (source_run S.file S.left S.reading S.faults source.old source.new) }
 {
     if source.start(name).is_err() {
         return Err(Refusal::Source);
     }
-    let bytes = match read_all(alloc, source, MAX_BYTES) {
-        Ok(bytes) => bytes,
-        Err(ReadAll::ReadFault) => return Err(Refusal::Source),
-        Err(ReadAll::TooLong) => return Err(Refusal::FileTooLong),
-        Err(ReadAll::OutOfMemory) => return Err(Refusal::OutOfMemory),
-    };
-    decide(alloc, bytes.as_slice())
+    match read_all(alloc, source, MAX_BYTES) {
+        Ok(bytes) => Ok(bytes),
+        Err(ReadAll::ReadFault) => Err(Refusal::Source),
+        Err(ReadAll::TooLong) => Err(Refusal::FileTooLong),
+        Err(ReadAll::OutOfMemory) => Err(Refusal::OutOfMemory),
+    }
 }
 
-/// Reads the file that the words name, and gives the verdict on it.
-fn answer<S: Source>(alloc: Global, words: &[&str], source: &mut S) -> Result<Verdict, Refusal>
-    ensures answer { outcome.IsAnswer (name_of (texts words.now)) (source_run S.file S.left S.reading S.faults source.old source.new) result }
+/// Reads the file of this name, and gives the verdict on it.
+fn verdict_on<S: Source>(
+    alloc: Global,
+    name: &str,
+    settings: Settings,
+    source: &mut S,
+) -> Result<Decided, Refusal>
+    requires { AreWithin settings }
+    ensures answer { outcome.IsAnswer (Some (record { job = read_file name.now; settings = settings })) (source_run S.file S.left S.reading S.faults source.old source.new) result }
     ensures calm { result ≢ Err Refusal.Source → outcome.IsCalm (source_run S.file S.left S.reading S.faults source.old source.new) }
     ensures keeps { outcome.KeepsSource (source_run S.file S.left S.reading S.faults source.old source.new) }
-    ensures untouched { name_of (texts words.now) ≡ None → source.new ≡ source.old }
 {
-    match file_name(words) {
-        Some(name) => verdict_on(alloc, name, source),
-        None => Err(Refusal::Usage),
+    match read(alloc, name, source) {
+        Ok(bytes) => decide(alloc, bytes.as_slice(), settings),
+        Err(refusal) => Err(refusal),
+    }
+}
+
+/// The verdict on the generated file of this number.
+fn verdict_on_cycle(alloc: Global, k: u32, settings: Settings) -> Result<Decided, Refusal>
+    requires least { 1 ≤ k }
+    requires most { k ≤ 300 }
+    requires settings { AreWithin settings }
+    ensures { Has settings result (cycle_file_text k) }
+{
+    match cycle_file(alloc, k) {
+        Ok(bytes) => decide(alloc, bytes.as_slice(), settings),
+        Err(_) => Err(Refusal::OutOfMemory),
+    }
+}
+
+/// The settings that the words ask for.
+fn settings_of(options: &Options) -> Settings
+    ensures { result ≡ settings_of (said_by options.now) }
+{
+    Settings {
+        entries: options.entries,
+        steps: options.steps,
+        table: options.table,
+        first: options.first,
+    }
+}
+
+/// The verdict on what the words name: the file of a name, or the generated file of a number.
+fn answer<S: Source>(alloc: Global, words: &[&str], source: &mut S) -> Result<Decided, Refusal>
+    ensures answer { outcome.IsAnswer (ordered (texts words.now)) (source_run S.file S.left S.reading S.faults source.old source.new) result }
+    ensures calm { result ≢ Err Refusal.Source → outcome.IsCalm (source_run S.file S.left S.reading S.faults source.old source.new) }
+    ensures keeps { outcome.KeepsSource (source_run S.file S.left S.reading S.faults source.old source.new) }
+    ensures untouched { ordered (texts words.now) ≡ None → source.new ≡ source.old }
+{
+    let options = match read_words(alloc, words) {
+        Ok(options) => options,
+        Err(WordsFault::Usage) => return Err(Refusal::Usage),
+        Err(WordsFault::OutOfMemory) => return Err(Refusal::OutOfMemory),
+    };
+    let settings = settings_of(&options);
+    match options.cycle {
+        Some(k) => verdict_on_cycle(alloc, k, settings),
+        None => verdict_on(
+            alloc,
+            options.file.unwrap_or(STANDARD_INPUT),
+            settings,
+            source,
+        ),
     }
 }
 
@@ -70,23 +132,13 @@ fn refuse<E: Sink>(alloc: Global, err: &mut E, refusal: Refusal) -> Refusal
     }
 }
 
-/// The report of a verdict.
-fn report(verdict: Verdict) -> &'static [u8]
-    ensures { result.now ≡ outcome.report verdict }
-{
-    match verdict {
-        Verdict::Accepted => b"accepted\n",
-        Verdict::Rejected => b"rejected\n",
-    }
-}
-
 /// How a run ends.
 #[derive(Drop)]
 pub(crate) enum Ending {
     /// The verdict was reported.
-    Reported(Verdict),
+    Reported(Decided),
     /// The report of the verdict met a fault.
-    CutOff(Verdict),
+    CutOff(Decided),
     /// There is no verdict.
     Refused(Refusal),
 }
@@ -99,22 +151,33 @@ fn end<S: Source, O: Sink, E: Sink>(
     out: &mut O,
     err: &mut E,
 ) -> Ending
-    ensures ends { outcome.Ends (name_of (texts words.now)) (source_run S.file S.left S.reading S.faults source.old source.new)
+    ensures ends { outcome.Ends (ordered (texts words.now)) (source_run S.file S.left S.reading S.faults source.old source.new)
         (sink_run O.writing O.faults out.old out.new) (sink_run E.writing E.faults err.old err.new) result }
     ensures calm { result ≢ Ending.Refused Refusal.Source → outcome.IsCalm (source_run S.file S.left S.reading S.faults source.old source.new) }
     ensures keeps { outcome.Keeps (source_run S.file S.left S.reading S.faults source.old source.new)
         (sink_run O.writing O.faults out.old out.new) (sink_run E.writing E.faults err.old err.new) }
-    ensures untouched { name_of (texts words.now) ≡ None → source.new ≡ source.old }
+    ensures untouched { ordered (texts words.now) ≡ None → source.new ≡ source.old }
 {
     match answer(alloc, words, source) {
-        Ok(verdict) => match write_all(out, report(verdict)) {
-            Ok(()) => Ending::Reported(verdict),
+        Ok(decided) => match write_all(out, decided.report.as_slice()) {
+            Ok(()) => Ending::Reported(decided),
             Err(_) => {
                 let _ = refuse(alloc, err, Refusal::Sink);
-                Ending::CutOff(verdict)
+                Ending::CutOff(decided)
             }
         },
         Err(refusal) => Ending::Refused(refuse(alloc, err, refusal)),
+    }
+}
+
+/// The exit status of a verdict.
+fn verdict_status(verdict: Verdict) -> u8
+    ensures { result ≡ outcome.status_of_verdict verdict }
+{
+    match verdict {
+        Verdict::Accepted => 0,
+        Verdict::Rejected => 1,
+        Verdict::Long => 2,
     }
 }
 
@@ -123,23 +186,25 @@ fn exit_status(ending: &Ending) -> u8
     ensures { result ≡ outcome.status_at ending.now }
 {
     match ending {
-        Ending::Reported(Verdict::Accepted) => 0,
-        Ending::Reported(Verdict::Rejected) => 1,
+        Ending::Reported(decided) => verdict_status(decided.verdict),
         Ending::CutOff(_) => status(&Refusal::Sink),
         Ending::Refused(refusal) => status(refusal),
     }
 }
 
-/// Runs the program: reads the file that the words name, writes the verdict to `out`, or a line to
-/// `err` that says why there is none, and answers the exit status.
+/// Runs the program: decides what the words name, writes the report to `out`, or a line to `err`
+/// that says why there is none, and answers the exit status.
 ///
-/// `words` has the program's name first, which isn't looked at, and then at most one word, the name
-/// of the file, which doesn't begin with `-`. Without it the source is started with the name `-`.
-/// The source is started once at most, and nothing is read behind its end. The report is formed
-/// before the first write. A fault of `err` changes no status.
+/// `words` has the program's name first, which isn't looked at. The others are read as `hs_words`
+/// says: the name of a file, or `--gen K` for the generated file of that number, or neither, and then
+/// the source is started with the name `-`; `--entries N` and `--steps N` bound the table and the
+/// path, `--table` shows the table, and with `--first` the first start entry is enough. The source is
+/// started once at most, and nothing is read behind its end. The report is formed before the first
+/// write. A fault of `err` changes no status.
 ///
-/// Time and memory are linear in the file, and in the pairs of a point and a state that the
-/// automaton reaches. Nothing runs in threads yet, so `rt` isn't used.
+/// Reading takes time and memory in proportion to the file. What saturation takes isn't bounded by
+/// the file: a table has at most `--entries` entries, and a path is followed for at most `--steps`
+/// steps. Nothing runs in threads yet, so `rt` isn't used.
 pub fn run<R, S: Source, O: Sink, E: Sink>(
     _rt: &R,
     alloc: Global,
@@ -148,12 +213,12 @@ pub fn run<R, S: Source, O: Sink, E: Sink>(
     out: &mut O,
     err: &mut E,
 ) -> u8
-    ensures rows { outcome.Rows (name_of (texts words.now)) (source_run S.file S.left S.reading S.faults source.old source.new)
+    ensures rows { outcome.Rows (ordered (texts words.now)) (source_run S.file S.left S.reading S.faults source.old source.new)
         (sink_run O.writing O.faults out.old out.new) (sink_run E.writing E.faults err.old err.new) result }
     ensures keeps { outcome.Keeps (source_run S.file S.left S.reading S.faults source.old source.new)
         (sink_run O.writing O.faults out.old out.new) (sink_run E.writing E.faults err.old err.new) }
     // Where the words are refused, nothing is started or read.
-    ensures untouched { name_of (texts words.now) ≡ None → source.new ≡ source.old }
+    ensures untouched { ordered (texts words.now) ≡ None → source.new ≡ source.old }
 {
     exit_status(&end(alloc, words, source, out, err))
 }

@@ -1,25 +1,49 @@
 //! From the bytes of a file to the verdict.
 
-ghost use Rattle.std.specs.Prelude.{◌≡◌, ◌≤◌, ◌<◌, false, true, length, slice_get, Some, IfOk};
+ghost use Rattle.std.specs.Prelude.{◌≡◌, ◌≤◌, ◌<◌, length, slice_get, Some, IfOk};
 ghost use Rattle.hs_resolve.specs.Answer.{IsFaultless};
 ghost use Rattle.hs_resolve.specs.Numbering.{unsorted_of};
-ghost use Rattle.hs_scheme.specs.Sorted.{IsSorted};
+ghost use Rattle.hs_scheme.specs.Unsorted.{IsUnsorted};
 ghost use Rattle.hs_sorts.specs.Inference.{IsFaultOf};
-ghost use Rattle.hs_app.specs.Verdict.{Answers, DecidesRules, HasParameters, NoParameters, IsSortRefusal};
+ghost use Rattle.hs_app.specs.Verdict.{AreWithin, DecidesSorted, Answers, IsSortRefusal};
 
+use crate::deciding::decide_problem;
+use crate::problem::problem_of;
 use crate::refusal::Refusal;
-use crate::saturation::accepts;
 use hs_reader::{MAX_BYTES, RawFile, read_file};
 use hs_resolve::resolve;
-use hs_scheme::{Name, OutOfMemory, Rule, Scheme, Sorted};
+use hs_scheme::{Name, OutOfMemory, Sorted, Unsorted};
 use hs_sorts::{SortFault, infer};
 use std::alloc::Global;
+
+/// What is asked for beside the verdict.
+#[derive(Clone, Copy, Debug)]
+pub(crate) struct Settings {
+    /// The most entries of the table, 1 to 1,000,000.
+    pub(crate) entries: u32,
+    /// The most steps along a path, 1 to 4,000,000.
+    pub(crate) steps: u64,
+    /// Whether the table is shown.
+    pub(crate) table: bool,
+    /// Whether the first start entry is enough.
+    pub(crate) first: bool,
+}
 
 /// What the automaton makes of the value tree.
 #[derive(Clone, Copy, Debug, PartialEq, Eq)]
 pub(crate) enum Verdict {
     Accepted,
+    /// It isn't, and the path that the report shows leads to a terminal without transition.
     Rejected,
+    /// It isn't, and the path is longer than is asked for.
+    Long,
+}
+
+/// A verdict with its report.
+#[derive(Drop)]
+pub(crate) struct Decided {
+    pub(crate) verdict: Verdict,
+    pub(crate) report: Vec<u8>,
 }
 
 /// The name of a terminal. Inference consumes the names, so the file is resolved anew for it.
@@ -54,50 +78,33 @@ fn sort_refusal(alloc: Global, raw: &RawFile, fault: SortFault) -> Refusal
     }
 }
 
-/// Whether some rule has a parameter.
-fn has_parameters(rules: &[Rule]) -> bool
-    ensures some { result ≡ true → HasParameters rules.now }
-    ensures none { result ≡ false → NoParameters rules.now }
+/// What holds of each scheme before its sorts are known.
+fn know_unsorted(unsorted: &Unsorted)
+    ensures { IsUnsorted unsorted.now }
 {
-    for rule in rules {
-        if rule.params != 0 {
-            return true;
-        }
-    }
-    false
+    let _ = &unsorted.rules;
 }
 
-/// The verdict on a scheme with its sorts, where no rule has a parameter.
-fn decide_scheme(alloc: Global, sorted: Sorted) -> Result<Verdict, Refusal>
-    ensures decides { DecidesRules sorted.scheme.rules sorted.automaton.transitions result }
-    ensures sorted { IsSorted sorted }
+/// The verdict on a scheme with its sorts, or which limit it passes.
+fn decide_scheme(alloc: Global, sorted: Sorted, settings: Settings) -> Result<Decided, Refusal>
+    requires settings { AreWithin settings }
+    ensures { DecidesSorted settings sorted result }
 {
-    let Sorted {
-        scheme,
-        automaton,
-        ..
-    } = sorted;
-    let Scheme { rules, .. } = scheme;
-    let rules = rules.as_slice();
-    if has_parameters(rules) {
-        return Err(Refusal::NotYet);
-    }
-    if accepts(alloc, rules, &automaton)? {
-        Ok(Verdict::Accepted)
-    } else {
-        Ok(Verdict::Rejected)
-    }
+    let problem = problem_of(alloc, sorted)?;
+    decide_problem(alloc, &problem, settings)
 }
 
 /// The verdict on the bytes of a file, or why there is none.
-pub(crate) fn decide(alloc: Global, bytes: &[u8]) -> Result<Verdict, Refusal>
-    requires { length bytes.now ≤ MAX_BYTES }
-    ensures { Answers bytes.now result }
+pub(crate) fn decide(alloc: Global, bytes: &[u8], settings: Settings) -> Result<Decided, Refusal>
+    requires length { length bytes.now ≤ MAX_BYTES }
+    requires settings { AreWithin settings }
+    ensures { Answers settings bytes.now result }
 {
     let raw = read_file(alloc, bytes)?;
     let unsorted = resolve(alloc, &raw)?;
+    know_unsorted(&unsorted);
     match infer(alloc, unsorted) {
-        Ok(sorted) => decide_scheme(alloc, sorted),
+        Ok(sorted) => decide_scheme(alloc, sorted, settings),
         Err(fault) => Err(sort_refusal(alloc, &raw, fault)),
     }
 }

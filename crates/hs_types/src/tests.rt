@@ -1,11 +1,10 @@
-//! The worked script of the interner: sets and arrows in two orders of arrival, an import, a union.
+//! Sets and arrows in two orders of arrival, and a union.
 
 ghost use Rattle.std.specs.Prelude.{◌<◌, All, IfOk, length};
 ghost use Rattle.hs_types.specs.Interned.{Grows};
 
-use crate::{EnvId, Interner, Row, SetId, TyId, View};
+use crate::{EnvId, Interner, SetId, TyId, View};
 use hs_scheme::OutOfMemory;
-use hs_table::{Entry, Shape};
 use std::alloc::Global;
 use std::cmp::Ordering;
 use std::test::Fail;
@@ -88,26 +87,6 @@ fn arrows_are_ordered_by_result_and_then_by_set(rt: HostRuntime) -> Result<(), F
     assert_eq!(rt; t.interner.compare(t.first, t.second), Ordering::Less);
     assert_eq!(rt; t.interner.compare(t.second, t.third), Ordering::Less);
     assert_eq!(rt; t.interner.compare(t.third, t.first), Ordering::Greater);
-    Ok(())
-}
-
-/// The entry of one interner's row in another.
-fn imported(alloc: Global) -> Result<Entry, OutOfMemory> {
-    let mut interner = Interner::new(alloc);
-    let ty = interner.base(0)?;
-    let env = interner.env(&[])?;
-    let mut other = Interner::new(alloc);
-    let own = other.import(&interner, Row { point: 0, env, ty })?;
-    let entry = other.tree(alloc, own)?;
-    Ok(entry)
-}
-
-#[test]
-fn an_import_stands_for_the_same_entry(rt: HostRuntime) -> Result<(), Fail> {
-    let entry = imported(rt.alloc())?;
-    assert_eq!(rt; entry.point, 0);
-    assert_eq!(rt; entry.env.len(), 0);
-    assert!(rt; matches!(entry.ty.shape, Shape::State(0)));
     Ok(())
 }
 

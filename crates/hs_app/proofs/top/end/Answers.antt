@@ -1,14 +1,15 @@
 use Rattle.std.proofs.Common.{refl, sym, subst, inl, inr}
 use Rattle.hs_app.specs.declared.refusal.Refusal.{Refusal}
 use Rattle.hs_app.specs.Refusal.{line_of}
-use Rattle.hs_app.specs.Words.{name_of, texts}
-use Rattle.hs_app.specs.Outcome.{source_run, sink_run, HasCause, Gains, Refuses}
+use Rattle.hs_words.specs.Words.{texts}
+use Rattle.hs_app.specs.Order.{ordered, source_run}
+use Rattle.hs_app.specs.Outcome.{sink_run, HasCause, Gains, Refuses}
 use Rattle.hs_app.proofs.OutcomeLemmas.{any_cause}
 use Rattle.hs_app.proofs.top.end.Goals as goal
 
 pub returns-in-Err-clause-ends : goal.returns-in-Err-clause-ends
 returns-in-Err-clause-ends g c =
-    let name = name_of (texts c.args.words.now) in
+    let name = ordered (texts c.args.words.now) in
     let source = source_run g.S.Source.file g.S.Source.left g.S.Source.reading g.S.Source.faults c.args.source.now c.answer.new.source in
     let out = sink_run g.O.Sink.writing g.O.Sink.faults c.args.out.now c.args.out.now in
     let err = sink_run g.E.Sink.writing g.E.Sink.faults c.args.err.now c.refuse-in-Err.new.err in

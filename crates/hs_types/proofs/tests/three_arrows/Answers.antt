@@ -1,4 +1,4 @@
-use Rattle.std.proofs.Common.{ℕ, ◌<◌, length, List, [], ◌∷◌}
+use Rattle.std.proofs.Common.{ℕ, ◌<◌, length, [], ◌∷◌}
 use Rattle.std.proofs.lemmas.List.Elements.{All-nil, All-cons}
 use Rattle.hs_types.proofs.Numbers.{type_within}
 use Rattle.hs_types.proofs.TestLemmas.{given}

@@ -1,0 +1,64 @@
+-- What the answers of saturation say of a problem.
+use Rattle.std.proofs.Common.{◌≡◌, refl, sym, ◌∙◌, ap, subst, ℕ, Bool, true, List, length, Option, Some, None}
+use Rattle.std.specs.Option.{IsSome, IfSome}
+use Rattle.hs_scheme.specs.Problem.{ProblemData}
+use Rattle.hs_scheme.specs.Run.{Accepts}
+use Rattle.hs_table.specs.Entries.{EntryData}
+use Rattle.hs_table.specs.Tables.{IsSupportedTable, IsLeastTable, HasStart, Exceeds}
+use Rattle.hs_table_laws.proofs.Places.{member_at}
+use Rattle.hs_verdict.specs.Premises.{IsSortedProblem}
+use Rattle.hs_naming.proofs.Ending.{supported_rejects}
+use Rattle.hs_history.specs.Story.{Base}
+use Rattle.hs_core.specs.Core.{CoreData, log_of, IsCore, StartsAt}
+use Rattle.hs_core.specs.Answers.{IsLeastAnswer, IsOverAnswer, IsFirstAnswer}
+use Rattle.hs_core.specs.Saturation.{IsAlone}
+use Rattle.hs_app.specs.declared.verdict.Settings.{Settings}
+use Rattle.hs_app.specs.Problems.{IsReportedTable}
+use Rattle.hs_app.specs.Verdict.{IsOver}
+use Rattle.hs_app.proofs.CoreLemmas.{core_table, reported_least, reported_first}
+
+abbrev pub base_of : ProblemData → Settings → Base
+base_of p settings = record { problem = p; budget = settings.entries; first = settings.first }
+
+pub starts : (p : ProblemData) (log : List EntryData) (place : Option ℕ) → IsSome place → IfSome place (StartsAt p log) → HasStart p log
+starts p log None some h = absurd (cc)
+starts p log (Some place) some h = (h.entry, (h.is_start, member_at log place h.entry h.at))
+
+module _ (p : ProblemData) (settings : Settings) (core : CoreData) (is : IsCore core) (sorted : IsSortedProblem p) (alone : IsAlone (base_of p settings) core) where
+  abbrev log : List EntryData
+  log = log_of core
+
+  pub problem_is : p ≡ core.base.problem
+  problem_is = sym (ap (λ (b : Base). b.problem) alone.same)
+
+  pub budget_is : core.base.budget ≡ settings.entries
+  budget_is = ap (λ (b : Base). b.budget) alone.same
+
+  first_is : core.base.first ≡ settings.first
+  first_is = ap (λ (b : Base). b.first) alone.same
+
+  supported : IsSupportedTable p log
+  supported = subst (λ (q : ProblemData). IsSupportedTable q log) (sym problem_is) (core_table core is)
+
+  pub supported_start_rejects : HasStart p log → Accepts p.sorted.scheme.rules p.sorted.automaton.transitions → ⊥
+  supported_start_rejects start = supported_rejects p sorted log supported start
+
+  pub first_start : IsFirstAnswer core → HasStart p log
+  first_start h = subst (λ (q : ProblemData). HasStart q log) (sym problem_is) h.start
+
+  pub first_is_reported : IsFirstAnswer core → IsReportedTable settings.first p log
+  first_is_reported h = reported_first settings.first p log (sym first_is ∙ h.first) supported (first_start h)
+
+  pub least_table : IsLeastAnswer core → IsLeastTable p log
+  least_table h = subst (λ (q : ProblemData). IsLeastTable q log) (sym problem_is) h.least
+
+  pub least_is_reported : IsLeastAnswer core → HasStart p log → IsReportedTable settings.first p log
+  least_is_reported h start =
+      reported_least settings.first p log
+      (λ first begins. h.goes_on (first_is ∙ first) (subst (λ (q : ProblemData). HasStart q log) problem_is begins)) (least_table h) start
+
+  pub is_over : IsOverAnswer core → IsOver settings p
+  is_over h = record {
+    exceeds = subst (λ (q : ProblemData). Exceeds q settings.entries) (sym problem_is) (subst (λ (n : ℕ). Exceeds core.base.problem n) budget_is h.exceeds);
+    first = λ first. (log, (supported, h.full ∙ budget_is, λ begins. h.goes_on (first_is ∙ first) (subst (λ (q : ProblemData). HasStart q log) problem_is begins)));
+  }

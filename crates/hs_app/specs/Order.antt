@@ -1,0 +1,95 @@
+-- What the words of the command line order: what to work on, and how.
+--     Job             the file of a name, or the generated file of a number
+--     Order           a job with the settings of the run
+--     ordered         what the words order, where they are taken
+--     bytes_of        the bytes of a job, where these were handed out
+--     IsWhole, IsPart the job's file was read up to its end, or not so far; for a generated file nothing is read
+--     OfTold          a fact about the bytes of the job's file, where they are told
+use Rattle.std.specs.Prelude.{◌≡◌, ℕ, ◌+◌, Bool, true, false, List, [], Option, Some, None, option_map, unwrap_or, codes, IfSome, IsSomeAnd}
+use Rattle.std.specs.Option.{option_map_or}
+use Rattle.std.specs.Io.KnownBytes.{prepend_known}
+use Rattle.hs_edge.specs.Count.{Rose}
+use Rattle.hs_edge.specs.Reading.{Reading}
+use Rattle.hs_gen.specs.Cycle.{cycle_file_text}
+use Rattle.hs_words.specs.Words.{OptionsData, options_of}
+use Rattle.hs_app.specs.declared.verdict.Settings.{Settings}
+
+pub data Job : Type 0 where
+  read_file : List ℕ → Job
+  generate : ℕ → Job
+
+pub record Order : Type 0 where
+  pub job : Job
+  pub settings : Settings
+
+-- without a file's name, and where none is generated, standard input is read, whose name is `-`
+abbrev pub job_of : OptionsData → Job
+job_of o = option_map_or (λ k. generate k) o.cycle (read_file (unwrap_or o.file (codes "-")))
+
+abbrev pub settings_of : OptionsData → Settings
+settings_of o = record { entries = o.entries; steps = o.steps; table = o.table; first = o.first }
+
+abbrev pub order_of : OptionsData → Order
+order_of o = record { job = job_of o; settings = settings_of o }
+
+abbrev pub ordered : List (List ℕ) → Option Order
+ordered words = option_map order_of (options_of words)
+
+-- a source, before and after
+pub record SourceRun : Type 0 where
+  -- the files by name, where they are told
+  pub file : List ℕ → Option (List ℕ)
+  pub file_after : List ℕ → Option (List ℕ)
+  pub before : Reading
+  pub after : Reading
+  -- what is left afterwards, where it is told
+  pub left : Option (List ℕ)
+  pub faults : List ℕ → ℕ
+  pub faults_after : List ℕ → ℕ
+
+abbrev pub source_run : {S : Type 0} → (S → List ℕ → Option (List ℕ)) → (S → Option (List ℕ)) → (S → Reading) → (S → List ℕ → ℕ) → S → S → SourceRun
+source_run file left reading faults old new = record {
+  file = file old;
+  file_after = file new;
+  before = reading old;
+  after = reading new;
+  left = left new;
+  faults = faults old;
+  faults_after = faults new;
+}
+
+-- nothing was started or read
+abbrev pub IsUntouched : SourceRun → Type 0
+IsUntouched source = source.after ≡ source.before
+
+-- The file of this name was started, and nothing else, and it was read from its front on: up to its
+-- end and not past it, where the end was met. Where the file is told, what was handed out and what is
+-- left make it up.
+pub record IsRead (source : SourceRun) (met : Bool) (name : List ℕ) : Type 0 where
+  pub begun : source.after.begun ≡ Some name
+  pub once : source.after.starts ≡ source.before.starts + 1
+  pub ended : source.after.ended ≡ met
+  pub not_behind : source.after.behind ≡ false
+  pub told : source.file name ≡ prepend_known source.after.given source.left
+  pub all : met ≡ true → IfSome source.left (λ left. left ≡ [])
+
+abbrev pub bytes_of : Job → List ℕ → List ℕ
+bytes_of (read_file name) given = given
+bytes_of (generate k) given = cycle_file_text k
+
+abbrev pub IsWhole : Job → SourceRun → Type 0
+IsWhole (read_file name) source = IsRead source true name
+IsWhole (generate k) source = IsUntouched source
+
+abbrev pub IsPart : Job → SourceRun → Type 0
+IsPart (read_file name) source = IsRead source false name
+IsPart (generate k) source = ⊥
+
+-- the count of the job's file rose
+abbrev pub HasFault : Job → SourceRun → Type 0
+HasFault (read_file name) source = Rose (source.faults name) (source.faults_after name)
+HasFault (generate k) source = ⊥
+
+abbrev pub OfTold : Job → (List ℕ → Option (List ℕ)) → (List ℕ → Type 0) → Type 0
+OfTold (read_file name) file P = IsSomeAnd (file name) P
+OfTold (generate k) file P = P (cycle_file_text k)

@@ -1,0 +1,44 @@
+//! The problem of a scheme: its points and its flow, within their limits.
+
+ghost use Rattle.std.specs.Prelude.{◌≡◌, ◌+◌, ◌<◌, ◌≤◌, length, MatchResult};
+ghost use Rattle.hs_scheme.specs.declared.flow.Pair.{Pair};
+ghost use Rattle.hs_verdict.specs.Premises.{IsSortedProblem};
+ghost use Rattle.hs_app.specs.Problems.{IsProblemWithin, IsPastLimits};
+
+use crate::refusal::Refusal;
+use hs_flow::{FlowFault, analyse};
+use hs_scheme::{OutOfMemory, Points, PointsFault, Problem, Sorted};
+use std::alloc::Global;
+
+/// The most pairs of the flow, of both kinds together.
+const MAX_PAIRS: u32 = 4_000_000;
+
+/// The problem of a scheme. `PointLimit` and `FlowLimit` come exactly where it has more than 500,000
+/// points, or more than 4,000,000 pairs of flow.
+pub(crate) fn problem_of(alloc: Global, sorted: Sorted) -> Result<Problem, Refusal>
+    ensures { MatchResult result (IsProblemWithin sorted) (IsPastLimits sorted) }
+{
+    let points = match Points::of(alloc, &sorted.scheme) {
+        Ok(points) => points,
+        Err(PointsFault::TooMany) => return Err(Refusal::PointLimit),
+        Err(PointsFault::OutOfMemory) => return Err(Refusal::OutOfMemory),
+    };
+    let flow = match analyse(alloc, &sorted.scheme, &points, MAX_PAIRS) {
+        Ok(flow) => flow,
+        Err(FlowFault::FlowLimit) => return Err(Refusal::FlowLimit),
+        Err(FlowFault::OutOfMemory) => return Err(Refusal::OutOfMemory),
+    };
+    Ok(Problem::new(sorted, points, flow))
+}
+
+/// What holds of each problem.
+pub(crate) fn know(problem: &Problem)
+    ensures { IsSortedProblem problem.now }
+{
+    let _ = &problem.points;
+    let sorted = &problem.sorted;
+    let _ = &sorted.names;
+    let scheme = &sorted.scheme;
+    let _ = &scheme.rules;
+    sorted.automaton.is_automaton();
+}
