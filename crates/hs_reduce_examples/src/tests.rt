@@ -1,10 +1,11 @@
 //! Reduction of small files, along paths and up to a number of steps, each worked out by hand.
 
 use hs_reader::read_file;
-use hs_reduce::{Bounded, MAX_CUT, MAX_STEPS, Path, Replay, bounded, replay};
+use hs_reduce::{Bounded, MAX_CUT, MAX_STEPS, Replay, bounded, replay};
 use hs_resolve::resolve;
 use hs_scheme::{Name, OutOfMemory, Sorted};
 use hs_sorts::infer;
+use hs_trace::Path;
 use std::alloc::Global;
 use std::test::Fail;
 

@@ -1,0 +1,200 @@
+-- What points demand, pair by pair.
+use Rattle.std.proofs.Common.{◌≡◌, refl, sym, ◌∙◌, ap, subst, ℕ, ◌+◌, ◌-◌, ◌<◌, ◌≤◌, Bool, ◌&&◌, nat_eq, filter, take, List, [], ◌∷◌, ◌++◌, length, map, get_or, slice_get, Option, Some, None, arith, inl, inr, Contains, ◌↔◌, ◌⊎◌}
+use Rattle.std.proofs.Math.Nat.{eq-or-lt_of_le}
+use Rattle.std.specs.Ordering.{nat_cmp, ordering_index}
+use Rattle.std.specs.Option.{option_map_or}
+use Rattle.std.specs.List.Sorted.{IsNonDecreasingBy}
+use Rattle.std.specs.declared.cmp.Ordering.TheVariants.{Less, Equal}
+use Rattle.std.proofs.lemmas.Bool.Decides.{nat_tests}
+use Rattle.std.proofs.lemmas.List.Elements.{Contains-append_left, Contains-append_right, Contains-append_cases}
+use Rattle.hs_scheme.specs.declared.flow.FlowPair.{FlowPair}
+use Rattle.hs_scheme.specs.declared.flow.HeadPair.{HeadPair}
+use Rattle.hs_scheme.specs.declared.flow.Pair.{Pair}
+use Rattle.hs_scheme.specs.declared.flow.Pair.TheVariants.{OfFlow, OfHead}
+use Rattle.hs_scheme.specs.declared.term.Rule.{Rule}
+use Rattle.hs_scheme.specs.Flow.{IsAscending, head_cmp, HasParameter, pairs_of}
+use Rattle.hs_scheme.specs.Problem.{ProblemData}
+use Rattle.hs_table.specs.Entries.{params_of}
+use Rattle.hs_table_laws.proofs.Places.{some_same, within_from}
+use Rattle.std.proofs.lemmas.Bool.{eqb-true, eq-eqb}
+use Rattle.hs_scheme.specs.declared.term.Head.TheVariants.{Var}
+use Rattle.hs_scheme.specs.Flow.{IsBase}
+use Rattle.hs_scheme.proofs.FlowRowLemmas.{filter_keeps, filter_has}
+use Rattle.hs_table_plain.proofs.Members.{from_map, into_map, in_pushed, next_member}
+use Rattle.hs_table_plain.proofs.Loops.{and_true, both_true}
+use Rattle.hs_table_plain.proofs.TableLemmas.{below_or_last}
+use Rattle.hs_checker.specs.declared.flow.Base.{Base}
+use Rattle.std.proofs.lemmas.Option.{slice_get-get_or}
+use Rattle.hs_scheme.specs.declared.term.Head.{Head}
+use Rattle.hs_scheme.specs.declared.term.Head.TheVariants.{Tm}
+use Rattle.hs_scheme.specs.Points.{PointData, PointsData, point_at, points_of}
+use Rattle.hs_checker.specs.declared.flow.Kind.{Kind}
+use Rattle.hs_checker.specs.declared.flow.Kind.TheVariants.{Flow, Heads}
+use Rattle.hs_checker.specs.Gaps.{held, IsDemanded, IsOfKind}
+use Rattle.hs_checker.specs.Passes.{PassesFlow, PassesHead, PassesBy, DemandsAt}
+use Rattle.hs_checker.proofs.Between.{filter_passes}
+
+point_le : (t : ℕ) (a b : HeadPair) → head_cmp a b ≡ Less → ordering_index (nat_cmp a.point t) ≤ ordering_index (nat_cmp b.point t)
+point_le t a b h = grind (arith, nat_tests)
+
+pub points_rise : (heads : List HeadPair) (t : ℕ) → IsAscending head_cmp heads → IsNonDecreasingBy (λ (h : HeadPair). ordering_index (nat_cmp h.point t)) heads
+points_rise heads t up i j d le lt = elim (eq-or-lt_of_le le) [
+  | inl same ↦ let e : ordering_index (nat_cmp (get_or heads i d).point t) ≡ ordering_index (nat_cmp (get_or heads j d).point t) = ap (λ k. ordering_index (nat_cmp (get_or heads k d).point t)) same in omega arith
+  | inr less ↦ point_le t (get_or heads i d) (get_or heads j d) (up i j d less lt)
+]
+
+pub nat_equal : (x y : ℕ) → nat_cmp x y ≡ Equal → x ≡ y
+nat_equal x y h = grind (arith, nat_tests)
+
+pub nat_itself : (x y : ℕ) → x ≡ y → nat_cmp x y ≡ Equal
+nat_itself x y h = grind (arith, nat_tests)
+
+-- membership in the list of both kinds
+pub flow_held : (flows : List FlowPair) (heads : List HeadPair) (f : FlowPair) → Contains (pairs_of flows heads) (OfFlow f) ↔ Contains flows f
+flow_held flows heads f = (
+  λ c. elim (Contains-append_cases (map (λ f. OfFlow f) flows) (map (λ h. OfHead h) heads) (OfFlow f) c) [
+    | inl l ↦ let s = from_map (λ (f : FlowPair). OfFlow f) flows (OfFlow f) l in
+        let is = s.is in
+        let same : f ≡ s.item = cc in
+        subst (λ (g : FlowPair). Contains flows g) (sym same) s.there
+    | inr r ↦ let s = from_map (λ (h : HeadPair). OfHead h) heads (OfFlow f) r in
+        let is = s.is in
+        absurd (cc)
+  ],
+  λ c. Contains-append_left (map (λ f. OfFlow f) flows) (map (λ h. OfHead h) heads) (OfFlow f) (into_map (λ (f : FlowPair). OfFlow f) flows f c),
+)
+
+pub head_held : (flows : List FlowPair) (heads : List HeadPair) (h : HeadPair) → Contains (pairs_of flows heads) (OfHead h) ↔ Contains heads h
+head_held flows heads h = (
+  λ c. elim (Contains-append_cases (map (λ f. OfFlow f) flows) (map (λ h. OfHead h) heads) (OfHead h) c) [
+    | inl l ↦ let s = from_map (λ (f : FlowPair). OfFlow f) flows (OfHead h) l in
+        let is = s.is in
+        absurd (cc)
+    | inr r ↦ let s = from_map (λ (h : HeadPair). OfHead h) heads (OfHead h) r in
+        let is = s.is in
+        let same : h ≡ s.item = cc in
+        subst (λ (g : HeadPair). Contains heads g) (sym same) s.there
+  ],
+  λ c. Contains-append_right (map (λ f. OfFlow f) flows) (map (λ h. OfHead h) heads) (OfHead h) (into_map (λ (h : HeadPair). OfHead h) heads h c),
+)
+
+-- one base more
+pub base_step : (olds start news : List Base) (items : List HeadPair) (k point : ℕ) (head : HeadPair) → news ≡ olds ++ record { rule = head.rule; given = head.given } ∷ [] → head.point ≡ point → k < length items → head ≡ get_or items k head
+    → ((b : Base) → Contains olds b ↔ (Contains start b ⊎ Contains (take k items) (record { point = point; rule = b.rule; given = b.given })))
+    → (b : Base) → Contains news b ↔ (Contains start b ⊎ Contains (take (k + 1) items) (record { point = point; rule = b.rule; given = b.given }))
+base_step olds start news items k point head is at lt read before b =
+    let one : Base = record { rule = head.rule; given = head.given } in
+    let pair : HeadPair = record { point = point; rule = b.rule; given = b.given } in
+    let pushed = in_pushed olds one b in
+    let member = next_member items k head pair lt read in (
+      λ c. elim (pushed.0 (subst (λ (bs : List Base). Contains bs b) is c)) [
+        | inl old ↦ elim ((before b).0 old) [
+          | inl s ↦ inl s
+          | inr t ↦ inr (member.1 (inl t))
+        ]
+        | inr same ↦ inr (member.1 (inr (λ i. record { point = (sym at) i; rule = (same i).rule; given = (same i).given })))
+      ],
+      λ h. subst (λ (bs : List Base). Contains bs b) (sym is) (pushed.1 (elim h [
+        | inl s ↦ inl ((before b).1 (inl s))
+        | inr t ↦ elim (member.0 t) [
+          | inl l ↦ inl ((before b).1 (inr l))
+          | inr same ↦ inr (λ i. record { rule = (same i).rule; given = (same i).given })
+        ]
+      ])),
+    )
+
+-- a parameter's pairs lead to its bases
+pub record Leads (pairs : List FlowPair) (heads : List HeadPair) (b : Base) : Type 0 where
+  pub pair : FlowPair
+  pub there : Contains pairs pair
+  pub becomes : Contains heads (record { point = pair.point; rule = b.rule; given = b.given })
+
+pub leads_step : (items : List FlowPair) (heads : List HeadPair) (olds news : List Base) (k : ℕ) (pair : FlowPair) → k < length items → pair ≡ get_or items k pair
+    → ((b : Base) → Contains news b ↔ (Contains olds b ⊎ Contains heads (record { point = pair.point; rule = b.rule; given = b.given })))
+    → ((b : Base) → Contains olds b ↔ Leads (take k items) heads b) → (b : Base) → Contains news b ↔ Leads (take (k + 1) items) heads b
+leads_step items heads olds news k pair lt read more before b = (
+  λ c. elim ((more b).0 c) [
+    | inl old ↦ let l = (before b).0 old in record { pair = l.pair; there = (next_member items k pair l.pair lt read).1 (inl l.there); becomes = l.becomes }
+    | inr own ↦ record { pair = pair; there = (next_member items k pair pair lt read).1 (inr refl); becomes = own }
+  ],
+  λ l. (more b).1 (elim ((next_member items k pair l.pair lt read).0 l.there) [
+    | inl t ↦ inl ((before b).1 (record { pair = l.pair; there = t; becomes = l.becomes }))
+    | inr same ↦ inr (subst (λ (f : FlowPair). Contains heads (record { point = f.point; rule = b.rule; given = b.given })) same l.becomes)
+  ]),
+)
+
+pub leads_base : (rule x : ℕ) (pairs : List FlowPair) (heads : List HeadPair) (b : Base) → Leads (filter (λ f. nat_eq f.rule rule && nat_eq f.param x) pairs) heads b ↔ IsBase (pairs_of pairs heads) rule (Var x) b.rule b.given
+leads_base rule x pairs heads b = (
+  λ l.
+      let m : FlowPair → Bool = λ f. nat_eq f.rule rule && nat_eq f.param x in
+      let parts = and_true (nat_eq l.pair.rule rule) (nat_eq l.pair.param x) (filter_passes m pairs l.pair l.there) in
+      let same : l.pair ≡ record { rule = rule; param = x; point = l.pair.point } = λ i. record { rule = eqb-true l.pair.rule rule parts.0 i; param = eqb-true l.pair.param x parts.1 i; point = l.pair.point } in (
+        l.pair.point,
+        (
+          (flow_held pairs heads (record { rule = rule; param = x; point = l.pair.point })).1 (subst (λ (f : FlowPair). Contains pairs f) same (filter_has m pairs l.pair l.there)),
+          (head_held pairs heads (record { point = l.pair.point; rule = b.rule; given = b.given })).1 l.becomes,
+        ),
+      ),
+  λ h.
+      let m : FlowPair → Bool = λ f. nat_eq f.rule rule && nat_eq f.param x in
+      let f : FlowPair = record { rule = rule; param = x; point = h.0 } in
+      record {
+        pair = f;
+        there = filter_keeps m pairs f (both_true (nat_eq rule rule) (nat_eq x x) (eq-eqb rule rule refl) (eq-eqb x x refl)) ((flow_held pairs heads f).0 h.1.0);
+        becomes = (head_held pairs heads (record { point = h.0; rule = b.rule; given = b.given })).0 h.1.1;
+      },
+)
+
+-- the pairs of the first n arguments are held
+abbrev pub Holds : List FlowPair → List ℕ → Base → ℕ → Type 0
+Holds pairs args b n = (i u : ℕ) → i < n → slice_get args i ≡ Some u → Contains pairs (record { rule = b.rule; param = b.given + i; point = u })
+
+pub after_none : (p : ProblemData) (point : ℕ) (args : List ℕ) (b : Base) (kind : Kind) → kind ≡ Flow → ((f : FlowPair) → PassesFlow p args b f → Contains p.flow.pairs f)
+    → (pair : Pair) → IsOfKind kind pair → PassesBy p point args b pair → Contains (held p) pair
+after_none p point args b kind is all (OfFlow f) of passes = (flow_held p.flow.pairs p.flow.heads f).1 (all f passes)
+after_none p point args b kind is all (OfHead h) of passes = absurd (subst (λ k. IsOfKind k (OfHead h)) is of)
+
+pub after_no_head : (p : ProblemData) (point : ℕ) (args : List ℕ) (b : Base) (kind : Kind) → kind ≡ Heads → ((h : HeadPair) → PassesHead p point args b h → Contains p.flow.heads h)
+    → (pair : Pair) → IsOfKind kind pair → PassesBy p point args b pair → Contains (held p) pair
+after_no_head p point args b kind is all (OfFlow f) of passes = absurd (subst (λ k. IsOfKind k (OfFlow f)) is of)
+after_no_head p point args b kind is all (OfHead h) of passes = (head_held p.flow.pairs p.flow.heads h).1 (all h passes)
+
+pub after_flow : (p : ProblemData) (point : ℕ) (args : List ℕ) (b : Base) (kind : Kind) (f : FlowPair) → kind ≡ Flow → PassesFlow p args b f × (Contains p.flow.pairs f → ⊥)
+    → IsOfKind kind (OfFlow f) × (PassesBy p point args b (OfFlow f) × (Contains (held p) (OfFlow f) → ⊥))
+after_flow p point args b kind f is both = (subst (λ k. IsOfKind k (OfFlow f)) (sym is) tt, (both.0, λ c. both.1 ((flow_held p.flow.pairs p.flow.heads f).0 c)))
+
+pub after_head : (p : ProblemData) (point : ℕ) (args : List ℕ) (b : Base) (kind : Kind) (h : HeadPair) → kind ≡ Heads → PassesHead p point args b h × (Contains p.flow.heads h → ⊥)
+    → IsOfKind kind (OfHead h) × (PassesBy p point args b (OfHead h) × (Contains (held p) (OfHead h) → ⊥))
+after_head p point args b kind h is both = (subst (λ k. IsOfKind k (OfHead h)) (sym is) tt, (both.0, λ c. both.1 ((head_held p.flow.pairs p.flow.heads h).0 c)))
+
+-- what a point demands, from the parts of it
+module _ (p : ProblemData) (point rule : ℕ) (head : Head) (args : List ℕ) (lt : point < length p.points.points)
+    (rule_is : rule ≡ (point_at p.points point).rule) (head_is : head ≡ (point_at p.points point).head) (args_is : args ≡ (point_at p.points point).args) where
+  there : slice_get p.points.points point ≡ Some (point_at p.points point)
+  there = slice_get-get_or p.points.points point (record { rule = 0; head = Tm 0; args = [] }) lt
+
+  pub demand_made : (b : Base) (pair : Pair) → IsBase (held p) rule head b.rule b.given → PassesBy p point args b pair → DemandsAt p point pair
+  demand_made b pair base passes = record {
+    of = point_at p.points point;
+    by = b;
+    at = there;
+    is_base = subst (λ h. IsBase (held p) (point_at p.points point).rule h b.rule b.given) head_is (subst (λ r. IsBase (held p) r head b.rule b.given) rule_is base);
+    passes = subst (λ (us : List ℕ). PassesBy p point us b pair) args_is passes;
+  }
+
+  pub demand_by : (pair : Pair) → DemandsAt p point pair → (b : Base) × (IsBase (held p) rule head b.rule b.given × PassesBy p point args b pair)
+  demand_by pair d =
+      let same : d.of ≡ point_at p.points point = some_same d.of (point_at p.points point) (sym d.at ∙ there) in
+      let b = d.by in (
+        b,
+        (
+          subst (λ r. IsBase (held p) r head b.rule b.given) (ap (λ (q : PointData). q.rule) same ∙ sym rule_is) (subst (λ h. IsBase (held p) d.of.rule h b.rule b.given) (ap (λ (q : PointData). q.head) same ∙ sym head_is) d.is_base),
+          subst (λ (us : List ℕ). PassesBy p point us b pair) (ap (λ (q : PointData). q.args) same ∙ sym args_is) d.passes,
+        ),
+      )
+
+-- demands at some point are demands
+pub at_some_point : (p : ProblemData) (pair : Pair) → p.points ≡ points_of p.sorted.scheme.rules → IsDemanded p pair → (point : ℕ) × ((point < length p.points.points) × DemandsAt p point pair)
+at_some_point p pair are d =
+    let at : slice_get p.points.points d.point ≡ Some d.of = ap (λ (x : PointsData). slice_get x.points d.point) are ∙ d.at in
+    (d.point, (within_from p.points.points d.point d.of at, record { of = d.of; by = record { rule = d.base; given = d.given }; at = at; is_base = d.is_base; passes = d.passes }))

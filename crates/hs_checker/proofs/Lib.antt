@@ -1,0 +1,10 @@
+pub mod Between
+pub mod GapLemmas
+pub mod Ordered
+pub mod IndexLemmas
+pub mod Steps
+pub mod TypeLemmas
+pub mod EnvLemmas
+pub mod InstanceLemmas
+pub mod ShapeLemmas
+pub mod CountLemmas

@@ -1,0 +1,11 @@
+-- the states so far have given their types
+use Rattle.std.proofs.Common.{◌↔◌, Contains}
+use Rattle.hs_table.specs.Types.{TypeTree, IsSet}
+use Rattle.hs_table_plain.specs.Enumeration.{terminal_types}
+use Rattle.hs_checker.proofs.heads.terminal_types.Given as goal
+
+abbrev pub invariant-loop-q : goal.invariant-loop-q
+invariant-loop-q l = record {
+  set : IsSet l.found.items;
+  each : (t : TypeTree) → Contains l.found.items t ↔ Contains (terminal_types l.problem l.terminal l.q) t;
+}

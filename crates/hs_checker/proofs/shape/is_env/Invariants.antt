@@ -1,0 +1,7 @@
+-- the sets so far are of types in shape
+use Rattle.std.proofs.Common.{take}
+use Rattle.hs_checker.proofs.ShapeLemmas.{AreGood}
+use Rattle.hs_checker.proofs.shape.is_env.Given as goal
+
+abbrev pub invariant-loop-set : goal.invariant-loop-set
+invariant-loop-set l = AreGood l.states (take l.set-index l.env)

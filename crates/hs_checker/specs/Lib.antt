@@ -1,0 +1,7 @@
+pub mod Gaps
+pub mod Passes
+pub mod Order
+pub mod Shape
+pub mod Any
+pub mod Slots
+pub mod Checked

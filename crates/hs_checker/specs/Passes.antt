@@ -1,0 +1,29 @@
+-- What a point demands by what its head may become; only private contracts cite it.
+use Rattle.std.specs.Prelude.{◌≡◌, ℕ, List, slice_get, Some}
+use Rattle.hs_scheme.specs.declared.flow.FlowPair.{FlowPair}
+use Rattle.hs_scheme.specs.declared.flow.HeadPair.{HeadPair}
+use Rattle.hs_scheme.specs.declared.flow.Pair.{Pair}
+use Rattle.hs_scheme.specs.declared.flow.Pair.TheVariants.{OfFlow, OfHead}
+use Rattle.hs_scheme.specs.Points.{PointData}
+use Rattle.hs_scheme.specs.Flow.{IsBase, Passes}
+use Rattle.hs_scheme.specs.Problem.{ProblemData}
+use Rattle.hs_checker.specs.declared.flow.Base.{Base}
+use Rattle.hs_checker.specs.Gaps.{held}
+
+abbrev pub PassesBy : ProblemData → ℕ → List ℕ → Base → Pair → Type 0
+PassesBy p point args b pair = Passes p.sorted.scheme.rules point args b.rule b.given pair
+
+-- whatever the point is
+abbrev pub PassesFlow : ProblemData → List ℕ → Base → FlowPair → Type 0
+PassesFlow p args b f = PassesBy p 0 args b (OfFlow f)
+
+abbrev pub PassesHead : ProblemData → ℕ → List ℕ → Base → HeadPair → Type 0
+PassesHead p point args b h = PassesBy p point args b (OfHead h)
+
+-- the pair is demanded at this point
+pub record DemandsAt (p : ProblemData) (point : ℕ) (pair : Pair) : Type 0 where
+  pub of : PointData
+  pub by : Base
+  pub at : slice_get p.points.points point ≡ Some of
+  pub is_base : IsBase (held p) of.rule of.head by.rule by.given
+  pub passes : PassesBy p point of.args by pair

@@ -1,0 +1,90 @@
+//! The instances at a point: the types of its head whose sets have entries.
+
+ghost use Rattle.std.specs.Prelude.{◌≡◌, ◌↔◌, ◌<◌, length, Contains, IsTrue, IfOk};
+ghost use Rattle.hs_scheme.specs.Points.{NonterminalWithin};
+ghost use Rattle.hs_table.specs.Types.{TypeTree, IsSet};
+ghost use Rattle.hs_table.specs.Tables.{IsInstance};
+ghost use Rattle.hs_checker.specs.Slots.{HasTypesAt, Fits, AreInShape};
+ghost use Rattle.hs_table_plain.specs.Enumeration as plain;
+
+use crate::heads::{add_type, head_types};
+use crate::index::Index;
+use hs_scheme::{Head, OutOfMemory, Problem};
+use hs_table::{Shape, Ty};
+use std::alloc::Global;
+
+/// Whether each of the types has an entry at the argument.
+fn have_entries(index: &Index, arg: u32, set: &[Ty]) -> bool
+    ensures { IsTrue result ↔ HasTypesAt index.now arg set.now }
+{
+    for ty in set {
+        if index.at(arg, ty).is_empty() {
+            return false;
+        }
+    }
+    true
+}
+
+/// Whether each type of the sets has an entry at its argument. Recurses as deep as the type.
+fn fits(index: &Index, args: &[u32], ty: &Ty) -> bool
+    ensures { IsTrue result ↔ Fits index.now args.now ty.now }
+{
+    let Some(arg) = args.first() else {
+        return true;
+    };
+    match &ty.shape {
+        Shape::State(_) => false,
+        Shape::Arrow(set, rest) => {
+            have_entries(index, *arg, set.as_slice()) && fits(index, &args[1..], rest)
+        }
+    }
+}
+
+/// Those of the types whose sets have entries.
+fn fitting(alloc: Global, index: &Index, args: &[u32], types: &[Ty]) -> Result<Vec<Ty>, OutOfMemory>
+    ensures set { IfOk result (λ found. IsSet found.items) }
+    ensures each { IfOk result (λ found. (t : TypeTree) → Contains found.items t ↔ (Contains types.now t × Fits index.now args.now t)) }
+{
+    let mut found = Vec::new(alloc);
+    for ty in types {
+        if fits(index, args, ty) {
+            add_type(alloc, &mut found, ty)?;
+        }
+    }
+    Ok(found)
+}
+
+/// The types of this head, in this rule, whose sets have entries at the arguments.
+fn instances_of(
+    alloc: Global,
+    problem: &Problem,
+    index: &Index,
+    rule: u32,
+    head: Head,
+    args: &[u32],
+) -> Result<Vec<Ty>, OutOfMemory>
+    requires { NonterminalWithin (length problem.now.points.bodies) head }
+    ensures set { IfOk result (λ found. IsSet found.items) }
+    ensures each { IfOk result (λ found. (t : TypeTree) → Contains found.items t ↔ (Contains (plain.head_types problem.now index.now rule head) t × Fits index.now args.now t)) }
+{
+    let types = head_types(alloc, problem, index, rule, head)?;
+    fitting(alloc, index, args, types.as_slice())
+}
+
+/// The types of the point's head whose sets have entries, each once.
+pub(crate) fn instances(
+    alloc: Global,
+    problem: &Problem,
+    index: &Index,
+    point: u32,
+) -> Result<Vec<Ty>, OutOfMemory>
+    requires point { point < length problem.now.points.points }
+    requires shape { AreInShape problem.now index.now }
+    ensures set { IfOk result (λ found. IsSet found.items) }
+    ensures each { IfOk result (λ found. (t : TypeTree) → Contains found.items t ↔ IsInstance problem.now index.now point t) }
+{
+    let rule = problem.points.rule_of(point);
+    let head = problem.points.head_of(point);
+    let args = problem.points.args_of(point);
+    instances_of(alloc, problem, index, rule, head, args)
+}

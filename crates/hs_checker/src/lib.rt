@@ -1,0 +1,19 @@
+//! A checker for tables: whether a flow holds all that is demanded, and a table all that follows
+//! from it, without the start entry.
+//!
+//! It works on types as trees and shares nothing with what makes tables, so that its answer stands
+//! alone.
+#![tactic(auto)]
+
+mod checking;
+mod fault;
+mod flow;
+mod heads;
+mod index;
+mod instances;
+mod missing;
+mod shape;
+mod unions;
+
+pub use checking::check;
+pub use fault::CheckFault;

@@ -1,0 +1,98 @@
+//! Whether entries are in shape.
+
+ghost use Rattle.std.specs.Prelude.{◌≡◌, ◌↔◌, ℕ, IsTrue};
+ghost use Rattle.hs_table.specs.Types.{TypeTree, IsSet, IsType};
+ghost use Rattle.hs_table.specs.Entries.{Has, IsEnv, InShape, params_of};
+ghost use Rattle.hs_checker.specs.Shape.{AreAllTypes};
+
+use hs_scheme::Problem;
+use hs_table::{Entry, Shape, Ty, TypeSet};
+use std::cmp::Ordering;
+
+/// Whether each type is less than the next.
+fn is_set(types: &[Ty]) -> bool
+    ensures { IsTrue result ↔ IsSet types.now }
+{
+    for place in 1..types.len() {
+        if types[place - 1].compare(&types[place]) != Ordering::Less {
+            return false;
+        }
+    }
+    true
+}
+
+/// Whether the type's states are in range, and its sets ascending. Recurses as deep as the type.
+fn is_type(ty: &Ty, states: u32) -> bool
+    ensures { IsTrue result ↔ IsType states ty.now }
+{
+    match &ty.shape {
+        Shape::State(q) => *q < states,
+        Shape::Arrow(set, rest) => {
+            for member in set {
+                if !is_type(member, states) {
+                    return false;
+                }
+            }
+            is_set(set.as_slice()) && is_type(rest, states)
+        }
+    }
+}
+
+/// Whether so are all of these.
+fn are_types(types: &[Ty], states: u32) -> bool
+    ensures { IsTrue result ↔ AreAllTypes states types.now }
+{
+    for member in types {
+        if !is_type(member, states) {
+            return false;
+        }
+    }
+    true
+}
+
+/// Whether there are so many sets, of types in range.
+fn is_env(env: &[TypeSet], params: u32, states: u32) -> bool
+    ensures { IsTrue result ↔ (IsEnv params env.now × ((j : ℕ) (a : TypeTree) → Has env.now j a → IsType states a)) }
+{
+    if env.len() != params as usize {
+        return false;
+    }
+    for set in env {
+        if !is_set(set.types.as_slice()) {
+            return false;
+        }
+        if !are_types(set.types.as_slice(), states) {
+            return false;
+        }
+    }
+    true
+}
+
+/// The number of parameters of the rule.
+pub(crate) fn parameters(problem: &Problem, rule: u32) -> u32
+    ensures { result ≡ params_of problem.now rule }
+{
+    match problem.sorted.scheme.rules.get(rule as usize) {
+        None => 0,
+        Some(rule) => rule.params,
+    }
+}
+
+/// The number of states.
+pub(crate) fn states(problem: &Problem) -> u32
+    ensures { result ≡ problem.now.sorted.automaton.states }
+{
+    problem.sorted.automaton.states()
+}
+
+/// Whether the entry is in shape.
+pub(crate) fn is_in_shape(problem: &Problem, entry: &Entry) -> bool
+    ensures { IsTrue result ↔ InShape problem.now entry.now }
+{
+    if entry.point >= problem.points.count() {
+        return false;
+    }
+    let rule = problem.points.rule_of(entry.point);
+    let states = states(problem);
+    is_env(entry.env.as_slice(), parameters(problem, rule), states) && is_type(&entry.ty, states)
+}
