@@ -4,12 +4,8 @@
 mod deciding;
 mod laws;
 mod line;
-#[cfg(test)]
-mod outside_tests;
 mod problem;
 mod refusal;
-#[cfg(test)]
-mod tests;
 mod top;
 mod verdict;
 
