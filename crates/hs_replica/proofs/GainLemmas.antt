@@ -73,12 +73,6 @@ rises_push place xs apart r = record {
   below = All-append (λ x. x ≤ place) xs (place ∷ []) r.below (All-cons (λ x. x ≤ place) place [] (omega arith) (λ k d lt. absurd (omega arith)));
 }
 
-rises_one : (place : ℕ) → RisesTo place (place ∷ [])
-rises_one place = record {
-  ascending = λ k lt. absurd (omega arith);
-  below = All-cons (λ x. x ≤ place) place [] (omega arith) (λ k d lt. absurd (omega arith));
-}
-
 none_some : (x : ℕ) → None ≡ Some x → ⊥
 none_some x e = (cc)
 

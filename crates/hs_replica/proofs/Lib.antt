@@ -4,5 +4,4 @@ pub mod EnvLemmas
 pub mod TypeLemmas
 pub mod RowLemmas
 pub mod KeptLemmas
-pub mod BelowLemmas
 pub mod Firsts

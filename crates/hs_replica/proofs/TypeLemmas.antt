@@ -2,7 +2,7 @@
 use Rattle.std.proofs.Common.{◌≡◌, refl, sym, ◌∙◌, ap, subst, ℕ, ◌+◌, ◌<◌, List, [], ◌∷◌, ◌++◌, length, length-append, arith, inl, inr, Contains, Option}
 use Rattle.std.proofs.lemmas.Bool.{cases_lt}
 use Rattle.std.proofs.lemmas.List.{get_or_append_left, get_or_push}
-use Rattle.hs_scheme.specs.Tree.{Tree, node, none, more, children, children-forest, height}
+use Rattle.hs_scheme.specs.Tree.{Tree, node, none, more, children, children-forest}
 use Rattle.hs_table.specs.Types.{TypeTree, state, arrow, arrows}
 use Rattle.hs_table.specs.Entries.{Env, set_at}
 use Rattle.hs_types.specs.Interned.{InternerData, type_of_id, set_of_id, IsView}
@@ -10,7 +10,7 @@ use Rattle.hs_types.specs.declared.ids.View.TheVariants.{Arrow}
 use Rattle.hs_replica.specs.declared.key.Key.{Key}
 use Rattle.hs_replica.specs.Places.{Question, here, typed, asks, takes}
 use Rattle.hs_replica.specs.Index.{Gains, HasAll, TakesAt, TakesBy}
-use Rattle.hs_replica.proofs.SetLemmas.{gains_nothing, gains_then, still_listed}
+use Rattle.hs_replica.proofs.SetLemmas.{gains_then, still_listed}
 use Rattle.hs_replica.proofs.EnvLemmas.{has_within}
 
 abbrev set_of : Tree (Option ℕ) → List TypeTree
@@ -20,9 +20,6 @@ set_of (node x (more r s)) = children s
 abbrev result_of : Tree (Option ℕ) → TypeTree
 result_of (node x none) = state 0
 result_of (node x (more r s)) = r
-
-pub lower : (s : List TypeTree) (r : TypeTree) → height r < height (arrow s r)
-lower s r = omega arith
 
 arrows-append : (xs ys : Env) (t : TypeTree) → arrows (xs ++ ys) t ≡ arrows xs (arrows ys t)
 arrows-append [] ys t = refl
@@ -49,16 +46,6 @@ pub record TypeSoFar (ids : InternerData) (point : ℕ) (ty : TypeTree) (rest ar
   pub is : ty ≡ arrows taken (type_of_id ids rest)
   pub gains : Gains ids (TakesBy point ty) place old new
   pub all : (j : ℕ) → j < arg → HasAll ids (TakesAt point j (set_at taken j)) place new
-
-pub type_none : (ids : InternerData) (point t place : ℕ) (old : Key → List ℕ) → t < length ids.types → TypeSoFar ids point (type_of_id ids t) t 0 place old old
-type_none ids point t place old lt = record {
-  within = lt;
-  taken = [];
-  long = refl;
-  is = refl;
-  gains = gains_nothing ids (TakesBy point (type_of_id ids t)) place old;
-  all = λ j less. absurd (omega arith);
-}
 
 at_by : (point n : ℕ) (ty : TypeTree) (taken : Env) (s : List TypeTree) (t : TypeTree) → length taken ≡ n → ty ≡ arrows taken (arrow s t) → (q : Question) → TakesAt point n s q → TakesBy point ty q
 at_by point n ty taken s t long is (takes p j a) h = (

@@ -12,3 +12,6 @@ mod replica;
 
 pub use lookups::each_entry_has_a_first;
 pub use replica::Replica;
+
+#[cfg(test)]
+mod tests;
