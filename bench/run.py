@@ -2,25 +2,31 @@
 """Writes families of files, runs a proved program on them, and prints a table of times.
 
 A benchmark proves nothing and is no part of the gate. Build the programs first, with
-(cd crates/horsat && rt run </dev/null) and (cd crates/flow_pairs && rt run </dev/null).
+(cd crates/horsat && rt run </dev/null), and so flow_pairs.
 Usage: bench/run.py [FAMILY ..]
 
-Where OTHER in the environment is a command, as "/path/program word", it is run on the same file, alternately
-with ours, with the file's name as its last word, and the table has its time and the ratio of ours to it.
-RUNS in the environment is how often each is run (3); the least time counts.
+The time is that of the processor, in whatever thread and in the system: the least of the runs counts.
+In the environment:
+OTHER         a command, as "/path/program word", that is run on the same file, alternately with ours, with the
+              file's name as its last word; the table has its time, its memory and the ratio of ours to it
+PROGRAM       which of our programs is run, in the place of the one that the family has
+RUNS          how often each is run (5)
+INSTRUCTIONS  if it is set, instructions are counted by valgrind in the place of times, in one run of each
 """
 
 import os
+import re
 import shlex
 import subprocess
 import sys
 import tempfile
-import time
 
 TOP = os.path.dirname(os.path.dirname(os.path.abspath(__file__)))
 MEBIBYTE = 1 << 20
 OTHER = shlex.split(os.environ.get("OTHER", ""))
-RUNS = int(os.environ.get("RUNS", "3"))
+PROGRAM = os.environ.get("PROGRAM")
+RUNS = int(os.environ.get("RUNS", "5"))
+INSTRUCTIONS = bool(os.environ.get("INSTRUCTIONS"))
 
 
 def framed(rules, transitions):
@@ -126,6 +132,60 @@ def joined(rules):
     return framed(lines, ["q0 c -> .\n"])
 
 
+def calls(rules, states):
+    """Deep calls with one resource, which each call moves on or hands on; it may end in all states but the last."""
+    lines = ["S -> F0 end.\n"]
+    for i in range(rules):
+        lines.append(f"F{i} k -> br (F{(i + 1) % rules} (step k)) (F{(i * 7 + 3) % rules} k).\n" if i % 16 else f"F{i} k -> br k (F{i + 1} k).\n")
+    moves = [f"q{j} br -> q{j} q{j}.\nq{j} step -> q{(j + 1) % states}.\n" for j in range(states)]
+    return framed(lines, moves + [f"q{j} end -> .\n" for j in range(states - 1)])
+
+
+def functions(count):
+    """Functions with eight types in all, handed through one combinator that applies its function twice."""
+    lines = ["S -> M0.\n", "Ap f x -> f (f x).\n"]
+    for i in range(count):
+        lines.append(f"G{i} x -> {'s (' * (i % 8)}x{')' * (i % 8)}.\n")
+        lines.append(f"M{i} -> br (Ap G{i} end) M{i + 1}.\n" if i + 1 < count else f"M{i} -> Ap G{i} end.\n")
+    moves = [f"q{j} s -> q{(j + 1) % 8}.\n" for j in range(8)]
+    return framed(lines, ["q0 br -> q0 q0.\n"] + moves + [f"q{j} end -> .\n" for j in range(7)])
+
+
+def handles(count):
+    """Handles that are opened in turn, any number of them, and closed in the reverse order."""
+    lines = ["S -> H0 end.\n"]
+    moves = ["p0 end -> .\n"]
+    for i in range(count):
+        rest = f"H{i + 1} (c{i} k)" if i + 1 < count else f"c{i} k"
+        lines.append(f"H{i} k -> o{i} (br (c{i} k) ({rest})).\n")
+        after = f"q{i + 1}" if i + 1 < count else f"p{i + 1}"
+        moves.append(f"q{i} o{i} -> r{i}.\nr{i} br -> p{i + 1} {after}.\np{i + 1} c{i} -> p{i}.\n")
+    return framed(lines, [moves[1]] + [moves[0]] + moves[2:])
+
+
+def cycle(k):
+    """The file of --gen K, for any K."""
+    lines = []
+    for i in range(k):
+        lines.append(f"s{i} br -> s{i} s{i}.\ns{i} a -> s{(i + 1) % k}.\n")
+        if i + 1 < k:
+            lines.append(f"s{i} c -> .\n")
+    return framed(["S -> F c.\n", "F x -> br x (F (a x)).\n"], lines)
+
+
+def aliases(rules):
+    """A chain of rules that only name the next one, over two parameters."""
+    lines = ["S -> A0 a c.\n"]
+    for i in range(rules):
+        lines.append(f"A{i} f x -> A{i + 1} f x.\n" if i + 1 < rules else f"A{i} f x -> f (f x).\n")
+    return framed(lines, ["q0 a -> q1.\n", "q1 a -> q2.\n", "q2 a -> q2.\n", "q0 c -> .\n", "q1 c -> .\n"])
+
+
+def bare(rules):
+    """Rules without parameters, each of which names the next one twice."""
+    return framed([f"F{i} -> a F{(i + 1) % rules} F{(i * 7 + 1) % rules}.\n" for i in range(rules)], ["q0 a -> q0 q0.\n"])
+
+
 # How a family is made, its sizes and their unit, and the program that is run on it.
 FAMILIES = {
     "plain": (plain, [5_000, 10_000, 20_000], "rules", "horsat"),
@@ -134,15 +194,33 @@ FAMILIES = {
     "nested": (nested, [4 * MEBIBYTE, 8 * MEBIBYTE, 15 * MEBIBYTE], "bytes", "horsat"),
     "comment": (comment, [4 * MEBIBYTE, 8 * MEBIBYTE, 15 * MEBIBYTE], "bytes", "horsat"),
     "transitions": (transitions, [50_000, 100_000, 200_000], "transitions", "horsat"),
+    "unary": (flow_few, [5_000, 10_000, 20_000], "rules", "horsat"),
+    "bare": (bare, [5_000, 10_000, 20_000], "rules", "horsat"),
     "flow_many": (flow_many, [500, 700, 1_000, 1_400], "functions", "flow_pairs"),
     "meetings": (meetings, [150, 300, 600], "functions", "flow_pairs"),
     "joined": (joined, [1_000, 2_000, 4_000], "rules", "horsat"),
     "flow_few": (flow_few, [5_000, 10_000, 20_000], "rules", "flow_pairs"),
+    "calls_4": (lambda rules: calls(rules, 4), [500, 1_000, 2_000], "rules", "horsat"),
+    "calls_8": (lambda rules: calls(rules, 8), [500, 1_000, 2_000], "rules", "horsat"),
+    "functions": (functions, [500, 1_000, 2_000], "functions", "horsat"),
+    "handles": (handles, [50, 100, 200], "handles", "horsat"),
+    "aliases": (aliases, [2_000, 4_000, 8_000], "rules", "horsat"),
+    "gen": (cycle, [100, 200, 300], "states", "horsat"),
+    "million": (cycle, [350, 500, 700], "states", "horsat"),
 }
 
 
 def program(name):
     return os.path.join(TOP, "crates", name, "out", name)
+
+
+def words_of(name, path):
+    """Our program with its words. Only horsat has some; the others read standard input."""
+    return [program(name), "--entries", "1000000", path] if name == "horsat" else [program(name)]
+
+
+def program_of(family):
+    return PROGRAM or FAMILIES[family][3]
 
 
 def write(make, size, path):
@@ -156,47 +234,68 @@ def write(make, size, path):
 
 
 def run(words, path):
-    """The seconds, the peak memory in MiB, the status and the answer of one run."""
-    start = time.monotonic()
+    """The processor's seconds, the peak memory in MiB, the status and the answer of one run."""
     with open(path) as file:
         child = subprocess.Popen(words, stdin=file, stdout=subprocess.PIPE, stderr=subprocess.STDOUT)
     answer = child.stdout.read().decode().strip()
     _, status, usage = os.wait4(child.pid, 0)
-    seconds = time.monotonic() - start
+    seconds = usage.ru_utime + usage.ru_stime
     return seconds, usage.ru_maxrss / 1024, os.waitstatus_to_exitcode(status), answer
+
+
+def counted(words, path):
+    """The millions of instructions of one run, by valgrind, without its memory."""
+    counter = ["valgrind", "--tool=callgrind", "--callgrind-out-file=/dev/null"]
+    _, _, status, answer = run([*counter, *words], path)
+    found = re.search(r"Collected : (\d+)", answer)
+    told = [line for line in answer.splitlines() if not line.startswith("==")]
+    return int(found.group(1)) / 1e6 if found else 0.0, 0.0, status, "\n".join(told).strip()
 
 
 def measured(name, path):
     """The least of the runs of ours, and of the other program's, which are run in turn."""
     ours, others = [], []
-    for _ in range(RUNS):
-        ours.append(run([program(name)], path))
+    measure = counted if INSTRUCTIONS else run
+    for _ in range(1 if INSTRUCTIONS else RUNS):
+        ours.append(measure(words_of(name, path), path))
         if OTHER:
-            others.append(run([*OTHER, path], path))
-    return min(ours), min(others) if others else None
+            others.append(measure([*OTHER, path], path))
+    least = min(ours)
+    return (least[0], min(row[1] for row in ours), *least[2:]), others
+
+
+def ratio(ours, other):
+    return f"{ours / other:.2f}" if other else ""
+
+
+def row_of(family, size, path, before):
+    """The row of one size, and its time."""
+    _, _, unit, _ = FAMILIES[family]
+    (seconds, memory, status, answer), others = measured(program_of(family), path)
+    growth = f"{seconds / before:.2f}" if before else ""
+    cells = f"{family:<12} {size:>9} {unit:<11} {os.path.getsize(path) / MEBIBYTE:>8.2f} {seconds:>9.3f} {growth:>6} {memory:>8.0f} "
+    if others:
+        other, beside = min(row[0] for row in others), min(row[1] for row in others)
+        cells += f"{other:>9.3f} {ratio(seconds, other):>6} {beside:>8.0f} {ratio(memory, beside):>6} "
+    return f"{cells} {status} {', '.join(answer.splitlines()[:2])}", seconds
 
 
 def main():
     chosen = sys.argv[1:] or list(FAMILIES)
-    if not all(family in FAMILIES and os.access(program(FAMILIES[family][3]), os.X_OK) for family in chosen):
+    if not all(family in FAMILIES and os.access(program(program_of(family)), os.X_OK) for family in chosen):
         sys.exit(__doc__)
-    print(f"{'family':<12} {'size':>10} {'':<12} {'file MiB':>8} {'seconds':>8} {'growth':>6} {'peak MiB':>8} " + (f"{'other':>8} {'peak MiB':>8} {'ratio':>6} " if OTHER else "") + " answer")
+    unit = "10^6 ins" if INSTRUCTIONS else "seconds"
+    heads = f"{'family':<12} {'size':>9} {'':<11} {'file MiB':>8} {unit:>9} {'growth':>6} {'peak MiB':>8} "
+    print(heads + (f"{'other':>9} {'ratio':>6} {'peak MiB':>8} {'ratio':>6} " if OTHER else "") + " answer")
     with tempfile.TemporaryDirectory() as folder:
+        path = os.path.join(folder, "file.hrs")
         for family in chosen:
-            make, sizes, unit, name = FAMILIES[family]
+            make, sizes, _, _ = FAMILIES[family]
             before = None
             for size in sizes:
-                path = os.path.join(folder, "file.hrs")
                 write(make, size, path)
-                (seconds, memory, status, answer), other = measured(name, path)
-                growth = f"{seconds / before:6.2f}" if before else "      "
-                before = seconds
-                beside = f"{other[0]:>8.3f} {other[1]:>8.0f} {seconds / other[0]:>6.2f} " if other else ""
-                print(
-                    f"{family:<12} {size:>10} {unit:<12} {os.path.getsize(path) / MEBIBYTE:>8.2f} {seconds:>8.3f} {growth} "
-                    f"{memory:>8.0f} {beside} {status} {answer.splitlines()[0] if answer else ''}",
-                    flush=True,
-                )
+                row, before = row_of(family, size, path, before)
+                print(row, flush=True)
 
 
 if __name__ == "__main__":

@@ -1,6 +1,6 @@
 //! The run on the words of the command line.
 
-ghost use Rattle.std.specs.Prelude.{◌≡◌, ◌⊎◌, map, IfOk, OnErr, string_bytes};
+ghost use Rattle.std.specs.Prelude.{◌≡◌, ◌⊎◌, map, All, IfOk, OnErr, string_bytes};
 ghost use Rattle.std.specs.Vec.Iter.{into_iter_items};
 ghost use Rattle.hs_words.specs.Words.{texts};
 ghost use Rattle.hs_app.specs.Outcome as outcome;
@@ -9,9 +9,13 @@ ghost use Rattle.hs_app.specs.Outcome.{sink_run};
 
 use hs_app::run;
 use hs_edge::{Sink, Source};
+use hs_passes::Pass;
+use hs_workers::Open;
 use std::alloc::{AllocError, Global};
 use std::env::Args;
 use std::io::{self, ErrorKind};
+use std::sync::Wait;
+use std::thread::Threads;
 
 /// The status where memory is refused before the run.
 const OUT_OF_MEMORY: u8 = 10;
@@ -35,17 +39,19 @@ fn borrowed(alloc: Global, words: &[String]) -> Result<Vec<&str>, AllocError>
 
 /// The run on the words that the system gave: the status is that of `run` on all of them, in their
 /// order. Where there are none, or no memory for them, nothing is touched.
-pub(crate) fn run_on<R, S: Source, O: Sink, E: Sink>(
+pub(crate) fn run_on<R: Threads + Wait + Sync, S: Source, O: Sink, E: Sink>(
     rt: &R,
     alloc: Global,
     words: io::Result<Args>,
     source: &mut S,
     out: &mut O,
     err: &mut E,
+    passes: Vec<Box<dyn Pass>>,
 ) -> u8
+    requires { All (λ p. taken p ≡ 0) passes.items }
     ensures rows { IfOk words (λ given.
         ((result ≡ OUT_OF_MEMORY) × (source.new ≡ source.old) × (out.new ≡ out.old) × (err.new ≡ err.old))
-        ⊎ outcome.Rows (ordered (map string_bytes (into_iter_items given)))
+        ⊎ outcome.Rows (ordered (map (λ p. image p) passes.items) (map string_bytes (into_iter_items given)))
         (source_run S.file S.left S.reading S.faults source.old source.new)
         (sink_run O.writing O.faults out.old out.new) (sink_run E.writing E.faults err.old err.new) result) }
     ensures no_words { OnErr words (((result ≡ OUT_OF_MEMORY) ⊎ (result ≡ NO_WORDS)) × (source.new ≡ source.old) × (out.new ≡ out.old) × (err.new ≡ err.old)) }
@@ -59,7 +65,7 @@ pub(crate) fn run_on<R, S: Source, O: Sink, E: Sink>(
         return OUT_OF_MEMORY;
     };
     match borrowed(alloc, words.as_slice()) {
-        Ok(texts) => run(rt, alloc, texts.as_slice(), source, out, err),
+        Ok(texts) => run(rt, alloc, texts.as_slice(), source, out, err, &Open, passes),
         Err(_) => OUT_OF_MEMORY,
     }
 }

@@ -17,15 +17,14 @@ use Rattle.hs_sorts.specs.declared.fault.SortFault.TheVariants as sorts
 use Rattle.hs_sorts.specs.Inference.{IsInferable, IsFaultOf}
 use Rattle.hs_sorts.proofs.Excluding.{only_memory, inferred_inferable, one_fault_is as one_sort_fault}
 use Rattle.hs_table.specs.Entries.{EntryData}
-use Rattle.hs_table.specs.Tables.{IsLeastTable, HasStart, Exceeds}
+use Rattle.hs_table.specs.Tables.{IsLeastTable, Exceeds}
 use Rattle.hs_table_laws.proofs.Least.{least_decides}
 use Rattle.hs_app.specs.declared.refusal.Refusal.{Refusal}
 use Rattle.hs_app.specs.declared.refusal.Refusal.TheVariants.{Usage, Source, FileTooLong, Syntax, Limit, Names, IllSorted, NotFirstOrder, SortTooLarge, RuleTooLong, PointLimit, FlowLimit, EntryLimit, Sink, OutOfMemory}
-use Rattle.hs_app.specs.declared.verdict.Settings.{Settings}
 use Rattle.hs_app.specs.declared.verdict.Verdict.{Verdict}
 use Rattle.hs_app.specs.declared.verdict.Verdict.TheVariants.{Accepted, Rejected, Long}
 use Rattle.hs_app.specs.declared.verdict.Decided.{Decided}
-use Rattle.hs_app.specs.Problems.{IsProblemOf, HasManyPoints, HasMuchFlow, IsReportedTable}
+use Rattle.hs_app.specs.Problems.{Asked, IsProblemOf, HasManyPoints, HasMuchFlow, IsReportedTable}
 use Rattle.hs_app.specs.Verdict.{max_bytes, Has, IsScheme, IsSound, Reports, IsOverBudget, Decides, Refused, Answers, HasDecision, IsWithinBudget, IsBoundToExceed, WarrantsOnScheme, HasWarrant, Warrants, IsReadable}
 use Rattle.hs_app.proofs.OneProblem.{one_problem, not_many_points, not_much_flow, many_not_much}
 
@@ -74,24 +73,24 @@ module _ (R : Refusal → Type 0) (S : UnsortedData → Type 0) (bytes : List �
   of_sound u s h = of_scheme u s.of_bytes (inr (inferred_inferable u s.sorted s.inferred, h))
 
   -- the refusals of what comes before a scheme has its sorts
-  of_refusal : (settings : Settings) (r : Refusal) → Refused settings bytes r → R r
-      → (r ≡ OutOfMemory) ⊎ (HasDecision settings bytes (Err r) ⊎ Layered R S bytes)
-  of_refusal settings Usage h k = absurd h
-  of_refusal settings Source h k = absurd h
-  of_refusal settings FileTooLong h k = absurd h
-  of_refusal settings (Syntax line) h k = inr (inr (record { answer = Err (read.Syntax line); is = h; at = k }))
-  of_refusal settings (Limit which) h k = inr (inr (record { answer = Err (read.Limit which); is = h; at = k }))
-  of_refusal settings (Names fault) h k = inr (inr (record { answer = Ok h.file; is = h.reads; at = inl (fault, (h.fault, k)) }))
-  of_refusal settings (IllSorted rule) h k = inr (inr (of_scheme h.scheme h.of_bytes (inl (sorts.IllSorted rule, (h.fault, (IllSorted rule, (refl, k)))))))
-  of_refusal settings (NotFirstOrder terminal) h k =
+  of_refusal : (asked : Asked) (r : Refusal) → Refused asked bytes r → R r
+      → (r ≡ OutOfMemory) ⊎ (HasDecision asked bytes (Err r) ⊎ Layered R S bytes)
+  of_refusal asked Usage h k = absurd h
+  of_refusal asked Source h k = absurd h
+  of_refusal asked FileTooLong h k = absurd h
+  of_refusal asked (Syntax line) h k = inr (inr (record { answer = Err (read.Syntax line); is = h; at = k }))
+  of_refusal asked (Limit which) h k = inr (inr (record { answer = Err (read.Limit which); is = h; at = k }))
+  of_refusal asked (Names fault) h k = inr (inr (record { answer = Ok h.file; is = h.reads; at = inl (fault, (h.fault, k)) }))
+  of_refusal asked (IllSorted rule) h k = inr (inr (of_scheme h.scheme h.of_bytes (inl (sorts.IllSorted rule, (h.fault, (IllSorted rule, (refl, k)))))))
+  of_refusal asked (NotFirstOrder terminal) h k =
       inr (inr (of_scheme h.scheme h.of_bytes (inl (sorts.TerminalNotFirstOrder h.fault.number, (h.fault.fault, (NotFirstOrder terminal, ((terminal, h.fault.named, refl), k)))))))
-  of_refusal settings (SortTooLarge rule) h k = inr (inr (of_scheme h.scheme h.of_bytes (inl (sorts.SortTooLarge rule, (h.fault, (SortTooLarge rule, (refl, k)))))))
-  of_refusal settings (RuleTooLong rule) h k = inr (inr (of_scheme h.scheme h.of_bytes (inl (sorts.RuleTooLong rule, (h.fault, (RuleTooLong rule, (refl, k)))))))
-  of_refusal settings PointLimit h k = inr (inl h)
-  of_refusal settings FlowLimit h k = inr (inl h)
-  of_refusal settings EntryLimit h k = inr (inl h)
-  of_refusal settings Sink h k = absurd h
-  of_refusal settings OutOfMemory h k = inl refl
+  of_refusal asked (SortTooLarge rule) h k = inr (inr (of_scheme h.scheme h.of_bytes (inl (sorts.SortTooLarge rule, (h.fault, (SortTooLarge rule, (refl, k)))))))
+  of_refusal asked (RuleTooLong rule) h k = inr (inr (of_scheme h.scheme h.of_bytes (inl (sorts.RuleTooLong rule, (h.fault, (RuleTooLong rule, (refl, k)))))))
+  of_refusal asked PointLimit h k = inr (inl h)
+  of_refusal asked FlowLimit h k = inr (inl h)
+  of_refusal asked EntryLimit h k = inr (inl h)
+  of_refusal asked Sink h k = absurd h
+  of_refusal asked OutOfMemory h k = inl refl
 
 -- ---- two that come of one file
 
@@ -145,41 +144,44 @@ Right d a = Wants a ⊎ Matches d a
 matching : (c d : Result Verdict Refusal) (a b : Result Decided Refusal) → d ≡ c → a ≡ b → Matches c b → Matches d a
 matching c d a b e f h = subst (λ (x : Result Verdict Refusal). Matches x a) (sym e) (subst (λ (y : Result Decided Refusal). Matches c y) (sym f) h)
 
-module _ (settings : Settings) (u : UnsortedData) where
+module _ (asked : Asked) (u : UnsortedData) where
   -- a tree that isn't accepted; where the first start entry isn't asked for, within the budget
   record IsLost : Type 0 where
     rejects : Accepts u.rules u.automaton.transitions → ⊥
     problem : ProblemData
-    of : IsProblemOf u problem
-    budget : (settings.first ≡ true) ⊎ (Exceeds problem settings.entries → ⊥)
+    of : IsProblemOf asked u problem
+    budget : (asked.settings.first ≡ true) ⊎ (Exceeds problem asked.settings.entries → ⊥)
 
   -- what an answer says of the scheme
   abbrev Told : Result Decided Refusal → Type 0
   Told a =
       Wants a
-      ⊎ (((d : Decided) × ((a ≡ Ok d) × ((d.verdict ≡ Accepted) × (Accepts u.rules u.automaton.transitions × IsWithinBudget settings u))))
+      ⊎ (((d : Decided) × ((a ≡ Ok d) × ((d.verdict ≡ Accepted) × (Accepts u.rules u.automaton.transitions × IsWithinBudget asked u))))
       ⊎ (((d : Decided) × ((a ≡ Ok d) × (((d.verdict ≡ Rejected) ⊎ (d.verdict ≡ Long)) × IsLost)))
-      ⊎ (((a ≡ Err PointLimit) × HasManyPoints u)
-      ⊎ (((a ≡ Err FlowLimit) × HasMuchFlow u)
-      ⊎ ((a ≡ Err EntryLimit) × IsOverBudget settings u)))))
+      ⊎ (((a ≡ Err PointLimit) × HasManyPoints asked u)
+      ⊎ (((a ≡ Err FlowLimit) × HasMuchFlow asked u)
+      ⊎ ((a ≡ Err EntryLimit) × IsOverBudget asked u)))))
 
-  least_within : (p : ProblemData) (T : List EntryData) → IsLeastTable p T → length T ≤ settings.entries → Exceeds p settings.entries → ⊥
-  least_within p T least within exceeds = omega (arith, (least_decides p T settings.entries least).0 exceeds, within)
+  least_within : (p : ProblemData) (T : List EntryData) → IsLeastTable p T → length T ≤ asked.settings.entries → Exceeds p asked.settings.entries → ⊥
+  least_within p T least within exceeds = omega (arith, (least_decides p T asked.settings.entries least).0 exceeds, within)
 
-  reported_within : (first : Bool) (p : ProblemData) (T : List EntryData) → IsReportedTable first p T → length T ≤ settings.entries
-      → (first ≡ true) ⊎ (Exceeds p settings.entries → ⊥)
+  reported_within : (first : Bool) (p : ProblemData) (T : List EntryData) → IsReportedTable first p T → length T ≤ asked.settings.entries
+      → (first ≡ true) ⊎ (Exceeds p asked.settings.entries → ⊥)
   reported_within true p T h within = inl refl
   reported_within false p T h within = inr (least_within p T h.0 within)
 
-  told_verdict : (d : Decided) (v : Verdict) → d.verdict ≡ v → Reports settings u v d.report.items → Told (Ok d)
-  told_verdict d Accepted e (p, (of, r)) =
-      inr (inl (d, (refl, (e, (r.accepts, record { problem = p; of = of; few = least_within p r.table r.least r.within })))))
-  told_verdict d Rejected e (p, (of, r)) =
-      inr (inr (inl (d, (refl, (inl e, record { rejects = r.rejects; problem = p; of = of; budget = reported_within settings.first p r.table r.reported r.within })))))
-  told_verdict d Long e (p, (of, r)) =
-      inr (inr (inl (d, (refl, (inr e, record { rejects = r.rejects; problem = p; of = of; budget = reported_within settings.first p r.table r.reported r.within })))))
+  told_verdict : (d : Decided) (v : Verdict) → d.verdict ≡ v → Reports asked u v d.report.items → Told (Ok d)
+  told_verdict d Accepted e h =
+      let r = h.reports in
+      inr (inl (d, (refl, (e, (r.accepts, record { problem = h.problem; of = h.of; few = least_within h.problem r.table r.least r.within })))))
+  told_verdict d Rejected e h =
+      let r = h.reports in
+      inr (inr (inl (d, (refl, (inl e, record { rejects = r.rejects; problem = h.problem; of = h.of; budget = reported_within asked.settings.first h.problem r.table r.reported r.within })))))
+  told_verdict d Long e h =
+      let r = h.reports in
+      inr (inr (inl (d, (refl, (inr e, record { rejects = r.rejects; problem = h.problem; of = h.of; budget = reported_within asked.settings.first h.problem r.table r.reported r.within })))))
 
-  told : (a : Result Decided Refusal) → Decides settings u a → Told a
+  told : (a : Result Decided Refusal) → Decides asked u a → Told a
   told (Ok d) h = told_verdict d d.verdict refl h
   told (Err PointLimit) h = inr (inr (inr (inl (refl, h))))
   told (Err FlowLimit) h = inr (inr (inr (inr (inl (refl, h)))))
@@ -199,13 +201,13 @@ module _ (settings : Settings) (u : UnsortedData) where
 
   abbrev Warranted : Result Verdict Refusal → Type 0
   Warranted d =
-      ((d ≡ Ok Accepted) × (Accepts u.rules u.automaton.transitions × IsWithinBudget settings u))
-      ⊎ (((d ≡ Ok Rejected) × ((Accepts u.rules u.automaton.transitions → ⊥) × IsWithinBudget settings u))
-      ⊎ (((d ≡ Err PointLimit) × HasManyPoints u)
-      ⊎ (((d ≡ Err FlowLimit) × HasMuchFlow u)
-      ⊎ ((d ≡ Err EntryLimit) × IsBoundToExceed settings u))))
+      ((d ≡ Ok Accepted) × (Accepts u.rules u.automaton.transitions × IsWithinBudget asked u))
+      ⊎ (((d ≡ Ok Rejected) × ((Accepts u.rules u.automaton.transitions → ⊥) × IsWithinBudget asked u))
+      ⊎ (((d ≡ Err PointLimit) × HasManyPoints asked u)
+      ⊎ (((d ≡ Err FlowLimit) × HasMuchFlow asked u)
+      ⊎ ((d ≡ Err EntryLimit) × IsBoundToExceed asked u))))
 
-  warranted : (d : Result Verdict Refusal) → WarrantsOnScheme settings u d → Warranted d
+  warranted : (d : Result Verdict Refusal) → WarrantsOnScheme asked u d → Warranted d
   warranted (Ok Accepted) h = inl (refl, (h.0, h.1))
   warranted (Ok Rejected) h = inr (inl (refl, (h.0, h.1)))
   warranted (Err PointLimit) h = inr (inr (inl (refl, h)))
@@ -226,19 +228,19 @@ module _ (settings : Settings) (u : UnsortedData) where
   warranted (Err Sink) h = absurd h
 
   -- the scheme has one problem, and what is said of one is said of another
-  exceeds_too : (p q : ProblemData) → IsProblemOf u p → IsProblemOf u q → Exceeds p settings.entries → Exceeds q settings.entries
-  exceeds_too p q is other h = subst (λ (x : ProblemData). Exceeds x settings.entries) (one_problem u p q is other) h
+  exceeds_too : (p q : ProblemData) → IsProblemOf asked u p → IsProblemOf asked u q → Exceeds p asked.settings.entries → Exceeds q asked.settings.entries
+  exceeds_too p q is other h = subst (λ (x : ProblemData). Exceeds x asked.settings.entries) (one_problem asked u p q is other) h
 
-  not_over : IsWithinBudget settings u → IsOverBudget settings u → ⊥
+  not_over : IsWithinBudget asked u → IsOverBudget asked u → ⊥
   not_over w o = w.few (exceeds_too o.0 w.problem o.1.0 w.of o.1.1.exceeds)
 
-  not_bound : IsWithinBudget settings u → IsBoundToExceed settings u → ⊥
+  not_bound : IsWithinBudget asked u → IsBoundToExceed asked u → ⊥
   not_bound w b = w.few (exceeds_too b.problem w.problem b.of w.of b.exceeds)
 
-  not_first : settings.first ≡ true → settings.first ≡ false → ⊥
+  not_first : asked.settings.first ≡ true → asked.settings.first ≡ false → ⊥
   not_first e f = let g : true ≡ false = sym e ∙ f in (cc)
 
-  not_lost : IsLost → IsBoundToExceed settings u → ⊥
+  not_lost : IsLost → IsBoundToExceed asked u → ⊥
   not_lost l b =
       elim l.budget [
         | inr few ↦ few (exceeds_too b.problem l.problem b.of l.of b.exceeds)
@@ -249,26 +251,26 @@ module _ (settings : Settings) (u : UnsortedData) where
       ]
 
   -- an answer beside a scheme that has a problem
-  beside_problem : (d : Result Verdict Refusal) (a : Result Decided Refusal) (p : ProblemData) → IsProblemOf u p → Told a
-      → ((x : Decided) → a ≡ Ok x → x.verdict ≡ Accepted → Accepts u.rules u.automaton.transitions → IsWithinBudget settings u → Matches d a)
+  beside_problem : (d : Result Verdict Refusal) (a : Result Decided Refusal) (p : ProblemData) → IsProblemOf asked u p → Told a
+      → ((x : Decided) → a ≡ Ok x → x.verdict ≡ Accepted → Accepts u.rules u.automaton.transitions → IsWithinBudget asked u → Matches d a)
       → ((x : Decided) → a ≡ Ok x → (x.verdict ≡ Rejected) ⊎ (x.verdict ≡ Long) → IsLost → Matches d a)
-      → (a ≡ Err EntryLimit → IsOverBudget settings u → Matches d a)
+      → (a ≡ Err EntryLimit → IsOverBudget asked u → Matches d a)
       → Right d a
   beside_problem d a p is h accepted rejected over =
       elim h [
         | inl wants ↦ inl wants
         | inr (inl (x, (e, (v, (accepts, within))))) ↦ inr (accepted x e v accepts within)
         | inr (inr (inl (x, (e, (v, lost))))) ↦ inr (rejected x e v lost)
-        | inr (inr (inr (inl (e, many)))) ↦ absurd (not_many_points u p is many)
-        | inr (inr (inr (inr (inl (e, much))))) ↦ absurd (not_much_flow u p is much)
+        | inr (inr (inr (inl (e, many)))) ↦ absurd (not_many_points asked u p is many)
+        | inr (inr (inr (inr (inl (e, much))))) ↦ absurd (not_much_flow asked u p is much)
         | inr (inr (inr (inr (inr (e, o))))) ↦ inr (over e o)
       ]
 
   -- an answer beside a scheme that has none
   beside_limit : (d : Result Verdict Refusal) (a : Result Decided Refusal) → Told a
-      → ((p : ProblemData) → IsProblemOf u p → ⊥)
-      → (a ≡ Err PointLimit → HasManyPoints u → Matches d a)
-      → (a ≡ Err FlowLimit → HasMuchFlow u → Matches d a)
+      → ((p : ProblemData) → IsProblemOf asked u p → ⊥)
+      → (a ≡ Err PointLimit → HasManyPoints asked u → Matches d a)
+      → (a ≡ Err FlowLimit → HasMuchFlow asked u → Matches d a)
       → Right d a
   beside_limit d a h none many much =
       elim h [
@@ -280,7 +282,7 @@ module _ (settings : Settings) (u : UnsortedData) where
         | inr (inr (inr (inr (inr (e, o))))) ↦ absurd (none o.0 o.1.0)
       ]
 
-  pub scheme_matches : (d : Result Verdict Refusal) (a : Result Decided Refusal) → WarrantsOnScheme settings u d → Decides settings u a → Right d a
+  pub scheme_matches : (d : Result Verdict Refusal) (a : Result Decided Refusal) → WarrantsOnScheme asked u d → Decides asked u a → Right d a
   scheme_matches d a w h =
       elim (warranted d w) [
         | inl (is, (accepts, within)) ↦
@@ -294,12 +296,12 @@ module _ (settings : Settings) (u : UnsortedData) where
             (λ x e v lost. matching (Ok Rejected) d a (Ok x) is e v)
             (λ e o. absurd (not_over within o))
         | inr (inr (inl (is, many))) ↦
-            beside_limit d a (told a h) (λ p of. not_many_points u p of many)
+            beside_limit d a (told a h) (λ p of. not_many_points asked u p of many)
             (λ e m. matching (Err PointLimit) d a (Err PointLimit) is e refl)
-            (λ e m. absurd (many_not_much u many m))
+            (λ e m. absurd (many_not_much asked u many m))
         | inr (inr (inr (inl (is, much)))) ↦
-            beside_limit d a (told a h) (λ p of. not_much_flow u p of much)
-            (λ e m. absurd (many_not_much u m much))
+            beside_limit d a (told a h) (λ p of. not_much_flow asked u p of much)
+            (λ e m. absurd (many_not_much asked u m much))
             (λ e m. matching (Err FlowLimit) d a (Err FlowLimit) is e refl)
         | inr (inr (inr (inr (is, bound)))) ↦
             beside_problem d a bound.problem bound.of (told a h)
@@ -310,13 +312,13 @@ module _ (settings : Settings) (u : UnsortedData) where
 
 -- ---- an answer and a warrant on the bytes of a file
 
-module _ (settings : Settings) (bytes : List ℕ) where
-  answer_layers : (a : Result Decided Refusal) → Answers settings bytes a → Wants a ⊎ Layered (λ r. a ≡ Err r) (λ u. Decides settings u a) bytes
-  answer_layers (Ok d) h = inr (of_sound (λ r. Ok d ≡ Err r) (λ u. Decides settings u (Ok d)) bytes h.scheme h.sound h.decides)
+module _ (asked : Asked) (bytes : List ℕ) where
+  answer_layers : (a : Result Decided Refusal) → Answers asked bytes a → Wants a ⊎ Layered (λ r. a ≡ Err r) (λ u. Decides asked u a) bytes
+  answer_layers (Ok d) h = inr (of_sound (λ r. Ok d ≡ Err r) (λ u. Decides asked u (Ok d)) bytes h.scheme h.sound h.decides)
   answer_layers (Err r) h =
-      elim (of_refusal (λ s. Err r ≡ Err s) (λ u. Decides settings u (Err r)) bytes settings r h refl) [
+      elim (of_refusal (λ s. Err r ≡ Err s) (λ u. Decides asked u (Err r)) bytes asked r h refl) [
         | inl e ↦ inl (ap (λ (s : Refusal). Err s) e)
-        | inr (inl d) ↦ inr (of_sound (λ s. Err r ≡ Err s) (λ u. Decides settings u (Err r)) bytes d.scheme d.sound d.decides)
+        | inr (inl d) ↦ inr (of_sound (λ s. Err r ≡ Err s) (λ u. Decides asked u (Err r)) bytes d.scheme d.sound d.decides)
         | inr (inr l) ↦ inr l
       ]
 
@@ -325,7 +327,7 @@ module _ (settings : Settings) (bytes : List ℕ) where
     IsRefusal r = d ≡ Err r
 
     abbrev OnScheme : UnsortedData → Type 0
-    OnScheme u = WarrantsOnScheme settings u d
+    OnScheme u = WarrantsOnScheme asked u d
 
     abbrev Layers : Type 0
     Layers = Layered IsRefusal OnScheme bytes
@@ -333,14 +335,14 @@ module _ (settings : Settings) (bytes : List ℕ) where
     at_scheme : (u : UnsortedData) → IsScheme bytes u → (f : SortFault) → IsFaultOf u.rules u.ranks f → (r : Refusal) → TellsSort u f r → d ≡ Err r → Layers
     at_scheme u of f fault r tells e = of_scheme IsRefusal OnScheme bytes u of (inl (f, (fault, (r, (tells, e)))))
 
-    of_warrant : HasWarrant settings bytes d → Layers
+    of_warrant : HasWarrant asked bytes d → Layers
     of_warrant w = of_sound IsRefusal OnScheme bytes w.scheme w.sound w.warrants
 
   -- the file is too long, or not, and then there are the layers
   abbrev Lies : Result Verdict Refusal → Type 0
   Lies d = (max_bytes < length bytes) ⊎ ((length bytes ≤ max_bytes) × Layers d)
 
-  warrant_layers : (d : Result Verdict Refusal) → Warrants settings d bytes → Lies d
+  warrant_layers : (d : Result Verdict Refusal) → Warrants asked d bytes → Lies d
   warrant_layers (Ok v) h = inr (h.0, of_warrant (Ok v) h.1)
   warrant_layers (Err Usage) h = absurd h
   warrant_layers (Err Source) h = absurd h
@@ -360,15 +362,15 @@ module _ (settings : Settings) (bytes : List ℕ) where
   warrant_layers (Err EntryLimit) h = inr (h.0, of_warrant (Err EntryLimit) h.1)
 
   -- what the file warrants is answered, want of memory aside
-  pub answer_meets : (d : Result Verdict Refusal) (a : Result Decided Refusal) → Warrants settings d bytes → Has settings a bytes → Right d a
+  pub answer_meets : (d : Result Verdict Refusal) (a : Result Decided Refusal) → Warrants asked d bytes → Has asked a bytes → Right d a
   answer_meets d a w h =
       elim (answer_layers a h.1) [
         | inl wants ↦ inl wants
         | inr l ↦ elim (warrant_layers d w) [
           | inl long ↦ absurd (omega (arith, long, h.0))
           | inr (short, k) ↦
-              meet (λ r. d ≡ Err r) (λ r. a ≡ Err r) (λ u. WarrantsOnScheme settings u d) (λ u. Decides settings u a) (Right d a)
-              (λ r e f. inr (matching (Err r) d a (Err r) e f refl)) (λ u p s. scheme_matches settings u d a p s) bytes k l
+              meet (λ r. d ≡ Err r) (λ r. a ≡ Err r) (λ u. WarrantsOnScheme asked u d) (λ u. Decides asked u a) (Right d a)
+              (λ r e f. inr (matching (Err r) d a (Err r) e f refl)) (λ u p s. scheme_matches asked u d a p s) bytes k l
         ]
       ]
 
@@ -376,24 +378,24 @@ module _ (settings : Settings) (bytes : List ℕ) where
   abbrev pub Comes : Result Decided Refusal → Type 0
   Comes a = Wants a ⊎ (((x : Decided) × (a ≡ Ok x)) ⊎ (a ≡ Err EntryLimit))
 
-  comes_of : (u : UnsortedData) (a : Result Decided Refusal) (p : ProblemData) → IsProblemOf u p → Told settings u a → Comes a
+  comes_of : (u : UnsortedData) (a : Result Decided Refusal) (p : ProblemData) → IsProblemOf asked u p → Told asked u a → Comes a
   comes_of u a p is h =
       elim h [
         | inl wants ↦ inl wants
         | inr (inl (x, (e, v))) ↦ inr (inl (x, e))
         | inr (inr (inl (x, (e, v)))) ↦ inr (inl (x, e))
-        | inr (inr (inr (inl (e, many)))) ↦ absurd (not_many_points u p is many)
-        | inr (inr (inr (inr (inl (e, much))))) ↦ absurd (not_much_flow u p is much)
+        | inr (inr (inr (inl (e, many)))) ↦ absurd (not_many_points asked u p is many)
+        | inr (inr (inr (inr (inl (e, much))))) ↦ absurd (not_much_flow asked u p is much)
         | inr (inr (inr (inr (inr (e, o))))) ↦ inr (inr e)
       ]
 
   -- a file with a problem gets a verdict, unless memory is refused or there are too many entries
-  pub readable_comes : (a : Result Decided Refusal) → IsReadable bytes → Has settings a bytes → Comes a
+  pub readable_comes : (a : Result Decided Refusal) → IsReadable asked bytes → Has asked a bytes → Comes a
   readable_comes a r h =
       elim (answer_layers a h.1) [
         | inl wants ↦ inl wants
         | inr l ↦
-            meet (λ s. ⊥) (λ s. a ≡ Err s) (λ u. (p : ProblemData) × IsProblemOf u p) (λ u. Decides settings u a) (Comes a)
-            (λ s never e. absurd never) (λ u q s. comes_of u a q.0 q.1 (told settings u a s)) bytes
-            (of_sound (λ s. ⊥) (λ u. (p : ProblemData) × IsProblemOf u p) bytes r.scheme r.sound (r.problem, r.of)) l
+            meet (λ s. ⊥) (λ s. a ≡ Err s) (λ u. (p : ProblemData) × IsProblemOf asked u p) (λ u. Decides asked u a) (Comes a)
+            (λ s never e. absurd never) (λ u q s. comes_of u a q.0 q.1 (told asked u a s)) bytes
+            (of_sound (λ s. ⊥) (λ u. (p : ProblemData) × IsProblemOf asked u p) bytes r.scheme r.sound (r.problem, r.of)) l
       ]

@@ -1,17 +1,14 @@
 -- What holds of each core: of its log, and of what is told of it.
-use Rattle.std.proofs.Common.{◌≡◌, refl, ℕ, ◌≤◌, Bool, true, false, List, length, take, All, Contains}
+use Rattle.std.proofs.Common.{◌≡◌, refl, ◌≤◌, Bool, true, false, List, length, take, All}
 use Rattle.std.specs.Prelude.{slice_index_or}
 use Rattle.std.proofs.lemmas.List.Elements.{All-contains_itself}
 use Rattle.hs_scheme.specs.Automaton.{IsAutomaton}
 use Rattle.hs_scheme.specs.Problem.{ProblemData}
-use Rattle.hs_scheme.specs.Run.{Accepts}
 use Rattle.hs_table.specs.Entries.{EntryData, InShape}
 use Rattle.hs_table.specs.Tables.{IsSupportedTable, IsLeastTable, HasSupports, HasStart}
 use Rattle.hs_table_laws.proofs.Least.{supports_support}
 use Rattle.hs_table_laws.proofs.Places.{place_of}
 use Rattle.hs_table_laws.proofs.Shapes.{follows_shape}
-use Rattle.hs_verdict.specs.Premises.{IsSortedProblem}
-use Rattle.hs_naming.proofs.Ending.{supported_rejects}
 use Rattle.hs_history.proofs.Histories.{holds_after}
 use Rattle.hs_core.specs.Core.{CoreData, state_of, log_of, IsCore}
 use Rattle.hs_app.specs.Problems.{IsReportedTable}

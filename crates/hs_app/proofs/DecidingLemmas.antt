@@ -1,5 +1,7 @@
 -- What the answers of saturation say of a problem.
-use Rattle.std.proofs.Common.{◌≡◌, refl, sym, ◌∙◌, ap, subst, ℕ, Bool, true, List, length, Option, Some, None}
+use Rattle.std.proofs.Common.{◌≡◌, sym, ◌∙◌, ap, subst, ℕ, Bool, true, false, List, Option, Some, None}
+use Rattle.std.specs.Prelude.{if◌then◌else◌}
+use Rattle.hs_scheme.specs.declared.term.Rule.{Rule}
 use Rattle.std.specs.Option.{IsSome, IfSome}
 use Rattle.hs_scheme.specs.Problem.{ProblemData}
 use Rattle.hs_scheme.specs.Run.{Accepts}
@@ -11,7 +13,7 @@ use Rattle.hs_naming.proofs.Ending.{supported_rejects}
 use Rattle.hs_history.specs.Story.{Base}
 use Rattle.hs_core.specs.Core.{CoreData, log_of, IsCore, StartsAt}
 use Rattle.hs_core.specs.Answers.{IsLeastAnswer, IsOverAnswer, IsFirstAnswer}
-use Rattle.hs_core.specs.Saturation.{IsAlone}
+use Rattle.hs_workers.specs.Answers.{IsShared}
 use Rattle.hs_app.specs.declared.verdict.Settings.{Settings}
 use Rattle.hs_app.specs.Problems.{IsReportedTable}
 use Rattle.hs_app.specs.Verdict.{IsOver}
@@ -20,22 +22,27 @@ use Rattle.hs_app.proofs.CoreLemmas.{core_table, reported_least, reported_first}
 abbrev pub base_of : ProblemData → Settings → Base
 base_of p settings = record { problem = p; budget = settings.entries; first = settings.first }
 
+-- both ways of a choice between the same rules
+pub either_way : (b : Bool) (P : List Rule → Type 0) (rules : List Rule) → P rules → P (if b then rules else rules)
+either_way true P rules h = h
+either_way false P rules h = h
+
 pub starts : (p : ProblemData) (log : List EntryData) (place : Option ℕ) → IsSome place → IfSome place (StartsAt p log) → HasStart p log
 starts p log None some h = absurd (cc)
 starts p log (Some place) some h = (h.entry, (h.is_start, member_at log place h.entry h.at))
 
-module _ (p : ProblemData) (settings : Settings) (core : CoreData) (is : IsCore core) (sorted : IsSortedProblem p) (alone : IsAlone (base_of p settings) core) where
+module _ (p : ProblemData) (settings : Settings) (core : CoreData) (is : IsCore core) (sorted : IsSortedProblem p) (shared : IsShared (base_of p settings) settings.workers core) where
   abbrev log : List EntryData
   log = log_of core
 
   pub problem_is : p ≡ core.base.problem
-  problem_is = sym (ap (λ (b : Base). b.problem) alone.same)
+  problem_is = sym (ap (λ (b : Base). b.problem) shared.same)
 
   pub budget_is : core.base.budget ≡ settings.entries
-  budget_is = ap (λ (b : Base). b.budget) alone.same
+  budget_is = ap (λ (b : Base). b.budget) shared.same
 
   first_is : core.base.first ≡ settings.first
-  first_is = ap (λ (b : Base). b.first) alone.same
+  first_is = ap (λ (b : Base). b.first) shared.same
 
   supported : IsSupportedTable p log
   supported = subst (λ (q : ProblemData). IsSupportedTable q log) (sym problem_is) (core_table core is)

@@ -5,6 +5,7 @@ pub mod OrderLemmas
 pub mod AnswerLemmas
 pub mod OutcomeLemmas
 pub mod VerdictLemmas
+pub mod SimplifiedLemmas
 pub mod Relined
 pub mod RelinedFaults
 pub mod Pieces

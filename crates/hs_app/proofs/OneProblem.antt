@@ -1,5 +1,5 @@
 -- A scheme has one problem at most.
-use Rattle.std.proofs.Common.{◌≡◌, refl, sym, ◌∙◌, ap, subst, ℕ, zero, suc, ◌+◌, ◌<◌, ◌≤◌, List, [], ◌∷◌, ◌++◌, length, map, length-append, get_or, slice_get, unwrap_or, Option, Some, Contains, ◌↔◌, inl, inr, arith}
+use Rattle.std.proofs.Common.{◌≡◌, refl, sym, ◌∙◌, ap, subst, ℕ, zero, suc, ◌+◌, ◌<◌, ◌≤◌, List, [], ◌∷◌, length, map, length-append, slice_get, unwrap_or, Contains, inl, inr, arith}
 use Rattle.std.proofs.lemmas.Option.{unwrap_or-slice_get}
 use Rattle.std.proofs.lemmas.List.{ext_get_or, length-map}
 use Rattle.std.proofs.lemmas.List.Elements.{Contains-append_left, Contains-append_right, Contains-append_cases}
@@ -8,16 +8,14 @@ use Rattle.hs_scheme.specs.declared.flow.HeadPair.{HeadPair}
 use Rattle.hs_scheme.specs.declared.flow.Pair.{Pair}
 use Rattle.hs_scheme.specs.declared.flow.Pair.TheVariants.{OfFlow, OfHead}
 use Rattle.hs_scheme.specs.declared.term.Rule.{Rule}
-use Rattle.hs_scheme.specs.Automaton.{AutomatonData}
 use Rattle.hs_scheme.specs.Names.{NamesData}
 use Rattle.hs_scheme.specs.Points.{PointsData, points_of}
-use Rattle.hs_scheme.specs.Scheme.{SchemeData}
 use Rattle.hs_scheme.specs.Tree.{node}
 use Rattle.hs_scheme.specs.Sorting.{SortTree, o, arrow, ranked, arguments, AreEqual}
 use Rattle.hs_scheme.specs.Unsorted.{UnsortedData}
-use Rattle.hs_scheme.specs.Sorted.{SortedData, sort_at, sorts_of}
+use Rattle.hs_scheme.specs.Sorted.{SortedData, sorts_of}
 use Rattle.hs_scheme.specs.Lengthening.{lengthening}
-use Rattle.hs_scheme.specs.Flow.{FlowData, pairs_of, IsFlow, IsClosed, IsSupported, IsFlowTable, flow_cmp, head_cmp}
+use Rattle.hs_scheme.specs.Flow.{FlowData, pairs_of, IsFlow, IsSupported, IsFlowTable, flow_cmp, head_cmp}
 use Rattle.hs_scheme.specs.Problem.{ProblemData}
 use Rattle.hs_scheme.proofs.DemandLemmas.{flow_unique, fewer}
 use Rattle.hs_scheme.proofs.FlowLemmas.{flow_cmp-equal, head_cmp-equal, flow_cmp_total, head_cmp_total}
@@ -25,7 +23,7 @@ use Rattle.hs_scheme.proofs.Sortings.{least_unique}
 use Rattle.hs_sorts.specs.Naming.{lengthened_names}
 use Rattle.hs_table_laws.proofs.Places.{none_in, here, later, uncons}
 use Rattle.hs_table_laws.proofs.Sets.{ascending_same}
-use Rattle.hs_app.specs.Problems.{IsSortedFormOf, IsProblemOf, HasManyPoints, HasMuchFlow}
+use Rattle.hs_app.specs.Problems.{Asked, form_asked, IsSortedFormOf, IsProblemOf, HasManyPoints, HasMuchFlow}
 
 length-lengthening : (rules : List Rule) (ks : List SortTree) → length (lengthening rules ks) ≡ length rules
 length-lengthening [] ks = refl
@@ -175,9 +173,13 @@ module _ (rules : List Rule) (a b : FlowData) (of_a : IsFlow rules a.pairs a.hea
       )) in
       λ i. record { pairs = pairs i; heads = heads i }
 
-pub one_problem : (u : UnsortedData) (p q : ProblemData) → IsProblemOf u p → IsProblemOf u q → p ≡ q
-one_problem u p q is other =
-    let sorted : p.sorted ≡ q.sorted = one_form u p.sorted q.sorted is.sorted other.sorted in
+-- a scheme has one form that is saturated
+one_asked : (asked : Asked) (u : UnsortedData) (s t : SortedData) → IsSortedFormOf u s → IsSortedFormOf u t → form_asked asked s ≡ form_asked asked t
+one_asked asked u s t is other = ap (λ (x : SortedData). form_asked asked x) (one_form u s t is other)
+
+pub one_problem : (asked : Asked) (u : UnsortedData) (p q : ProblemData) → IsProblemOf asked u p → IsProblemOf asked u q → p ≡ q
+one_problem asked u p q is other =
+    let sorted : p.sorted ≡ q.sorted = is.made ∙ (one_asked asked u is.form other.form is.of other.of ∙ sym other.made) in
     let rules : p.sorted.scheme.rules ≡ q.sorted.scheme.rules = ap (λ (s : SortedData). s.scheme.rules) sorted in
     let points : p.points ≡ q.points = is.points ∙ (ap points_of rules ∙ sym other.points) in
     let flow : p.flow ≡ q.flow =
@@ -192,25 +194,28 @@ many_pairs flows heads =
     let hs : List Pair = map (λ (h : HeadPair). OfHead h) heads in
     omega (arith, length-append fs hs, length-map flows (λ (f : FlowPair). OfFlow f), length-map heads (λ (h : HeadPair). OfHead h))
 
-module _ (u : UnsortedData) (p : ProblemData) (is : IsProblemOf u p) where
-  pub not_many_points : HasManyPoints u → ⊥
+module _ (asked : Asked) (u : UnsortedData) (p : ProblemData) (is : IsProblemOf asked u p) where
+  same_form : (form : SortedData) → IsSortedFormOf u form → form_asked asked form ≡ p.sorted
+  same_form form of = one_asked asked u form is.form of is.of ∙ sym is.made
+
+  pub not_many_points : HasManyPoints asked u → ⊥
   not_many_points h =
-      let same : h.form ≡ p.sorted = one_form u h.form p.sorted h.of is.sorted in
-      let points : points_of h.form.scheme.rules ≡ p.points = ap (λ (s : SortedData). points_of s.scheme.rules) same ∙ sym is.points in
+      let same : form_asked asked h.form ≡ p.sorted = same_form h.form h.of in
+      let points : points_of (form_asked asked h.form).scheme.rules ≡ p.points = ap (λ (s : SortedData). points_of s.scheme.rules) same ∙ sym is.points in
       let many : 500000 < length p.points.points = subst (λ (d : PointsData). 500000 < length d.points) points h.many in
       omega (arith, many, is.few_points)
 
-  pub not_much_flow : HasMuchFlow u → ⊥
+  pub not_much_flow : HasMuchFlow asked u → ⊥
   not_much_flow h =
-      let same : h.form ≡ p.sorted = one_form u h.form p.sorted h.of is.sorted in
-      let rules : h.form.scheme.rules ≡ p.sorted.scheme.rules = ap (λ (s : SortedData). s.scheme.rules) same in
+      let same : form_asked asked h.form ≡ p.sorted = same_form h.form h.of in
+      let rules : (form_asked asked h.form).scheme.rules ≡ p.sorted.scheme.rules = ap (λ (s : SortedData). s.scheme.rules) same in
       let supported : IsSupported p.sorted.scheme.rules h.order = subst (λ (rs : List Rule). IsSupported rs h.order) rules h.supported in
       let within : length h.order ≤ length (pairs_of p.flow.pairs p.flow.heads) =
       fewer p.sorted.scheme.rules h.order (pairs_of p.flow.pairs p.flow.heads) supported is.flow.closed in
       omega (arith, within, many_pairs p.flow.pairs p.flow.heads, h.many, is.few_pairs)
 
-pub many_not_much : (u : UnsortedData) → HasManyPoints u → HasMuchFlow u → ⊥
-many_not_much u h k =
-    let same : h.form ≡ k.form = one_form u h.form k.form h.of k.of in
-    let many : 500000 < length (points_of k.form.scheme.rules).points = subst (λ (s : SortedData). 500000 < length (points_of s.scheme.rules).points) same h.many in
+pub many_not_much : (asked : Asked) (u : UnsortedData) → HasManyPoints asked u → HasMuchFlow asked u → ⊥
+many_not_much asked u h k =
+    let same : form_asked asked h.form ≡ form_asked asked k.form = one_asked asked u h.form k.form h.of k.of in
+    let many : 500000 < length (points_of (form_asked asked k.form).scheme.rules).points = subst (λ (s : SortedData). 500000 < length (points_of s.scheme.rules).points) same h.many in
     omega (arith, many, k.few)

@@ -1,5 +1,5 @@
 -- What the words order is within its range.
-use Rattle.std.proofs.Common.{◌≡◌, refl, sym, ◌∙◌, ap, subst, arith, ℕ, ◌≤◌, Bool, true, false, List, Option, Some, None}
+use Rattle.std.proofs.Common.{◌≡◌, refl, ◌∙◌, ap, subst, arith, ℕ, ◌≤◌, Bool, true, false, List, Option, Some, None}
 use Rattle.std.specs.Prelude.{nat_le, if◌then◌else◌, ◌&&◌, is_some, option_map, codes}
 use Rattle.std.proofs.lemmas.Bool.{leb-true}
 use Rattle.std.proofs.lemmas.Option.{option_and_then_some}
@@ -7,7 +7,7 @@ use Rattle.std.specs.Str.Parse.{digits_value}
 use Rattle.clap.specs.Simple.{matches_of}
 use Rattle.clap.specs.Faults.{fault_of}
 use Rattle.clap.specs.Walk.{Row, first_of, is_empty}
-use Rattle.hs_words.specs.Words.{horsat, said, is_numeral, number_in, number_or, number_if, is_set, OptionsData, unless_both, said_by_values, options_of}
+use Rattle.hs_words.specs.Words.{horsat, said, is_numeral, number_in, number_or, number_if, is_set, OptionsData, said_by_values, options_of}
 use Rattle.hs_app.specs.Verdict.{AreWithin}
 use Rattle.hs_app.specs.Order.{settings_of}
 
@@ -52,19 +52,28 @@ pub record AreIn (o : OptionsData) : Type 0 where
   pub settings : AreWithin (settings_of o)
   pub cycle : (k : ℕ) → o.cycle ≡ Some k → IsIn 1 300 k
 
-said_in : (entries steps table first cycle file : Option (List ℕ)) (o : OptionsData) → said_by_values entries steps table first cycle file ≡ Some o → AreIn o
-said_in entries steps table first cycle file o e =
-    option_and_then_some _ (number_or 200000 1 1000000 entries) o e (λ n e_is rest.
+said_in : (workers entries steps table first simplify cycle file : Option (List ℕ)) (o : OptionsData) → said_by_values workers entries steps table first simplify cycle file ≡ Some o → AreIn o
+said_in workers entries steps table first simplify cycle file o e =
+    option_and_then_some _ (number_or 4 1 16 workers) o e (λ w w_is others.
+    option_and_then_some _ (number_or 200000 1 1000000 entries) o others (λ n e_is rest.
     option_and_then_some _ (number_or 1000000 1 4000000 steps) o rest (λ m s_is more.
     option_and_then_some _ (number_if 1 300 cycle) o more (λ c c_is last.
-    let made : OptionsData = record { entries = n; steps = m; table = is_set table; first = is_set first; cycle = c; file = file } in
+    let made : OptionsData = record { workers = w; entries = n; steps = m; table = is_set table; first = is_set first; simplify = is_set simplify; cycle = c; file = file } in
     let is : made ≡ o = both_given (is_some c && is_some file) made o last in
+    let of_workers : IsIn 1 16 w = or_in_range 4 1 16 workers w (record { above = omega arith; below = omega arith }) w_is in
     let of_entries : IsIn 1 1000000 n = or_in_range 200000 1 1000000 entries n (record { above = omega arith; below = omega arith }) e_is in
     let of_steps : IsIn 1 4000000 m = or_in_range 1000000 1 4000000 steps m (record { above = omega arith; below = omega arith }) s_is in
     subst (λ (x : OptionsData). AreIn x) is (record {
-      settings = record { least_entries = of_entries.above; most_entries = of_entries.below; least_steps = of_steps.above; most_steps = of_steps.below };
+      settings = record {
+        least_workers = of_workers.above;
+        most_workers = of_workers.below;
+        least_entries = of_entries.above;
+        most_entries = of_entries.below;
+        least_steps = of_steps.above;
+        most_steps = of_steps.below;
+      };
       cycle = λ k at. if_in_range 1 300 cycle k (c_is ∙ ap (λ (x : Option ℕ). Some x) at);
-    }))))
+    })))))
 
 taken : (b : Bool) (r : Option OptionsData) (o : OptionsData) → (if b then r else None) ≡ Some o → r ≡ Some o
 taken true r o e = e
@@ -72,8 +81,8 @@ taken false r o e = absurd (cc)
 
 by_taken : (b : Bool) (rows : List Row) (o : OptionsData) → (if b then said rows else None) ≡ Some o → AreIn o
 by_taken b rows o e =
-    said_in (first_of (codes "entries") rows) (first_of (codes "steps") rows) (first_of (codes "table") rows) (first_of (codes "first") rows)
-    (first_of (codes "gen") rows) (first_of (codes "file") rows) o (taken b (said rows) o e)
+    said_in (first_of (codes "workers") rows) (first_of (codes "entries") rows) (first_of (codes "steps") rows) (first_of (codes "table") rows) (first_of (codes "first") rows)
+    (first_of (codes "simplify") rows) (first_of (codes "gen") rows) (first_of (codes "file") rows) o (taken b (said rows) o e)
 
 pub options_in : (words : List (List ℕ)) (o : OptionsData) → options_of words ≡ Some o → AreIn o
 options_in words o e = by_taken (is_empty (fault_of horsat words)) (matches_of horsat words) o e

@@ -1,11 +1,11 @@
 -- What is claimed of a run, from how it ends.
-use Rattle.std.proofs.Common.{◌≡◌, ◌≢◌, refl, sym, ◌∙◌, ap, subst, ℕ, ◌+◌, ◌<◌, ◌≤◌, true, false, List, [], ◌++◌, append-nil, Option, Some, None, Result, Ok, Err, length, length-append, ◌⊎◌, inl, inr, arith}
-use Rattle.std.specs.Option.{IsSomeAnd, IsSome, is_some, IfSome}
+use Rattle.std.proofs.Common.{◌≡◌, ◌≢◌, refl, sym, ◌∙◌, ap, subst, ℕ, ◌<◌, ◌≤◌, true, List, [], ◌++◌, append-nil, Option, Some, None, Result, Ok, Err, length, length-append, ◌⊎◌, inl, inr, arith}
+use Rattle.std.specs.Option.{IsSomeAnd, IfSome}
 use Rattle.std.specs.Io.KnownBytes.{prepend_known}
 use Rattle.hs_gen.specs.Cycle.{cycle_file_text}
 use Rattle.hs_app.specs.declared.refusal.Refusal.{Refusal}
 use Rattle.hs_app.specs.declared.refusal.Refusal.TheVariants.{Usage, Source, FileTooLong, Syntax, Limit, Names, IllSorted, NotFirstOrder, SortTooLarge, RuleTooLong, PointLimit, FlowLimit, EntryLimit, Sink, OutOfMemory}
-use Rattle.hs_app.specs.declared.verdict.Settings.{Settings}
+use Rattle.hs_app.specs.Problems.{Asked}
 use Rattle.hs_app.specs.declared.verdict.Verdict.{Verdict}
 use Rattle.hs_app.specs.declared.verdict.Verdict.TheVariants.{Accepted, Rejected, Long}
 use Rattle.hs_app.specs.declared.verdict.Decided.{Decided}
@@ -13,9 +13,9 @@ use Rattle.hs_app.specs.declared.top.Ending.{Ending}
 use Rattle.hs_app.specs.declared.top.Ending.TheVariants.{Reported, CutOff, Refused}
 use Rattle.hs_app.specs.Refusal.{HasFixedLine, status_of}
 use Rattle.hs_app.specs.Verdict.{max_bytes, Has, Warrants, Answers, IsReadable}
-use Rattle.hs_app.specs.Order.{Job, read_file, generate, Order, SourceRun, IsUntouched, bytes_of, IsWhole, IsPart, HasFault, OfTold}
+use Rattle.hs_app.specs.Order.{Job, read_file, generate, Order, SourceRun, IsUntouched, IsRead, bytes_of, IsWhole, IsPart, OfTold}
 use Rattle.hs_app.specs.Outcome.{SinkRun, IsCalm, HasCause, IsOfBytes, IsAnswer, IsReadFault, IsDue, IsStatusOf, status_of_verdict, status_at, Ends, Complies, Rows}
-use Rattle.hs_app.proofs.AnswerLemmas.{Wants, Matches, Right, Comes, answer_meets, readable_comes}
+use Rattle.hs_app.proofs.AnswerLemmas.{Wants, Matches, answer_meets, readable_comes}
 
 -- ---- facts about the bytes of a job's file
 
@@ -74,7 +74,7 @@ shows_handed (generate k) source = record { whole = λ P h read. h; part = λ h 
 -- ---- the answer of the words and the bytes
 
 -- the answer on the bytes of a job that was read up to its end
-pub of_bytes : (o : Order) (source : SourceRun) (r : Result Decided Refusal) → Has o.settings r (bytes_of o.job source.after.given) → IsWhole o.job source → IsAnswer (Some o) source r
+pub of_bytes : (o : Order) (source : SourceRun) (r : Result Decided Refusal) → Has o.asked r (bytes_of o.job source.after.given) → IsWhole o.job source → IsAnswer (Some o) source r
 of_bytes o source (Ok d) h whole = (h, whole)
 of_bytes o source (Err Usage) h whole = absurd h.1
 of_bytes o source (Err Source) h whole = absurd h.1
@@ -92,29 +92,38 @@ of_bytes o source (Err EntryLimit) h whole = (h, whole)
 of_bytes o source (Err Sink) h whole = absurd h.1
 of_bytes o source (Err OutOfMemory) h whole = inr (inr whole)
 
+-- the answer on the bytes of a slice
+pub has_of : (asked : Asked) (r : Result Decided Refusal) (slice bytes given : List ℕ) → slice ≡ bytes → bytes ≡ given → length bytes ≤ max_bytes → Answers asked slice r → Has asked r given
+has_of asked r slice bytes given e f short h = subst (λ (b : List ℕ). Has asked r b) (e ∙ f) (subst (λ (b : List ℕ). length b ≤ max_bytes) (sym e) short, h)
+
 -- a file that wasn't read whole
-pub of_fault : (name : List ℕ) (settings : Settings) (source : SourceRun) (r : Refusal) → IsReadFault name source r
-    → IsAnswer (Some (record { job = read_file name; settings = settings })) source (Err r)
-of_fault name settings source Source h = h
-of_fault name settings source FileTooLong h = h
-of_fault name settings source OutOfMemory h = inr (inl h)
-of_fault name settings source Usage h = absurd h
-of_fault name settings source (Syntax line) h = absurd h
-of_fault name settings source (Limit which) h = absurd h
-of_fault name settings source (Names fault) h = absurd h
-of_fault name settings source (IllSorted rule) h = absurd h
-of_fault name settings source (NotFirstOrder terminal) h = absurd h
-of_fault name settings source (SortTooLarge rule) h = absurd h
-of_fault name settings source (RuleTooLong rule) h = absurd h
-of_fault name settings source PointLimit h = absurd h
-of_fault name settings source FlowLimit h = absurd h
-of_fault name settings source EntryLimit h = absurd h
-of_fault name settings source Sink h = absurd h
+pub of_fault : (name : List ℕ) (asked : Asked) (source : SourceRun) (r : Refusal) → IsReadFault name source r
+    → IsAnswer (Some (record { job = read_file name; asked = asked })) source (Err r)
+of_fault name asked source Source h = h
+of_fault name asked source FileTooLong h = h
+of_fault name asked source OutOfMemory h = inr (inl h)
+of_fault name asked source Usage h = absurd h
+of_fault name asked source (Syntax line) h = absurd h
+of_fault name asked source (Limit which) h = absurd h
+of_fault name asked source (Names fault) h = absurd h
+of_fault name asked source (IllSorted rule) h = absurd h
+of_fault name asked source (NotFirstOrder terminal) h = absurd h
+of_fault name asked source (SortTooLarge rule) h = absurd h
+of_fault name asked source (RuleTooLong rule) h = absurd h
+of_fault name asked source PointLimit h = absurd h
+of_fault name asked source FlowLimit h = absurd h
+of_fault name asked source EntryLimit h = absurd h
+of_fault name asked source Sink h = absurd h
+
+-- a file that was
+pub of_whole : (name : List ℕ) (asked : Asked) (source : SourceRun) (r : Result Decided Refusal) → Has asked r source.after.given → IsRead source true name
+    → IsAnswer (Some (record { job = read_file name; asked = asked })) source r
+of_whole name asked source r h read = of_bytes (record { job = read_file name; asked = asked }) source r h read
 
 -- the answer on the bytes of a generated file, of which the source knows nothing
-pub of_cycle : (k : ℕ) (settings : Settings) (source : SourceRun) (r : Result Decided Refusal) → IsUntouched source → Has settings r (cycle_file_text k)
-    → IsAnswer (Some (record { job = generate k; settings = settings })) source r
-of_cycle k settings source r same h = of_bytes (record { job = generate k; settings = settings }) source r h same
+pub of_cycle : (k : ℕ) (asked : Asked) (source : SourceRun) (r : Result Decided Refusal) → IsUntouched source → Has asked r (cycle_file_text k)
+    → IsAnswer (Some (record { job = generate k; asked = asked })) source r
+of_cycle k asked source r same h = of_bytes (record { job = generate k; asked = asked }) source r h same
 
 -- want of memory in the place of a refusal on bytes
 memory_too : (order : Option Order) (source : SourceRun) (r : Refusal) → IsOfBytes order source (Err r) → HasCause order source OutOfMemory
@@ -150,23 +159,23 @@ status_due (Ok decided) = status_of_verdict decided.verdict
 status_due (Err refusal) = status_of refusal
 
 -- a file that is too long warrants that alone
-long_only : (settings : Settings) (bytes : List ℕ) (d : Result Verdict Refusal) → max_bytes < length bytes → Warrants settings d bytes → d ≡ Err FileTooLong
-long_only settings bytes (Ok v) l h = absurd (omega (arith, l, h.0))
-long_only settings bytes (Err Usage) l h = absurd h
-long_only settings bytes (Err Source) l h = absurd h
-long_only settings bytes (Err Sink) l h = absurd h
-long_only settings bytes (Err OutOfMemory) l h = absurd h
-long_only settings bytes (Err FileTooLong) l h = refl
-long_only settings bytes (Err (Syntax line)) l h = absurd (omega (arith, l, h.0))
-long_only settings bytes (Err (Limit which)) l h = absurd (omega (arith, l, h.0))
-long_only settings bytes (Err (Names fault)) l h = absurd (omega (arith, l, h.0))
-long_only settings bytes (Err (IllSorted rule)) l h = absurd (omega (arith, l, h.0))
-long_only settings bytes (Err (NotFirstOrder terminal)) l h = absurd (omega (arith, l, h.0))
-long_only settings bytes (Err (SortTooLarge rule)) l h = absurd (omega (arith, l, h.0))
-long_only settings bytes (Err (RuleTooLong rule)) l h = absurd (omega (arith, l, h.0))
-long_only settings bytes (Err PointLimit) l h = absurd (omega (arith, l, h.0))
-long_only settings bytes (Err FlowLimit) l h = absurd (omega (arith, l, h.0))
-long_only settings bytes (Err EntryLimit) l h = absurd (omega (arith, l, h.0))
+long_only : (asked : Asked) (bytes : List ℕ) (d : Result Verdict Refusal) → max_bytes < length bytes → Warrants asked d bytes → d ≡ Err FileTooLong
+long_only asked bytes (Ok v) l h = absurd (omega (arith, l, h.0))
+long_only asked bytes (Err Usage) l h = absurd h
+long_only asked bytes (Err Source) l h = absurd h
+long_only asked bytes (Err Sink) l h = absurd h
+long_only asked bytes (Err OutOfMemory) l h = absurd h
+long_only asked bytes (Err FileTooLong) l h = refl
+long_only asked bytes (Err (Syntax line)) l h = absurd (omega (arith, l, h.0))
+long_only asked bytes (Err (Limit which)) l h = absurd (omega (arith, l, h.0))
+long_only asked bytes (Err (Names fault)) l h = absurd (omega (arith, l, h.0))
+long_only asked bytes (Err (IllSorted rule)) l h = absurd (omega (arith, l, h.0))
+long_only asked bytes (Err (NotFirstOrder terminal)) l h = absurd (omega (arith, l, h.0))
+long_only asked bytes (Err (SortTooLarge rule)) l h = absurd (omega (arith, l, h.0))
+long_only asked bytes (Err (RuleTooLong rule)) l h = absurd (omega (arith, l, h.0))
+long_only asked bytes (Err PointLimit) l h = absurd (omega (arith, l, h.0))
+long_only asked bytes (Err FlowLimit) l h = absurd (omega (arith, l, h.0))
+long_only asked bytes (Err EntryLimit) l h = absurd (omega (arith, l, h.0))
 
 -- the statuses of an answer that the warrant allows
 status_matches : (d : Result Verdict Refusal) (b : Result Decided Refusal) → Matches d b → IsStatusOf d (status_due b)
@@ -205,7 +214,7 @@ module _ (o : Order) (source : SourceRun) (file : List ℕ → Option (List ℕ)
   abbrev Is : Result Decided Refusal → Type 0
   Is b = IsAnswer (Some o) source b
 
-  due_told : (d : Result Verdict Refusal) → IsDue (Some o) file d → Told (Warrants o.settings d)
+  due_told : (d : Result Verdict Refusal) → IsDue (Some o) file d → Told (Warrants o.asked d)
   due_told (Ok v) h = h
   due_told (Err Usage) h = absurd (cc)
   due_told (Err Source) h = h
@@ -225,10 +234,10 @@ module _ (o : Order) (source : SourceRun) (file : List ℕ → Option (List ℕ)
 
   -- why something is answered
   abbrev Why : Result Decided Refusal → Type 0
-  Why b = Fails b ⊎ (((b ≡ Err FileTooLong) × InFile (λ bytes. max_bytes < length bytes)) ⊎ InFile (Has o.settings b))
+  Why b = Fails b ⊎ (((b ≡ Err FileTooLong) × InFile (λ bytes. max_bytes < length bytes)) ⊎ InFile (Has o.asked b))
 
-  by_bytes : (b : Result Decided Refusal) → Has o.settings b (bytes_of o.job source.after.given) × IsWhole o.job source → Why b
-  by_bytes b h = inr (inr (shows.whole (Has o.settings b) h.0 h.1))
+  by_bytes : (b : Result Decided Refusal) → Has o.asked b (bytes_of o.job source.after.given) × IsWhole o.job source → Why b
+  by_bytes b h = inr (inr (shows.whole (Has o.asked b) h.0 h.1))
 
   why : (b : Result Decided Refusal) → Is b → Why b
   why (Ok x) h = by_bytes (Ok x) h
@@ -251,14 +260,14 @@ module _ (o : Order) (source : SourceRun) (file : List ℕ → Option (List ℕ)
   abbrev Meet : Result Verdict Refusal → Result Decided Refusal → Type 0
   Meet d b = Fails b ⊎ Matches d b
 
-  meet_long : (d : Result Verdict Refusal) (b : Result Decided Refusal) → b ≡ Err FileTooLong → (bytes : List ℕ) → Warrants o.settings d bytes → max_bytes < length bytes → Meet d b
+  meet_long : (d : Result Verdict Refusal) (b : Result Decided Refusal) → b ≡ Err FileTooLong → (bytes : List ℕ) → Warrants o.asked d bytes → max_bytes < length bytes → Meet d b
   meet_long d b e bytes w l =
       inr (subst (λ (x : Result Decided Refusal). Matches d x) (sym e)
-      (subst (λ (x : Result Verdict Refusal). Matches x (Err FileTooLong)) (sym (long_only o.settings bytes d l w)) refl))
+      (subst (λ (x : Result Verdict Refusal). Matches x (Err FileTooLong)) (sym (long_only o.asked bytes d l w)) refl))
 
-  meet_bytes : (d : Result Verdict Refusal) (b : Result Decided Refusal) (bytes : List ℕ) → Warrants o.settings d bytes → Has o.settings b bytes → Meet d b
+  meet_bytes : (d : Result Verdict Refusal) (b : Result Decided Refusal) (bytes : List ℕ) → Warrants o.asked d bytes → Has o.asked b bytes → Meet d b
   meet_bytes d b bytes w h =
-      elim (answer_meets o.settings bytes d b w h) [
+      elim (answer_meets o.asked bytes d b w h) [
         | inl wants ↦ inl (inr wants)
         | inr matches ↦ inr matches
       ]
@@ -270,9 +279,9 @@ module _ (o : Order) (source : SourceRun) (file : List ℕ → Option (List ℕ)
       elim (why b h) [
         | inl fails ↦ inl fails
         | inr (inl (e, long)) ↦
-            always_of_job (Meet d b) o.job file (both_of_job (Warrants o.settings d) (λ bytes. max_bytes < length bytes) (λ _. Meet d b) (meet_long d b e) o.job file w long)
+            always_of_job (Meet d b) o.job file (both_of_job (Warrants o.asked d) (λ bytes. max_bytes < length bytes) (λ _. Meet d b) (meet_long d b e) o.job file w long)
         | inr (inr has) ↦
-            always_of_job (Meet d b) o.job file (both_of_job (Warrants o.settings d) (Has o.settings b) (λ _. Meet d b) (meet_bytes d b) o.job file w has)
+            always_of_job (Meet d b) o.job file (both_of_job (Warrants o.asked d) (Has o.asked b) (λ _. Meet d b) (meet_bytes d b) o.job file w has)
       ]
 
   -- from the answer to its status
@@ -296,24 +305,24 @@ module _ (o : Order) (source : SourceRun) (file : List ℕ → Option (List ℕ)
   abbrev Comes_to : Result Decided Refusal → Type 0
   Comes_to b = Fails b ⊎ (((x : Decided) × (b ≡ Ok x)) ⊎ (b ≡ Err EntryLimit))
 
-  of_readable : (b : Result Decided Refusal) (bytes : List ℕ) → IsReadable bytes → Has o.settings b bytes → Comes_to b
+  of_readable : (b : Result Decided Refusal) (bytes : List ℕ) → IsReadable o.asked bytes → Has o.asked b bytes → Comes_to b
   of_readable b bytes r h =
-      elim (readable_comes o.settings bytes b r h) [
+      elim (readable_comes o.asked bytes b r h) [
         | inl wants ↦ inl (inr wants)
         | inr comes ↦ inr comes
       ]
 
-  readable_has : (b : Result Decided Refusal) → Told IsReadable → Is b → Comes_to b
+  readable_has : (b : Result Decided Refusal) → Told (IsReadable o.asked) → Is b → Comes_to b
   readable_has b r h =
       elim (why b h) [
         | inl fails ↦ inl fails
         | inr (inl (e, long)) ↦
-            absurd (always_of_job ⊥ o.job file (both_of_job IsReadable (λ bytes. max_bytes < length bytes) (λ _. ⊥) (λ bytes q l. omega (arith, q.within, l)) o.job file r long))
+            absurd (always_of_job ⊥ o.job file (both_of_job (IsReadable o.asked) (λ bytes. max_bytes < length bytes) (λ _. ⊥) (λ bytes q l. omega (arith, q.within, l)) o.job file r long))
         | inr (inr has) ↦
-            always_of_job (Comes_to b) o.job file (both_of_job IsReadable (Has o.settings b) (λ _. Comes_to b) (of_readable b) o.job file r has)
+            always_of_job (Comes_to b) o.job file (both_of_job (IsReadable o.asked) (Has o.asked b) (λ _. Comes_to b) (of_readable b) o.job file r has)
       ]
 
-  completes : (b : Result Decided Refusal) → Told IsReadable → Is b → Completes (status_due b)
+  completes : (b : Result Decided Refusal) → Told (IsReadable o.asked) → Is b → Completes (status_due b)
   completes b r h =
       elim (readable_has b r h) [
         | inl (inl e) ↦ inr (inl (ap status_due e))

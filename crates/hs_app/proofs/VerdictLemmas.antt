@@ -1,17 +1,23 @@
 -- From what is answered on a sorted scheme to what is answered on the bytes of its file.
-use Rattle.std.proofs.Common.{◌≡◌, refl, sym, ◌∙◌, subst, ap, List, ℕ, Option, None, Result, Ok, Err, ◌↔◌}
+use Rattle.std.proofs.Common.{◌≡◌, refl, sym, ◌∙◌, subst, ap, List, length, ℕ, ◌<◌, ◌≤◌, Bool, true, false, Option, None, Result, Ok, Err}
+use Rattle.std.specs.Prelude.{if◌then◌else◌}
 use Rattle.hs_scheme.specs.declared.term.Rule.{Rule}
 use Rattle.hs_scheme.specs.Transition.{TransitionData}
 use Rattle.hs_scheme.specs.Problem.{ProblemData}
 use Rattle.hs_scheme.specs.Automaton.{next}
-use Rattle.hs_scheme.specs.Steps.{HasNoTransition}
-use Rattle.hs_scheme.specs.Run.{Accepts}
+use Rattle.hs_scheme.specs.Steps.{Path, Fails, Reaches, HasNoTransition}
+use Rattle.hs_scheme.specs.Run.{start, Accepts}
 use Rattle.hs_scheme.specs.Unsorted.{UnsortedData, IsUnsorted}
 use Rattle.hs_scheme.specs.Points.{points_of}
-use Rattle.hs_scheme.specs.Sorted.{SortedData, IsSorted}
-use Rattle.hs_scheme.specs.Flow.{IsFlow}
+use Rattle.hs_scheme.specs.Sorted.{SortedData, IsSorted, sorts_of}
+use Rattle.hs_scheme.specs.Flow.{IsFlow, IsSupported}
+use Rattle.hs_scheme.specs.SameTree.{FailsFromStart}
+use Rattle.hs_scheme.specs.declared.term.Head.{Head}
+use Rattle.hs_scheme.specs.Tree.{Tree}
+use Rattle.hs_scheme.specs.TreeTerms.{AreSortedBy}
+use Rattle.hs_steps.proofs.Failing.{accepted_without_failure, no_failure_accepted}
 use Rattle.hs_steps.specs.Lengthened.{IsLengthened}
-use Rattle.hs_steps.proofs.Trees.{reaches_of_file, acceptance_of_file}
+use Rattle.hs_steps.proofs.Trees.{reaches_of_file, failures_of_file}
 use Rattle.hs_reader.specs.Raw.{File}
 use Rattle.hs_reader.specs.Faults.{IsFileWithin}
 use Rattle.hs_resolve.specs.Numbering.{unsorted_of}
@@ -25,58 +31,129 @@ use Rattle.hs_app.specs.declared.verdict.Settings.{Settings}
 use Rattle.hs_app.specs.declared.verdict.Verdict.{Verdict}
 use Rattle.hs_app.specs.declared.verdict.Verdict.TheVariants.{Accepted, Rejected, Long}
 use Rattle.hs_app.specs.declared.verdict.Decided.{Decided}
-use Rattle.hs_app.specs.Problems.{IsSortedFormOf, IsProblemOf, IsProblemWithin}
-use Rattle.hs_app.specs.Verdict.{IsScheme, IsSound, IsSortRefusal, ReportsAccepted, ReportsRejected, ReportsLong, ReportsBy, IsOver, Decides, DecidesProblem, DecidesSorted, Refused, Answers}
+use Rattle.hs_app.specs.Problems.{Asked, IsSimplified, IsRemoved, IsSortedFormOf, IsProblemOf, IsProblemWithin, HasManyPoints, HasMuchFlow, HasLongOrder}
+use Rattle.hs_app.specs.Verdict.{IsScheme, IsSound, IsSortRefusal, ReportsBy, DecidesProblem, DecidesForm, DecidesSimplified, DecidesSorted, Refused, Answers}
 
--- ---- the lengthened rules and those of the file
+-- ---- the rules that were saturated, the lengthened ones, and those of the file
 
-module _ (settings : Settings) (u : UnsortedData) (p : ProblemData) (unsorted : IsUnsorted u) (is_sorted : IsSorted p.sorted) (inferred : IsInferred u p.sorted) where
-  made : IsLengthened u p.sorted
+module _ (u : UnsortedData) (form : SortedData) (unsorted : IsUnsorted u) (is_sorted : IsSorted form) (inferred : IsInferred u form) where
+  made : IsLengthened u form
   made = record { sorting = inferred.least.sorting; rules = inferred.rules; automaton = inferred.automaton }
 
-  transitions_are : p.sorted.automaton.transitions ≡ u.automaton.transitions
+  transitions_are : form.automaton.transitions ≡ u.automaton.transitions
   transitions_are = ap (λ a. a.transitions) inferred.automaton
 
-  accepts_too : Accepts u.rules u.automaton.transitions ↔ Accepts p.sorted.scheme.rules p.sorted.automaton.transitions
-  accepts_too = acceptance_of_file u p.sorted unsorted is_sorted made
+  are_sorted : AreSortedBy u.rules (length u.ranks) u.ranks u.automaton.transitions (sorts_of form.sorts form.scheme.ranks)
+  are_sorted = record { are_rules = unsorted.rules; sorting = made.sorting; agree = unsorted.ranks }
 
-  fails_too : (path : PathData) → IsFailingPath p.sorted.scheme.rules p.sorted.automaton.transitions path → IsFailingPath u.rules u.automaton.transitions path
+  fails_too : (path : PathData) → IsFailingPath form.scheme.rules form.automaton.transitions path → IsFailingPath u.rules u.automaton.transitions path
   fails_too path h = record {
     arguments = h.arguments;
-    reaches = (reaches_of_file u p.sorted unsorted is_sorted made path.used path.steps path.state _).1 h.reaches;
+    reaches = (reaches_of_file u form unsorted is_sorted made path.used path.steps path.state _).1 h.reaches;
     stuck = subst (λ (ts : List TransitionData). next ts path.state path.last ≡ None) transitions_are h.stuck;
   }
 
-  judged : (v : Verdict) (text : List ℕ) → ReportsBy settings p.sorted.scheme.rules p.sorted.automaton.transitions p v text → ReportsBy settings u.rules u.automaton.transitions p v text
-  judged Accepted text r = record { accepts = accepts_too.1 r.accepts; table = r.table; least = r.least; lacks = r.lacks; within = r.within; tells = r.tells }
-  judged Rejected text r = record {
-    rejects = λ accepts. r.rejects (accepts_too.0 accepts);
-    table = r.table;
-    reported = r.reported;
-    within = r.within;
-    path = r.path;
-    fails = fails_too r.path r.fails;
-    few = r.few;
-    tells = r.tells;
-  }
-  judged Long text r = record {
-    rejects = λ accepts. r.rejects (accepts_too.0 accepts);
-    table = r.table;
-    reported = r.reported;
-    within = r.within;
-    prefix = r.prefix;
-    state = r.state;
-    term = r.term;
-    reaches = (reaches_of_file u p.sorted unsorted is_sorted made settings.steps r.prefix r.state r.term).1 r.reaches;
-    goes_on = λ stuck. r.goes_on (subst (λ (ts : List TransitionData). HasNoTransition ts r.state r.term) (sym transitions_are) stuck);
-    tells = r.tells;
-  }
+  module _ (settings : Settings) (asked : Asked) (of : asked.settings ≡ settings) (p : ProblemData) (simplified : IsSimplified asked form p.sorted) (removed : Option ℕ) where
+    abbrev ts : List TransitionData
+    ts = p.sorted.automaton.transitions
 
-module _ (settings : Settings) (bytes : List ℕ) (file : File) (reads : IsFileWithin bytes file) (faultless : IsFaultless file) where
+    of_form : ts ≡ form.automaton.transitions
+    of_form = ap (λ a. a.transitions) simplified.rest.automaton
+
+    of_rules : ts ≡ u.automaton.transitions
+    of_rules = of_form ∙ transitions_are
+
+    -- a path fails along the rules that were saturated where it fails along those of the file
+    failing_back : (path : Path) → FailsFromStart p.sorted.scheme.rules ts 0 path → FailsFromStart u.rules u.automaton.transitions 0 path
+    failing_back path h =
+        let there = subst (λ (l : List TransitionData). FailsFromStart p.sorted.scheme.rules l 0 path) of_form h in
+        let lengthened = (simplified.same_tree form.automaton.transitions is_sorted.ranks 0 path).1 there in
+        (lengthened.0, (failures_of_file u form unsorted is_sorted made lengthened.0 path).1 lengthened.1)
+
+    failing_over : (n : ℕ) (path : Path) → Fails u.rules u.automaton.transitions n 0 start path → FailsFromStart p.sorted.scheme.rules ts 0 path
+    failing_over n path h =
+        let lengthened = (failures_of_file u form unsorted is_sorted made n path).0 h in
+        subst (λ (l : List TransitionData). FailsFromStart p.sorted.scheme.rules l 0 path) (sym of_form)
+        ((simplified.same_tree form.automaton.transitions is_sorted.ranks 0 path).0 (n, lengthened))
+
+    accepts_back : Accepts p.sorted.scheme.rules ts → Accepts u.rules u.automaton.transitions
+    accepts_back accepts =
+        accepted_without_failure u.rules u.automaton.transitions (length u.ranks) u.ranks (sorts_of form.sorts form.scheme.ranks) are_sorted
+        (λ n path f. let g = failing_over n path f in no_failure_accepted p.sorted.scheme.rules ts accepts g.0 path g.1)
+
+    rejects_back : (path : Path) → FailsFromStart p.sorted.scheme.rules ts 0 path → Accepts u.rules u.automaton.transitions → ⊥
+    rejects_back path h accepts = let g = failing_back path h in no_failure_accepted u.rules u.automaton.transitions accepts g.0 path g.1
+
+    -- where nothing was simplified, steps are counted along the file's rules
+    walked_back : (b : Bool) → (b ≡ false → p.sorted ≡ form) → (path : PathData)
+        → IsFailingPath (if b then p.sorted.scheme.rules else p.sorted.scheme.rules) ts path
+        → IsFailingPath (if b then p.sorted.scheme.rules else u.rules) u.automaton.transitions path
+    walked_back true same path h = subst (λ (l : List TransitionData). IsFailingPath p.sorted.scheme.rules l path) of_rules h
+    walked_back false same path h = fails_too path (subst (λ (s : SortedData). IsFailingPath s.scheme.rules s.automaton.transitions path) (same refl) h)
+
+    reached_back : (b : Bool) → (b ≡ false → p.sorted ≡ form) → (n : ℕ) (path : Path) (q : ℕ) (t : Tree Head)
+        → Reaches (if b then p.sorted.scheme.rules else p.sorted.scheme.rules) ts n 0 start path q t
+        → Reaches (if b then p.sorted.scheme.rules else u.rules) u.automaton.transitions n 0 start path q t
+    reached_back true same n path q t h = subst (λ (l : List TransitionData). Reaches p.sorted.scheme.rules l n 0 start path q t) of_rules h
+    reached_back false same n path q t h =
+        (reaches_of_file u form unsorted is_sorted made n path q t).1
+        (subst (λ (s : SortedData). Reaches s.scheme.rules s.automaton.transitions n 0 start path q t) (same refl) h)
+
+    same_form : settings.simplify ≡ false → p.sorted ≡ form
+    same_form e = simplified.same (ap (λ (s : Settings). s.simplify) of ∙ e)
+
+    judged : (v : Verdict) (text : List ℕ) → ReportsBy settings p.sorted.scheme.rules ts p removed v text → ReportsBy settings u.rules u.automaton.transitions p removed v text
+    judged Accepted text r = record {
+      accepts = accepts_back r.accepts;
+      table = r.table;
+      least = r.least;
+      lacks = r.lacks;
+      within = r.within;
+      checked = r.checked;
+      count = r.count;
+      tells = r.tells;
+    }
+    judged Rejected text r = record {
+      rejects = rejects_back r.path.steps r.fails;
+      table = r.table;
+      reported = r.reported;
+      within = r.within;
+      path = r.path;
+      fails = failing_back r.path.steps r.fails;
+      walked = walked_back settings.simplify same_form r.path r.walked;
+      few = r.few;
+      supports = r.supports;
+      supported = r.supported;
+      names = r.names;
+      tells = r.tells;
+    }
+    judged Long text r = record {
+      rejects = rejects_back r.whole r.fails;
+      table = r.table;
+      reported = r.reported;
+      within = r.within;
+      prefix = r.prefix;
+      state = r.state;
+      term = r.term;
+      reaches = reached_back settings.simplify same_form settings.steps r.prefix r.state r.term r.reaches;
+      goes_on = λ stuck. r.goes_on (subst (λ (l : List TransitionData). HasNoTransition l r.state r.term) (sym of_rules) stuck);
+      supports = r.supports;
+      supported = r.supported;
+      need = r.need;
+      whole = r.whole;
+      names = r.names;
+      longer = r.longer;
+      rest = r.rest;
+      begins = r.begins;
+      fails = failing_back r.whole r.fails;
+      tells = r.tells;
+    }
+
+module _ (asked : Asked) (bytes : List ℕ) (file : File) (reads : IsFileWithin bytes file) (faultless : IsFaultless file) where
   of_file : IsScheme bytes (unsorted_of file)
   of_file = record { file = file; reads = reads; faultless = faultless; is = refl }
 
-  pub refused : (r : Refusal) → IsSortRefusal (unsorted_of file) r → Refused settings bytes r
+  pub refused : (r : Refusal) → IsSortRefusal (unsorted_of file) r → Refused asked bytes r
   refused Usage h = absurd h
   refused Source h = absurd h
   refused FileTooLong h = absurd h
@@ -97,45 +174,93 @@ module _ (settings : Settings) (bytes : List ℕ) (file : File) (reads : IsFileW
     sound : IsSound bytes (unsorted_of file)
     sound = record { of_bytes = of_file; sorted = sorted; inferred = inferred }
 
-    form : IsSorted sorted → IsSortedFormOf (unsorted_of file) sorted
-    form is = record { unsorted = unsorted; is_sorted = is; inferred = inferred }
+    form_of : IsSorted sorted → IsSortedFormOf (unsorted_of file) sorted
+    form_of is = record { unsorted = unsorted; is_sorted = is; inferred = inferred }
 
-    problem : (p : ProblemData) → IsProblemWithin sorted p → IsProblemOf (unsorted_of file) p
-    problem p w =
-        let rules : sorted.scheme.rules ≡ p.sorted.scheme.rules = ap (λ (s : SortedData). s.scheme.rules) (sym w.same) in
-        record {
-          sorted = subst (λ (s : SortedData). IsSortedFormOf (unsorted_of file) s) (sym w.same) (form w.is_sorted);
-          points = w.points ∙ ap points_of rules;
-          few_points = w.few_points;
-          flow = subst (λ (rs : List Rule). IsFlow rs p.flow.pairs p.flow.heads) rules w.flow;
-          ascending = w.ascending;
-          few_pairs = w.few_pairs;
-        }
+    module _ (is_sorted : IsSorted sorted) (form : SortedData) (simplified : IsSimplified asked sorted form) (removed : Option ℕ) (lighter : IsRemoved asked.settings.simplify sorted form removed) where
+      problem : (p : ProblemData) → IsProblemWithin form p → IsProblemOf asked (unsorted_of file) p
+      problem p w =
+          let rules : form.scheme.rules ≡ p.sorted.scheme.rules = ap (λ (s : SortedData). s.scheme.rules) (sym w.same) in
+          record {
+            form = sorted;
+            of = form_of is_sorted;
+            made = w.same ∙ simplified.made;
+            is_sorted = subst (λ (s : SortedData). IsSorted s) (sym w.same) w.is_sorted;
+            points = w.points ∙ ap points_of rules;
+            few_points = w.few_points;
+            flow = subst (λ (rs : List Rule). IsFlow rs p.flow.pairs p.flow.heads) rules w.flow;
+            ascending = w.ascending;
+            few_pairs = w.few_pairs;
+          }
 
-    verdict : (d : Decided) (p : ProblemData) → IsProblemWithin sorted p → DecidesProblem settings p (Ok d) → Answers settings bytes (Ok d)
-    verdict d p w h =
-        let of = problem p w in
-        record {
-          scheme = unsorted_of file;
-          sound = sound;
-          decides = (p, (of, judged settings (unsorted_of file) p of.sorted.unsorted of.sorted.is_sorted of.sorted.inferred d.verdict d.report.items h));
-        }
+      many_points : 500000 < length (points_of form.scheme.rules).points → HasManyPoints asked (unsorted_of file)
+      many_points many = record {
+        form = sorted;
+        of = form_of is_sorted;
+        many = subst (λ (s : SortedData). 500000 < length (points_of s.scheme.rules).points) simplified.made many;
+      }
 
-    pub decided : (r : Result Decided Refusal) → DecidesSorted settings sorted r → Answers settings bytes r
-    decided (Ok d) h = verdict d h.0 h.1.0 h.1.1
-    decided (Err EntryLimit) h = record { scheme = unsorted_of file; sound = sound; decides = (h.0, (problem h.0 h.1.0, h.1.1)) }
-    decided (Err PointLimit) h = record { scheme = unsorted_of file; sound = sound; decides = record { form = sorted; of = form h.0; many = h.1 } }
-    decided (Err FlowLimit) h =
-        record { scheme = unsorted_of file; sound = sound; decides = record { form = sorted; of = form h.0; few = h.1.few; order = h.1.order; supported = h.1.supported; many = h.1.many } }
+      much_flow : HasLongOrder form → HasMuchFlow asked (unsorted_of file)
+      much_flow h = record {
+        form = sorted;
+        of = form_of is_sorted;
+        few = subst (λ (s : SortedData). length (points_of s.scheme.rules).points ≤ 500000) simplified.made h.few;
+        order = h.order;
+        supported = subst (λ (s : SortedData). IsSupported s.scheme.rules h.order) simplified.made h.supported;
+        many = h.many;
+      }
+
+      verdict : (d : Decided) (p : ProblemData) → IsProblemWithin form p → DecidesProblem asked.settings p removed (Ok d) → Answers asked bytes (Ok d)
+      unfolding problem
+      verdict d p w h = record {
+        scheme = unsorted_of file;
+        sound = sound;
+        decides = record {
+          problem = p;
+          of = problem p w;
+          removed = removed;
+          lighter = subst (λ (s : SortedData). IsRemoved asked.settings.simplify sorted s removed) (sym w.same) lighter;
+          reports =
+              judged (unsorted_of file) sorted unsorted is_sorted inferred asked.settings asked refl p
+              (subst (λ (s : SortedData). IsSimplified asked sorted s) (sym w.same) simplified) removed d.verdict d.report.items h;
+        };
+      }
+
+      of_form_decided : (r : Result Decided Refusal) → DecidesForm asked.settings form removed r → Answers asked bytes r
+      of_form_decided (Ok d) h = verdict d h.0 h.1.0 h.1.1
+      of_form_decided (Err EntryLimit) h = record { scheme = unsorted_of file; sound = sound; decides = (h.0, (problem h.0 h.1.0, h.1.1)) }
+      of_form_decided (Err PointLimit) h = record { scheme = unsorted_of file; sound = sound; decides = many_points h.1 }
+      of_form_decided (Err FlowLimit) h = record { scheme = unsorted_of file; sound = sound; decides = much_flow h.1 }
+      of_form_decided (Err OutOfMemory) h = tt
+      of_form_decided (Err Usage) h = absurd h
+      of_form_decided (Err Source) h = absurd h
+      of_form_decided (Err FileTooLong) h = absurd h
+      of_form_decided (Err (Syntax line)) h = absurd h
+      of_form_decided (Err (Limit which)) h = absurd h
+      of_form_decided (Err (Names fault)) h = absurd h
+      of_form_decided (Err (IllSorted rule)) h = absurd h
+      of_form_decided (Err (NotFirstOrder terminal)) h = absurd h
+      of_form_decided (Err (SortTooLarge rule)) h = absurd h
+      of_form_decided (Err (RuleTooLong rule)) h = absurd h
+      of_form_decided (Err Sink) h = absurd h
+
+    simplified_decided : (r : Result Decided Refusal) → DecidesSimplified asked sorted r → Answers asked bytes r
+    simplified_decided r h = of_form_decided h.is_sorted h.form h.simplified h.removed h.lighter r h.decides
+
+    pub decided : (r : Result Decided Refusal) → DecidesSorted asked sorted r → Answers asked bytes r
+    decided (Ok d) h = simplified_decided (Ok d) h
     decided (Err OutOfMemory) h = tt
-    decided (Err Usage) h = absurd h
-    decided (Err Source) h = absurd h
-    decided (Err FileTooLong) h = absurd h
-    decided (Err (Syntax line)) h = absurd h
-    decided (Err (Limit which)) h = absurd h
-    decided (Err (Names fault)) h = absurd h
-    decided (Err (IllSorted rule)) h = absurd h
-    decided (Err (NotFirstOrder terminal)) h = absurd h
-    decided (Err (SortTooLarge rule)) h = absurd h
-    decided (Err (RuleTooLong rule)) h = absurd h
-    decided (Err Sink) h = absurd h
+    decided (Err EntryLimit) h = simplified_decided (Err EntryLimit) h
+    decided (Err PointLimit) h = simplified_decided (Err PointLimit) h
+    decided (Err FlowLimit) h = simplified_decided (Err FlowLimit) h
+    decided (Err Usage) h = simplified_decided (Err Usage) h
+    decided (Err Source) h = simplified_decided (Err Source) h
+    decided (Err FileTooLong) h = simplified_decided (Err FileTooLong) h
+    decided (Err (Syntax line)) h = simplified_decided (Err (Syntax line)) h
+    decided (Err (Limit which)) h = simplified_decided (Err (Limit which)) h
+    decided (Err (Names fault)) h = simplified_decided (Err (Names fault)) h
+    decided (Err (IllSorted rule)) h = simplified_decided (Err (IllSorted rule)) h
+    decided (Err (NotFirstOrder terminal)) h = simplified_decided (Err (NotFirstOrder terminal)) h
+    decided (Err (SortTooLarge rule)) h = simplified_decided (Err (SortTooLarge rule)) h
+    decided (Err (RuleTooLong rule)) h = simplified_decided (Err (RuleTooLong rule)) h
+    decided (Err Sink) h = simplified_decided (Err Sink) h

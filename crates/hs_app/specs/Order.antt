@@ -1,18 +1,20 @@
 -- What the words of the command line order: what to work on, and how.
 --     Job             the file of a name, or the generated file of a number
---     Order           a job with the settings of the run
+--     Order           a job with what is asked for
 --     ordered         what the words order, where they are taken
 --     bytes_of        the bytes of a job, where these were handed out
 --     IsWhole, IsPart the job's file was read up to its end, or not so far; for a generated file nothing is read
 --     OfTold          a fact about the bytes of the job's file, where they are told
-use Rattle.std.specs.Prelude.{◌≡◌, ℕ, ◌+◌, Bool, true, false, List, [], Option, Some, None, option_map, unwrap_or, codes, IfSome, IsSomeAnd}
+use Rattle.std.specs.Prelude.{◌≡◌, ℕ, ◌+◌, Bool, true, false, List, [], Option, Some, option_map, unwrap_or, codes, IfSome, IsSomeAnd}
 use Rattle.std.specs.Option.{option_map_or}
 use Rattle.std.specs.Io.KnownBytes.{prepend_known}
 use Rattle.hs_edge.specs.Count.{Rose}
 use Rattle.hs_edge.specs.Reading.{Reading}
 use Rattle.hs_gen.specs.Cycle.{cycle_file_text}
 use Rattle.hs_words.specs.Words.{OptionsData, options_of}
+use Rattle.hs_passes.specs.Passing.{Image}
 use Rattle.hs_app.specs.declared.verdict.Settings.{Settings}
+use Rattle.hs_app.specs.Problems.{Asked, asked_of}
 
 pub data Job : Type 0 where
   read_file : List ℕ → Job
@@ -20,20 +22,21 @@ pub data Job : Type 0 where
 
 pub record Order : Type 0 where
   pub job : Job
-  pub settings : Settings
+  pub asked : Asked
 
 -- without a file's name, and where none is generated, standard input is read, whose name is `-`
 abbrev pub job_of : OptionsData → Job
 job_of o = option_map_or (λ k. generate k) o.cycle (read_file (unwrap_or o.file (codes "-")))
 
 abbrev pub settings_of : OptionsData → Settings
-settings_of o = record { entries = o.entries; steps = o.steps; table = o.table; first = o.first }
+settings_of o = record { workers = o.workers; entries = o.entries; steps = o.steps; table = o.table; first = o.first; simplify = o.simplify }
 
-abbrev pub order_of : OptionsData → Order
-order_of o = record { job = job_of o; settings = settings_of o }
+-- with what each pass makes of a scheme
+abbrev pub order_of : List Image → OptionsData → Order
+order_of images o = record { job = job_of o; asked = asked_of (settings_of o) images }
 
-abbrev pub ordered : List (List ℕ) → Option Order
-ordered words = option_map order_of (options_of words)
+abbrev pub ordered : List Image → List (List ℕ) → Option Order
+ordered images words = option_map (order_of images) (options_of words)
 
 -- a source, before and after
 pub record SourceRun : Type 0 where

@@ -4,20 +4,18 @@
 --     Ends, status_at       how a run ends, with what comes with it; its exit status
 --     Due                   what has to be answered, by the order and by the bytes
 --     Rows                  all that is claimed of a run
-use Rattle.std.specs.Prelude.{◌≡◌, ◌≢◌, ℕ, ◌+◌, ◌<◌, ◌≤◌, Bool, true, false, List, [], ◌++◌, Option, Some, None, Result, Ok, Err, length, codes, ◌⊎◌, IsSome, IsSomeAnd}
+use Rattle.std.specs.Prelude.{◌≡◌, ◌≢◌, ℕ, ◌<◌, ◌≤◌, true, false, List, ◌++◌, Option, Some, None, Result, Ok, Err, length, ◌⊎◌, IsSomeAnd}
 use Rattle.hs_edge.specs.Count.{Rose}
 use Rattle.hs_edge.specs.Writing.{Writing, AddsPart}
-use Rattle.hs_app.specs.Line.{ended}
 use Rattle.hs_app.specs.Refusal.{line_of, status_of, HasFixedLine}
 use Rattle.hs_app.specs.declared.refusal.Refusal.{Refusal}
 use Rattle.hs_app.specs.declared.refusal.Refusal.TheVariants.{Usage, Source, FileTooLong, Sink, OutOfMemory}
 use Rattle.hs_app.specs.declared.top.Ending.{Ending}
 use Rattle.hs_app.specs.declared.top.Ending.TheVariants.{Reported, CutOff, Refused}
 use Rattle.hs_app.specs.declared.verdict.Decided.{Decided}
-use Rattle.hs_app.specs.declared.verdict.Settings.{Settings}
 use Rattle.hs_app.specs.declared.verdict.Verdict.{Verdict}
 use Rattle.hs_app.specs.declared.verdict.Verdict.TheVariants.{Accepted, Rejected, Long}
-use Rattle.hs_app.specs.Order.{Job, Order, SourceRun, IsUntouched, IsRead, bytes_of, IsWhole, IsPart, HasFault, OfTold}
+use Rattle.hs_app.specs.Order.{Order, SourceRun, IsUntouched, IsRead, bytes_of, IsWhole, IsPart, HasFault, OfTold}
 use Rattle.hs_app.specs.Verdict.{max_bytes, Has, Warrants, IsReadable}
 
 -- ---- the outside
@@ -51,7 +49,7 @@ pub record KeepsSource (source : SourceRun) : Type 0 where
 module _ (order : Option Order) (source : SourceRun) where
   -- the answer on the bytes of the job, which was read up to its end
   abbrev pub IsOfBytes : Result Decided Refusal → Type 0
-  IsOfBytes answer = IsSomeAnd order (λ o. Has o.settings answer (bytes_of o.job source.after.given) × IsWhole o.job source)
+  IsOfBytes answer = IsSomeAnd order (λ o. Has o.asked answer (bytes_of o.job source.after.given) × IsWhole o.job source)
 
   -- why there is no verdict: the words, a count that rose, or the bytes that were handed out
   abbrev pub HasCause : Refusal → Type 0
@@ -140,7 +138,7 @@ status_at (Refused refusal) = status_of refusal
 -- what the order and the file's bytes come to, memory and faults of reading and writing aside
 abbrev pub IsDue : Option Order → (List ℕ → Option (List ℕ)) → Result Verdict Refusal → Type 0
 IsDue order file (Err Usage) = order ≡ None
-IsDue order file answer = IsSomeAnd order (λ o. OfTold o.job file (Warrants o.settings answer))
+IsDue order file answer = IsSomeAnd order (λ o. OfTold o.job file (Warrants o.asked answer))
 
 -- the exit statuses of what is due: of a tree that is rejected 1, or 2 where the path is too long
 abbrev pub IsStatusOf : Result Verdict Refusal → ℕ → Type 0
@@ -153,7 +151,7 @@ IsStatusOf (Err refusal) status = status ≡ status_of refusal
 pub record Complies (order : Option Order) (file : List ℕ → Option (List ℕ)) (status : ℕ) : Type 0 where
   pub due : (answer : Result Verdict Refusal) → IsDue order file answer
       → IsStatusOf answer status ⊎ ((status ≡ 8) ⊎ (((status ≡ 9) × (verdict : Verdict) × (answer ≡ Ok verdict)) ⊎ (status ≡ 10)))
-  pub complete : IsSomeAnd order (λ o. OfTold o.job file IsReadable) → (status ≤ 3) ⊎ ((status ≡ 8) ⊎ ((status ≡ 9) ⊎ (status ≡ 10)))
+  pub complete : IsSomeAnd order (λ o. OfTold o.job file (IsReadable o.asked)) → (status ≤ 3) ⊎ ((status ≡ 8) ⊎ ((status ≡ 9) ⊎ (status ≡ 10)))
 
 -- ---- the run
 

@@ -1,21 +1,52 @@
 -- What is saturated for a scheme, and what its analyses may come to in place of that.
---     IsProblemOf     the scheme lengthened to its least sorting, with its points and its flow, all within their limits
+--     Asked           what is asked for beside the verdict, with what each pass makes of a scheme
+--     form_asked      what is saturated of a sorted scheme: what the passes make of it, where it is to be simplified
+--     IsSimplified    that it is this, and what it has kept
+--     IsRemoved       how much weight the passes took off, where it was simplified
+--     IsProblemOf     the scheme lengthened to its least sorting, simplified where that is asked for, with its points and its flow, all within their limits
 --     HasManyPoints   it has more than 500,000 points
 --     HasMuchFlow     it has not, but more than 4,000,000 pairs of flow
 --     IsReportedTable the list of entries that is reported where the start is rejected: the least table, or, where the first start entry
 --                     is asked for, some supported list; it has the start entry
-use Rattle.std.specs.Prelude.{◌≡◌, ◌+◌, ◌≤◌, ◌<◌, Bool, true, false, List, length}
+use Rattle.std.specs.Prelude.{◌≡◌, ℕ, ◌+◌, ◌≤◌, ◌<◌, Bool, true, false, List, length, Option, Some, None, if◌then◌else◌}
 use Rattle.hs_scheme.specs.declared.flow.Pair.{Pair}
 use Rattle.hs_scheme.specs.Points.{points_of}
 use Rattle.hs_scheme.specs.Flow.{IsSupported, IsFlow, IsFlowTable}
 use Rattle.hs_scheme.specs.Unsorted.{UnsortedData, IsUnsorted}
 use Rattle.hs_scheme.specs.Sorted.{SortedData, IsSorted}
 use Rattle.hs_scheme.specs.Problem.{ProblemData}
+use Rattle.hs_scheme.specs.SameTree.{HaveSameTree}
 use Rattle.hs_sorts.specs.Inference.{IsInferred}
+use Rattle.hs_passes.specs.Weight.{weight}
+use Rattle.hs_passes.specs.Passing.{KeepsRest, Image, composed}
 use Rattle.hs_app.specs.declared.refusal.Refusal.{Refusal}
 use Rattle.hs_app.specs.declared.refusal.Refusal.TheVariants.{PointLimit, FlowLimit, OutOfMemory}
+use Rattle.hs_app.specs.declared.verdict.Settings.{Settings}
 use Rattle.hs_table.specs.Entries.{EntryData}
 use Rattle.hs_table.specs.Tables.{IsSupportedTable, IsLeastTable, HasStart}
+
+pub record Asked : Type 0 where
+  pub settings : Settings
+  pub images : List Image
+
+abbrev pub asked_of : Settings → List Image → Asked
+asked_of settings images = record { settings = settings; images = images }
+
+abbrev pub form_asked : Asked → SortedData → SortedData
+form_asked asked s = if asked.settings.simplify then composed asked.images s else s
+
+pub record IsSimplified (asked : Asked) (s t : SortedData) : Type 0 where
+  pub made : t ≡ form_asked asked s
+  pub rest : KeepsRest s t
+  pub same_tree : HaveSameTree s.scheme.ranks s.scheme.rules t.scheme.rules
+  -- where nothing is asked for it is as it was
+  pub same : asked.settings.simplify ≡ false → t ≡ s
+
+-- the weight of the one with what was taken off is the weight of the other
+abbrev pub IsRemoved : Bool → SortedData → SortedData → Option ℕ → Type 0
+IsRemoved false s t removed = removed ≡ None
+IsRemoved true s t None = ⊥
+IsRemoved true s t (Some removed) = weight t + removed ≡ weight s
 
 -- the sorted form of a scheme
 pub record IsSortedFormOf (u : UnsortedData) (s : SortedData) : Type 0 where
@@ -23,25 +54,28 @@ pub record IsSortedFormOf (u : UnsortedData) (s : SortedData) : Type 0 where
   pub is_sorted : IsSorted s
   pub inferred : IsInferred u s
 
-pub record IsProblemOf (u : UnsortedData) (p : ProblemData) : Type 0 where
-  pub sorted : IsSortedFormOf u p.sorted
+pub record IsProblemOf (asked : Asked) (u : UnsortedData) (p : ProblemData) : Type 0 where
+  pub form : SortedData
+  pub of : IsSortedFormOf u form
+  pub made : p.sorted ≡ form_asked asked form
+  pub is_sorted : IsSorted p.sorted
   pub points : p.points ≡ points_of p.sorted.scheme.rules
   pub few_points : length p.points.points ≤ 500000
   pub flow : IsFlow p.sorted.scheme.rules p.flow.pairs p.flow.heads
   pub ascending : IsFlowTable p.flow
   pub few_pairs : length p.flow.pairs + length p.flow.heads ≤ 4000000
 
-pub record HasManyPoints (u : UnsortedData) : Type 0 where
+pub record HasManyPoints (asked : Asked) (u : UnsortedData) : Type 0 where
   pub form : SortedData
   pub of : IsSortedFormOf u form
-  pub many : 500000 < length (points_of form.scheme.rules).points
+  pub many : 500000 < length (points_of (form_asked asked form).scheme.rules).points
 
-pub record HasMuchFlow (u : UnsortedData) : Type 0 where
+pub record HasMuchFlow (asked : Asked) (u : UnsortedData) : Type 0 where
   pub form : SortedData
   pub of : IsSortedFormOf u form
-  pub few : length (points_of form.scheme.rules).points ≤ 500000
+  pub few : length (points_of (form_asked asked form).scheme.rules).points ≤ 500000
   pub order : List Pair
-  pub supported : IsSupported form.scheme.rules order
+  pub supported : IsSupported (form_asked asked form).scheme.rules order
   pub many : 4000000 < length order
 
 -- the problem of a sorted scheme, as `Problems` that are saturated are made; and why there is none

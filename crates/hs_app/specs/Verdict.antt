@@ -6,15 +6,13 @@
 --     max_bytes, Has            the most bytes of a file; the answer of a file that isn't longer
 --     Warrants                  the verdict that the bytes come to, or the reason why there is none, whatever is answered
 --     IsReadable                the bytes have a scheme with a problem
-use Rattle.std.specs.Prelude.{◌≡◌, ◌≤◌, ◌<◌, ◌⊎◌, ℕ, Bool, true, false, List, [], length, slice_get, Option, Some, None, Result, Ok, Err, if◌then◌else◌}
+use Rattle.std.specs.Prelude.{◌≡◌, ◌≤◌, ◌<◌, ◌⊎◌, ℕ, Bool, true, false, List, ◌++◌, length, slice_get, Option, Some, None, Result, Ok, Err, if◌then◌else◌}
 use Rattle.hs_scheme.specs.declared.term.Head.{Head}
-use Rattle.hs_scheme.specs.declared.term.Head.TheVariants.{Tm}
 use Rattle.hs_scheme.specs.declared.term.Rule.{Rule}
 use Rattle.hs_scheme.specs.Transition.{TransitionData}
-use Rattle.hs_scheme.specs.Automaton.{next}
-use Rattle.hs_scheme.specs.Tree.{Tree, Trees, node}
+use Rattle.hs_scheme.specs.Tree.{Tree}
 use Rattle.hs_scheme.specs.Unsorted.{UnsortedData}
-use Rattle.hs_scheme.specs.Sorted.{SortedData}
+use Rattle.hs_scheme.specs.Sorted.{SortedData, IsSorted}
 use Rattle.hs_scheme.specs.Problem.{ProblemData}
 use Rattle.hs_scheme.specs.Run.{start, Accepts}
 use Rattle.hs_scheme.specs.Steps.{Path, Reaches, HasNoTransition}
@@ -26,7 +24,11 @@ use Rattle.hs_resolve.specs.Answer.{IsFaultless, IsAnswered}
 use Rattle.hs_sorts.specs.declared.fault.SortFault.TheVariants as sorts
 use Rattle.hs_sorts.specs.Inference.{IsInferred, IsFaultOf}
 use Rattle.hs_table.specs.Entries.{EntryData}
-use Rattle.hs_table.specs.Tables.{IsSupportedTable, IsLeastTable, HasStart, Exceeds}
+use Rattle.hs_scheme.specs.SameTree.{FailsFromStart}
+use Rattle.hs_table.specs.Follows.{Support}
+use Rattle.hs_table.specs.Tables.{IsSupportedTable, IsLeastTable, HasSupports, HasStart, Exceeds}
+use Rattle.hs_naming.specs.Naming.{NamesPath}
+use Rattle.hs_checker.specs.Checked.{IsCount}
 use Rattle.hs_trace.specs.Path.{PathData}
 use Rattle.hs_trace.specs.Failing.{IsFailingPath}
 use Rattle.hs_text.specs.Report.{IsReport}
@@ -38,7 +40,7 @@ use Rattle.hs_app.specs.declared.verdict.Settings.{Settings}
 use Rattle.hs_app.specs.declared.verdict.Verdict.{Verdict}
 use Rattle.hs_app.specs.declared.verdict.Verdict.TheVariants.{Accepted, Rejected, Long}
 use Rattle.hs_app.specs.declared.verdict.Decided.{Decided}
-use Rattle.hs_app.specs.Problems.{IsSortedFormOf, IsProblemOf, IsProblemWithin, IsPastLimits, HasManyPoints, HasMuchFlow, IsReportedTable}
+use Rattle.hs_app.specs.Problems.{Asked, IsSimplified, IsRemoved, IsProblemOf, IsProblemWithin, IsPastLimits, HasManyPoints, HasMuchFlow, IsReportedTable}
 
 -- 16 MiB
 abbrev pub max_bytes : ℕ
@@ -61,41 +63,54 @@ pub record IsSound (bytes : List ℕ) (scheme : UnsortedData) : Type 0 where
 
 -- what is asked for is within its range
 pub record AreWithin (settings : Settings) : Type 0 where
+  pub least_workers : 1 ≤ settings.workers
+  pub most_workers : settings.workers ≤ 16
   pub least_entries : 1 ≤ settings.entries
   pub most_entries : settings.entries ≤ 1000000
   pub least_steps : 1 ≤ settings.steps
   pub most_steps : settings.steps ≤ 4000000
 
 -- the text is the report of the verdict, and shows the entries where they are asked for
-abbrev pub IsShown : ProblemData → Bool → shown.Verdict → List EntryData → List ℕ → Type 0
-IsShown p table verdict log text = IsReport p verdict (if table then Some log else None) None text
+abbrev pub IsShown : ProblemData → Bool → shown.Verdict → List EntryData → Option ℕ → List ℕ → Type 0
+IsShown p table verdict log removed text = IsReport p verdict (if table then Some log else None) removed text
 
--- The rules whose tree is judged, with their transitions, the problem that was saturated, and the text of the report.
-module _ (settings : Settings) (rules : List Rule) (ts : List TransitionData) (p : ProblemData) (text : List ℕ) where
+-- The rules whose tree is judged, with their transitions, the problem that was saturated, how much weight was taken off before, and the
+-- text of the report.
+module _ (settings : Settings) (rules : List Rule) (ts : List TransitionData) (p : ProblemData) (removed : Option ℕ) (text : List ℕ) where
   abbrev pub Tells : shown.Verdict → List EntryData → Type 0
-  Tells verdict log = IsShown p settings.table verdict log text
+  Tells verdict log = IsShown p settings.table verdict log removed text
 
-  -- the tree is accepted, and the least table lacks the start entry
+  -- the rules along which steps are counted: where the scheme was simplified, those that came of it
+  abbrev pub rules_walked : List Rule
+  rules_walked = if settings.simplify then p.sorted.scheme.rules else rules
+
+  -- the tree is accepted, and the least table lacks the start entry; it was checked, instance by instance
   pub record ReportsAccepted : Type 0 where
     pub accepts : Accepts rules ts
     pub table : List EntryData
     pub least : IsLeastTable p table
     pub lacks : HasStart p table → ⊥
     pub within : length table ≤ settings.entries
-    pub tells : Tells (shown_as.Accepted (length table) None) table
+    pub checked : ℕ
+    pub count : IsCount p table checked
+    pub tells : Tells (shown_as.Accepted (length table) (Some checked)) table
 
-  -- it isn't, and a path leads to a terminal without transition
+  -- it isn't, and the path that the table names leads to a terminal without transition
   pub record ReportsRejected : Type 0 where
     pub rejects : Accepts rules ts → ⊥
     pub table : List EntryData
     pub reported : IsReportedTable settings.first p table
     pub within : length table ≤ settings.entries
     pub path : PathData
-    pub fails : IsFailingPath rules ts path
+    pub fails : FailsFromStart rules ts 0 path.steps
+    pub walked : IsFailingPath rules_walked ts path
     pub few : path.used ≤ settings.steps
+    pub supports : List Support
+    pub supported : HasSupports p table supports
+    pub names : NamesPath p table supports path.used path.steps
     pub tells : Tells (shown_as.Rejected (length table) path) table
 
-  -- it isn't, and so many steps lead along a prefix, not to a terminal without transition
+  -- it isn't, and so many steps lead along a prefix, not to a terminal without transition; the path that the table names needs more
   pub record ReportsLong : Type 0 where
     pub rejects : Accepts rules ts → ⊥
     pub table : List EntryData
@@ -104,48 +119,74 @@ module _ (settings : Settings) (rules : List Rule) (ts : List TransitionData) (p
     pub prefix : Path
     pub state : ℕ
     pub term : Tree Head
-    pub reaches : Reaches rules ts settings.steps 0 start prefix state term
+    pub reaches : Reaches rules_walked ts settings.steps 0 start prefix state term
     pub goes_on : HasNoTransition ts state term → ⊥
+    pub supports : List Support
+    pub supported : HasSupports p table supports
+    pub need : ℕ
+    pub whole : Path
+    pub names : NamesPath p table supports need whole
+    pub longer : settings.steps < need
+    pub rest : Path
+    pub begins : whole ≡ prefix ++ rest
+    pub fails : FailsFromStart rules ts 0 whole
     pub tells : Tells (shown_as.Long (length table) settings.steps) table
 
-abbrev pub ReportsBy : Settings → List Rule → List TransitionData → ProblemData → Verdict → List ℕ → Type 0
-ReportsBy settings rules ts p Accepted text = ReportsAccepted settings rules ts p text
-ReportsBy settings rules ts p Rejected text = ReportsRejected settings rules ts p text
-ReportsBy settings rules ts p Long text = ReportsLong settings rules ts p text
+abbrev pub ReportsBy : Settings → List Rule → List TransitionData → ProblemData → Option ℕ → Verdict → List ℕ → Type 0
+ReportsBy settings rules ts p removed Accepted text = ReportsAccepted settings rules ts p removed text
+ReportsBy settings rules ts p removed Rejected text = ReportsRejected settings rules ts p removed text
+ReportsBy settings rules ts p removed Long text = ReportsLong settings rules ts p removed text
 
 -- the verdict is on the rules of the file, and by the problem of their scheme
-abbrev pub Reports : Settings → UnsortedData → Verdict → List ℕ → Type 0
-Reports settings u verdict text = (p : ProblemData) × (IsProblemOf u p × ReportsBy settings u.rules u.automaton.transitions p verdict text)
+pub record Reports (asked : Asked) (u : UnsortedData) (verdict : Verdict) (text : List ℕ) : Type 0 where
+  pub problem : ProblemData
+  pub of : IsProblemOf asked u problem
+  pub removed : Option ℕ
+  pub lighter : IsRemoved asked.settings.simplify of.form problem.sorted removed
+  pub reports : ReportsBy asked.settings u.rules u.automaton.transitions problem removed verdict text
 
 -- the least table has more entries than are allowed; where the first start entry is asked for, some supported list of as many lacks it
 pub record IsOver (settings : Settings) (p : ProblemData) : Type 0 where
   pub exceeds : Exceeds p settings.entries
   pub first : settings.first ≡ true → (T : List EntryData) × (IsSupportedTable p T × (length T ≡ settings.entries) × (HasStart p T → ⊥))
 
-abbrev pub IsOverBudget : Settings → UnsortedData → Type 0
-IsOverBudget settings u = (p : ProblemData) × (IsProblemOf u p × IsOver settings p)
+abbrev pub IsOverBudget : Asked → UnsortedData → Type 0
+IsOverBudget asked u = (p : ProblemData) × (IsProblemOf asked u p × IsOver asked.settings p)
 
 -- what is answered on a scheme that has its sorts
-abbrev pub Decides : Settings → UnsortedData → Result Decided Refusal → Type 0
-Decides settings u (Ok decided) = Reports settings u decided.verdict decided.report.items
-Decides settings u (Err PointLimit) = HasManyPoints u
-Decides settings u (Err FlowLimit) = HasMuchFlow u
-Decides settings u (Err EntryLimit) = IsOverBudget settings u
-Decides settings u (Err OutOfMemory) = Unit {0}
-Decides settings u (Err refusal) = ⊥
+abbrev pub Decides : Asked → UnsortedData → Result Decided Refusal → Type 0
+Decides asked u (Ok decided) = Reports asked u decided.verdict decided.report.items
+Decides asked u (Err PointLimit) = HasManyPoints asked u
+Decides asked u (Err FlowLimit) = HasMuchFlow asked u
+Decides asked u (Err EntryLimit) = IsOverBudget asked u
+Decides asked u (Err OutOfMemory) = Unit {0}
+Decides asked u (Err refusal) = ⊥
 
 -- the same of a problem that was saturated, whose rules are judged
-abbrev pub DecidesProblem : Settings → ProblemData → Result Decided Refusal → Type 0
-DecidesProblem settings p (Ok decided) = ReportsBy settings p.sorted.scheme.rules p.sorted.automaton.transitions p decided.verdict decided.report.items
-DecidesProblem settings p (Err EntryLimit) = IsOver settings p
-DecidesProblem settings p (Err OutOfMemory) = Unit {0}
-DecidesProblem settings p (Err refusal) = ⊥
+abbrev pub DecidesProblem : Settings → ProblemData → Option ℕ → Result Decided Refusal → Type 0
+DecidesProblem settings p removed (Ok decided) = ReportsBy settings p.sorted.scheme.rules p.sorted.automaton.transitions p removed decided.verdict decided.report.items
+DecidesProblem settings p removed (Err EntryLimit) = IsOver settings p
+DecidesProblem settings p removed (Err OutOfMemory) = Unit {0}
+DecidesProblem settings p removed (Err refusal) = ⊥
 
--- the same of a sorted scheme, which may pass a limit
-abbrev pub DecidesSorted : Settings → SortedData → Result Decided Refusal → Type 0
-DecidesSorted settings sorted (Ok decided) = (p : ProblemData) × (IsProblemWithin sorted p × DecidesProblem settings p (Ok decided))
-DecidesSorted settings sorted (Err EntryLimit) = (p : ProblemData) × (IsProblemWithin sorted p × DecidesProblem settings p (Err EntryLimit))
-DecidesSorted settings sorted (Err refusal) = IsPastLimits sorted refusal
+-- the same of a scheme from which so much weight was taken off, and which may pass a limit
+abbrev pub DecidesForm : Settings → SortedData → Option ℕ → Result Decided Refusal → Type 0
+DecidesForm settings form removed (Ok decided) = (p : ProblemData) × (IsProblemWithin form p × DecidesProblem settings p removed (Ok decided))
+DecidesForm settings form removed (Err EntryLimit) = (p : ProblemData) × (IsProblemWithin form p × DecidesProblem settings p removed (Err EntryLimit))
+DecidesForm settings form removed (Err refusal) = IsPastLimits form refusal
+
+-- the same of a sorted scheme, which may be simplified before
+pub record DecidesSimplified (asked : Asked) (sorted : SortedData) (answer : Result Decided Refusal) : Type 0 where
+  pub is_sorted : IsSorted sorted
+  pub form : SortedData
+  pub simplified : IsSimplified asked sorted form
+  pub removed : Option ℕ
+  pub lighter : IsRemoved asked.settings.simplify sorted form removed
+  pub decides : DecidesForm asked.settings form removed answer
+
+abbrev pub DecidesSorted : Asked → SortedData → Result Decided Refusal → Type 0
+DecidesSorted asked sorted (Err OutOfMemory) = Unit {0}
+DecidesSorted asked sorted answer = DecidesSimplified asked sorted answer
 
 -- ---- the faults of a file
 
@@ -176,80 +217,80 @@ pub record HasSortFault (bytes : List ℕ) (refusal : Refusal) : Type 0 where
   pub fault : IsSortRefusal scheme refusal
 
 -- a scheme that has its sorts comes to no verdict
-pub record HasDecision (settings : Settings) (bytes : List ℕ) (answer : Result Decided Refusal) : Type 0 where
+pub record HasDecision (asked : Asked) (bytes : List ℕ) (answer : Result Decided Refusal) : Type 0 where
   pub scheme : UnsortedData
   pub sound : IsSound bytes scheme
-  pub decides : Decides settings scheme answer
+  pub decides : Decides asked scheme answer
 
-abbrev pub Refused : Settings → List ℕ → Refusal → Type 0
-Refused settings bytes Usage = ⊥
-Refused settings bytes Source = ⊥
-Refused settings bytes FileTooLong = ⊥
-Refused settings bytes (Syntax line) = IsSyntaxFault bytes line
-Refused settings bytes (Limit which) = IsLimitFault bytes which
-Refused settings bytes (Names fault) = HasNameFault bytes fault
-Refused settings bytes (IllSorted rule) = HasSortFault bytes (IllSorted rule)
-Refused settings bytes (NotFirstOrder terminal) = HasSortFault bytes (NotFirstOrder terminal)
-Refused settings bytes (SortTooLarge rule) = HasSortFault bytes (SortTooLarge rule)
-Refused settings bytes (RuleTooLong rule) = HasSortFault bytes (RuleTooLong rule)
-Refused settings bytes PointLimit = HasDecision settings bytes (Err PointLimit)
-Refused settings bytes FlowLimit = HasDecision settings bytes (Err FlowLimit)
-Refused settings bytes EntryLimit = HasDecision settings bytes (Err EntryLimit)
-Refused settings bytes Sink = ⊥
-Refused settings bytes OutOfMemory = Unit {0}
+abbrev pub Refused : Asked → List ℕ → Refusal → Type 0
+Refused asked bytes Usage = ⊥
+Refused asked bytes Source = ⊥
+Refused asked bytes FileTooLong = ⊥
+Refused asked bytes (Syntax line) = IsSyntaxFault bytes line
+Refused asked bytes (Limit which) = IsLimitFault bytes which
+Refused asked bytes (Names fault) = HasNameFault bytes fault
+Refused asked bytes (IllSorted rule) = HasSortFault bytes (IllSorted rule)
+Refused asked bytes (NotFirstOrder terminal) = HasSortFault bytes (NotFirstOrder terminal)
+Refused asked bytes (SortTooLarge rule) = HasSortFault bytes (SortTooLarge rule)
+Refused asked bytes (RuleTooLong rule) = HasSortFault bytes (RuleTooLong rule)
+Refused asked bytes PointLimit = HasDecision asked bytes (Err PointLimit)
+Refused asked bytes FlowLimit = HasDecision asked bytes (Err FlowLimit)
+Refused asked bytes EntryLimit = HasDecision asked bytes (Err EntryLimit)
+Refused asked bytes Sink = ⊥
+Refused asked bytes OutOfMemory = Unit {0}
 
-abbrev pub Answers : Settings → List ℕ → Result Decided Refusal → Type 0
-Answers settings bytes (Ok decided) = HasDecision settings bytes (Ok decided)
-Answers settings bytes (Err refusal) = Refused settings bytes refusal
+abbrev pub Answers : Asked → List ℕ → Result Decided Refusal → Type 0
+Answers asked bytes (Ok decided) = HasDecision asked bytes (Ok decided)
+Answers asked bytes (Err refusal) = Refused asked bytes refusal
 
-abbrev pub Has : Settings → Result Decided Refusal → List ℕ → Type 0
-Has settings answer bytes = (length bytes ≤ max_bytes) × Answers settings bytes answer
+abbrev pub Has : Asked → Result Decided Refusal → List ℕ → Type 0
+Has asked answer bytes = (length bytes ≤ max_bytes) × Answers asked bytes answer
 
 -- ---- what a file comes to, whatever is answered
 
 -- the least table has at most as many entries as are allowed
-pub record IsWithinBudget (settings : Settings) (u : UnsortedData) : Type 0 where
+pub record IsWithinBudget (asked : Asked) (u : UnsortedData) : Type 0 where
   pub problem : ProblemData
-  pub of : IsProblemOf u problem
-  pub few : Exceeds problem settings.entries → ⊥
+  pub of : IsProblemOf asked u problem
+  pub few : Exceeds problem asked.settings.entries → ⊥
 
 -- it has more, and that is told: the first start entry isn't asked for, or there is none
-pub record IsBoundToExceed (settings : Settings) (u : UnsortedData) : Type 0 where
+pub record IsBoundToExceed (asked : Asked) (u : UnsortedData) : Type 0 where
   pub problem : ProblemData
-  pub of : IsProblemOf u problem
-  pub exceeds : Exceeds problem settings.entries
-  pub tells : (settings.first ≡ false) ⊎ Accepts u.rules u.automaton.transitions
+  pub of : IsProblemOf asked u problem
+  pub exceeds : Exceeds problem asked.settings.entries
+  pub tells : (asked.settings.first ≡ false) ⊎ Accepts u.rules u.automaton.transitions
 
-abbrev pub WarrantsOnScheme : Settings → UnsortedData → Result Verdict Refusal → Type 0
-WarrantsOnScheme settings u (Ok Accepted) = Accepts u.rules u.automaton.transitions × IsWithinBudget settings u
-WarrantsOnScheme settings u (Ok Rejected) = (Accepts u.rules u.automaton.transitions → ⊥) × IsWithinBudget settings u
-WarrantsOnScheme settings u (Err PointLimit) = HasManyPoints u
-WarrantsOnScheme settings u (Err FlowLimit) = HasMuchFlow u
-WarrantsOnScheme settings u (Err EntryLimit) = IsBoundToExceed settings u
-WarrantsOnScheme settings u answer = ⊥
+abbrev pub WarrantsOnScheme : Asked → UnsortedData → Result Verdict Refusal → Type 0
+WarrantsOnScheme asked u (Ok Accepted) = Accepts u.rules u.automaton.transitions × IsWithinBudget asked u
+WarrantsOnScheme asked u (Ok Rejected) = (Accepts u.rules u.automaton.transitions → ⊥) × IsWithinBudget asked u
+WarrantsOnScheme asked u (Err PointLimit) = HasManyPoints asked u
+WarrantsOnScheme asked u (Err FlowLimit) = HasMuchFlow asked u
+WarrantsOnScheme asked u (Err EntryLimit) = IsBoundToExceed asked u
+WarrantsOnScheme asked u answer = ⊥
 
-pub record HasWarrant (settings : Settings) (bytes : List ℕ) (answer : Result Verdict Refusal) : Type 0 where
+pub record HasWarrant (asked : Asked) (bytes : List ℕ) (answer : Result Verdict Refusal) : Type 0 where
   pub scheme : UnsortedData
   pub sound : IsSound bytes scheme
-  pub warrants : WarrantsOnScheme settings scheme answer
+  pub warrants : WarrantsOnScheme asked scheme answer
 
 -- the verdict of a file, or its refusal
-abbrev pub Warrants : Settings → Result Verdict Refusal → List ℕ → Type 0
-Warrants settings (Err Usage) bytes = ⊥
-Warrants settings (Err Source) bytes = ⊥
-Warrants settings (Err Sink) bytes = ⊥
-Warrants settings (Err OutOfMemory) bytes = ⊥
-Warrants settings (Err FileTooLong) bytes = max_bytes < length bytes
-Warrants settings (Err PointLimit) bytes = (length bytes ≤ max_bytes) × HasWarrant settings bytes (Err PointLimit)
-Warrants settings (Err FlowLimit) bytes = (length bytes ≤ max_bytes) × HasWarrant settings bytes (Err FlowLimit)
-Warrants settings (Err EntryLimit) bytes = (length bytes ≤ max_bytes) × HasWarrant settings bytes (Err EntryLimit)
-Warrants settings (Err refusal) bytes = (length bytes ≤ max_bytes) × Refused settings bytes refusal
-Warrants settings (Ok verdict) bytes = (length bytes ≤ max_bytes) × HasWarrant settings bytes (Ok verdict)
+abbrev pub Warrants : Asked → Result Verdict Refusal → List ℕ → Type 0
+Warrants asked (Err Usage) bytes = ⊥
+Warrants asked (Err Source) bytes = ⊥
+Warrants asked (Err Sink) bytes = ⊥
+Warrants asked (Err OutOfMemory) bytes = ⊥
+Warrants asked (Err FileTooLong) bytes = max_bytes < length bytes
+Warrants asked (Err PointLimit) bytes = (length bytes ≤ max_bytes) × HasWarrant asked bytes (Err PointLimit)
+Warrants asked (Err FlowLimit) bytes = (length bytes ≤ max_bytes) × HasWarrant asked bytes (Err FlowLimit)
+Warrants asked (Err EntryLimit) bytes = (length bytes ≤ max_bytes) × HasWarrant asked bytes (Err EntryLimit)
+Warrants asked (Err refusal) bytes = (length bytes ≤ max_bytes) × Refused asked bytes refusal
+Warrants asked (Ok verdict) bytes = (length bytes ≤ max_bytes) × HasWarrant asked bytes (Ok verdict)
 
 -- a file within the size, without faults, whose scheme has a problem within the limits
-pub record IsReadable (bytes : List ℕ) : Type 0 where
+pub record IsReadable (asked : Asked) (bytes : List ℕ) : Type 0 where
   pub within : length bytes ≤ max_bytes
   pub scheme : UnsortedData
   pub sound : IsSound bytes scheme
   pub problem : ProblemData
-  pub of : IsProblemOf scheme problem
+  pub of : IsProblemOf asked scheme problem

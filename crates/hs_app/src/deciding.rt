@@ -1,66 +1,130 @@
 //! The verdict on a problem, with its report.
 
-ghost use Rattle.std.specs.Prelude.{◌≡◌, ◌↔◌, IfOk};
+ghost use Rattle.std.specs.Prelude.{◌≡◌, ◌↔◌, ℕ, Option, IfOk};
 ghost use Rattle.hs_scheme.specs.Run.{Accepts};
-ghost use Rattle.hs_table.specs.Tables.{IsLeastTable, HasStart};
+ghost use Rattle.hs_table.specs.Tables.{IsLeastTable, IsClosedTable, HasStart};
 ghost use Rattle.hs_verdict.specs.Premises.{HasClosedFlow, IsSortedProblem};
 ghost use Rattle.hs_core.specs.Core.{log_of};
 ghost use Rattle.hs_core.specs.Answers.{IsLeastAnswer, IsOverAnswer, IsFirstAnswer};
-ghost use Rattle.hs_core.specs.Saturation.{IsAlone, IsDone, IsVerdict};
+ghost use Rattle.hs_core.specs.Saturation.{IsVerdict};
+ghost use Rattle.hs_workers.specs.Answers.{IsShared, IsSharedDone};
+ghost use Rattle.hs_checker.specs.Checked.{IsCount};
 ghost use Rattle.hs_app.specs.Problems.{IsReportedTable};
 ghost use Rattle.hs_app.specs.Verdict.{IsShown, DecidesProblem, AreWithin};
 
 use crate::problem::know;
 use crate::refusal::Refusal;
 use crate::verdict::{Decided, Settings, Verdict};
-use hs_core::{Core, Done, saturate_alone};
+use hs_checker::{CheckFault, check};
+use hs_core::{Core, Done};
 use hs_flow::Dependents;
+use hs_naming::namings_end_and_fail;
 use hs_path::{Walk, walk};
 use hs_scheme::{OutOfMemory, Problem};
+use hs_table::Entry;
 use hs_text::{Verdict as Told, report};
+use hs_workers::{Gate, saturate};
 use std::alloc::Global;
 use std::mem::forget;
+use std::sync::Wait;
+use std::thread::Threads;
+
+/// The report of a verdict, with these entries where the table is asked for.
+fn report_with(
+    alloc: Global,
+    problem: &Problem,
+    core: &Core,
+    entries: &[Entry],
+    settings: Settings,
+    verdict: &Told,
+    removed: Option<u64>,
+) -> Result<Vec<u8>, OutOfMemory>
+    requires problem { problem.now ≡ core.now.base.problem }
+    requires entries { entries.now ≡ log_of core.now }
+    ensures { IfOk result (λ text. IsShown problem.now settings.table verdict.now (log_of core.now) removed text.items) }
+{
+    if !settings.table {
+        return report(alloc, problem, verdict, None, removed);
+    }
+    core.is_core();
+    know(problem);
+    report(alloc, problem, verdict, Some(entries), removed)
+}
 
 /// The report of a verdict, with the core's entries where the table is asked for.
 fn report_of(
     alloc: Global,
     problem: &Problem,
     core: &Core,
-    table: bool,
+    settings: Settings,
     verdict: &Told,
+    removed: Option<u64>,
 ) -> Result<Vec<u8>, OutOfMemory>
     requires problem { problem.now ≡ core.now.base.problem }
-    ensures { IfOk result (λ text. IsShown problem.now table verdict.now (log_of core.now) text.items) }
+    ensures { IfOk result (λ text. IsShown problem.now settings.table verdict.now (log_of core.now) removed text.items) }
 {
-    if !table {
-        return report(alloc, problem, verdict, None, None);
+    if !settings.table {
+        return report(alloc, problem, verdict, None, removed);
     }
-    core.is_core();
-    know(problem);
     let entries = core.table(alloc)?;
-    report(alloc, problem, verdict, Some(entries.as_slice()), None)
+    report_with(
+        alloc,
+        problem,
+        core,
+        entries.as_slice(),
+        settings,
+        verdict,
+        removed,
+    )
 }
 
-/// The verdict where the least table lacks the start entry.
+/// The number of instances of a closed table that lacks the start entry. The check finds no fault in
+/// it.
+fn instances_of(alloc: Global, problem: &Problem, table: &[Entry]) -> Result<u64, OutOfMemory>
+    requires flow { HasClosedFlow problem.now }
+    requires closed { IsClosedTable problem.now table.now }
+    requires lacks { HasStart problem.now table.now → ⊥ }
+    ensures { IfOk result (IsCount problem.now table.now) }
+{
+    match check(alloc, problem, table) {
+        Ok(count) => Ok(count),
+        Err(CheckFault::OutOfMemory) => Err(OutOfMemory),
+        Err(_) => unreachable!(),
+    }
+}
+
+/// The verdict where the least table lacks the start entry. The table is checked before it is told.
 fn accepted(
     alloc: Global,
     problem: &Problem,
     core: &Core,
     settings: Settings,
+    removed: Option<u64>,
 ) -> Result<Decided, OutOfMemory>
+    requires flow { HasClosedFlow problem.now }
     requires problem { problem.now ≡ core.now.base.problem }
     requires budget { core.now.base.budget ≡ settings.entries }
     requires least { IsLeastTable problem.now (log_of core.now) }
     requires lacks { HasStart problem.now (log_of core.now) → ⊥ }
     requires accepts { Accepts problem.now.sorted.scheme.rules problem.now.sorted.automaton.transitions }
-    ensures { IfOk result (λ decided. DecidesProblem settings problem.now (Ok decided)) }
+    ensures { IfOk result (λ decided. DecidesProblem settings problem.now removed (Ok decided)) }
 {
     core.is_core();
+    let table = core.table(alloc)?;
+    let checked = instances_of(alloc, problem, table.as_slice())?;
     let verdict = Told::Accepted {
         entries: core.len(),
-        checked: None,
+        checked: Some(checked),
     };
-    let report = report_of(alloc, problem, core, settings.table, &verdict)?;
+    let report = report_with(
+        alloc,
+        problem,
+        core,
+        table.as_slice(),
+        settings,
+        &verdict,
+        removed,
+    )?;
     Ok(Decided {
         verdict: Verdict::Accepted,
         report,
@@ -74,6 +138,7 @@ fn rejected(
     problem: &Problem,
     core: &Core,
     settings: Settings,
+    removed: Option<u64>,
 ) -> Result<Decided, OutOfMemory>
     requires problem { problem.now ≡ core.now.base.problem }
     requires budget { core.now.base.budget ≡ settings.entries }
@@ -81,14 +146,16 @@ fn rejected(
     requires reported { IsReportedTable settings.first problem.now (log_of core.now) }
     requires start { HasStart problem.now (log_of core.now) }
     requires rejects { Accepts problem.now.sorted.scheme.rules problem.now.sorted.automaton.transitions → ⊥ }
-    ensures { IfOk result (λ decided. DecidesProblem settings problem.now (Ok decided)) }
+    ensures { IfOk result (λ decided. DecidesProblem settings problem.now removed (Ok decided)) }
 {
     core.is_core();
+    know(problem);
+    namings_end_and_fail();
     let entries = core.len();
     match walk(alloc, problem, core, settings.steps)? {
         Walk::Found(path) => {
             let verdict = Told::Rejected { entries, path };
-            let report = report_of(alloc, problem, core, settings.table, &verdict)?;
+            let report = report_of(alloc, problem, core, settings, &verdict, removed)?;
             Ok(Decided {
                 verdict: Verdict::Rejected,
                 report,
@@ -99,7 +166,7 @@ fn rejected(
                 entries,
                 steps: settings.steps,
             };
-            let report = report_of(alloc, problem, core, settings.table, &verdict)?;
+            let report = report_of(alloc, problem, core, settings, &verdict, removed)?;
             Ok(Decided {
                 verdict: Verdict::Long,
                 report,
@@ -111,9 +178,9 @@ fn rejected(
 /// That the least table has more entries than are allowed.
 fn over(problem: &Problem, core: &Core, settings: Settings) -> Refusal
     requires sorted { IsSortedProblem problem.now }
-    requires alone { IsAlone (record { problem = problem.now; budget = settings.entries; first = settings.first }) core.now }
+    requires shared { IsShared (record { problem = problem.now; budget = settings.entries; first = settings.first }) settings.workers core.now }
     requires answer { IsOverAnswer core.now }
-    ensures { DecidesProblem settings problem.now (Err result) }
+    ensures { (removed : Option ℕ) → DecidesProblem settings problem.now removed (Err result) }
 {
     core.is_core();
     Refusal::EntryLimit
@@ -125,15 +192,16 @@ fn first(
     problem: &Problem,
     core: &Core,
     settings: Settings,
+    removed: Option<u64>,
 ) -> Result<Decided, OutOfMemory>
     requires settings { AreWithin settings }
     requires sorted { IsSortedProblem problem.now }
-    requires alone { IsAlone (record { problem = problem.now; budget = settings.entries; first = settings.first }) core.now }
+    requires shared { IsShared (record { problem = problem.now; budget = settings.entries; first = settings.first }) settings.workers core.now }
     requires answer { IsFirstAnswer core.now }
-    ensures { IfOk result (λ decided. DecidesProblem settings problem.now (Ok decided)) }
+    ensures { IfOk result (λ decided. DecidesProblem settings problem.now removed (Ok decided)) }
 {
     core.is_core();
-    rejected(alloc, problem, core, settings)
+    rejected(alloc, problem, core, settings, removed)
 }
 
 /// The verdict of the least table.
@@ -142,18 +210,20 @@ fn least(
     problem: &Problem,
     core: &Core,
     settings: Settings,
+    removed: Option<u64>,
 ) -> Result<Decided, OutOfMemory>
+    requires flow { HasClosedFlow problem.now }
     requires settings { AreWithin settings }
     requires sorted { IsSortedProblem problem.now }
-    requires alone { IsAlone (record { problem = problem.now; budget = settings.entries; first = settings.first }) core.now }
+    requires shared { IsShared (record { problem = problem.now; budget = settings.entries; first = settings.first }) settings.workers core.now }
     requires answer { IsLeastAnswer core.now }
     requires verdict { Accepts problem.now.sorted.scheme.rules problem.now.sorted.automaton.transitions ↔ (HasStart problem.now (log_of core.now) → ⊥) }
-    ensures { IfOk result (λ decided. DecidesProblem settings problem.now (Ok decided)) }
+    ensures { IfOk result (λ decided. DecidesProblem settings problem.now removed (Ok decided)) }
 {
     core.is_core();
     match core.start() {
-        Some(_place) => rejected(alloc, problem, core, settings),
-        None => accepted(alloc, problem, core, settings),
+        Some(_place) => rejected(alloc, problem, core, settings, removed),
+        None => accepted(alloc, problem, core, settings, removed),
     }
 }
 
@@ -163,40 +233,48 @@ fn of_done(
     problem: &Problem,
     done: &Done,
     settings: Settings,
+    removed: Option<u64>,
 ) -> Result<Decided, Refusal>
+    requires flow { HasClosedFlow problem.now }
     requires settings { AreWithin settings }
     requires sorted { IsSortedProblem problem.now }
-    requires done { IsDone (record { problem = problem.now; budget = settings.entries; first = settings.first }) done.now }
+    requires done { IsSharedDone (record { problem = problem.now; budget = settings.entries; first = settings.first }) settings.workers done.now }
     requires verdict { IsVerdict problem.now done.now }
-    ensures { DecidesProblem settings problem.now result }
+    ensures { DecidesProblem settings problem.now removed result }
 {
     match done {
         Done::Over(core) => Err(over(problem, core, settings)),
-        Done::First(core) => Ok(first(alloc, problem, core, settings)?),
-        Done::Least(core) => Ok(least(alloc, problem, core, settings)?),
+        Done::First(core) => Ok(first(alloc, problem, core, settings, removed)?),
+        Done::Least(core) => Ok(least(alloc, problem, core, settings, removed)?),
     }
 }
 
 /// The verdict on a problem, or that its least table has more entries than are allowed.
-pub(crate) fn decide_problem(
+pub(crate) fn decide_problem<R: Threads + Wait + Sync, G: Gate + Sync>(
+    rt: &R,
     alloc: Global,
     problem: &Problem,
+    removed: Option<u64>,
     settings: Settings,
+    gate: &G,
 ) -> Result<Decided, Refusal>
     requires settings { AreWithin settings }
     requires flow { HasClosedFlow problem.now }
-    ensures { DecidesProblem settings problem.now result }
+    ensures { DecidesProblem settings problem.now removed result }
 {
     know(problem);
     let dependents = Dependents::of(alloc, problem)?;
-    let done = saturate_alone(
+    let done = saturate(
+        rt,
         alloc,
         problem,
         &dependents,
+        settings.workers,
         settings.entries,
         settings.first,
+        gate,
     )?;
-    let decided = of_done(alloc, problem, &done, settings);
+    let decided = of_done(alloc, problem, &done, settings, removed);
     // A run ends here. To give back a million entries one by one would take longer than the system does.
     forget(done);
     decided

@@ -1,8 +1,9 @@
 //! The top call.
 
-ghost use Rattle.std.specs.Prelude.{◌≡◌, ◌≢◌, ◌≤◌, ◌<◌, None, Some, MatchResult};
+ghost use Rattle.std.specs.Prelude.{◌≡◌, ◌≢◌, ◌≤◌, ◌<◌, ◌^◌, map, None, Some, All, MatchResult};
 ghost use Rattle.hs_words.specs.Words.{texts, said_by};
 ghost use Rattle.hs_app.specs.Order.{read_file, ordered, settings_of, source_run};
+ghost use Rattle.hs_app.specs.Problems.{asked_of};
 ghost use Rattle.hs_app.specs.Outcome.{sink_run};
 ghost use Rattle.hs_app.specs.Outcome as outcome;
 ghost use Rattle.hs_app.specs.Verdict.{AreWithin, Has};
@@ -13,9 +14,13 @@ use crate::refusal::{Refusal, line, status};
 use crate::verdict::{Decided, Settings, Verdict, decide};
 use hs_edge::{ReadAll, Sink, Source, read_all, write_all};
 use hs_gen::cycle_file;
+use hs_passes::Pass;
 use hs_reader::MAX_BYTES;
 use hs_words::{Options, WordsFault, read_words};
+use hs_workers::Gate;
 use std::alloc::Global;
+use std::sync::Wait;
+use std::thread::Threads;
 
 /// The name under which standard input is read.
 const STANDARD_INPUT: &str = "-";
@@ -40,32 +45,44 @@ fn read<S: Source>(alloc: Global, name: &str, source: &mut S) -> Result<Vec<u8>,
 }
 
 /// Reads the file of this name, and gives the verdict on it.
-fn verdict_on<S: Source>(
+fn verdict_on<R: Threads + Wait + Sync, S: Source, G: Gate + Sync>(
+    rt: &R,
     alloc: Global,
     name: &str,
     settings: Settings,
     source: &mut S,
+    passes: &mut Vec<Box<dyn Pass>>,
+    gate: &G,
 ) -> Result<Decided, Refusal>
-    requires { AreWithin settings }
-    ensures answer { outcome.IsAnswer (Some (record { job = read_file name.now; settings = settings })) (source_run S.file S.left S.reading S.faults source.old source.new) result }
+    requires settings { AreWithin settings }
+    requires tallies { All (λ p. taken p ≡ 0) passes.old.items }
+    ensures answer { outcome.IsAnswer (Some (record { job = read_file name.now; asked = asked_of settings (map (λ p. image p) passes.old.items) })) (source_run S.file S.left S.reading S.faults source.old source.new) result }
     ensures calm { result ≢ Err Refusal.Source → outcome.IsCalm (source_run S.file S.left S.reading S.faults source.old source.new) }
     ensures keeps { outcome.KeepsSource (source_run S.file S.left S.reading S.faults source.old source.new) }
 {
     match read(alloc, name, source) {
-        Ok(bytes) => decide(alloc, bytes.as_slice(), settings),
+        Ok(bytes) => decide(rt, alloc, bytes.as_slice(), settings, passes, gate),
         Err(refusal) => Err(refusal),
     }
 }
 
 /// The verdict on the generated file of this number.
-fn verdict_on_cycle(alloc: Global, k: u32, settings: Settings) -> Result<Decided, Refusal>
+fn verdict_on_cycle<R: Threads + Wait + Sync, G: Gate + Sync>(
+    rt: &R,
+    alloc: Global,
+    k: u32,
+    settings: Settings,
+    passes: &mut Vec<Box<dyn Pass>>,
+    gate: &G,
+) -> Result<Decided, Refusal>
     requires least { 1 ≤ k }
     requires most { k ≤ 300 }
     requires settings { AreWithin settings }
-    ensures { Has settings result (cycle_file_text k) }
+    requires tallies { All (λ p. taken p ≡ 0) passes.old.items }
+    ensures { Has (asked_of settings (map (λ p. image p) passes.old.items)) result (cycle_file_text k) }
 {
     match cycle_file(alloc, k) {
-        Ok(bytes) => decide(alloc, bytes.as_slice(), settings),
+        Ok(bytes) => decide(rt, alloc, bytes.as_slice(), settings, passes, gate),
         Err(_) => Err(Refusal::OutOfMemory),
     }
 }
@@ -75,19 +92,29 @@ fn settings_of(options: &Options) -> Settings
     ensures { result ≡ settings_of (said_by options.now) }
 {
     Settings {
+        workers: options.workers,
         entries: options.entries,
         steps: options.steps,
         table: options.table,
         first: options.first,
+        simplify: options.simplify,
     }
 }
 
 /// The verdict on what the words name: the file of a name, or the generated file of a number.
-fn answer<S: Source>(alloc: Global, words: &[&str], source: &mut S) -> Result<Decided, Refusal>
-    ensures answer { outcome.IsAnswer (ordered (texts words.now)) (source_run S.file S.left S.reading S.faults source.old source.new) result }
+fn answer<R: Threads + Wait + Sync, S: Source, G: Gate + Sync>(
+    rt: &R,
+    alloc: Global,
+    words: &[&str],
+    source: &mut S,
+    passes: &mut Vec<Box<dyn Pass>>,
+    gate: &G,
+) -> Result<Decided, Refusal>
+    requires { All (λ p. taken p ≡ 0) passes.old.items }
+    ensures answer { outcome.IsAnswer (ordered (map (λ p. image p) passes.old.items) (texts words.now)) (source_run S.file S.left S.reading S.faults source.old source.new) result }
     ensures calm { result ≢ Err Refusal.Source → outcome.IsCalm (source_run S.file S.left S.reading S.faults source.old source.new) }
     ensures keeps { outcome.KeepsSource (source_run S.file S.left S.reading S.faults source.old source.new) }
-    ensures untouched { ordered (texts words.now) ≡ None → source.new ≡ source.old }
+    ensures untouched { ordered (map (λ p. image p) passes.old.items) (texts words.now) ≡ None → source.new ≡ source.old }
 {
     let options = match read_words(alloc, words) {
         Ok(options) => options,
@@ -96,12 +123,15 @@ fn answer<S: Source>(alloc: Global, words: &[&str], source: &mut S) -> Result<De
     };
     let settings = settings_of(&options);
     match options.cycle {
-        Some(k) => verdict_on_cycle(alloc, k, settings),
+        Some(k) => verdict_on_cycle(rt, alloc, k, settings, passes, gate),
         None => verdict_on(
+            rt,
             alloc,
             options.file.unwrap_or(STANDARD_INPUT),
             settings,
             source,
+            passes,
+            gate,
         ),
     }
 }
@@ -144,21 +174,25 @@ pub(crate) enum Ending {
 }
 
 /// The run, up to its exit status.
-fn end<S: Source, O: Sink, E: Sink>(
+fn end<R: Threads + Wait + Sync, S: Source, O: Sink, E: Sink, G: Gate + Sync>(
+    rt: &R,
     alloc: Global,
     words: &[&str],
     source: &mut S,
     out: &mut O,
     err: &mut E,
+    passes: &mut Vec<Box<dyn Pass>>,
+    gate: &G,
 ) -> Ending
-    ensures ends { outcome.Ends (ordered (texts words.now)) (source_run S.file S.left S.reading S.faults source.old source.new)
+    requires { All (λ p. taken p ≡ 0) passes.old.items }
+    ensures ends { outcome.Ends (ordered (map (λ p. image p) passes.old.items) (texts words.now)) (source_run S.file S.left S.reading S.faults source.old source.new)
         (sink_run O.writing O.faults out.old out.new) (sink_run E.writing E.faults err.old err.new) result }
     ensures calm { result ≢ Ending.Refused Refusal.Source → outcome.IsCalm (source_run S.file S.left S.reading S.faults source.old source.new) }
     ensures keeps { outcome.Keeps (source_run S.file S.left S.reading S.faults source.old source.new)
         (sink_run O.writing O.faults out.old out.new) (sink_run E.writing E.faults err.old err.new) }
-    ensures untouched { ordered (texts words.now) ≡ None → source.new ≡ source.old }
+    ensures untouched { ordered (map (λ p. image p) passes.old.items) (texts words.now) ≡ None → source.new ≡ source.old }
 {
-    match answer(alloc, words, source) {
+    match answer(rt, alloc, words, source, passes, gate) {
         Ok(decided) => match write_all(out, decided.report.as_slice()) {
             Ok(()) => Ending::Reported(decided),
             Err(_) => {
@@ -198,27 +232,32 @@ fn exit_status(ending: &Ending) -> u8
 /// `words` has the program's name first, which isn't looked at. The others are read as `hs_words`
 /// says: the name of a file, or `--gen K` for the generated file of that number, or neither, and then
 /// the source is started with the name `-`; `--entries N` and `--steps N` bound the table and the
-/// path, `--table` shows the table, and with `--first` the first start entry is enough. The source is
+/// path, `--table` shows the table, and with `--first` the first start entry is enough; `--workers N`
+/// threads fill the table, and `--simplify` makes the scheme smaller before. The source is
 /// started once at most, and nothing is read behind its end. The report is formed before the first
 /// write. A fault of `err` changes no status.
 ///
 /// Reading takes time and memory in proportion to the file. What saturation takes isn't bounded by
 /// the file: a table has at most `--entries` entries, and a path is followed for at most `--steps`
-/// steps. Nothing runs in threads yet, so `rt` isn't used.
-pub fn run<R, S: Source, O: Sink, E: Sink>(
-    _rt: &R,
+/// steps. Each of the workers passes `gate` before it does a work; with `Open` nobody waits there. The
+/// passes are applied in their order with `--simplify`, and dropped at the end in any case.
+pub fn run<R: Threads + Wait + Sync, S: Source, O: Sink, E: Sink, G: Gate + Sync>(
+    rt: &R,
     alloc: Global,
     words: &[&str],
     source: &mut S,
     out: &mut O,
     err: &mut E,
+    gate: &G,
+    mut passes: Vec<Box<dyn Pass>>,
 ) -> u8
-    ensures rows { outcome.Rows (ordered (texts words.now)) (source_run S.file S.left S.reading S.faults source.old source.new)
+    requires { All (λ p. taken p ≡ 0) passes.items }
+    ensures rows { outcome.Rows (ordered (map (λ p. image p) passes.items) (texts words.now)) (source_run S.file S.left S.reading S.faults source.old source.new)
         (sink_run O.writing O.faults out.old out.new) (sink_run E.writing E.faults err.old err.new) result }
     ensures keeps { outcome.Keeps (source_run S.file S.left S.reading S.faults source.old source.new)
         (sink_run O.writing O.faults out.old out.new) (sink_run E.writing E.faults err.old err.new) }
     // Where the words are refused, nothing is started or read.
-    ensures untouched { ordered (texts words.now) ≡ None → source.new ≡ source.old }
+    ensures untouched { ordered (map (λ p. image p) passes.items) (texts words.now) ≡ None → source.new ≡ source.old }
 {
-    exit_status(&end(alloc, words, source, out, err))
+    exit_status(&end(rt, alloc, words, source, out, err, &mut passes, gate))
 }

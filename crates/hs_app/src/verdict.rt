@@ -1,24 +1,32 @@
 //! From the bytes of a file to the verdict.
 
-ghost use Rattle.std.specs.Prelude.{◌≡◌, ◌≤◌, ◌<◌, length, slice_get, Some, IfOk};
+ghost use Rattle.std.specs.Prelude.{◌≡◌, ◌≤◌, ◌<◌, ◌^◌, true, length, map, slice_get, Some, All, IfOk};
 ghost use Rattle.hs_resolve.specs.Answer.{IsFaultless};
 ghost use Rattle.hs_resolve.specs.Numbering.{unsorted_of};
+ghost use Rattle.hs_scheme.specs.Sorted.{IsSorted};
 ghost use Rattle.hs_scheme.specs.Unsorted.{IsUnsorted};
 ghost use Rattle.hs_sorts.specs.Inference.{IsFaultOf};
-ghost use Rattle.hs_app.specs.Verdict.{AreWithin, DecidesSorted, Answers, IsSortRefusal};
+ghost use Rattle.hs_app.specs.Problems.{asked_of};
+ghost use Rattle.hs_app.specs.Verdict.{AreWithin, DecidesForm, DecidesSorted, Answers, IsSortRefusal};
 
 use crate::deciding::decide_problem;
 use crate::problem::problem_of;
 use crate::refusal::Refusal;
+use hs_passes::{Pass, simplify, weight_of};
 use hs_reader::{MAX_BYTES, RawFile, read_file};
 use hs_resolve::resolve;
 use hs_scheme::{Name, OutOfMemory, Sorted, Unsorted};
 use hs_sorts::{SortFault, infer};
+use hs_workers::Gate;
 use std::alloc::Global;
+use std::sync::Wait;
+use std::thread::Threads;
 
 /// What is asked for beside the verdict.
 #[derive(Clone, Copy, Debug)]
 pub(crate) struct Settings {
+    /// How many workers share the table, 1 to 16.
+    pub(crate) workers: u32,
     /// The most entries of the table, 1 to 1,000,000.
     pub(crate) entries: u32,
     /// The most steps along a path, 1 to 4,000,000.
@@ -27,6 +35,8 @@ pub(crate) struct Settings {
     pub(crate) table: bool,
     /// Whether the first start entry is enough.
     pub(crate) first: bool,
+    /// Whether the passes make the scheme smaller before it is decided.
+    pub(crate) simplify: bool,
 }
 
 /// What the automaton makes of the value tree.
@@ -85,26 +95,90 @@ fn know_unsorted(unsorted: &Unsorted)
     let _ = &unsorted.rules;
 }
 
-/// The verdict on a scheme with its sorts, or which limit it passes.
-fn decide_scheme(alloc: Global, sorted: Sorted, settings: Settings) -> Result<Decided, Refusal>
-    requires settings { AreWithin settings }
-    ensures { DecidesSorted settings sorted result }
+/// What holds of each scheme with its sorts.
+fn know_sorted(sorted: &Sorted)
+    ensures { IsSorted sorted.now }
 {
-    let problem = problem_of(alloc, sorted)?;
-    decide_problem(alloc, &problem, settings)
+    let _ = &sorted.names;
+}
+
+/// The verdict on a scheme from which so much weight was taken off, or which limit it passes.
+fn decide_form<R: Threads + Wait + Sync, G: Gate + Sync>(
+    rt: &R,
+    alloc: Global,
+    form: Sorted,
+    removed: Option<u64>,
+    settings: Settings,
+    gate: &G,
+) -> Result<Decided, Refusal>
+    requires settings { AreWithin settings }
+    ensures { DecidesForm settings form removed result }
+{
+    let problem = problem_of(alloc, form)?;
+    decide_problem(rt, alloc, &problem, removed, settings, gate)
+}
+
+/// The verdict on a scheme that the passes make smaller before.
+fn decide_simplified<R: Threads + Wait + Sync, G: Gate + Sync>(
+    rt: &R,
+    alloc: Global,
+    sorted: Sorted,
+    settings: Settings,
+    passes: &mut Vec<Box<dyn Pass>>,
+    gate: &G,
+) -> Result<Decided, Refusal>
+    requires settings { AreWithin settings }
+    requires simplify { settings.simplify ≡ true }
+    requires tallies { All (λ p. taken p ≡ 0) passes.old.items }
+    ensures { DecidesSorted (asked_of settings (map (λ p. image p) passes.old.items)) sorted result }
+{
+    know_sorted(&sorted);
+    let before = weight_of(&sorted);
+    let form = simplify(alloc, passes, sorted)?;
+    let removed = before - weight_of(&form);
+    decide_form(rt, alloc, form, Some(removed), settings, gate)
+}
+
+/// The verdict on a scheme with its sorts, or which limit it passes.
+fn decide_scheme<R: Threads + Wait + Sync, G: Gate + Sync>(
+    rt: &R,
+    alloc: Global,
+    sorted: Sorted,
+    settings: Settings,
+    passes: &mut Vec<Box<dyn Pass>>,
+    gate: &G,
+) -> Result<Decided, Refusal>
+    requires settings { AreWithin settings }
+    requires tallies { All (λ p. taken p ≡ 0) passes.old.items }
+    ensures { DecidesSorted (asked_of settings (map (λ p. image p) passes.old.items)) sorted result }
+{
+    know_sorted(&sorted);
+    if settings.simplify {
+        decide_simplified(rt, alloc, sorted, settings, passes, gate)
+    } else {
+        decide_form(rt, alloc, sorted, None, settings, gate)
+    }
 }
 
 /// The verdict on the bytes of a file, or why there is none.
-pub(crate) fn decide(alloc: Global, bytes: &[u8], settings: Settings) -> Result<Decided, Refusal>
+pub(crate) fn decide<R: Threads + Wait + Sync, G: Gate + Sync>(
+    rt: &R,
+    alloc: Global,
+    bytes: &[u8],
+    settings: Settings,
+    passes: &mut Vec<Box<dyn Pass>>,
+    gate: &G,
+) -> Result<Decided, Refusal>
     requires length { length bytes.now ≤ MAX_BYTES }
     requires settings { AreWithin settings }
-    ensures { Answers settings bytes.now result }
+    requires tallies { All (λ p. taken p ≡ 0) passes.old.items }
+    ensures { Answers (asked_of settings (map (λ p. image p) passes.old.items)) bytes.now result }
 {
     let raw = read_file(alloc, bytes)?;
     let unsorted = resolve(alloc, &raw)?;
     know_unsorted(&unsorted);
     match infer(alloc, unsorted) {
-        Ok(sorted) => decide_scheme(alloc, sorted, settings),
+        Ok(sorted) => decide_scheme(rt, alloc, sorted, settings, passes, gate),
         Err(fault) => Err(sort_refusal(alloc, &raw, fault)),
     }
 }

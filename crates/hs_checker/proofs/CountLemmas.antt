@@ -12,7 +12,7 @@ use Rattle.hs_table.specs.declared.support.HeadBy.TheVariants.{Terminal, Rule, P
 use Rattle.hs_table.specs.Types.{TypeTree, arrows, type_cmp, IsSet}
 use Rattle.hs_table.specs.Entries.{Env, EntryData, InShape}
 use Rattle.hs_table.specs.Follows.{IsAt, IsHeadType, Chosen, done, next_argument, choose, Follows}
-use Rattle.hs_table.specs.Tables.{IsClosedTable, IsInstance}
+use Rattle.hs_table.specs.Tables.{IsClosedTable, IsInstance, HasStart as HasStartEntry}
 use Rattle.hs_table_laws.proofs.Places.{none_in, here, later, uncons, place_of, member_at, pairs_tail, pairs_head, within_from}
 use Rattle.hs_table_laws.proofs.Orders.{type_cmp_total}
 use Rattle.hs_table_laws.proofs.Shapes.{follows_shape}
@@ -204,3 +204,11 @@ gap_whole p E T (HeadOpen point rule given) exact automaton flow h = absurd h
 gap_whole p E T (Missing e) exact automaton flow h = (flow, missing_whole p E T exact automaton e h)
 gap_whole p E T HasStart exact automaton flow h = absurd h
 gap_whole p E T OutOfMemory exact automaton flow h = tt
+
+-- nothing is at fault over a closed flow and a closed table without the start entry
+pub no_fault : (p : ProblemData) (T : List EntryData) (fault : CheckFault) → HasClosedFlow p → IsClosedTable p T → (HasStartEntry p T → ⊥) → IsFault p T fault → fault ≡ OutOfMemory
+no_fault p T (FlowOpen rule param point) flow closed start h = absurd (h.absent (flow (OfFlow (record { rule = rule; param = param; point = point })) h.demanded))
+no_fault p T (HeadOpen point rule given) flow closed start h = absurd (h.1.absent (flow (OfHead (record { point = point; rule = rule; given = given })) h.1.demanded))
+no_fault p T (Missing e) flow closed start h = absurd (h.1.1 (closed e h.1.0))
+no_fault p T HasStart flow closed start h = absurd (start h.1.1)
+no_fault p T OutOfMemory flow closed start h = refl

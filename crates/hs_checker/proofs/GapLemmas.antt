@@ -1,8 +1,7 @@
 -- What points demand, pair by pair.
-use Rattle.std.proofs.Common.{◌≡◌, refl, sym, ◌∙◌, ap, subst, ℕ, ◌+◌, ◌-◌, ◌<◌, ◌≤◌, Bool, ◌&&◌, nat_eq, filter, take, List, [], ◌∷◌, ◌++◌, length, map, get_or, slice_get, Option, Some, None, arith, inl, inr, Contains, ◌↔◌, ◌⊎◌}
+use Rattle.std.proofs.Common.{◌≡◌, refl, sym, ◌∙◌, ap, subst, ℕ, ◌+◌, ◌<◌, ◌≤◌, Bool, ◌&&◌, nat_eq, filter, take, List, [], ◌∷◌, ◌++◌, length, map, get_or, slice_get, Some, arith, inl, inr, Contains, ◌↔◌, ◌⊎◌}
 use Rattle.std.proofs.Math.Nat.{eq-or-lt_of_le}
 use Rattle.std.specs.Ordering.{nat_cmp, ordering_index}
-use Rattle.std.specs.Option.{option_map_or}
 use Rattle.std.specs.List.Sorted.{IsNonDecreasingBy}
 use Rattle.std.specs.declared.cmp.Ordering.TheVariants.{Less, Equal}
 use Rattle.std.proofs.lemmas.Bool.Decides.{nat_tests}
@@ -11,10 +10,8 @@ use Rattle.hs_scheme.specs.declared.flow.FlowPair.{FlowPair}
 use Rattle.hs_scheme.specs.declared.flow.HeadPair.{HeadPair}
 use Rattle.hs_scheme.specs.declared.flow.Pair.{Pair}
 use Rattle.hs_scheme.specs.declared.flow.Pair.TheVariants.{OfFlow, OfHead}
-use Rattle.hs_scheme.specs.declared.term.Rule.{Rule}
-use Rattle.hs_scheme.specs.Flow.{IsAscending, head_cmp, HasParameter, pairs_of}
+use Rattle.hs_scheme.specs.Flow.{IsAscending, head_cmp, pairs_of}
 use Rattle.hs_scheme.specs.Problem.{ProblemData}
-use Rattle.hs_table.specs.Entries.{params_of}
 use Rattle.hs_table_laws.proofs.Places.{some_same, within_from}
 use Rattle.std.proofs.lemmas.Bool.{eqb-true, eq-eqb}
 use Rattle.hs_scheme.specs.declared.term.Head.TheVariants.{Var}
@@ -22,7 +19,6 @@ use Rattle.hs_scheme.specs.Flow.{IsBase}
 use Rattle.hs_scheme.proofs.FlowRowLemmas.{filter_keeps, filter_has}
 use Rattle.hs_table_plain.proofs.Members.{from_map, into_map, in_pushed, next_member}
 use Rattle.hs_table_plain.proofs.Loops.{and_true, both_true}
-use Rattle.hs_table_plain.proofs.TableLemmas.{below_or_last}
 use Rattle.hs_checker.specs.declared.flow.Base.{Base}
 use Rattle.std.proofs.lemmas.Option.{slice_get-get_or}
 use Rattle.hs_scheme.specs.declared.term.Head.{Head}

@@ -1,5 +1,5 @@
 -- Instances, and what follows by them.
-use Rattle.std.proofs.Common.{◌≡◌, refl, sym, ◌∙◌, ap, subst, ℕ, suc, ◌+◌, ◌<◌, true, false, Option, Some, None, MatchOption, List, [], ◌∷◌, length, map, take, drop, get_or, slice_get, option_map, Bor, arith, Contains, inl, inr, ◌⊎◌, ◌↔◌}
+use Rattle.std.proofs.Common.{◌≡◌, refl, sym, ◌∙◌, ap, subst, ℕ, zero, suc, ◌+◌, ◌<◌, true, false, Option, Some, None, MatchOption, List, [], ◌∷◌, ◌++◌, length, map, set, replicate, slice_index, take, drop, get_or, slice_get, option_map, Bor, arith, Contains, inl, inr, ◌↔◌}
 use Rattle.std.specs.Bool.{◌==◌}
 use Rattle.std.proofs.lemmas.Bool.{eqb-true}
 use Rattle.hs_scheme.specs.declared.term.Head.{Head}
@@ -13,8 +13,11 @@ use Rattle.hs_table.specs.Entries.{Env, EntryData, params_of}
 use Rattle.hs_table.specs.Follows.{IsHeadType, Chosen, done, next_argument, choose, Follows}
 use Rattle.hs_table.specs.Tables.{IsInstance}
 use Rattle.hs_table_laws.proofs.Places.{some_same, none_in, here, later, uncons, member_at}
-use Rattle.hs_table_plain.specs.Enumeration.{through, opening, head_types, retyped}
-use Rattle.hs_table_plain.proofs.Members.{from_flat_map, into_flat_map, from_map, next_member}
+use Rattle.std.proofs.Math.ListN.{length-set, length-replicate}
+use Rattle.std.proofs.lemmas.List.{get_or-set_same}
+use Rattle.hs_table_plain.specs.Enumeration.{through, opening, head_types, retyped, child_type}
+use Rattle.hs_checker.proofs.TypeLemmas.{pushed_is}
+use Rattle.hs_table_plain.proofs.Members.{from_flat_map, into_flat_map, from_map, next_member, in_pushed}
 use Rattle.hs_table_plain.proofs.ChoiceLemmas.{choose_all, through_arrows, split_from, at_place, from_all}
 use Rattle.hs_table_plain.proofs.HeadLemmas.{from_heads, into_heads}
 use Rattle.hs_table_plain.proofs.ConclusionLemmas.{all_at_exact}
@@ -168,34 +171,6 @@ pub fits_none : (E : List EntryData) (us : List ℕ) (ty : TypeTree) → slice_g
 fits_none E [] ty at = tt
 fits_none E (v ∷ us) ty at = absurd (cc)
 
--- those so far that fit
-pub fitting_more : (E : List EntryData) (args : List ℕ) (types found news : List TypeTree) (k : ℕ) (a : TypeTree) → k < length types → a ≡ get_or types k a → Fits E args a
-    → ((t : TypeTree) → Contains news t ↔ (Contains found t ⊎ (t ≡ a))) → ((t : TypeTree) → Contains found t ↔ (Contains (take k types) t × Fits E args t))
-    → (t : TypeTree) → Contains news t ↔ (Contains (take (k + 1) types) t × Fits E args t)
-fitting_more E args types found news k a lt read fits gains before t =
-    let member = next_member types k a t lt read in (
-      λ c. elim ((gains t).0 c) [
-        | inl old ↦ let b = (before t).0 old in (member.1 (inl b.0), b.1)
-        | inr same ↦ (member.1 (inr same), subst (λ z. Fits E args z) (sym same) fits)
-      ],
-      λ both. (gains t).1 (elim (member.0 both.0) [
-        | inl there ↦ inl ((before t).1 (there, both.1))
-        | inr same ↦ inr same
-      ]),
-    )
-
-pub fitting_same : (E : List EntryData) (args : List ℕ) (types found : List TypeTree) (k : ℕ) (a : TypeTree) → k < length types → a ≡ get_or types k a → (Fits E args a → ⊥)
-    → ((t : TypeTree) → Contains found t ↔ (Contains (take k types) t × Fits E args t))
-    → (t : TypeTree) → Contains found t ↔ (Contains (take (k + 1) types) t × Fits E args t)
-fitting_same E args types found k a lt read unfit before t =
-    let member = next_member types k a t lt read in (
-      λ c. let b = (before t).0 c in (member.1 (inl b.0), b.1),
-      λ both. elim (member.0 both.0) [
-        | inl there ↦ (before t).1 (there, both.1)
-        | inr same ↦ absurd (unfit (subst (λ z. Fits E args z) same both.1))
-      ],
-    )
-
 -- cases of a search that may find nothing
 pub match_map : {X : Type 0} (o : Option X) (P P' : Type 0) (Q Q' : X → Type 0) → (P → P') → ((x : X) → Q x → Q' x) → MatchOption o P Q → MatchOption o P' Q'
 match_map None P P' Q Q' f g h = f h
@@ -218,3 +193,49 @@ conclusion_more E point params head args types k ty lt read before own e h = eli
   | inl t ↦ before e (record { ty = h.ty; there = t; comes = h.comes })
   | inr same ↦ own e (subst (λ z. Contains (through E args z (opening point params head z ∷ [])) e) same h.comes)
 ]
+
+-- each set has entries at its argument
+pub fits_set : (E : List EntryData) (us : List ℕ) (ss : Env) (t : TypeTree) (k u : ℕ) → slice_get us k ≡ Some u → k < length ss → Fits E us (arrows ss t) → HasTypesAt E u (get_or ss k [])
+fits_set E [] ss t zero u read lt h = absurd (cc)
+fits_set E [] ss t (suc k) u read lt h = absurd (cc)
+fits_set E (v ∷ us) [] t k u read lt h = absurd (omega arith)
+fits_set E (v ∷ us) (s ∷ ss) t zero u read lt h = ((fits_arrow E (v ∷ us) u s (arrows ss t) (arrow s (arrows ss t)) read refl).1 h).0
+fits_set E (v ∷ us) (s ∷ ss) t (suc k) u read lt h = fits_set E us ss t k u read (omega arith) h.1
+
+-- so a child's type fits only where an entry at its argument has the child's state
+pub unfit_child : (E : List EntryData) (us qs : List ℕ) (q place u : ℕ) → place < length qs → slice_get us place ≡ Some u → (HasTypeAt E u (state (slice_index qs place)) → ⊥) → Fits E us (child_type qs q place) → ⊥
+unfit_child E us qs q place u lt read never h =
+    let r = state (slice_index qs place) in
+    let empty : List TypeTree = [] in
+    let sets : Env = replicate (length qs) empty in
+    let long : length sets ≡ length qs = length-replicate (length qs) empty in
+    let within : place < length sets = omega (arith, long) in
+    let has = fits_set E us (set sets place (r ∷ [])) (state q) place u read (omega (arith, length-set sets place (r ∷ []), within)) h in
+    never (subst (λ s. HasTypesAt E u s) (get_or-set_same sets place (r ∷ []) [] within) has r (here r []))
+
+-- those so far that fit, and one more
+pub fitting_pushed : (E : List EntryData) (args : List ℕ) (olds found news : List TypeTree) (a : TypeTree) → news ≡ found ++ a ∷ [] → Fits E args a → ((t : TypeTree) → Contains found t ↔ (Contains olds t × Fits E args t))
+    → (t : TypeTree) → Contains news t ↔ (Contains (olds ++ a ∷ []) t × Fits E args t)
+fitting_pushed E args olds found news a made fits before t =
+    let pushed = pushed_is found news a t made in
+    let member = in_pushed olds a t in (
+      λ c. elim (pushed.0 c) [
+        | inl old ↦ let b = (before t).0 old in (member.1 (inl b.0), b.1)
+        | inr same ↦ (member.1 (inr same), subst (λ z. Fits E args z) (sym same) fits)
+      ],
+      λ both. pushed.1 (elim (member.0 both.0) [
+        | inl there ↦ inl ((before t).1 (there, both.1))
+        | inr same ↦ inr same
+      ]),
+    )
+
+pub fitting_passed : (E : List EntryData) (args : List ℕ) (olds found : List TypeTree) (a : TypeTree) → (Fits E args a → ⊥) → ((t : TypeTree) → Contains found t ↔ (Contains olds t × Fits E args t))
+    → (t : TypeTree) → Contains found t ↔ (Contains (olds ++ a ∷ []) t × Fits E args t)
+fitting_passed E args olds found a unfit before t =
+    let member = in_pushed olds a t in (
+      λ c. let b = (before t).0 c in (member.1 (inl b.0), b.1),
+      λ both. elim (member.0 both.0) [
+        | inl there ↦ (before t).1 (there, both.1)
+        | inr same ↦ absurd (unfit (subst (λ z. Fits E args z) same both.1))
+      ],
+    )

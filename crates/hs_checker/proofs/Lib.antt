@@ -8,3 +8,4 @@ pub mod EnvLemmas
 pub mod InstanceLemmas
 pub mod ShapeLemmas
 pub mod CountLemmas
+mod Once

@@ -7,8 +7,7 @@ use Rattle.hs_scheme.specs.Points.{PointData, point_at}
 use Rattle.hs_scheme.specs.Problem.{ProblemData}
 use Rattle.hs_table.specs.Types.{TypeTree, arrow, IsSet, IsType, AreTypes}
 use Rattle.hs_table.specs.Entries.{Env, EntryData, Has, set_at, IsEnv, InShape, params_of}
-use Rattle.hs_table_laws.proofs.Places.{some_same, none_in, here, later, uncons, within_from}
-use Rattle.hs_table_laws.proofs.Sets.{no_set}
+use Rattle.hs_table_laws.proofs.Places.{some_same, none_in, uncons}
 use Rattle.hs_table_laws.proofs.Shapes.{arrow_shape}
 use Rattle.hs_table_plain.proofs.Members.{taken_next}
 use Rattle.hs_checker.specs.Shape.{AreAllTypes}

@@ -1,5 +1,5 @@
 -- The types of a head, as far as they are gathered.
-use Rattle.std.proofs.Common.{◌≡◌, refl, sym, ◌∙◌, ap, subst, ℕ, suc, ◌+◌, Bool, true, false, ◌&&◌, nat_eq, replicate, Option, Some, None, List, [], ◌∷◌, length, map, filter, arith, Contains, inl, inr, ◌⊎◌, ◌↔◌, Bor}
+use Rattle.std.proofs.Common.{◌≡◌, refl, sym, ◌∙◌, ap, subst, ℕ, suc, ◌+◌, Bool, true, ◌&&◌, nat_eq, replicate, Option, Some, None, List, [], ◌∷◌, ◌++◌, length, map, filter, arith, Contains, inl, inr, ◌⊎◌, ◌↔◌, Bor}
 use Rattle.std.specs.List.{flat_map, list_any}
 use Rattle.std.proofs.lemmas.Bool.{eqb-true, eq-eqb}
 use Rattle.std.proofs.lemmas.List.Elements.{Contains-append_left, Contains-append_right, Contains-append_cases}
@@ -10,7 +10,7 @@ use Rattle.hs_scheme.proofs.FlowRowLemmas.{filter_keeps, filter_has}
 use Rattle.hs_table.specs.Types.{TypeTree, state, arrows}
 use Rattle.hs_table.specs.Entries.{EntryData}
 use Rattle.hs_table.specs.Follows.{rank_of}
-use Rattle.hs_table_laws.proofs.Places.{none_in, here}
+use Rattle.hs_table_laws.proofs.Places.{here}
 use Rattle.hs_table_plain.specs.Enumeration.{child_type, child_types, types_in, terminal_types, is_state, body_type, is_pair, flow_type}
 use Rattle.hs_table_plain.proofs.Loops.{and_true, both_true, pair_there, pair_found}
 use Rattle.hs_table_plain.proofs.Members.{from_flat_map, into_flat_map, from_map, into_map, in_pushed, only}
@@ -101,3 +101,21 @@ pub reading_types : (p : ProblemData) (a q : ℕ) (to : List ℕ) (o : Option (L
     → (t : TypeTree) → Contains (child_types to q (length to)) t ↔ Contains (types_in p a q (next p.sorted.automaton.transitions q a)) t
 reading_types p a q to o is some_is t =
     subst (λ (o : Option (List ℕ)). Contains (child_types to q (length to)) t ↔ Contains (types_in p a q o) t) (sym some_is ∙ is) (λ c. c, λ c. c)
+
+-- one more at the end
+pub pushed_is : {X : Type 0} (olds news : List X) (x t : X) → news ≡ olds ++ x ∷ [] → Contains news t ↔ (Contains olds t ⊎ (t ≡ x))
+pushed_is olds news x t made = subst (λ ns. Contains ns t ↔ (Contains olds t ⊎ (t ≡ x))) (sym made) (in_pushed olds x t)
+
+-- the types of which one more is formed where it fits
+pub both_parts : (A B C F : Type 0) → A ↔ (B ⊎ C) → (A × F) ↔ ((B × F) ⊎ (C × F))
+both_parts A B C F h = (
+  λ x. elim (h.0 x.0) [ inl b ↦ inl (b, x.1) | inr c ↦ inr (c, x.1) ],
+  λ y. elim y [ inl b ↦ (h.1 (inl b.0), b.1) | inr c ↦ (h.1 (inr c.0), c.1) ],
+)
+
+pub same_part : (A B F : Type 0) → A ↔ B → (A × F) ↔ (B × F)
+same_part A B F h = (λ x. (h.0 x.0, x.1), λ y. (h.1 y.0, y.1))
+
+-- nothing is added where there is nothing to add
+pub or_nothing : (A B : Type 0) → (B → ⊥) → A ↔ (A ⊎ B)
+or_nothing A B never = (λ a. inl a, λ h. elim h [ inl a ↦ a | inr b ↦ absurd (never b) ])

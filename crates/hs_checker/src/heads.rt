@@ -1,6 +1,6 @@
-//! The types of a point's head.
+//! The types of nonterminals and parameters, as the entries say.
 
-ghost use Rattle.std.specs.Prelude.{◌≡◌, ◌<◌, ◌↔◌, ◌⊎◌, [], ◌∷◌, length, replicate, Contains, IfOk, OnOk, option_copied};
+ghost use Rattle.std.specs.Prelude.{◌≡◌, ◌↔◌, ◌⊎◌, [], ◌∷◌, replicate, IsTrue, Contains, IfOk, OnOk};
 ghost use Rattle.std.specs.List.{flat_map};
 ghost use Rattle.hs_scheme.specs.Points.{NonterminalWithin};
 ghost use Rattle.hs_scheme.specs.Automaton as automaton;
@@ -15,8 +15,9 @@ use crate::shape::states;
 use hs_scheme::{Head, OutOfMemory, Problem};
 use hs_table::{Entry, Shape, Ty, TypeSet};
 use std::alloc::Global;
+use std::cmp::Ordering;
 
-fn state(q: u32) -> Ty
+pub(crate) fn state(q: u32) -> Ty
     ensures { result ≡ types.state q }
 {
     Ty {
@@ -46,7 +47,7 @@ pub(crate) fn empty_sets(alloc: Global, count: usize) -> Result<Vec<TypeSet>, Ou
 }
 
 /// `s1 -> .. -> sk -> t`.
-fn arrows(alloc: Global, sets: &[TypeSet], result_type: Ty) -> Result<Ty, OutOfMemory>
+pub(crate) fn arrows(alloc: Global, sets: &[TypeSet], result_type: Ty) -> Result<Ty, OutOfMemory>
     ensures { IfOk result (λ ty. ty ≡ types.arrows sets.now result_type) }
 {
     let mut ty = result_type;
@@ -61,104 +62,35 @@ fn arrows(alloc: Global, sets: &[TypeSet], result_type: Ty) -> Result<Ty, OutOfM
     Ok(ty)
 }
 
-/// Adds an equal type to an ascending set, where it isn't there.
-pub(crate) fn add_type(alloc: Global, found: &mut Vec<Ty>, ty: &Ty) -> Result<(), OutOfMemory>
-    requires { IsSet found.old.items }
-    ensures set { OnOk result (IsSet found.new.items) }
-    ensures each { OnOk result ((t : TypeTree) → Contains found.new.items t ↔ (Contains found.old.items t ⊎ (t ≡ ty.now))) }
+/// Whether the last of the types is this one.
+fn ends_with(found: &[Ty], ty: &Ty) -> bool
+    ensures { IsTrue result → Contains found.now ty.now }
 {
-    match found
-        .as_slice()
-        .binary_search_by(|member| member.compare(ty))
-    {
-        Ok(_) => Ok(()),
-        Err(place) => {
-            found.insert(place, ty.copy(alloc)?)?;
-            Ok(())
-        }
+    match found.last() {
+        None => false,
+        Some(last) => last.compare(ty) == Ordering::Equal,
     }
 }
 
-/// The type of a terminal whose child at this place, counted from 0, is rejected.
-fn child_type(alloc: Global, to: &[u32], q: u32, place: usize) -> Result<Ty, OutOfMemory>
-    requires { place < length to.now }
-    ensures { IfOk result (λ ty. ty ≡ plain.child_type to.now q place) }
+/// Adds an equal type, where it isn't the last one already.
+fn add_type(alloc: Global, found: &mut Vec<Ty>, ty: &Ty) -> Result<(), OutOfMemory>
+    ensures { OnOk result ((t : TypeTree) → Contains found.new.items t ↔ (Contains found.old.items t ⊎ (t ≡ ty.now))) }
 {
-    let mut sets = empty_sets(alloc, to.len())?;
-    sets[place] = singleton(alloc, state(to[place]))?;
-    arrows(alloc, sets.as_slice(), state(q))
-}
-
-fn add_child_types(
-    alloc: Global,
-    to: &[u32],
-    q: u32,
-    found: &mut Vec<Ty>,
-) -> Result<(), OutOfMemory>
-    requires { IsSet found.old.items }
-    ensures set { OnOk result (IsSet found.new.items) }
-    ensures each { OnOk result ((t : TypeTree) → Contains found.new.items t ↔ (Contains found.old.items t ⊎ Contains (plain.child_types to.now q (length to.now)) t)) }
-{
-    for place in 0..to.len() {
-        let ty = child_type(alloc, to, q, place)?;
-        add_type(alloc, found, &ty)?;
+    if ends_with(found.as_slice(), ty) {
+        return Ok(());
     }
+    found.push(ty.copy(alloc)?)?;
     Ok(())
 }
 
-/// The rank of the terminal.
-fn rank(problem: &Problem, terminal: u32) -> u32
-    ensures { result ≡ rank_of problem.now terminal }
-{
-    match problem.sorted.scheme.ranks.get(terminal as usize) {
-        None => 0,
-        Some(rank) => *rank,
-    }
-}
-
-/// The states in which the children of a node with the terminal are read, if there is a transition.
-fn transition(problem: &Problem, q: u32, terminal: u32) -> Option<&[u32]>
-    ensures { option_copied result ≡ automaton.next problem.now.sorted.automaton.transitions q terminal }
-{
-    problem.sorted.automaton.next(q, terminal)
-}
-
-/// The types of the terminal in one state: without a transition the type with empty sets, with one
-/// a type for each child.
-fn add_types_in(
-    alloc: Global,
-    problem: &Problem,
-    terminal: u32,
-    q: u32,
-    found: &mut Vec<Ty>,
-) -> Result<(), OutOfMemory>
-    requires { IsSet found.old.items }
-    ensures set { OnOk result (IsSet found.new.items) }
-    ensures each { OnOk result ((t : TypeTree) → Contains found.new.items t
-        ↔ (Contains found.old.items t ⊎ Contains (plain.types_in problem.now terminal q (automaton.next problem.now.sorted.automaton.transitions q terminal)) t)) }
-{
-    match transition(problem, q, terminal) {
-        None => {
-            let sets = empty_sets(alloc, rank(problem, terminal) as usize)?;
-            let ty = arrows(alloc, sets.as_slice(), state(q))?;
-            add_type(alloc, found, &ty)?;
-            Ok(())
-        }
-        Some(to) => {
-            add_child_types(alloc, to, q, found)?;
-            Ok(())
-        }
-    }
-}
-
-fn terminal_types(alloc: Global, problem: &Problem, terminal: u32) -> Result<Vec<Ty>, OutOfMemory>
+/// The types in their order, each once.
+pub(crate) fn in_order(types: Vec<Ty>) -> Result<Vec<Ty>, OutOfMemory>
     ensures set { IfOk result (λ found. IsSet found.items) }
-    ensures each { IfOk result (λ found. (t : TypeTree) → Contains found.items t ↔ Contains (plain.terminal_types problem.now terminal problem.now.sorted.automaton.states) t) }
+    ensures each { IfOk result (λ found. (t : TypeTree) → Contains found.items t ↔ Contains types.items t) }
 {
-    let mut found = Vec::new(alloc);
-    for q in 0..states(problem) {
-        add_types_in(alloc, problem, terminal, q, &mut found)?;
-    }
+    let mut found = types;
+    found.sort_by(|a, b| a.compare(b))?;
+    found.dedup_by(|a, b| a.compare(b) == Ordering::Equal);
     Ok(found)
 }
 
@@ -169,15 +101,13 @@ fn add_body_type(
     body: u32,
     found: &mut Vec<Ty>,
 ) -> Result<(), OutOfMemory>
-    requires at { entry.now.point ≡ body }
-    requires set { IsSet found.old.items }
-    ensures set { OnOk result (IsSet found.new.items) }
-    ensures each { OnOk result ((t : TypeTree) → Contains found.new.items t ↔ (Contains found.old.items t ⊎ Contains (plain.body_type body entry.now) t)) }
+    requires { entry.now.point ≡ body }
+    ensures { OnOk result ((t : TypeTree) → Contains found.new.items t ↔ (Contains found.old.items t ⊎ Contains (plain.body_type body entry.now) t)) }
 {
     match &entry.ty.shape {
         Shape::State(q) => {
             let ty = arrows(alloc, entry.env.as_slice(), state(*q))?;
-            add_type(alloc, found, &ty)?;
+            found.push(ty)?;
             Ok(())
         }
         Shape::Arrow(_, _) => Ok(()),
@@ -185,9 +115,12 @@ fn add_body_type(
 }
 
 /// What the entries at the body say of its nonterminal, where their types are states.
-fn nonterminal_types(alloc: Global, index: &Index, body: u32) -> Result<Vec<Ty>, OutOfMemory>
-    ensures set { IfOk result (λ found. IsSet found.items) }
-    ensures each { IfOk result (λ found. (t : TypeTree) → Contains found.items t ↔ Contains (flat_map (plain.body_type body) index.now) t) }
+pub(crate) fn nonterminal_types(
+    alloc: Global,
+    index: &Index,
+    body: u32,
+) -> Result<Vec<Ty>, OutOfMemory>
+    ensures { IfOk result (λ found. (t : TypeTree) → Contains found.items t ↔ Contains (flat_map (plain.body_type body) index.now) t) }
 {
     let mut found = Vec::new(alloc);
     for entry in index.at_point(body) {
@@ -196,16 +129,15 @@ fn nonterminal_types(alloc: Global, index: &Index, body: u32) -> Result<Vec<Ty>,
     Ok(found)
 }
 
-/// Adds the types of the entries at the point.
+/// Adds the types of the entries at the point. Entries of one type stand together, so each is added
+/// once.
 fn add_types_at(
     alloc: Global,
     index: &Index,
     point: u32,
     found: &mut Vec<Ty>,
 ) -> Result<(), OutOfMemory>
-    requires { IsSet found.old.items }
-    ensures set { OnOk result (IsSet found.new.items) }
-    ensures each { OnOk result ((t : TypeTree) → Contains found.new.items t ↔ (Contains found.old.items t ⊎ HasTypeAt index.now point t)) }
+    ensures { OnOk result ((t : TypeTree) → Contains found.new.items t ↔ (Contains found.old.items t ⊎ HasTypeAt index.now point t)) }
 {
     for entry in index.at_point(point) {
         add_type(alloc, found, &entry.ty)?;
@@ -214,40 +146,18 @@ fn add_types_at(
 }
 
 /// The types of the entries at the points that may stand for the parameter.
-fn parameter_types(
+pub(crate) fn parameter_types(
     alloc: Global,
     problem: &Problem,
     index: &Index,
     rule: u32,
     parameter: u32,
 ) -> Result<Vec<Ty>, OutOfMemory>
-    ensures set { IfOk result (λ found. IsSet found.items) }
-    ensures each { IfOk result (λ found. (t : TypeTree) → Contains found.items t ↔ Contains (flat_map (plain.flow_type problem.now.flow.pairs rule parameter) index.now) t) }
+    ensures { IfOk result (λ found. (t : TypeTree) → Contains found.items t ↔ Contains (flat_map (plain.flow_type problem.now.flow.pairs rule parameter) index.now) t) }
 {
     let mut found = Vec::new(alloc);
     for pair in problem.flow.flow_of(rule, parameter) {
         add_types_at(alloc, index, pair.point, &mut found)?;
     }
     Ok(found)
-}
-
-/// The types of the head of a point in this rule, each once.
-pub(crate) fn head_types(
-    alloc: Global,
-    problem: &Problem,
-    index: &Index,
-    rule: u32,
-    head: Head,
-) -> Result<Vec<Ty>, OutOfMemory>
-    requires { NonterminalWithin (length problem.now.points.bodies) head }
-    ensures set { IfOk result (λ found. IsSet found.items) }
-    ensures each { IfOk result (λ found. (t : TypeTree) → Contains found.items t ↔ Contains (plain.head_types problem.now index.now rule head) t) }
-{
-    match head {
-        Head::Tm(terminal) => terminal_types(alloc, problem, terminal),
-        Head::Nt(nonterminal) => {
-            nonterminal_types(alloc, index, problem.points.body_of(nonterminal))
-        }
-        Head::Var(parameter) => parameter_types(alloc, problem, index, rule, parameter),
-    }
 }

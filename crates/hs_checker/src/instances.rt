@@ -7,8 +7,9 @@ ghost use Rattle.hs_table.specs.Tables.{IsInstance};
 ghost use Rattle.hs_checker.specs.Slots.{HasTypesAt, Fits, AreInShape};
 ghost use Rattle.hs_table_plain.specs.Enumeration as plain;
 
-use crate::heads::{add_type, head_types};
+use crate::heads::{in_order, nonterminal_types, parameter_types};
 use crate::index::Index;
+use crate::terminals::terminal_instances;
 use hs_scheme::{Head, OutOfMemory, Problem};
 use hs_table::{Shape, Ty};
 use std::alloc::Global;
@@ -26,7 +27,7 @@ fn have_entries(index: &Index, arg: u32, set: &[Ty]) -> bool
 }
 
 /// Whether each type of the sets has an entry at its argument. Recurses as deep as the type.
-fn fits(index: &Index, args: &[u32], ty: &Ty) -> bool
+pub(crate) fn fits(index: &Index, args: &[u32], ty: &Ty) -> bool
     ensures { IsTrue result ↔ Fits index.now args.now ty.now }
 {
     let Some(arg) = args.first() else {
@@ -41,20 +42,49 @@ fn fits(index: &Index, args: &[u32], ty: &Ty) -> bool
 }
 
 /// Those of the types whose sets have entries.
-fn fitting(alloc: Global, index: &Index, args: &[u32], types: &[Ty]) -> Result<Vec<Ty>, OutOfMemory>
-    ensures set { IfOk result (λ found. IsSet found.items) }
-    ensures each { IfOk result (λ found. (t : TypeTree) → Contains found.items t ↔ (Contains types.now t × Fits index.now args.now t)) }
+fn fitting(
+    alloc: Global,
+    index: &Index,
+    args: &[u32],
+    types: Vec<Ty>,
+) -> Result<Vec<Ty>, OutOfMemory>
+    ensures { IfOk result (λ found. (t : TypeTree) → Contains found.items t ↔ (Contains types.items t × Fits index.now args.now t)) }
 {
     let mut found = Vec::new(alloc);
     for ty in types {
-        if fits(index, args, ty) {
-            add_type(alloc, &mut found, ty)?;
+        if fits(index, args, &ty) {
+            found.push(ty)?;
         }
     }
     Ok(found)
 }
 
-/// The types of this head, in this rule, whose sets have entries at the arguments.
+/// The types of this head, in this rule, whose sets have entries at the arguments, in any order.
+fn fitting_types(
+    alloc: Global,
+    problem: &Problem,
+    index: &Index,
+    rule: u32,
+    head: Head,
+    args: &[u32],
+) -> Result<Vec<Ty>, OutOfMemory>
+    requires { NonterminalWithin (length problem.now.points.bodies) head }
+    ensures { IfOk result (λ found. (t : TypeTree) → Contains found.items t ↔ (Contains (plain.head_types problem.now index.now rule head) t × Fits index.now args.now t)) }
+{
+    match head {
+        Head::Tm(terminal) => terminal_instances(alloc, problem, index, args, terminal),
+        Head::Nt(nonterminal) => {
+            let types = nonterminal_types(alloc, index, problem.points.body_of(nonterminal))?;
+            fitting(alloc, index, args, types)
+        }
+        Head::Var(parameter) => {
+            let types = parameter_types(alloc, problem, index, rule, parameter)?;
+            fitting(alloc, index, args, types)
+        }
+    }
+}
+
+/// So in their order, each once.
 fn instances_of(
     alloc: Global,
     problem: &Problem,
@@ -67,8 +97,8 @@ fn instances_of(
     ensures set { IfOk result (λ found. IsSet found.items) }
     ensures each { IfOk result (λ found. (t : TypeTree) → Contains found.items t ↔ (Contains (plain.head_types problem.now index.now rule head) t × Fits index.now args.now t)) }
 {
-    let types = head_types(alloc, problem, index, rule, head)?;
-    fitting(alloc, index, args, types.as_slice())
+    let types = fitting_types(alloc, problem, index, rule, head, args)?;
+    in_order(types)
 }
 
 /// The types of the point's head whose sets have entries, each once.

@@ -11,9 +11,12 @@ mod flow;
 mod heads;
 mod index;
 mod instances;
+mod laws;
 mod missing;
 mod shape;
+mod terminals;
 mod unions;
 
 pub use checking::check;
 pub use fault::CheckFault;
+pub use laws::closed_tables_have_no_fault;

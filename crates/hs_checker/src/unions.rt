@@ -4,8 +4,7 @@
 ghost use Rattle.std.specs.Prelude.{◌≡◌, ◌∷◌, ◌++◌, ◌≤◌, ◌↔◌, ◌⊎◌, take, drop, length, Contains, IfOk, OnOk, MatchResult, map};
 ghost use Rattle.hs_checker.specs.Any.{AnyOf};
 ghost use Rattle.std.specs.List.{flat_map};
-ghost use Rattle.hs_scheme.specs.Flow.{IsAscending};
-ghost use Rattle.hs_table.specs.Entries.{EntryData, set_at, entry_cmp};
+ghost use Rattle.hs_table.specs.Entries.{EntryData, set_at};
 ghost use Rattle.hs_table_laws.proofs.Sets.{insert as with_type};
 ghost use Rattle.hs_table_plain.specs.Enumeration as plain;
 
@@ -14,6 +13,9 @@ use hs_scheme::OutOfMemory;
 use hs_table::{Entry, Shape, Ty, TypeSet};
 use std::alloc::Global;
 use std::cmp::Ordering;
+
+/// How many joined entries are kept before repeats among them are dropped.
+const ROOM: usize = 1_024;
 
 /// The place of the type in an ascending set, or the one where it belongs.
 fn place_of(set: &[Ty], ty: &Ty) -> Result<usize, usize>
@@ -82,22 +84,25 @@ fn joined(alloc: Global, entry: &Entry, other: &Entry) -> Result<Entry, OutOfMem
     })
 }
 
-/// Adds the entry to an ascending list, where it isn't there.
-fn add_entry(found: &mut Vec<Entry>, entry: Entry) -> Result<(), OutOfMemory>
-    requires { IsAscending entry_cmp found.old.items }
-    ensures ascending { OnOk result (IsAscending entry_cmp found.new.items) }
-    ensures each { OnOk result ((e : EntryData) → Contains found.new.items e ↔ (Contains found.old.items e ⊎ (e ≡ entry))) }
+/// The entries in order, each once.
+fn thin(entries: &mut Vec<Entry>) -> Result<(), OutOfMemory>
+    ensures { OnOk result ((e : EntryData) → Contains entries.new.items e ↔ Contains entries.old.items e) }
 {
-    match found
-        .as_slice()
-        .binary_search_by(|member| member.compare(&entry))
-    {
-        Ok(_) => Ok(()),
-        Err(place) => {
-            found.insert(place, entry)?;
-            Ok(())
-        }
+    entries.sort_by(|a, b| a.compare(b))?;
+    entries.dedup_by(|a, b| a.compare(b) == Ordering::Equal);
+    Ok(())
+}
+
+/// The same, where there are more entries than there is room for. Gives the room for the next ones,
+/// which is at least twice as many as are left, so that the sorting takes little more than once.
+fn thin_past(entries: &mut Vec<Entry>, room: usize) -> Result<usize, OutOfMemory>
+    ensures { OnOk result ((e : EntryData) → Contains entries.new.items e ↔ Contains entries.old.items e) }
+{
+    if entries.len() <= room {
+        return Ok(room);
     }
+    thin(entries)?;
+    Ok(entries.len().saturating_mul(2).max(ROOM))
 }
 
 /// Adds each entry joined with the candidate.
@@ -107,18 +112,15 @@ fn extend_by(
     candidate: &Entry,
     found: &mut Vec<Entry>,
 ) -> Result<(), OutOfMemory>
-    requires { IsAscending entry_cmp found.old.items }
-    ensures ascending { OnOk result (IsAscending entry_cmp found.new.items) }
-    ensures each { OnOk result ((e : EntryData) → Contains found.new.items e ↔ (Contains found.old.items e ⊎ AnyOf (λ x y. y ≡ plain.joined x candidate.now) entries.now e)) }
+    ensures { OnOk result ((e : EntryData) → Contains found.new.items e ↔ (Contains found.old.items e ⊎ AnyOf (λ x y. y ≡ plain.joined x candidate.now) entries.now e)) }
 {
     for entry in entries {
-        let made = joined(alloc, entry, candidate)?;
-        add_entry(found, made)?;
+        found.push(joined(alloc, entry, candidate)?)?;
     }
     Ok(())
 }
 
-/// Each entry joined with each candidate for the type at the argument.
+/// Each entry joined with each candidate for the type at the argument, each once.
 fn extended(
     alloc: Global,
     index: &Index,
@@ -126,13 +128,15 @@ fn extended(
     ty: &Ty,
     entries: &[Entry],
 ) -> Result<Vec<Entry>, OutOfMemory>
-    ensures ascending { IfOk result (λ found. IsAscending entry_cmp found.items) }
-    ensures each { IfOk result (λ found. (e : EntryData) → Contains found.items e ↔ Contains (flat_map (λ x. flat_map (plain.extended arg ty.now x) index.now) entries.now) e) }
+    ensures { IfOk result (λ found. (e : EntryData) → Contains found.items e ↔ Contains (flat_map (λ x. flat_map (plain.extended arg ty.now x) index.now) entries.now) e) }
 {
     let mut found = Vec::new(alloc);
+    let mut room = ROOM;
     for candidate in index.at(arg, ty) {
         extend_by(alloc, entries, candidate, &mut found)?;
+        room = thin_past(&mut found, room)?;
     }
+    thin(&mut found)?;
     Ok(found)
 }
 

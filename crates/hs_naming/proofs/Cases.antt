@@ -5,10 +5,9 @@ use Rattle.std.proofs.lemmas.Bool.{eq-eqb}
 use Rattle.std.proofs.lemmas.Option.{slice_get_within}
 use Rattle.hs_scheme.specs.declared.term.Head.{Head}
 use Rattle.hs_scheme.specs.declared.term.Head.TheVariants.{Var, Nt, Tm}
-use Rattle.hs_scheme.specs.Tree.{Tree, node, none, forest}
+use Rattle.hs_scheme.specs.Tree.{Tree, node, none, join, forest}
 use Rattle.hs_scheme.specs.Replacement.{subst, applied, replaced}
 use Rattle.hs_scheme.specs.Problem.{ProblemData}
-use Rattle.hs_scheme.specs.Steps.{Path}
 use Rattle.hs_steps.proofs.Terms.{same_some}
 use Rattle.hs_table.specs.declared.support.HeadBy.{HeadBy}
 use Rattle.hs_table.specs.declared.support.HeadBy.TheVariants.{Terminal, Rule, Param}
@@ -18,7 +17,8 @@ use Rattle.hs_table.specs.Follows.{rank_of, LacksTransition, RejectsChild, IsAt,
 use Rattle.hs_table_laws.proofs.Places.{read_from, at_take}
 use Rattle.hs_verdict.specs.Premises.{IsSortedProblem}
 use Rattle.hs_naming.specs.Evidence.{Evidence, Packs, Pack, evidence, no_packs, put, also, stacked, first, pack_at, child_pack, own_evidence, packs_for}
-use Rattle.hs_naming.specs.Naming.{entry_at, terminal_of, chosen_pack, argument_packs, Move, Named}
+use Rattle.hs_naming.specs.Naming.{entry_at, terminal_of, chosen_pack, argument_packs}
+use Rattle.hs_naming.specs.Leading.{Turn, Leads}
 use Rattle.hs_naming.proofs.Arrows.{rest_of, one_at}
 use Rattle.hs_naming.proofs.Failures.{replacement, descent}
 use Rattle.hs_naming.proofs.Bodies.{rules, term, body_at, long_at_body, in_scope}
@@ -101,9 +101,9 @@ module _ (p : ProblemData) (T : List EntryData) (supports : List Support) (known
     -- the head of a place, with the arguments and the packs that its choice gives; `go` is one move of the naming there
     module _ (rule : ℕ) (long_env : length env ≡ params_of p rule) (sets : Env) (t : TypeTree) (args : List (Tree Head)) (packs : Packs) (fit : RealizesAll p T supports sets args packs) where
       abbrev pub Goes : Head → HeadBy → Type 0
-      Goes h by = (moves steps : ℕ) (stack : Packs) (path : Path)
-          → Move (Named p T supports moves) by (terminal_of h) (λ x m. own_evidence env own x (entry_at T m).ty) (stacked packs stack) steps path
-          → Named p T supports (suc moves) (evidence i own) stack steps path
+      Goes h by = (moves q : ℕ) (t : Tree Head) (stack : Packs)
+          → Turn p (Leads p T supports moves) by (terminal_of h) (λ x m. own_evidence env own x (entry_at T m).ty) q t (stacked packs stack)
+          → Leads p T supports (suc moves) q t (evidence i own) stack
 
       abbrev pub Whole : Head → Type 0
       Whole h = Realizes p T supports t (applied (replaced h ds) (forest args)) (evidence i own) no_packs
@@ -121,7 +121,7 @@ module _ (p : ProblemData) (T : List EntryData) (supports : List Support) (known
           let same_ev : own_evidence env own x (arrows sets t) ≡ ev = λ k. own_evidence env own (sym same k) ((f.is ∙ ap (λ (e : EntryData). e.ty) (sym is)) k) in
           let r : Realizes p T supports (arrows sets t) d.0 ev no_packs = along (λ (e : Evidence). Realizes p T supports (arrows sets t) d.0 e no_packs) same_ev d.1.1 in
           let g : Realizes p T supports t (applied d.0 (forest args)) ev packs = given p T supports sets t d.0 ev no_packs args packs r fit in
-          silent p T supports t (applied (replaced (Var x) ds) (forest args)) (evidence i own) ev packs no_packs (λ moves steps stack path n. go moves steps stack path n)
+          silent p T supports t (applied (replaced (Var x) ds) (forest args)) (evidence i own) ev packs no_packs (λ moves q t stack n. go moves q t stack n)
           (moved p T supports t (applied d.0 (forest args)) (applied (replaced (Var x) ds) (forest args)) ev packs (stacked packs no_packs)
           (ap (λ (o : Option (Tree Head)). applied (unwrap_or o (node (Var x) none)) (forest args)) (sym d.1.0)) (sym (stacked_none packs)) g)
 
@@ -148,21 +148,14 @@ module _ (p : ProblemData) (T : List EntryData) (supports : List Support) (known
           along (λ (v : Tree Head). Realizes p T supports (state x.q) (subst v all) (evidence m (stacked packs qs)) no_packs) body.is
           (along (λ (z : TypeTree). Realizes p T supports z (subst (term p known x.entry.point) all) (evidence m (stacked packs qs)) no_packs) x.is_state
           (good m b.0 x.entry b.1 all (stacked packs qs) h)) in
-          record {
-            moves = suc ends.moves;
-            steps = suc ends.steps;
-            path = ends.path;
-            named = go ends.moves (suc ends.steps) qs ends.path ends.named;
-            fails = replacement (rules p known) p.sorted.automaton.transitions args us ends.steps x.q f body.rule ends.path body.at long ends.fails;
-          })
+          let whole : Tree Head = node (Nt f) (join (forest args) (forest us)) in
+          let step = replacement (rules p known) p.sorted.automaton.transitions args us x.q f body.rule body.at long in
+          record { moves = suc ends.moves; leads = go ends.moves x.q whole qs (subst body.rule.body all, step, ends.leads) })
 
       at_end : (a q : ℕ) → LacksTransition p a q (arrows sets t) → Goes (Tm a) (Terminal q None) → Whole (Tm a)
       at_end a q x go = filled (replicate (rank_of p a) []) q x.is (node (Tm a) (forest args)) (λ us qs h. record {
         moves = 1;
-        steps = 0;
-        path = [];
-        named = go 0 0 qs [] (refl, refl);
-        fails = (refl, x.moves);
+        leads = go 0 q (node (Tm a) (join (forest args) (forest us))) qs (refl, (join (forest args) (forest us), refl), x.moves);
       })
 
       at_descent : (a q child : ℕ) → RejectsChild p a q child (arrows sets t) → Goes (Tm a) (Terminal q (Some child)) → Whole (Tm a)
@@ -171,14 +164,9 @@ module _ (p : ProblemData) (T : List EntryData) (supports : List Support) (known
           let d = at_child p T supports (set (replicate (length x.qs) []) x.place (state x.r ∷ [])) (args ++ us) all x.place (state x.r) h (one_at (length x.qs) x.place (state x.r ∷ []) (slice_get_within x.qs x.place x.r x.at)) in
           let ends : Ends p T supports x.r d.0 (first (child_pack all child)) no_packs =
           along (λ (y : Pack). Ends p T supports x.r d.0 (first y) no_packs) (sym (child_is all child x.place x.counted)) d.1.1 in
-          let label : (a, x.place + 1) ≡ (a, child) = ap (λ (n : ℕ). (a, n)) (sym x.counted) in
-          record {
-            moves = suc ends.moves;
-            steps = suc ends.steps;
-            path = (a, x.place + 1) ∷ ends.path;
-            named = go ends.moves (suc ends.steps) qs ((a, x.place + 1) ∷ ends.path) (label, ends.named);
-            fails = descent (rules p known) p.sorted.automaton.transitions args us ends.steps q a x.qs x.place x.r d.0 ends.path x.moves x.at d.1.0 ends.fails;
-          })
+          let whole : Tree Head = node (Tm a) (join (forest args) (forest us)) in
+          let step = descent (rules p known) p.sorted.automaton.transitions args us q a x.qs x.place child x.r d.0 x.moves x.at d.1.0 x.counted in
+          record { moves = suc ends.moves; leads = go ends.moves q whole qs (x.r, d.0, step, ends.leads) })
 
       pub by_head : (h : Head) (by : HeadBy) → IsHeadType p (take i T) rule h by (arrows sets t) → Owns h → Goes h by → Whole h
       by_head (Var x) (Terminal q c) h owns go = absurd h

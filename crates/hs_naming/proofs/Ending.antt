@@ -1,5 +1,5 @@
--- The naming of a log with its supports ends, and its path fails.
-use Rattle.std.proofs.Common.{◌≡◌, refl, sym, ◌∙◌, ap, ℕ, zero, suc, ◌<◌, List, [], ◌∷◌, map, take, length, slice_get, Some, arith, inl, inr}
+-- The naming of a log with its supports ends, it leads the start, and its path fails.
+use Rattle.std.proofs.Common.{◌≡◌, refl, sym, ◌∙◌, ap, ℕ, zero, suc, ◌<◌, List, [], ◌∷◌, map, take, length, slice_get, Some, None, arith, inl, inr}
 use Rattle.std.proofs.Common.{subst as along}
 use Rattle.std.proofs.lemmas.Option.{slice_get_within, slice_get-get_or}
 use Rattle.hs_scheme.specs.declared.term.Head.{Head}
@@ -9,8 +9,10 @@ use Rattle.hs_scheme.specs.Points.{PointData}
 use Rattle.hs_scheme.specs.declared.term.Rule.{Rule}
 use Rattle.hs_scheme.specs.Problem.{ProblemData}
 use Rattle.hs_scheme.specs.Run.{start, Accepts}
-use Rattle.hs_scheme.specs.Steps.{Path, Fails}
+use Rattle.hs_scheme.specs.Steps.{Path, HasNoTransition, Fails}
 use Rattle.hs_steps.proofs.Terms.{same_some}
+use Rattle.hs_table.specs.declared.support.HeadBy.{HeadBy}
+use Rattle.hs_table.specs.declared.support.HeadBy.TheVariants.{Terminal, Rule as ByRule, Param}
 use Rattle.hs_table.specs.Types.{TypeTree, state}
 use Rattle.hs_table.specs.Entries.{EntryData}
 use Rattle.hs_table.specs.Follows.{Support, FollowsBy}
@@ -19,8 +21,9 @@ use Rattle.hs_table_laws.proofs.Places.{place_of, member_at, read_from}
 use Rattle.hs_verdict.specs.Premises.{IsSortedProblem}
 use Rattle.hs_verdict.proofs.Supports.{with_supports}
 use Rattle.hs_verdict.proofs.Verdict.{never_fails}
-use Rattle.hs_naming.specs.Evidence.{Packs, evidence, no_packs, stacked, own_evidence, packs_for}
+use Rattle.hs_naming.specs.Evidence.{Evidence, Packs, evidence, no_packs, stacked, first, child_pack, own_evidence, packs_for}
 use Rattle.hs_naming.specs.Naming.{entry_at, support_at, point_at, terminal_of, argument_packs, Move, Named, IsFirstStart, NamesPath, IsLong}
+use Rattle.hs_naming.specs.Leading.{Turn, Leads, StartLeads}
 use Rattle.hs_naming.proofs.Bodies.{rules, term, whole, Body, body_at, long_at_argument}
 use Rattle.hs_naming.proofs.Failures.{replacement}
 use Rattle.hs_naming.proofs.Realizing.{Ends, Realizes, RealizesAll, moved}
@@ -31,12 +34,53 @@ substs_map : (terms : ℕ → Tree Head) (us : List ℕ) (ds : List (Tree Head))
 substs_map terms [] ds = refl
 substs_map terms (u ∷ us) ds = ap (λ ts. more (subst (terms u) ds) ts) (substs_map terms us ds)
 
+-- the naming that leads a term names a path along which the term fails
+pub record NamedAndFails (p : ProblemData) (To : ℕ → Path → Type 0) (q : ℕ) (t : Tree Head) : Type 0 where
+  pub steps : ℕ
+  pub path : Path
+  pub named : To steps path
+  pub fails : Fails p.sorted.scheme.rules p.sorted.automaton.transitions steps q t path
+
+module _ (p : ProblemData) (go : ℕ → Tree Head → Evidence → Packs → Type 0) (to : Evidence → Packs → ℕ → Path → Type 0)
+    (each : (q : ℕ) (t : Tree Head) (e : Evidence) (stack : Packs) → go q t e stack → NamedAndFails p (to e stack) q t) where
+  turned : (by : HeadBy) (terminal : ℕ) (own : ℕ → ℕ → Evidence) (q : ℕ) (t : Tree Head) (stack : Packs) → Turn p go by terminal own q t stack
+      → NamedAndFails p (Move to by terminal own stack) q t
+  turned (Terminal r None) terminal own q t stack (is, (us, whole), none_there) = record {
+    steps = 0;
+    path = [];
+    named = (refl, refl);
+    fails = (refl, along (λ (x : Tree Head). HasNoTransition p.sorted.automaton.transitions q x) (sym whole) none_there);
+  }
+  turned (Terminal r (Some child)) terminal own q t stack (s, u, step, g) =
+      let n = each s u (first (child_pack stack child)) no_packs g in
+      record {
+        steps = suc n.steps;
+        path = (terminal, child) ∷ n.path;
+        named = (refl, n.named);
+        fails = record { label = (terminal, child) ∷ []; rest = n.path; state = s; term = u; whole = refl; step = step; holds = n.fails };
+      }
+  turned (ByRule place) terminal own q t stack (u, step, g) =
+      let n = each q u (evidence place stack) no_packs g in
+      record {
+        steps = suc n.steps;
+        path = n.path;
+        named = n.named;
+        fails = record { label = []; rest = n.path; state = q; term = u; whole = refl; step = step; holds = n.fails };
+      }
+  turned (Param x place) terminal own q t stack g = each q t (own x place) stack g
+
+pub named_and_fails : (p : ProblemData) (T : List EntryData) (supports : List Support) (moves q : ℕ) (t : Tree Head) (e : Evidence) (stack : Packs)
+    → Leads p T supports moves q t e stack → NamedAndFails p (Named p T supports moves e stack) q t
+named_and_fails p T supports zero q t e stack g = absurd g
+named_and_fails p T supports (suc moves) q t (evidence place own) stack g =
+    turned p (Leads p T supports moves) (Named p T supports moves) (λ q t e stack h. named_and_fails p T supports moves q t e stack h) (support_at supports place).head _ _ q t _ g
+
 module _ (p : ProblemData) (known : IsSortedProblem p) (T : List EntryData) (supports : List Support) (log : HasSupports p T supports) where
   -- one move, seen at the entry of the place and at its point
-  abbrev MoveAt : Support → Packs → ℕ → Packs → ℕ → Path → EntryData → PointData → Type 0
-  MoveAt s own moves stack steps path e d =
-      Move (Named p T supports moves) s.head (terminal_of d.head) (λ x m. own_evidence e.env own x (entry_at T m).ty)
-      (stacked (argument_packs (λ m. evidence m (packs_for (own_evidence e.env own) 0 (entry_at T m).env)) 0 d.args s.args) stack) steps path
+  abbrev TurnAt : Support → Packs → ℕ → ℕ → Tree Head → Packs → EntryData → PointData → Type 0
+  TurnAt s own moves q t stack e d =
+      Turn p (Leads p T supports moves) s.head (terminal_of d.head) (λ x m. own_evidence e.env own x (entry_at T m).ty) q t
+      (stacked (argument_packs (λ m. evidence m (packs_for (own_evidence e.env own) 0 (entry_at T m).env)) 0 d.args s.args) stack)
 
   place_realizes : (i : ℕ) → ((m : ℕ) → m < i → Good p T supports known m) → Good p T supports known i
   place_realizes i good e at ds own have =
@@ -56,9 +100,9 @@ module _ (p : ProblemData) (known : IsSortedProblem p) (T : List EntryData) (sup
       moved p T supports e.ty (applied (replaced f.of.head ds) (forest args)) (subst (term p known e.point) ds) (evidence i own) no_packs no_packs is_whole refl
       (by_head p T supports known i good e.env ds own have f.of.rule f.env.long f.sets e.ty args packs fit f.of.head s.head f.head
       (λ j a lt h. (f.union j a lt).1 (inl h))
-      (λ moves steps stack path m.
-      along (λ (x : EntryData). MoveAt s own moves stack steps path x (point_at p x.point)) (sym is_e)
-      (along (λ (d : PointData). MoveAt s own moves stack steps path e d) (sym is_d) m)))
+      (λ moves q t stack m.
+      along (λ (x : EntryData). TurnAt s own moves q t stack x (point_at p x.point)) (sym is_e)
+      (along (λ (d : PointData). TurnAt s own moves q t stack e d) (sym is_d) m)))
 
   all_realize : (n place : ℕ) → place < n → Good p T supports known place
   all_realize zero place lt = absurd (omega arith)
@@ -78,8 +122,9 @@ module _ (p : ProblemData) (known : IsSortedProblem p) (T : List EntryData) (sup
     is_first = λ i d lt at_i is_d. log.distinct i place e lt (slice_get_within T place e at) (read_from T i d e at_i ∙ (starts_same d e is_d is ∙ sym (read_from T place e e at)));
   }
 
-  pub naming_ends : HasStart p T → (need : ℕ) × (path : Path) × NamesPath p T supports need path × Fails p.sorted.scheme.rules p.sorted.automaton.transitions need 0 start path
-  naming_ends (e, (is, there)) =
+  -- from the first place of the start entry on the naming leads the body of the start
+  pub start_leads : HasStart p T → StartLeads p T supports
+  start_leads (e, (is, there)) =
       let k = place_of T e there in
       let body : Body p known 0 e.point = body_at p known 0 e.point is.body in
       let none_given : RealizesAll p T supports e.env [] no_packs = along (λ x. RealizesAll p T supports x [] no_packs) (sym is.env) tt in
@@ -88,11 +133,24 @@ module _ (p : ProblemData) (known : IsSortedProblem p) (T : List EntryData) (sup
       along (λ (v : Tree Head). Realizes p T supports (state 0) (subst v []) (evidence k.0 no_packs) no_packs) body.is
       (along (λ (z : TypeTree). Realizes p T supports z (subst (term p known e.point) []) (evidence k.0 no_packs) no_packs) is.initial r) in
       let first = known.scheme.start in
-      let no_params : 0 ≡ body.rule.params = sym (ap (λ (x : Rule). x.params) (same_some body.rule first.0 (sym body.at ∙ first.1.0)) ∙ first.1.1) in (
-        suc ends.steps,
-        ends.path,
-        record { place = k.0; start = first_start k.0 e k.1 is; moves = ends.moves; steps = ends.steps; named = ends.named; counted = omega arith },
-        replacement (rules p known) p.sorted.automaton.transitions [] [] ends.steps 0 0 body.rule ends.path body.at no_params ends.fails,
+      let no_params : 0 ≡ body.rule.params = sym (ap (λ (x : Rule). x.params) (same_some body.rule first.0 (sym body.at ∙ first.1.0)) ∙ first.1.1) in
+      record {
+        place = k.0;
+        is_first = first_start k.0 e k.1 is;
+        body = subst body.rule.body [];
+        replaced = replacement (rules p known) p.sorted.automaton.transitions [] [] 0 0 body.rule body.at no_params;
+        moves = ends.moves;
+        leads = ends.leads;
+      }
+
+  pub naming_ends : HasStart p T → (need : ℕ) × (path : Path) × NamesPath p T supports need path × Fails p.sorted.scheme.rules p.sorted.automaton.transitions need 0 start path
+  naming_ends has =
+      let s = start_leads has in
+      let n = named_and_fails p T supports s.moves 0 s.body (evidence s.place no_packs) no_packs s.leads in (
+        suc n.steps,
+        n.path,
+        record { place = s.place; start = s.is_first; moves = s.moves; steps = n.steps; named = n.named; counted = omega arith },
+        record { label = []; rest = n.path; state = 0; term = s.body; whole = refl; step = s.replaced; holds = n.fails },
       )
 
   pub path_fails : (need : ℕ) (path : Path) → NamesPath p T supports need path → Fails p.sorted.scheme.rules p.sorted.automaton.transitions need 0 start path

@@ -1,5 +1,4 @@
--- What it means that a term is rejected by a type, with an evidence and a stack of packs: the naming from there ends, and the term fails
--- along its path.
+-- What it means that a term is rejected by a type, with an evidence and a stack of packs: the naming from there ends, and leads the term.
 --     Ends              so, for a term that is rejected in a state
 --     Realizes          so, for any type: with each term and pack that realize its set, the result is realized
 --     RealizesAll       terms and packs, one of each for each of the sets
@@ -13,7 +12,6 @@ use Rattle.hs_scheme.specs.declared.term.Head.{Head}
 use Rattle.hs_scheme.specs.Tree.{Tree, Trees, node, none, more, forest}
 use Rattle.hs_scheme.specs.Replacement.{applied}
 use Rattle.hs_scheme.specs.Problem.{ProblemData}
-use Rattle.hs_scheme.specs.Steps.{Path, Fails}
 use Rattle.hs_steps.proofs.Terms.{same_some, applied-none, applied-applied}
 use Rattle.hs_table.specs.Types.{TypeTree, arrows, type_cmp}
 use Rattle.hs_table.specs.Entries.{Env, EntryData, Has}
@@ -21,7 +19,7 @@ use Rattle.hs_table.specs.Follows.{Support}
 use Rattle.hs_table_laws.proofs.Places.{none_in, here, later, uncons}
 use Rattle.hs_table_laws.proofs.Orders.{type_cmp_total, type_same}
 use Rattle.hs_naming.specs.Evidence.{Evidence, Packs, Pack, no_packs, put, empty, also, stacked, first, pack_at, pick, own_evidence, pack_for, packs_for}
-use Rattle.hs_naming.specs.Naming.{Named}
+use Rattle.hs_naming.specs.Leading.{Leads}
 
 pub stacked_none : (a : Packs) → stacked a no_packs ≡ a
 stacked_none no_packs = refl
@@ -31,7 +29,7 @@ stacked_stacked : (a b c : Packs) → stacked (stacked a b) c ≡ stacked a (sta
 stacked_stacked no_packs b c = refl
 stacked_stacked (put p ps) b c = ap (put p) (stacked_stacked ps b c)
 
-equal_same : (a b : TypeTree) → is_eq (type_cmp a b) ≡ true → a ≡ b
+pub equal_same : (a b : TypeTree) → is_eq (type_cmp a b) ≡ true → a ≡ b
 equal_same a b e = type_same a b (by_order (type_cmp a b) e)
   where
     by_order : (r : Ordering) → is_eq r ≡ true → r ≡ Equal
@@ -39,16 +37,13 @@ equal_same a b e = type_same a b (by_order (type_cmp a b) e)
     by_order Equal f = refl
     by_order Greater f = absurd (cc)
 
-same_equal : (a b : TypeTree) → a ≡ b → is_eq (type_cmp a b) ≡ true
+pub same_equal : (a b : TypeTree) → a ≡ b → is_eq (type_cmp a b) ≡ true
 same_equal a b e = ap (λ x. is_eq (type_cmp a x)) (sym e) ∙ ap is_eq (tied_itself type_cmp_total a)
 
 module _ (p : ProblemData) (T : List EntryData) (supports : List Support) where
   pub record Ends (q : ℕ) (t : Tree Head) (e : Evidence) (stack : Packs) : Type 0 where
     pub moves : ℕ
-    pub steps : ℕ
-    pub path : Path
-    pub named : Named p T supports moves e stack steps path
-    pub fails : Fails p.sorted.scheme.rules p.sorted.automaton.transitions steps q t path
+    pub leads : Leads p T supports moves q t e stack
 
   abbrev mutual
     pub Realizes : Tree (Option ℕ) → Tree Head → Evidence → Packs → Type 0
@@ -78,13 +73,13 @@ module _ (p : ProblemData) (T : List EntryData) (supports : List Support) where
   -- where the naming goes on without a step, the place realizes what it goes on to
   mutual
     pub silent : (a : TypeTree) (t : Tree Head) (e f : Evidence) (own stack : Packs)
-        → ((moves steps : ℕ) (stack : Packs) (path : Path) → Named p T supports moves f (stacked own stack) steps path → Named p T supports (suc moves) e stack steps path)
+        → ((moves q : ℕ) (t : Tree Head) (stack : Packs) → Leads p T supports moves q t f (stacked own stack) → Leads p T supports (suc moves) q t e stack)
         → Realizes a t f (stacked own stack) → Realizes a t e stack
-    silent (node (Some q) us) t e f own stack go r = record { moves = suc r.moves; steps = r.steps; path = r.path; named = go r.moves r.steps stack r.path r.named; fails = r.fails }
+    silent (node (Some q) us) t e f own stack go r = record { moves = suc r.moves; leads = go r.moves q t stack r.leads }
     silent (node None us) t e f own stack go r = silent_arrow us t e f own stack go r
 
     silent_arrow : (us : Trees (Option ℕ)) (t : Tree Head) (e f : Evidence) (own stack : Packs)
-        → ((moves steps : ℕ) (stack : Packs) (path : Path) → Named p T supports moves f (stacked own stack) steps path → Named p T supports (suc moves) e stack steps path)
+        → ((moves q : ℕ) (t : Tree Head) (stack : Packs) → Leads p T supports moves q t f (stacked own stack) → Leads p T supports (suc moves) q t e stack)
         → RealizesArrow us t f (stacked own stack) → RealizesArrow us t e stack
     silent_arrow none t e f own stack go r = tt
     silent_arrow (more a us) t e f own stack go r = λ d pack h. silent a (applied t (more d none)) e f own (stacked stack (put pack no_packs)) go

@@ -1,3 +1,4 @@
 pub mod Evidence
 pub mod Naming
+pub mod Leading
 pub mod NamingExamples

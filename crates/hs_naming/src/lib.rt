@@ -11,6 +11,7 @@ ghost use Rattle.hs_table.specs.Follows.{Support};
 ghost use Rattle.hs_table.specs.Tables.{IsSupportedTable, IsLeastTable, HasSupports, HasStart};
 ghost use Rattle.hs_verdict.specs.Premises.{IsSortedProblem, HasClosedFlow};
 ghost use Rattle.hs_naming.specs.Naming.{NamesPath, IsLong};
+ghost use Rattle.hs_naming.specs.Leading.{StartLeads};
 
 /// A log names one path at most, and needs one number of steps for it.
 pub fn namings_are_unique()
@@ -33,6 +34,14 @@ pub fn namings_end_and_fail()
     ensures long { (p : ProblemData) (limit : ℕ) → IsSortedProblem p → IsLong p limit →
         (need : ℕ) × (path : Path) × (limit < need)
         × Fails p.sorted.scheme.rules p.sorted.automaton.transitions need 0 start path }
+{}
+
+/// From the first place of the start entry on, the naming leads the body of the start: each of its
+/// steps is a step of the term, and at the end the place's terminal is in front, without transition in
+/// the state that the support has.
+pub fn namings_lead_the_start()
+    ensures { (p : ProblemData) (T : List EntryData) (supports : List Support) →
+        IsSortedProblem p → HasSupports p T supports → HasStart p T → StartLeads p T supports }
 {}
 
 /// So where a supported table has the start entry, the automaton doesn't accept the value tree of

@@ -14,3 +14,14 @@ pub mod Folds
 pub mod Linking
 pub mod Parameters
 pub mod Simulation
+pub mod Remaining
+pub mod Fitting
+pub mod Lockstep
+pub mod Places
+pub mod LeftSorted
+pub mod Needs
+pub mod UnusedAll
+pub mod Marks
+pub mod Settling
+pub mod DropsUnused
+pub mod InOrder

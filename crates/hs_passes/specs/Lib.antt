@@ -7,3 +7,8 @@ pub mod Marking
 pub mod Aliases
 pub mod Links
 pub mod Scan
+pub mod Leaving
+pub mod Unused
+pub mod Needing
+pub mod Narrowing
+pub mod Order

@@ -27,6 +27,16 @@ fn apply_boxed(
     pass.apply(alloc, sorted)
 }
 
+/// Adds a pass to a list, both without a tally so far.
+pub fn add(passes: &mut Vec<Box<dyn Pass>>, pass: Box<dyn Pass>) -> Result<(), OutOfMemory>
+    requires passes { All (λ p. taken p ≡ 0) passes.old.items }
+    requires pass { taken pass ≡ 0 }
+    ensures { OnOk result (All (λ p. taken p ≡ 0) passes.new.items) }
+{
+    passes.push(pass)?;
+    Ok(())
+}
+
 /// Applies each pass once.
 pub fn simplify(
     alloc: Global,

@@ -92,7 +92,7 @@ fn chosen_names(alloc: Global, names: &[Name], keep: &[bool]) -> Result<Vec<Name
 }
 
 /// The names, copied.
-fn copied(alloc: Global, names: &[Name]) -> Result<Vec<Name>, OutOfMemory>
+pub fn copied(alloc: Global, names: &[Name]) -> Result<Vec<Name>, OutOfMemory>
     ensures { IfOk result (λ copies. copies.items ≡ names.now) }
 {
     let mut copies = Vec::with_capacity(alloc, names.len())?;

@@ -1,1 +1,4 @@
 pub mod Walked
+pub mod Stored
+pub mod Turned
+pub mod Walking

@@ -5,9 +5,9 @@ use hs_trace::Path;
 /// What a walk comes to.
 #[derive(Debug, Drop)]
 pub enum Walk {
-    /// The path to a terminal without transition.
+    /// The path that the log names, to a terminal without transition.
     Found(Path),
-    /// The path has more steps than the limit. So many lead along this prefix: each terminal with
-    /// the number of the child that follows, counted from 1.
+    /// That path has more steps than the limit. So many lead along this beginning of it: each
+    /// terminal with the number of the child that follows, counted from 1.
     StepLimit(Vec<(u32, u32)>),
 }

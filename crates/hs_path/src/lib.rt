@@ -1,13 +1,14 @@
-//! The path to a node that the automaton doesn't allow, found along a log of entries.
+//! The path to a node that the automaton doesn't allow, which a log of entries names.
 //!
-//! The log says of each entry what it follows from. Followed from the start entry, that names the
-//! numbers of the children of a path; along them the scheme is then reduced, and that shows where
-//! the path leads.
+//! The log says of each entry what it follows from. Followed from the start entry, that names a path;
+//! it leads the reduction of the start step by step, and no term is formed.
 #![tactic(auto)]
 
+mod adding;
 mod answer;
+mod asking;
 mod evidence;
-mod naming;
+mod turning;
 mod walking;
 
 pub use answer::Walk;

@@ -1,31 +1,104 @@
 //! The walk.
 
-ghost use Rattle.std.specs.Prelude.{◌≤◌, IfOk};
+ghost use Rattle.std.specs.Prelude.{◌≡◌, ◌<◌, ◌≤◌, ℕ, slice_get, Some, IfOk};
+ghost use Rattle.hs_table.specs.Tables.{HasStart, HasSupports, IsStart};
+ghost use Rattle.hs_verdict.specs.Premises.{IsSortedProblem};
+ghost use Rattle.hs_naming.specs.Leading.{StartLeads};
+ghost use Rattle.hs_core.specs.Core.{log_of, state_of, StartsAt};
 ghost use Rattle.hs_path.specs.Walked.{IsWalk};
+ghost use Rattle.hs_path.specs.Walking.{IsWalking};
 
 use crate::answer::Walk;
-use crate::naming::named_children;
+use crate::evidence::{NOTHING, Node, Spot, Store};
+use crate::turning::{Turn, next_turn};
 use hs_core::Core;
-use hs_reduce::{Followed, follow};
+use hs_history::every_history_supported;
+use hs_naming::namings_lead_the_start;
 use hs_scheme::{OutOfMemory, Problem};
+use hs_trace::Path;
 use std::alloc::Global;
 
-/// The path that the core's log names from its start entry on. The problem is that of the core, and
-/// at most `steps` steps are made, 4,000,000 at most.
-///
-/// The log's supports give the children, without replacing a term; reduction along them gives the
-/// terminals, and shows that the path fails. Where the log has no start entry, or a support isn't one
-/// or leads elsewhere, as none of a core does, the answer is `OutOfMemory`; the contract doesn't rule
-/// that out.
-pub fn walk(alloc: Global, problem: &Problem, core: &Core, steps: u64) -> Result<Walk, OutOfMemory>
-    requires { steps ≤ 4000000 }
-    ensures { IfOk result (IsWalk problem.now.sorted steps) }
+/// The facts that the types of a problem's parts keep. Does nothing.
+fn know(problem: &Problem)
+    ensures { IsSortedProblem problem.now }
 {
-    let start = core.start().ok_or(OutOfMemory)?;
-    let children = named_children(alloc, problem, core, start, steps)?;
-    match follow(alloc, &problem.sorted, children.as_slice(), steps)? {
-        Followed::Fails(path) => Ok(Walk::Found(path)),
-        Followed::GoesOn(prefix) => Ok(Walk::StepLimit(prefix)),
-        Followed::Ends => Err(OutOfMemory),
+    let sorted = &problem.sorted;
+    let scheme = &sorted.scheme;
+    let _ = &scheme.rules;
+    sorted.automaton.is_automaton();
+}
+
+/// The walk from the start entry at this place on, once the start is replaced, where at least one step
+/// may be made.
+fn walk_from(
+    alloc: Global,
+    problem: &Problem,
+    core: &Core,
+    place: u32,
+    steps: u64,
+) -> Result<Walk, OutOfMemory>
+    requires least { 1 ≤ steps }
+    requires start { StartsAt problem.now (log_of core.now) place }
+    requires log { HasSupports problem.now (log_of core.now) (state_of core.now).supports }
+    requires leads { StartLeads problem.now (log_of core.now) (state_of core.now).supports }
+    ensures { IfOk result (IsWalk problem.now (log_of core.now) (state_of core.now).supports steps) }
+{
+    let mut store = Store::new(alloc)?;
+    let mut stack = Vec::new(alloc);
+    let mut trail = Vec::new(alloc);
+    let mut used = 1;
+    let mut spot = Spot {
+        node: Node {
+            place,
+            own: NOTHING,
+        },
+        number: 1,
+    };
+    loop {
+        match next_turn(problem, core, &mut store, &mut stack, spot)? {
+            Turn::End { terminal, state } => {
+                return Ok(Walk::Found(Path {
+                    steps: trail,
+                    last: terminal,
+                    state,
+                    used,
+                }));
+            }
+            Turn::Silent(next) => spot = next,
+            Turn::Step(label, next) => {
+                if used == steps {
+                    return Ok(Walk::StepLimit(trail));
+                }
+                if let Some(label) = label {
+                    trail.push(label)?;
+                }
+                spot = next;
+                used += 1;
+            }
+        }
     }
+}
+
+/// The path that the core's log names from its start entry on: each support says how the path goes
+/// on. A replacement and a descent to a child are a step each, the replacement of the start included.
+/// `Found` comes where the naming needs at most `steps` steps, and `StepLimit` where it needs more.
+/// The problem is that of the core, whose log has the start entry.
+///
+/// A step takes time in proportion to what its entries ask of parameters, times their number, and
+/// what is made at it is kept to the end: some 16 bytes for a chosen argument, with 12 for each of its
+/// parameters and 4 for each type that is asked of them. Nothing is replaced in a term.
+pub fn walk(alloc: Global, problem: &Problem, core: &Core, steps: u64) -> Result<Walk, OutOfMemory>
+    requires problem { problem.now ≡ core.now.base.problem }
+    requires start { HasStart problem.now (log_of core.now) }
+    ensures { IfOk result (IsWalk problem.now (log_of core.now) (state_of core.now).supports steps) }
+{
+    know(problem);
+    core.is_core();
+    every_history_supported();
+    namings_lead_the_start();
+    let place = core.start().unwrap();
+    if steps == 0 {
+        return Ok(Walk::StepLimit(Vec::new(alloc)));
+    }
+    walk_from(alloc, problem, core, place, steps)
 }

@@ -33,7 +33,12 @@ bare = on_top (λ (s : Shape). record s { disable_help_flag = true }) (new_app (
 -- the first of the words is the program's name, and one that is no option is FILE
 abbrev pub horsat : App
 horsat =
-    with_rule (with_rule (with_rule (with_rule (with_rule (with_rule bare (option (codes "entries"))) (option (codes "steps"))) (flag (codes "table"))) (flag (codes "first"))) (option (codes "gen")))
+    with_rule
+    (with_rule
+    (with_rule
+    (with_rule (with_rule (with_rule (with_rule (with_rule bare (option (codes "workers"))) (option (codes "entries"))) (option (codes "steps"))) (flag (codes "table"))) (flag (codes "first")))
+    (flag (codes "simplify")))
+    (option (codes "gen")))
     (new_rule (codes "file"))
 
 -- one to nine ASCII digits
@@ -55,10 +60,12 @@ abbrev pub is_set : Option (List ℕ) → Bool
 is_set value = option_map_or (λ text. bytes_eq text (codes "true")) value false
 
 pub record OptionsData : Type 0 where
+  pub workers : ℕ
   pub entries : ℕ
   pub steps : ℕ
   pub table : Bool
   pub first : Bool
+  pub simplify : Bool
   pub cycle : Option ℕ
   pub file : Option (List ℕ)
 
@@ -67,14 +74,16 @@ abbrev pub unless_both : OptionsData → Option OptionsData
 unless_both o = if is_some o.cycle && is_some o.file then None else Some o
 
 -- what the values of the options say
-abbrev pub said_by_values : Option (List ℕ) → Option (List ℕ) → Option (List ℕ) → Option (List ℕ) → Option (List ℕ) → Option (List ℕ) → Option OptionsData
-said_by_values entries steps table first cycle file =
-    option_and_then (λ e. option_and_then (λ s. option_and_then (λ c. unless_both (record { entries = e; steps = s; table = is_set table; first = is_set first; cycle = c; file = file }))
-    (number_if 1 300 cycle)) (number_or 1000000 1 4000000 steps)) (number_or 200000 1 1000000 entries)
+abbrev pub said_by_values : Option (List ℕ) → Option (List ℕ) → Option (List ℕ) → Option (List ℕ) → Option (List ℕ) → Option (List ℕ) → Option (List ℕ) → Option (List ℕ) → Option OptionsData
+said_by_values workers entries steps table first simplify cycle file =
+    option_and_then (λ w. option_and_then (λ e. option_and_then (λ s. option_and_then (λ c.
+    unless_both (record { workers = w; entries = e; steps = s; table = is_set table; first = is_set first; simplify = is_set simplify; cycle = c; file = file }))
+    (number_if 1 300 cycle)) (number_or 1000000 1 4000000 steps)) (number_or 200000 1 1000000 entries)) (number_or 4 1 16 workers)
 
 abbrev pub said : List Row → Option OptionsData
 said rows =
-    said_by_values (first_of (codes "entries") rows) (first_of (codes "steps") rows) (first_of (codes "table") rows) (first_of (codes "first") rows) (first_of (codes "gen") rows) (first_of (codes "file") rows)
+    said_by_values (first_of (codes "workers") rows) (first_of (codes "entries") rows) (first_of (codes "steps") rows) (first_of (codes "table") rows) (first_of (codes "first") rows)
+    (first_of (codes "simplify") rows) (first_of (codes "gen") rows) (first_of (codes "file") rows)
 
 abbrev pub options_of : List (List ℕ) → Option OptionsData
 options_of words = if is_empty (fault_of horsat words) then said (matches_of horsat words) else None
@@ -84,10 +93,12 @@ abbrev pub texts : List (Bor (List ℕ)) → List (List ℕ)
 texts words = map (λ w. w.now) words
 
 abbrev pub said_by : Options → OptionsData
-said_by o = record { entries = o.entries; steps = o.steps; table = o.table; first = o.first; cycle = o.cycle; file = option_map (λ f. f.now) o.file }
+said_by o =
+    record { workers = o.workers; entries = o.entries; steps = o.steps; table = o.table; first = o.first; simplify = o.simplify; cycle = o.cycle; file = option_map (λ f. f.now) o.file }
 
 -- the numbers are in their ranges, and not both a file and a cycle are given
 pub record AreWithin (o : Options) : Type 0 where
+  pub workers : (1 ≤ o.workers) × (o.workers ≤ 16)
   pub entries : (1 ≤ o.entries) × (o.entries ≤ 1000000)
   pub steps : (1 ≤ o.steps) × (o.steps ≤ 4000000)
   pub cycle : (k : ℕ) → o.cycle ≡ Some k → (1 ≤ k) × (k ≤ 300)

@@ -42,10 +42,12 @@ fn horsat<'a>(alloc: Global) -> Result<Command<'a>, AllocError>
     ensures { IfOk result (λ command. app_of command ≡ words.horsat) }
 {
     bare(alloc)
+        .arg(option(alloc, "workers"))?
         .arg(option(alloc, "entries"))?
         .arg(option(alloc, "steps"))?
         .arg(flag(alloc, "table"))?
         .arg(flag(alloc, "first"))?
+        .arg(flag(alloc, "simplify"))?
         .arg(option(alloc, "gen"))?
         .arg(Arg::new(alloc, "file"))
 }
@@ -62,6 +64,7 @@ fn options<'a>(matches: &ArgMatches<'a>) -> Option<Options<'a>>
     ensures said { option_map said_by result ≡ words.said (rows_of (found_of matches.now)) }
     ensures within { IfSome result AreWithin }
 {
+    let workers = number_or(4, 1, 16, value(matches, "workers"))?;
     let entries = number_or(200_000, 1, 1_000_000, value(matches, "entries"))?;
     let steps = number_or(1_000_000, 1, 4_000_000, value(matches, "steps"))?;
     let cycle = number_if(1, 300, value(matches, "gen"))?;
@@ -70,10 +73,12 @@ fn options<'a>(matches: &ArgMatches<'a>) -> Option<Options<'a>>
         return None;
     }
     Some(Options {
+        workers,
         entries,
         steps: u64::from(steps),
         table: is_set(value(matches, "table")),
         first: is_set(value(matches, "first")),
+        simplify: is_set(value(matches, "simplify")),
         cycle,
         file,
     })
@@ -82,12 +87,12 @@ fn options<'a>(matches: &ArgMatches<'a>) -> Option<Options<'a>>
 /// Reads the words of the command line, of which the first is the program's name and isn't looked
 /// at.
 ///
-/// The command is a simple one of `clap`: `--entries`, `--steps` and `--gen` take one number each,
-/// as `--gen 2` or `--gen=2`; `--table` and `--first` take no value; another word is the file, and
-/// behind `--` every word is. Nothing is given twice. A number is one to nine ASCII digits with a
-/// value in its range. `Usage` comes exactly where the words aren't of this form, a number is out
-/// of form or range, or a file and `--gen` are both given. Time and memory are in proportion to the
-/// words.
+/// The command is a simple one of `clap`: `--workers`, `--entries`, `--steps` and `--gen` take one
+/// number each, as `--gen 2` or `--gen=2`; `--table`, `--first` and `--simplify` take no value;
+/// another word is the file, and behind `--` every word is. Nothing is given twice. A number is one
+/// to nine ASCII digits with a value in its range. `Usage` comes exactly where the words aren't of
+/// this form, a number is out of form or range, or a file and `--gen` are both given. Time and
+/// memory are in proportion to the words.
 pub fn read_words<'a>(alloc: Global, words: &'a [&'a str]) -> Result<Options<'a>, WordsFault>
     ensures ok { IfOk result (λ options. options_of (texts words.entry.now) ≡ Some (said_by options)) }
     ensures within { IfOk result AreWithin }

@@ -3,6 +3,8 @@
 /// What the words of the command line say.
 #[derive(Clone, Copy, Debug, PartialEq, Eq)]
 pub struct Options<'a> {
+    /// How many workers saturate, 1 to 16.
+    pub workers: u32,
     /// The most entries of a table, 1 to 1,000,000.
     pub entries: u32,
     /// The most reduction steps of a path, 1 to 4,000,000.
@@ -11,6 +13,8 @@ pub struct Options<'a> {
     pub table: bool,
     /// Whether saturation ends with the start entry.
     pub first: bool,
+    /// Whether the scheme is made smaller before it is decided.
+    pub simplify: bool,
     /// The number of states of the generated file that is read in place of a file, 1 to 300: the
     /// value of `--gen`.
     pub cycle: Option<u32>,

@@ -4,10 +4,12 @@ use crate::{Options, WordsFault, read_words};
 use std::test::Fail;
 
 const DEFAULT: Options<'static> = Options {
+    workers: 4,
     entries: 200_000,
     steps: 1_000_000,
     table: false,
     first: false,
+    simplify: false,
     cycle: None,
     file: None,
 };
@@ -83,8 +85,30 @@ fn numbers_within_their_ranges(rt: HostRuntime) -> Result<(), Fail> {
 }
 
 #[test]
+fn workers_and_simplification(rt: HostRuntime) -> Result<(), Fail> {
+    let rows: [(&[&str], u32, bool, Option<&str>); 6] = [
+        (&["horsat", "--workers", "1"], 1, false, None),
+        (&["horsat", "--workers=16", "f"], 16, false, Some("f")),
+        (&["horsat", "--workers", "04"], 4, false, None),
+        (&["horsat", "--simplify"], 4, true, None),
+        (&["horsat", "f", "--simplify"], 4, true, Some("f")),
+        (&["horsat", "--simplify", "--workers=3"], 3, true, None),
+    ];
+    for (words, workers, simplify, file) in rows {
+        let expected = Options {
+            workers,
+            simplify,
+            file,
+            ..DEFAULT
+        };
+        assert_eq!(rt; read_words(rt.alloc(), words), Ok(expected), "{words:?}");
+    }
+    Ok(())
+}
+
+#[test]
 fn words_that_are_refused(rt: HostRuntime) -> Result<(), Fail> {
-    let rows: [&[&str]; 44] = [
+    let rows: [&[&str]; 50] = [
         &["horsat", "--nosuch"],
         &["horsat", "--help"],
         &["horsat", "--version"],
@@ -92,8 +116,14 @@ fn words_that_are_refused(rt: HostRuntime) -> Result<(), Fail> {
         &["horsat", "-V"],
         &["horsat", "-t"],
         &["horsat", "--tab"],
-        &["horsat", "--workers", "2"],
-        &["horsat", "--simplify"],
+        &["horsat", "--workers"],
+        &["horsat", "--workers", "0"],
+        &["horsat", "--workers", "17"],
+        &["horsat", "--workers", "1x"],
+        &["horsat", "--workers=2", "--workers", "2"],
+        &["horsat", "--simplify=x"],
+        &["horsat", "--simplify", "--simplify"],
+        &["horsat", "--minimal"],
         &["horsat", "---"],
         &["horsat", "--=f"],
         &["horsat", "--table=x"],

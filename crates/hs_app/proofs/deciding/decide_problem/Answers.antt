@@ -1,13 +1,13 @@
 use Rattle.hs_app.proofs.deciding.decide_problem.Goals as goal
 
 pub of_done-decided-requires-clause-sorted : goal.of_done-decided-requires-clause-sorted
-of_done-decided-requires-clause-sorted c = c.know.ensures
+of_done-decided-requires-clause-sorted g c = c.know.ensures
 
 pub of_done-decided-requires-clause-done : goal.of_done-decided-requires-clause-done
-of_done-decided-requires-clause-done c = c.in_ok-done.ensures.done
+of_done-decided-requires-clause-done g c = c.in_ok-done.ensures.done
 
 pub of_done-decided-requires-clause-verdict : goal.of_done-decided-requires-clause-verdict
-of_done-decided-requires-clause-verdict c = c.in_ok-done.ensures.verdict c.requires.flow
+of_done-decided-requires-clause-verdict g c = c.in_ok-done.ensures.verdict c.requires.flow
 
 pub returns : goal.returns
-returns c = c.of_done-decided.ensures
+returns g c = c.of_done-decided.ensures

@@ -1,35 +1,50 @@
-use Rattle.std.proofs.Common.{subst, ℕ, ◌≤◌, length}
+use Rattle.std.proofs.Common.{sym, subst, ℕ, ◌≤◌, List, length}
+use Rattle.hs_scheme.specs.declared.term.Rule.{Rule}
+use Rattle.hs_scheme.specs.Problem.{ProblemData}
+use Rattle.hs_table.specs.Tables.{HasSupports}
+use Rattle.hs_trace.specs.Failing.{IsFailingPath}
+use Rattle.hs_scheme.specs.Run.{start}
+use Rattle.hs_scheme.specs.Steps.{Reaches}
 use Rattle.hs_text.specs.declared.verdict.Verdict.TheVariants.{Rejected, Long}
-use Rattle.hs_core.specs.Core.{log_of}
+use Rattle.hs_core.specs.Core.{state_of, log_of}
 use Rattle.hs_path.specs.declared.answer.Walk.{Walk}
 use Rattle.hs_path.specs.Walked.{IsWalk}
 use Rattle.hs_app.specs.Verdict.{IsShown}
-use Rattle.hs_app.proofs.CoreLemmas.{core_within}
+use Rattle.hs_app.proofs.CoreLemmas.{core_within, core_supports}
+use Rattle.hs_app.proofs.DecidingLemmas.{either_way}
 use Rattle.hs_app.proofs.deciding.rejected.Goals as goal
 
 pub returns-in_ok-report-in-Found : goal.returns-in_ok-report-in-Found
 returns-in_ok-report-in-Found c =
     let log = log_of c.args.core.now in
-    let found =
-    subst (λ (w : Walk). IsWalk c.args.problem.now.sorted c.args.settings.steps w) c.in-Found.is (c.in_ok-path.ensures) in
+    let supports = (state_of c.args.core.now).supports in
+    let p = c.args.problem.now in
+    let found = subst (λ (w : Walk). IsWalk p log supports c.args.settings.steps w) c.in-Found.is (c.in_ok-path.ensures) in
+    let supported = subst (λ (q : ProblemData). HasSupports q log supports) (sym c.requires.problem) (core_supports c.args.core.now c.is_core.ensures) in
     record {
       rejects = c.requires.rejects;
       table = log;
       reported = c.requires.reported;
       within = subst (λ (n : ℕ). length log ≤ n) c.requires.budget (core_within c.args.core.now c.is_core.ensures);
       path = c.in-Found.path;
-      fails = found.0;
-      few = found.1;
+      fails = (c.in-Found.path.used, c.namings_end_and_fail.ensures.fails p log supports c.know.ensures supported c.in-Found.path.used c.in-Found.path.steps found.names);
+      walked = either_way c.args.settings.simplify (λ (rules : List Rule). IsFailingPath rules p.sorted.automaton.transitions c.in-Found.path) p.sorted.scheme.rules found.fails;
+      few = found.few;
+      supports = supports;
+      supported = supported;
+      names = found.names;
       tells =
-          subst (λ (n : ℕ). IsShown c.args.problem.now c.args.settings.table (Rejected n c.in-Found.path) log c.in_ok-report-in-Found.report.items)
+          subst (λ (n : ℕ). IsShown p c.args.settings.table (Rejected n c.in-Found.path) log c.args.removed c.in_ok-report-in-Found.report.items)
           c.len-entries.ensures (c.in_ok-report-in-Found.ensures);
     }
 
 pub returns-in_ok-report-in-StepLimit : goal.returns-in_ok-report-in-StepLimit
 returns-in_ok-report-in-StepLimit c =
     let log = log_of c.args.core.now in
-    let cut =
-    subst (λ (w : Walk). IsWalk c.args.problem.now.sorted c.args.settings.steps w) c.in-StepLimit.is (c.in_ok-path.ensures) in
+    let supports = (state_of c.args.core.now).supports in
+    let p = c.args.problem.now in
+    let cut = subst (λ (w : Walk). IsWalk p log supports c.args.settings.steps w) c.in-StepLimit.is (c.in_ok-path.ensures) in
+    let supported = subst (λ (q : ProblemData). HasSupports q log supports) (sym c.requires.problem) (core_supports c.args.core.now c.is_core.ensures) in
     record {
       rejects = c.requires.rejects;
       table = log;
@@ -38,9 +53,20 @@ returns-in_ok-report-in-StepLimit c =
       prefix = c.in-StepLimit._prefix.items;
       state = cut.state;
       term = cut.term;
-      reaches = cut.reaches;
+      reaches =
+          either_way c.args.settings.simplify (λ (rules : List Rule). Reaches rules p.sorted.automaton.transitions c.args.settings.steps 0 start c.in-StepLimit._prefix.items cut.state cut.term)
+          p.sorted.scheme.rules cut.reaches;
       goes_on = cut.goes_on;
+      supports = supports;
+      supported = supported;
+      need = cut.need;
+      whole = cut.path;
+      names = cut.names;
+      longer = cut.longer;
+      rest = cut.rest;
+      begins = cut.begins;
+      fails = (cut.need, c.namings_end_and_fail.ensures.fails p log supports c.know.ensures supported cut.need cut.path cut.names);
       tells =
-          subst (λ (n : ℕ). IsShown c.args.problem.now c.args.settings.table (Long n c.args.settings.steps) log c.in_ok-report-in-StepLimit.report.items)
+          subst (λ (n : ℕ). IsShown p c.args.settings.table (Long n c.args.settings.steps) log c.args.removed c.in_ok-report-in-StepLimit.report.items)
           c.len-entries.ensures (c.in_ok-report-in-StepLimit.ensures);
     }

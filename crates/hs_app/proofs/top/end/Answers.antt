@@ -9,7 +9,7 @@ use Rattle.hs_app.proofs.top.end.Goals as goal
 
 pub returns-in-Err-clause-ends : goal.returns-in-Err-clause-ends
 returns-in-Err-clause-ends g c =
-    let name = ordered (texts c.args.words.now) in
+    let name = ordered _ (texts c.args.words.now) in
     let source = source_run g.S.Source.file g.S.Source.left g.S.Source.reading g.S.Source.faults c.args.source.now c.answer.new.source in
     let out = sink_run g.O.Sink.writing g.O.Sink.faults c.args.out.now c.args.out.now in
     let err = sink_run g.E.Sink.writing g.E.Sink.faults c.args.err.now c.refuse-in-Err.new.err in

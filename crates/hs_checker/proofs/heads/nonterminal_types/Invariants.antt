@@ -1,13 +1,10 @@
 -- the entries so far have given their types
 use Rattle.std.proofs.Common.{◌↔◌, take, Contains, Bor}
-use Rattle.hs_table.specs.Types.{TypeTree, IsSet}
+use Rattle.hs_table.specs.Types.{TypeTree}
 use Rattle.hs_table.specs.Entries.{EntryData}
 use Rattle.hs_table_plain.specs.Enumeration.{body_type}
 use Rattle.hs_checker.specs.Any.{AnyOf}
 use Rattle.hs_checker.proofs.heads.nonterminal_types.Given as goal
 
 abbrev pub invariant-loop-entry : goal.invariant-loop-entry
-invariant-loop-entry l = record {
-  set : IsSet l.found.items;
-  each : (t : TypeTree) → Contains l.found.items t ↔ AnyOf (λ (r : Bor EntryData) (t : TypeTree). Contains (body_type l.body r.now) t) (take l.entry-index l.entry-items) t;
-}
+invariant-loop-entry l = (t : TypeTree) → Contains l.found.items t ↔ AnyOf (λ (r : Bor EntryData) (t : TypeTree). Contains (body_type l.body r.now) t) (take l.entry-index l.entry-items) t

@@ -15,17 +15,14 @@ loop-pair-preserved c =
     let k = c.loop-pair.pair-index in
     let d : FlowPair = record { rule = 0; param = 0; point = 0 } in
     let pair : FlowPair = get_or items k d in
-    record {
-      set = c.in_ok-add_types_at.ensures.set;
-      each = any_step (λ (f : FlowPair) (t : TypeTree). HasTypeAt c.args.index.now f.point t) items k pair c.loop-pair-test.true (same_read items k d pair c.loop-pair-test.true)
-          (λ t. Contains c.loop-pair.found.items t) (λ t. Contains c.add_types_at.new.found.items t) c.in_ok-add_types_at.ensures.each c.loop-pair.invariant.each;
-    }
+    any_step (λ (f : FlowPair) (t : TypeTree). HasTypeAt c.args.index.now f.point t) items k pair c.loop-pair-test.true (same_read items k d pair c.loop-pair-test.true)
+    (λ t. Contains c.loop-pair.found.items t) (λ t. Contains c.add_types_at.new.found.items t) c.in_ok-add_types_at.ensures c.loop-pair.invariant
 
-pub returns-clause-each : goal.returns-clause-each
-returns-clause-each c = λ t.
+pub returns : goal.returns
+returns c = λ t.
     let items = c.flow_of-pair-items.result.now in
     let pairs = ap (λ (q : ProblemData). q.flow.pairs) c.problem.view_is in
     let is = take_all c.loop-pair.pair-index items c.loop-pair-test.false ∙ (c.flow_of-pair-items.ensures.pairs ∙ ap (filter (λ (f : FlowPair). nat_eq f.rule c.args.rule && nat_eq f.param c.args.parameter)) pairs) in
-    let all = subst (λ (fs : List FlowPair). Contains c.loop-pair.found.items t ↔ AnyOf (λ (f : FlowPair) (t : TypeTree). HasTypeAt c.args.index.now f.point t) fs t) is (c.loop-pair.invariant.each t) in
+    let all = subst (λ (fs : List FlowPair). Contains c.loop-pair.found.items t ↔ AnyOf (λ (f : FlowPair) (t : TypeTree). HasTypeAt c.args.index.now f.point t) fs t) is (c.loop-pair.invariant t) in
     let exact = flow_types c.args.index.now c.args.problem.now.flow.pairs c.args.rule c.args.parameter t in
     (λ k. exact.0 (all.0 k), λ k. all.1 (exact.1 k))

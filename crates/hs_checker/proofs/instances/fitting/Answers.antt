@@ -1,32 +1,33 @@
-use Rattle.std.proofs.Common.{◌≡◌, sym, ◌∙◌, ap, subst, ◌+◌, true, false, Vec, Global, List, take, Contains, ◌↔◌}
-use Rattle.std.proofs.lemmas.List.{take_all}
-use Rattle.hs_table.specs.Types.{TypeTree, IsSet}
+use Rattle.std.proofs.Common.{◌≡◌, sym, ◌∙◌, subst, true, false, List, length, arith, Contains, ◌↔◌}
+use Rattle.hs_table.specs.Types.{TypeTree}
 use Rattle.hs_checker.specs.Slots.{Fits}
-use Rattle.hs_checker.proofs.InstanceLemmas.{fitting_more, fitting_same}
+use Rattle.hs_checker.proofs.Once.{all_given, one_given}
+use Rattle.hs_checker.proofs.InstanceLemmas.{fitting_pushed, fitting_passed}
 use Rattle.hs_checker.proofs.instances.fitting.Goals as goal
-use Rattle.hs_checker.proofs.instances.fitting.Goals.{then-fits+in_ok-add_type, else-fits}
+
+pub loop-ty-preserved-in-Continue-1 : goal.loop-ty-preserved-in-Continue-1
+loop-ty-preserved-in-Continue-1 c =
+    record {
+      each = fitting_pushed c.args.index.now c.args.args.now c.loop-ty.yielded c.loop-ty.found.items c.push.new.self.items c.in-Some.ty c.in_ok-push.ensures.items (c.fits.ensures.0 c.if-fits.true) c.loop-ty.invariant.each;
+      whole = one_given c.loop-ty.yielded c.loop-ty.ty-iterator.rest.items c.next.new.self.rest.items c.args.types.items c.in-Some.ty c.in-Some.ensures.steps.0 c.loop-ty.invariant.whole;
+    }
+
+pub loop-ty-preserved-else-fits : goal.loop-ty-preserved-else-fits
+loop-ty-preserved-else-fits c =
+    record {
+      each = fitting_passed c.args.index.now c.args.args.now c.loop-ty.yielded c.loop-ty.found.items c.in-Some.ty (λ fit. let f : false ≡ true = sym c.if-fits.false ∙ c.fits.ensures.1 fit in absurd (cc)) c.loop-ty.invariant.each;
+      whole = one_given c.loop-ty.yielded c.loop-ty.ty-iterator.rest.items c.next.new.self.rest.items c.args.types.items c.in-Some.ty c.in-Some.ensures.steps.0 c.loop-ty.invariant.whole;
+    }
 
 pub loop-ty-preserved : goal.loop-ty-preserved
 loop-ty-preserved c =
-    let E = c.args.index.now in
-    let types = c.args.types.now in
-    let k = c.loop-ty.ty-index in
-    elim c.if-fits.branch [
-      | then-fits+in_ok-add_type w ↦
-          let is = sym (ap (λ (v : Vec TypeTree Global). v.items) w.found-is) in
-          record {
-            set = subst (λ (ts : List TypeTree). IsSet ts) is w.in_ok-add_type.ensures.set;
-            each = subst (λ (ts : List TypeTree). (t : TypeTree) → Contains ts t ↔ (Contains (take (k + 1) types) t × Fits E c.args.args.now t)) is
-                (fitting_more E c.args.args.now types c.loop-ty.found.items w.add_type.new.found.items k c.ty-item.result c.loop-ty-test.true c.ty-item.is (c.fits.ensures.0 w.if-fits.true) w.in_ok-add_type.ensures.each c.loop-ty.invariant.each);
-          }
-      | else-fits w ↦
-          let is = sym (ap (λ (v : Vec TypeTree Global). v.items) w.found-is) in
-          record {
-            set = subst (λ (ts : List TypeTree). IsSet ts) is c.loop-ty.invariant.set;
-            each = subst (λ (ts : List TypeTree). (t : TypeTree) → Contains ts t ↔ (Contains (take (k + 1) types) t × Fits E c.args.args.now t)) is
-                (fitting_same E c.args.args.now types c.loop-ty.found.items k c.ty-item.result c.loop-ty-test.true c.ty-item.is (λ fit. let f : false ≡ true = sym w.if-fits.false ∙ c.fits.ensures.1 fit in absurd (cc)) c.loop-ty.invariant.each);
-          }
-    ]
+    record {
+      each = fitting_passed c.args.index.now c.args.args.now c.loop-ty.yielded c.loop-ty.found.items c.in-Some.ty (λ fit. let f : false ≡ true = sym c.if-fits.false ∙ c.fits.ensures.1 fit in absurd (cc)) c.loop-ty.invariant.each;
+      whole = one_given c.loop-ty.yielded c.loop-ty.ty-iterator.rest.items c.next.new.self.rest.items c.args.types.items c.in-Some.ty c.in-Some.ensures.steps.0 c.loop-ty.invariant.whole;
+    }
 
-pub returns-clause-each : goal.returns-clause-each
-returns-clause-each c = λ t. subst (λ (ts : List TypeTree). Contains c.loop-ty.found.items t ↔ (Contains ts t × Fits c.args.index.now c.args.args.now t)) (take_all c.loop-ty.ty-index c.args.types.now c.loop-ty-test.false) (c.loop-ty.invariant.each t)
+pub returns : goal.returns
+returns c =
+    let none : length c.loop-ty.ty-iterator.rest.items ≡ 0 = omega (arith, c.in-None.ensures.steps.0, c.loop-ty.ty-iterator.rest.ok.0) in
+    let all = all_given c.loop-ty.yielded c.loop-ty.ty-iterator.rest.items c.args.types.items none c.loop-ty.invariant.whole in
+    λ t. subst (λ (ts : List TypeTree). Contains c.loop-ty.found.items t ↔ (Contains ts t × Fits c.args.index.now c.args.args.now t)) all (c.loop-ty.invariant.each t)

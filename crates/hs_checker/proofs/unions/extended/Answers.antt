@@ -8,16 +8,17 @@ use Rattle.hs_checker.proofs.EnvLemmas.{extended_by}
 use Rattle.hs_checker.proofs.unions.extended.Goals as goal
 
 pub loop-candidate-preserved : goal.loop-candidate-preserved
-loop-candidate-preserved c = record {
-  ascending = c.in_ok-extend_by.ensures.ascending;
-  each = any_step (λ (r : Bor EntryData) (y : EntryData). AnyOf (λ (x y : EntryData). y ≡ joined x r.now) c.args.entries.now y) c.at-candidate-items.result.now c.loop-candidate.candidate-index c.candidate-item.result c.loop-candidate-test.true c.candidate-item.is
-      (λ e. Contains c.loop-candidate.found.items e) (λ e. Contains c.extend_by.new.found.items e) c.in_ok-extend_by.ensures.each c.loop-candidate.invariant.each;
-}
+loop-candidate-preserved c = λ e.
+    let thinned = c.in_ok-room.ensures e in
+    let step = any_step (λ (r : Bor EntryData) (y : EntryData). AnyOf (λ (x y : EntryData). y ≡ joined x r.now) c.args.entries.now y) c.at-candidate-items.result.now c.loop-candidate.candidate-index c.candidate-item.result c.loop-candidate-test.true c.candidate-item.is
+    (λ e. Contains c.loop-candidate.found.items e) (λ e. Contains c.extend_by.new.found.items e) c.in_ok-extend_by.ensures c.loop-candidate.invariant e in
+    (λ k. step.0 (thinned.0 k), λ k. thinned.1 (step.1 k))
 
-pub returns-clause-each : goal.returns-clause-each
-returns-clause-each c = λ e.
+pub returns : goal.returns
+returns c = λ e.
     let rows = c.at-candidate-items.result.now in
     let all = subst (λ (rs : List (Bor EntryData)). Contains c.loop-candidate.found.items e ↔ AnyOf (λ (r : Bor EntryData) (y : EntryData). AnyOf (λ (x y : EntryData). y ≡ joined x r.now) c.args.entries.now y) rs e)
-    (take_all c.loop-candidate.candidate-index rows c.loop-candidate-test.false) (c.loop-candidate.invariant.each e) in
+    (take_all c.loop-candidate.candidate-index rows c.loop-candidate-test.false) (c.loop-candidate.invariant e) in
     let exact = extended_by c.args.index.now rows c.args.arg c.args.ty.now c.args.entries.now c.at-candidate-items.ensures e in
-    (λ k. exact.0 (all.0 k), λ k. all.1 (exact.1 k))
+    let thinned = c.in_ok-thin.ensures e in
+    (λ k. exact.0 (all.0 (thinned.0 k)), λ k. thinned.1 (all.1 (exact.1 k)))

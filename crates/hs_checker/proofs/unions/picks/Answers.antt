@@ -8,7 +8,7 @@ use Rattle.hs_checker.proofs.unions.picks.Goals as goal
 pub loop-ty-preserved : goal.loop-ty-preserved
 loop-ty-preserved c = λ e.
     let E = c.args.index.now in
-    let each = subst (λ (es : List EntryData). (e : EntryData) → Contains c.in_ok-found.found.items e ↔ Contains (flat_map (λ x. flat_map (extended c.args.arg c.ty-item.result x) E) es) e) c.as_slice.ensures.value c.in_ok-found.ensures.each in
+    let each = subst (λ (es : List EntryData). (e : EntryData) → Contains c.in_ok-found.found.items e ↔ Contains (flat_map (λ x. flat_map (extended c.args.arg c.ty-item.result x) E) es) e) c.as_slice.ensures.value c.in_ok-found.ensures in
     let step = picks_step E c.args.arg c.args.set.now c.loop-ty.ty-index c.ty-item.result c.loop-ty.found.items c.in_ok-found.found.items c.loop-ty-test.true c.ty-item.is each e in
     let before = c.loop-ty.invariant e in
     (λ k. before.0 (step.0 k), λ k. step.1 (before.1 k))

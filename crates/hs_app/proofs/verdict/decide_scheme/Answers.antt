@@ -1,0 +1,5 @@
+use Rattle.hs_app.proofs.SimplifiedLemmas.{of_plain}
+use Rattle.hs_app.proofs.verdict.decide_scheme.Goals as goal
+
+pub returns-else-settings : goal.returns-else-settings
+returns-else-settings g c = of_plain c.args.settings _ c.args.sorted c.know_sorted.ensures c.decide_form.result c.if-settings.false c.decide_form.ensures

@@ -1,0 +1,147 @@
+//! The types of a terminal whose sets have entries.
+
+ghost use Rattle.std.specs.Prelude.{◌≡◌, ◌<◌, ◌↔◌, ◌⊎◌, ℕ, IsTrue, length, slice_get, Some, Contains, IfOk, OnOk, option_copied};
+ghost use Rattle.hs_scheme.specs.Automaton as automaton;
+ghost use Rattle.hs_table.specs.Types as types;
+ghost use Rattle.hs_table.specs.Types.{TypeTree};
+ghost use Rattle.hs_table.specs.Follows.{rank_of};
+ghost use Rattle.hs_checker.specs.Slots.{HasTypeAt, Fits};
+ghost use Rattle.hs_table_plain.specs.Enumeration as plain;
+
+use crate::heads::{arrows, empty_sets, singleton, state};
+use crate::index::Index;
+use crate::instances::fits;
+use crate::shape::states;
+use hs_scheme::{OutOfMemory, Problem};
+use hs_table::Ty;
+use std::alloc::Global;
+
+/// The type of a terminal whose child at this place, counted from 0, is rejected.
+fn child_type(alloc: Global, to: &[u32], q: u32, place: usize) -> Result<Ty, OutOfMemory>
+    requires { place < length to.now }
+    ensures { IfOk result (λ ty. ty ≡ plain.child_type to.now q place) }
+{
+    let mut sets = empty_sets(alloc, to.len())?;
+    sets[place] = singleton(alloc, state(to[place]))?;
+    arrows(alloc, sets.as_slice(), state(q))
+}
+
+/// The rank of the terminal.
+fn rank(problem: &Problem, terminal: u32) -> u32
+    ensures { result ≡ rank_of problem.now terminal }
+{
+    match problem.sorted.scheme.ranks.get(terminal as usize) {
+        None => 0,
+        Some(rank) => *rank,
+    }
+}
+
+/// The states in which the children of a node with the terminal are read, if there is a transition.
+fn transition(problem: &Problem, q: u32, terminal: u32) -> Option<&[u32]>
+    ensures { option_copied result ≡ automaton.next problem.now.sorted.automaton.transitions q terminal }
+{
+    problem.sorted.automaton.next(q, terminal)
+}
+
+/// Adds the type, where its sets have entries.
+fn add_fitting(index: &Index, args: &[u32], ty: Ty, found: &mut Vec<Ty>) -> Result<(), OutOfMemory>
+    ensures { OnOk result ((t : TypeTree) → Contains found.new.items t ↔ (Contains found.old.items t ⊎ ((t ≡ ty) × Fits index.now args.now t))) }
+{
+    if fits(index, args, &ty) {
+        found.push(ty)?;
+    }
+    Ok(())
+}
+
+/// Whether there is an argument at this place, and no entry there has the state as its type.
+fn asks_in_vain(index: &Index, args: &[u32], place: usize, r: u32) -> bool
+    ensures { IsTrue result → (u : ℕ) × ((slice_get args.now place ≡ Some u) × (HasTypeAt index.now u (types.state r) → ⊥)) }
+{
+    match args.get(place) {
+        None => false,
+        Some(arg) => index.at(*arg, &state(r)).is_empty(),
+    }
+}
+
+/// Adds the type by which the child at this place is rejected, where its sets have entries.
+fn add_child_type(
+    alloc: Global,
+    index: &Index,
+    args: &[u32],
+    to: &[u32],
+    q: u32,
+    place: usize,
+    found: &mut Vec<Ty>,
+) -> Result<(), OutOfMemory>
+    requires { place < length to.now }
+    ensures { OnOk result ((t : TypeTree) → Contains found.new.items t ↔ (Contains found.old.items t ⊎ ((t ≡ plain.child_type to.now q place) × Fits index.now args.now t))) }
+{
+    if asks_in_vain(index, args, place, to[place]) {
+        return Ok(());
+    }
+    let ty = child_type(alloc, to, q, place)?;
+    add_fitting(index, args, ty, found)
+}
+
+/// Adds those for all children.
+fn add_child_types(
+    alloc: Global,
+    index: &Index,
+    args: &[u32],
+    to: &[u32],
+    q: u32,
+    found: &mut Vec<Ty>,
+) -> Result<(), OutOfMemory>
+    ensures { OnOk result ((t : TypeTree) → Contains found.new.items t ↔ (Contains found.old.items t ⊎ (Contains (plain.child_types to.now q (length to.now)) t × Fits index.now args.now t))) }
+{
+    for place in 0..to.len() {
+        add_child_type(alloc, index, args, to, q, place, found)?;
+    }
+    Ok(())
+}
+
+/// Adds the types of the terminal in one state whose sets have entries: without a transition the type
+/// with empty sets, with one a type for each child.
+fn add_types_in(
+    alloc: Global,
+    problem: &Problem,
+    index: &Index,
+    args: &[u32],
+    terminal: u32,
+    q: u32,
+    found: &mut Vec<Ty>,
+) -> Result<(), OutOfMemory>
+    ensures { OnOk result ((t : TypeTree) → Contains found.new.items t
+        ↔ (Contains found.old.items t ⊎ (Contains (plain.types_in problem.now terminal q (automaton.next problem.now.sorted.automaton.transitions q terminal)) t × Fits index.now args.now t))) }
+{
+    match transition(problem, q, terminal) {
+        None => {
+            let sets = empty_sets(alloc, rank(problem, terminal) as usize)?;
+            let ty = arrows(alloc, sets.as_slice(), state(q))?;
+            add_fitting(index, args, ty, found)?;
+            Ok(())
+        }
+        Some(to) => {
+            add_child_types(alloc, index, args, to, q, found)?;
+            Ok(())
+        }
+    }
+}
+
+/// The types of the terminal whose sets have entries at the arguments. A type is formed only where its
+/// child has an entry, so that a state costs little more than the look-up of its transition.
+pub(crate) fn terminal_instances(
+    alloc: Global,
+    problem: &Problem,
+    index: &Index,
+    args: &[u32],
+    terminal: u32,
+) -> Result<Vec<Ty>, OutOfMemory>
+    ensures { IfOk result (λ found. (t : TypeTree) → Contains found.items t ↔ (Contains (plain.terminal_types problem.now terminal problem.now.sorted.automaton.states) t × Fits index.now args.now t)) }
+{
+    let mut found = Vec::new(alloc);
+    for q in 0..states(problem) {
+        add_types_in(alloc, problem, index, args, terminal, q, &mut found)?;
+    }
+    Ok(found)
+}

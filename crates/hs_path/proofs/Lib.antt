@@ -1,0 +1,4 @@
+pub mod StoredLemmas
+pub mod AddingLemmas
+pub mod TurningLemmas
+pub mod WalkingLemmas

@@ -1,0 +1,107 @@
+-- What a support names stands before it, and what is known at a spot.
+use Rattle.std.proofs.Common.{◌≡◌, refl, subst as along, ℕ, zero, suc, ◌<◌, ◌≤◌, List, [], ◌∷◌, length, get_or, take, slice_get, Some, arith}
+use Rattle.std.specs.Prelude.{All}
+use Rattle.std.proofs.lemmas.List.Elements.{All-nil, All-cons}
+use Rattle.std.proofs.lemmas.Option.{slice_get_within, slice_get-get_or}
+use Rattle.hs_scheme.specs.declared.term.Head.{Head}
+use Rattle.hs_scheme.specs.declared.term.Head.TheVariants.{Var, Nt, Tm}
+use Rattle.hs_scheme.specs.Problem.{ProblemData}
+use Rattle.hs_table.specs.declared.support.HeadBy.{HeadBy}
+use Rattle.hs_table.specs.declared.support.HeadBy.TheVariants.{Terminal, Rule, Param}
+use Rattle.hs_table.specs.Types.{TypeTree}
+use Rattle.hs_table.specs.Entries.{Env, EntryData}
+use Rattle.hs_table.specs.Follows.{IsHeadType, Chosen, done, next_argument, choose, Support}
+use Rattle.hs_table.specs.Tables.{HasSupports}
+use Rattle.hs_table_laws.proofs.Places.{at_take}
+use Rattle.hs_naming.specs.Naming.{entry_at}
+use Rattle.hs_naming.specs.Evidence.{Evidence, Packs, evidence}
+use Rattle.hs_types.specs.Interned.{Begins}
+use Rattle.hs_path.specs.declared.evidence.Spot.{Spot}
+use Rattle.hs_path.specs.declared.evidence.Store.{Store}
+use Rattle.hs_path.specs.declared.turning.Turn.{Turn}
+use Rattle.hs_path.specs.declared.turning.Turn.TheVariants.{End, Silent, Step}
+use Rattle.hs_path.specs.Stored.{Piled, Grows, Nothing, Knows}
+use Rattle.hs_path.specs.Turned.{HeadWithin, PremisesWithin, IsSpot, Turns}
+use Rattle.hs_path.proofs.StoredLemmas.{piled_grow}
+
+module _ (p : ProblemData) (T : List EntryData) (i : ℕ) where
+  head_within : (rule : ℕ) (h : Head) (by : HeadBy) (ty : TypeTree) → IsHeadType p (take i T) rule h by ty → HeadWithin i by
+  head_within rule h (Terminal q child) ty is = tt
+  head_within rule (Nt f) (Rule place) ty is = (at_take i T place is.entry is.holds.at).0
+  head_within rule (Var x) (Rule place) ty is = absurd is
+  head_within rule (Tm a) (Rule place) ty is = absurd is
+  head_within rule (Var x) (Param y place) ty is = (at_take i T place is.1.entry is.1.holds.at).0
+  head_within rule (Nt f) (Param y place) ty is = absurd is
+  head_within rule (Tm a) (Param y place) ty is = absurd is
+
+  chosen_within : {k : ℕ} {us : List ℕ} {ss : Env} {args : List (ℕ × ℕ)} {es : List EntryData} → Chosen p (take i T) k us ss args es → All (λ (c : ℕ × ℕ). c.1 < i) args
+  chosen_within done = All-nil (λ (c : ℕ × ℕ). c.1 < i)
+  chosen_within (next_argument c) = chosen_within c
+  chosen_within (choose {i = k} {place = place} {args = args} {e = e} is point ty c) =
+      All-cons (λ (c : ℕ × ℕ). c.1 < i) (k, place) args (at_take i T place e is.at).0 (chosen_within c)
+
+pub premises_within : (p : ProblemData) (T : List EntryData) (supports : List Support) → HasSupports p T supports → (i : ℕ) (s : Support) → i < length T → slice_get supports i ≡ Some s → PremisesWithin p T i s
+premises_within p T supports log i s lt at =
+    let e : EntryData = entry_at T i in
+    let f = log.follows i s e at (slice_get-get_or T i _ lt) in
+    record {
+      point = slice_get_within p.points.points e.point f.of f.at;
+      head = head_within p T i f.of.rule f.of.head s.head _ f.head;
+      args = chosen_within p T i f.are;
+    }
+
+pub begins_longer : {X : Type 0} (xs ys : List X) → Begins xs ys → length xs ≤ length ys
+begins_longer [] ys b = omega arith
+begins_longer (x ∷ xs) ys b = let r = slice_get_within ys (length xs) (get_or (x ∷ xs) (length xs) x) (b (length xs) _ (slice_get-get_or (x ∷ xs) (length xs) x (omega arith))) in omega (arith, r)
+
+pub spot_grows : (bound : ℕ) (old new : Store) (g : Grows old new) (spot : Spot) (e : Evidence) → IsSpot bound old spot e → IsSpot bound new spot e
+spot_grows bound old new g spot e at = record {
+  node = record {
+    own = at.node.own;
+    is = at.node.is;
+    within = at.node.within;
+    packs = piled_grow bound old new g spot.number spot.number old.owns.items new.owns.items spot.node.own.from spot.node.own.to at.node.own (omega arith) g.owns at.node.packs;
+  };
+  within = omega (arith, at.within, begins_longer old.nodes.items new.nodes.items g.nodes);
+  lowest = at.lowest;
+}
+
+module _ (bound : ℕ) (s : Store) (spot : Spot) (own : Packs) (nothing : Nothing bound s) (at : IsSpot bound s spot (evidence spot.node.place own)) where
+  own_packs : Piled bound s spot.number s.owns.items spot.node.own.from spot.node.own.to own
+  own_packs =
+      let same : at.node.own ≡ own = (let e = at.node.is in cc) in
+      along (λ (x : Packs). Piled bound s spot.number s.owns.items spot.node.own.from spot.node.own.to x) same at.node.packs
+
+  -- what is known by any bound from the spot's number on
+  pub spot_knows : (below : ℕ) → spot.number ≤ below → 0 < below → Knows bound s below spot.node own
+  spot_knows below le some = record {
+    nothing = nothing;
+    some = some;
+    packs = piled_grow bound s s (record { nodes = λ i x e. e; owns = λ i x e. e; packs = λ i x e. e; members = λ i x e. e }) spot.number below s.owns.items s.owns.items
+        spot.node.own.from spot.node.own.to own le (λ i x e. e) own_packs;
+  }
+
+  pub some_nodes : 0 < length s.nodes.items
+  some_nodes = slice_get_within s.nodes.items 0 nothing.0 nothing.1
+
+  module _ (new : Store) (head : HeadBy) (terminal : ℕ) (of : ℕ → ℕ → Evidence) (packs : Packs) (items : List ℕ) where
+    no_silent : (below lower : ℕ) (turn : Turn) → HeadWithin 0 head → Turns bound new below head terminal of packs items turn → Turns bound new lower head terminal of packs items turn
+    no_silent below lower (End a q) within t = t
+    no_silent below lower (Step label next) within t = t
+    no_silent below lower (Silent next) within t = let none : t.m < 0 = along (HeadWithin 0) t.is within in absurd (omega (arith, none))
+
+    -- at the lowest number no parameter is in front
+    pub turned_at : (turn : Turn) → HeadWithin spot.node.place head → ((below : ℕ) → Knows bound s below spot.node own → Turns bound new below head terminal of packs items turn)
+        → Turns bound new spot.number head terminal of packs items turn
+    turned_at turn within turns = by_number spot.number refl
+      where
+        by_number : (n : ℕ) → spot.number ≡ n → Turns bound new spot.number head terminal of packs items turn
+        by_number zero e =
+            no_silent (length s.nodes.items) spot.number turn (along (λ (i : ℕ). HeadWithin i head) (at.lowest e) within)
+            (turns (length s.nodes.items) (spot_knows (length s.nodes.items) at.within some_nodes))
+        by_number (suc n) e = turns spot.number (spot_knows spot.number (omega arith) (omega (arith, e)))
+
+pub head_weaker : (i n : ℕ) (head : HeadBy) → i ≤ n → HeadWithin i head → HeadWithin n head
+head_weaker i n (Terminal q child) le within = tt
+head_weaker i n (Rule place) le within = omega (arith, le, within)
+head_weaker i n (Param x place) le within = omega (arith, le, within)

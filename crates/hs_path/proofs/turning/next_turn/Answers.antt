@@ -1,0 +1,83 @@
+use Rattle.std.proofs.Common.{◌≡◌, sym, ◌∙◌, ap, subst as along, length, arith, ℕ, ◌<◌, List}
+use Rattle.std.proofs.lemmas.List.Elements.{All-weaker}
+use Rattle.hs_scheme.specs.Points.{PointsData}
+use Rattle.hs_scheme.specs.Problem.{ProblemData}
+use Rattle.hs_table.specs.Entries.{EntryData}
+use Rattle.hs_table.specs.Follows.{Support}
+use Rattle.hs_table_laws.proofs.Places.{read_from}
+use Rattle.hs_naming.specs.Evidence.{Evidence, Packs, evidence, no_packs, stacked}
+use Rattle.hs_naming.specs.Naming.{support_at, point_at, terminal_of, argument_packs}
+use Rattle.hs_core.specs.Core.{log_of, state_of}
+use Rattle.hs_path.specs.declared.evidence.Store.{Store}
+use Rattle.hs_path.specs.Stored.{Nothing, Knows, Grows, premise}
+use Rattle.hs_path.specs.Turned.{owns, Turns}
+use Rattle.hs_path.proofs.StoredLemmas.{grows_then, stands_grow}
+use Rattle.hs_path.proofs.TurningLemmas.{premises_within, head_weaker, spot_grows, spot_knows, some_nodes, turned_at}
+use Rattle.hs_path.proofs.turning.next_turn.Goals as goal
+
+pub args_of-arguments-requires : goal.args_of-arguments-requires
+args_of-arguments-requires c =
+    let T = log_of c.args.core.now in
+    let s : Support = record { head = c.support.result.0.now; args = c.support.result.1.now } in
+    let w = premises_within c.args.problem.now T (state_of c.args.core.now).supports c.requires.log c.args.spot.node.place s c.requires.place c.support.ensures in
+    along (λ (x : PointsData). c.row_at-point.result.point < length x.points) (ap (λ (x : ProblemData). x.points) (sym c.problem.view_is))
+    (along (λ (e : EntryData). e.point < length c.args.problem.now.points.points) c.row_at-point.ensures.entry w.point)
+
+pub put_arguments-requires-clause-places : goal.put_arguments-requires-clause-places
+put_arguments-requires-clause-places c =
+    let T = log_of c.args.core.now in
+    let s : Support = record { head = c.support.result.0.now; args = c.support.result.1.now } in
+    let w = premises_within c.args.problem.now T (state_of c.args.core.now).supports c.requires.log c.args.spot.node.place s c.requires.place c.support.ensures in
+    All-weaker (λ (x : ℕ × ℕ). x.1 < c.args.spot.node.place) (λ (x : ℕ × ℕ). x.1 < length T) (λ x h. omega (arith, h, c.requires.place)) s.args w.args
+
+pub terminal_at-terminal-requires : goal.terminal_at-terminal-requires
+terminal_at-terminal-requires c =
+    let T = log_of c.args.core.now in
+    let s : Support = record { head = c.support.result.0.now; args = c.support.result.1.now } in
+    let w = premises_within c.args.problem.now T (state_of c.args.core.now).supports c.requires.log c.args.spot.node.place s c.requires.place c.support.ensures in
+    along (λ (e : EntryData). e.point < length c.args.problem.now.points.points) c.row_at-point.ensures.entry w.point
+
+pub by_head-requires-clause-head : goal.by_head-requires-clause-head
+by_head-requires-clause-head c =
+    let T = log_of c.args.core.now in
+    let s : Support = record { head = c.support.result.0.now; args = c.support.result.1.now } in
+    let w = premises_within c.args.problem.now T (state_of c.args.core.now).supports c.requires.log c.args.spot.node.place s c.requires.place c.support.ensures in
+    head_weaker c.args.spot.node.place (length T) s.head (omega (arith, c.requires.place)) w.head
+
+pub returns-clause-grows : goal.returns-clause-grows
+returns-clause-grows c = grows_then c.args.store.now c.put_arguments.new.store c.by_head.new.store c.in_ok-put_arguments.ensures.grows c.in_ok-turn.ensures.grows
+
+pub returns-clause-turn : goal.returns-clause-turn
+returns-clause-turn c = λ own packs nothing at piled.
+    let T : List EntryData = log_of c.args.core.now in
+    let b : ℕ = length T in
+    let p : ProblemData = c.args.problem.now in
+    let supports : List Support = (state_of c.args.core.now).supports in
+    let place : ℕ = c.args.spot.node.place in
+    let s : Support = record { head = c.support.result.0.now; args = c.support.result.1.now } in
+    let old : Store = c.args.store.now in
+    let mid : Store = c.put_arguments.new.store in
+    let new : Store = c.by_head.new.store in
+    let items : List ℕ = c.by_head.new.stack.items in
+    let turn = c.in_ok-turn.turn in
+    let g : Grows old mid = c.in_ok-put_arguments.ensures.grows in
+    let w = premises_within p T supports c.requires.log place s c.requires.place c.support.ensures in
+    let give : ℕ → Evidence = premise T place own in
+    let of : ℕ → ℕ → Evidence = owns T place own in
+    let arguments : List ℕ = c.args_of-arguments.result.now in
+    let known : Knows b old (length old.nodes.items) c.args.spot.node own = spot_knows b old c.args.spot own nothing at (length old.nodes.items) at.within (some_nodes b old c.args.spot own nothing at) in
+    let stack = c.in_ok-put_arguments.ensures.stack own packs known piled in
+    let later : Nothing b mid = stands_grow b old mid g 0 (evidence 0 no_packs) nothing in
+    let here = spot_grows b old mid g c.args.spot (evidence place own) at in
+    let full : Packs = stacked (argument_packs give 0 arguments s.args) packs in
+    let turned = turned_at b mid c.args.spot own later here new s.head c.terminal_at-terminal.result of full items turn w.head
+    (λ below knows. c.in_ok-turn.ensures.turn below own full knows stack) in
+    let q : ℕ = c.row_at-point.result.point in
+    let are : arguments ≡ (point_at p q).args =
+    c.args_of-arguments.ensures.args ∙ ap (λ (x : ProblemData). (point_at x q).args) c.problem.view_is in
+    let By : Support → ℕ → Type 0 = λ (x : Support) (r : ℕ).
+    Turns b new c.args.spot.number x.head (terminal_of (point_at p r).head) of (stacked (argument_packs give 0 (point_at p r).args x.args) packs) items turn in
+    along (λ (r : ℕ). By (support_at supports place) r) (ap (λ (e : EntryData). e.point) (sym c.row_at-point.ensures.entry))
+    (along (λ (x : Support). By x q) (sym (read_from supports place s _ c.support.ensures))
+    (along (λ (us : List ℕ). Turns b new c.args.spot.number s.head (terminal_of (point_at p q).head) of (stacked (argument_packs give 0 us s.args) packs) items turn) are
+    (along (λ (a : ℕ). Turns b new c.args.spot.number s.head a of full items turn) c.terminal_at-terminal.ensures turned)))

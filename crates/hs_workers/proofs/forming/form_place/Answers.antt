@@ -1,0 +1,23 @@
+use Rattle.std.proofs.Common.{◌≡◌, sym, ap, subst, ◌<◌, length, slice_get, unwrap_or, Some, []}
+use Rattle.hs_types.specs.Interned.{entry_of}
+use Rattle.hs_workers.proofs.FormingLemmas.{dependents_within, point_listed, place_formed, ok_more}
+use Rattle.hs_workers.proofs.forming.form_place.Goals as goal
+
+pub form_at-requires-clause-points : goal.form_at-requires-clause-points
+form_at-requires-clause-points c =
+    let p = c.args.problem.now in
+    dependents_within p.points p.flow.pairs c.args.dependents.now c.row.result.point c.list-points.result.now c.requires.dependents c.list-points.ensures
+
+pub returns-clause-found : goal.returns-clause-found
+returns-clause-found c =
+    let p = c.args.problem.now in
+    let new = c.form_at.new.replica.log in
+    let at = entry_of c.args.replica.now.ids c.row.result in
+    let points = c.list-points.result.now in
+    ok_more _ _ c.form_at.result
+    (λ found are.
+    place_formed p c.form_at.new.replica.ids new c.args.place at c.args.dependents.now points found.items
+    (subst (λ xs. c.args.place < length xs) (sym c.form_at.ensures.log) c.requires.place)
+    (subst (λ xs. slice_get xs c.args.place ≡ Some at) (sym c.form_at.ensures.log) c.row.ensures.entry)
+    c.requires.dependents (sym (ap (λ o. unwrap_or o []) c.list-points.ensures)) are)
+    c.form_at.ensures.found

@@ -1,0 +1,23 @@
+use Rattle.std.proofs.Common.{◌≡◌, sym, ap, subst, ◌∙◌, ◌+◌, ◌∷◌, ◌++◌, [], List, length, All, arith, length-append}
+use Rattle.std.proofs.lemmas.List.Elements.{All-push}
+use Rattle.hs_shared.specs.Seats.{SeatData}
+use Rattle.hs_workers.specs.Working.{IsFirst, HasSeenNothing, RestsSeated}
+use Rattle.hs_workers.proofs.FirstLemmas.{first_split, nothing_split, split_rests}
+use Rattle.hs_workers.proofs.saturating.seats_for.Goals as goal
+
+pub loop-preserved : goal.loop-preserved
+loop-preserved c =
+    let table = c.args.table.now in
+    let old = c.loop.first in
+    let new = c.split.new.seat in
+    let before = c.loop.invariant in
+    let pushed = c.in_ok-push.ensures.items in
+    record {
+      first = first_split table old new c.loop.counter before.first c.split.ensures.seat;
+      base = ap (λ (s : SeatData). s.known.base) c.split.ensures.seat ∙ before.base;
+      nothing = nothing_split old new before.nothing c.split.ensures.seat;
+      count = omega (arith, ap (λ xs. length xs) pushed, length-append c.loop.seats.items (c.into_rested.result ∷ []), before.count);
+      seats = subst (λ xs. All (RestsSeated table c.args.problem.now) xs) (sym pushed)
+          (All-push (RestsSeated table c.args.problem.now) c.loop.seats.items c.into_rested.result before.seats
+          (split_rests table c.args.problem.now c.args.first.now old c.loop.counter before.first before.nothing before.base c.requires.based c.split.result c.into_rested.result c.split.ensures.new c.into_rested.ensures));
+    }

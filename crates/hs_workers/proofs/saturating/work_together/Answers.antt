@@ -1,0 +1,22 @@
+use Rattle.std.proofs.Common.{◌≡◌, sym, ap, subst, ◌∙◌, length, All, arith}
+use Rattle.hs_turn.specs.Seats.{RestsIn}
+use Rattle.hs_workers.proofs.FirstLemmas.{by_workers}
+use Rattle.hs_workers.proofs.AnswerLemmas.{written}
+use Rattle.hs_workers.proofs.saturating.work_together.Goals as goal
+
+pub join_all-requires-clause-seats : goal.join_all-requires-clause-seats
+join_all-requires-clause-seats g c =
+    let v = c.in_ok-seats.seats in
+    let new = c.work_each.new.seats in
+    let same : length new ≡ length v.items = omega (arith, c.work_each.auto.seats, ap length c.as_mut_slice.ensures.value) in
+    subst (λ xs. All (RestsIn c.args.table) xs) (sym (written new v.items v.len same (omega (arith, v.ok.0)))) c.work_each.ensures
+
+pub returns-clause-workers : goal.returns-clause-workers
+returns-clause-workers g c =
+    let v = c.in_ok-seats.seats in
+    let new = c.work_each.new.seats in
+    let same : length new ≡ length v.items = omega (arith, c.work_each.auto.seats, ap length c.as_mut_slice.ensures.value) in
+    let long = ap length (written new v.items v.len same (omega (arith, v.ok.0))) in
+    let first = c.join_all.ensures.first in
+    by_workers c.args.workers c.into_core.result.story (c.into_core.ensures.own ∙ first.own)
+    (λ n past. c.into_core.ensures.no_others n (omega (arith, past, first.splits_are, long, same, c.in_ok-seats.ensures.count)))

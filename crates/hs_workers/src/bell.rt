@@ -1,0 +1,73 @@
+//! Where workers wait that find nothing to take.
+//!
+//! Nothing is proved of it, and no contract speaks of it: a worker that is never woken would wait for
+//! ever, and one that is woken for nothing takes again. By argument, none waits for ever: who waits was
+//! counted before it looked for a work for the last time. Whoever leaves works to others after that
+//! look sees the count when it rings, and whoever takes as many works as it added leaves none. The
+//! last worker that holds a work ends in its turn, and rings.
+
+use std::hint::spin_loop;
+use std::sync::Wait;
+use std::sync::atomic::AtomicU64;
+use std::sync::atomic::Ordering::SeqCst;
+
+/// How often a worker looks for a ring before it sleeps.
+const LOOKS: u32 = 200;
+
+/// A bell that wakes the workers that wait.
+#[derive(Drop)]
+pub(crate) struct Bell {
+    /// How often it has rung.
+    rings: AtomicU64,
+    /// How many workers have found nothing to take.
+    waiting: AtomicU64,
+}
+
+impl Bell {
+    pub(crate) fn new() -> Bell {
+        Bell {
+            rings: AtomicU64::new(0),
+            waiting: AtomicU64::new(0),
+        }
+    }
+
+    /// Wakes all who wait.
+    pub(crate) fn ring(&self) {
+        if self.waiting.load(SeqCst) != 0 {
+            self.rings.fetch_add(1, SeqCst);
+            self.rings.wake_all();
+        }
+    }
+
+    /// A worker found a work. `heard` is what `wait` answered last.
+    pub(crate) fn go_on(&self, heard: Option<u64>) -> Option<u64> {
+        if heard.is_some() {
+            self.waiting.fetch_sub(1, SeqCst);
+        }
+        None
+    }
+
+    /// A worker found nothing to take. At first it is counted among those who wait, and looks again;
+    /// then it waits until the bell has rung since it was counted. Answers how often the bell had rung
+    /// where the worker is counted.
+    pub(crate) fn wait<R: Wait>(&self, rt: &R, heard: Option<u64>) -> Option<u64> {
+        let Some(rings) = heard else {
+            self.waiting.fetch_add(1, SeqCst);
+            return Some(self.rings.load(SeqCst));
+        };
+        for _ in 0..LOOKS {
+            if self.rings.load(SeqCst) != rings {
+                return Some(self.rings.load(SeqCst));
+            }
+            spin_loop();
+        }
+        self.rings.park(rt, (rings & 0xffff_ffff) as u32);
+        Some(self.rings.load(SeqCst))
+    }
+
+    /// A worker ends, and wakes all others: none of them waits for it.
+    pub(crate) fn end(&self, heard: Option<u64>) {
+        self.go_on(heard);
+        self.ring();
+    }
+}

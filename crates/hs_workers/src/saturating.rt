@@ -1,0 +1,221 @@
+//! Saturation by workers.
+
+ghost use Rattle.std.specs.Prelude.{◌≡◌, ◌≤◌, ◌<◌, [], length, Some, All, IfOk};
+ghost use Rattle.hs_flow.specs.Dependents.{HasDependents};
+ghost use Rattle.hs_turn.specs.Seats.{RestsIn};
+ghost use Rattle.hs_verdict.specs.Premises.{HasClosedFlow};
+ghost use Rattle.hs_core.specs.Core.{IsCore};
+ghost use Rattle.hs_core.specs.Saturation.{IsVerdict};
+ghost use Rattle.hs_workers.specs.Working.{IsFirst, HasSeenNothing, IsBased, RestsSeated};
+ghost use Rattle.hs_workers.specs.Answers.{IsOfWorkers, IsSharedDone, IsEnd, IsAnswered};
+
+use crate::bell::Bell;
+use crate::gate::Gate;
+use crate::knowing::know;
+use crate::worker::run_worker;
+use hs_core::{Core, Done};
+use hs_flow::Dependents;
+use hs_naming::least_tables_decide;
+use hs_scheme::{OutOfMemory, Problem};
+use hs_shared::{Held, RestedSeat, Seat, SharedTable};
+use std::alloc::Global;
+use std::sync::Wait;
+use std::thread::{Threads, for_each_mut};
+
+/// A seat for each worker.
+fn seats_for<'p>(
+    alloc: Global,
+    table: &SharedTable<'p>,
+    problem: &Problem,
+    first: &mut Seat<Held<'p>>,
+    workers: u32,
+) -> Result<Vec<RestedSeat>, OutOfMemory>
+    requires few { workers ≤ 16 }
+    requires first { IsFirst table.now 0 0 first.old }
+    requires nothing { HasSeenNothing first.old }
+    requires based { IsBased problem.now first.old }
+    ensures first { IfOk result (λ _. IsFirst table.now workers 0 first.new) }
+    ensures base { first.new.known.base ≡ first.old.known.base }
+    ensures count { IfOk result (λ seats. length seats.items ≡ workers) }
+    ensures seats { IfOk result (λ seats. All (RestsSeated table.now problem.now) seats.items) }
+{
+    let mut seats = Vec::with_capacity(alloc, workers as usize)?;
+    for _ in 0..workers {
+        seats.push(table.split(first).into_rested())?;
+    }
+    Ok(seats)
+}
+
+/// Each worker works in a thread of its own, until no work is left or none is given out any more.
+fn work_each<'p, R: Threads + Wait + Sync, G: Gate + Sync>(
+    rt: &R,
+    alloc: Global,
+    table: &SharedTable<'p>,
+    problem: &Problem,
+    dependents: &Dependents,
+    gate: &G,
+    seats: &mut [RestedSeat],
+)
+    requires some { 0 < length seats.old }
+    requires dependents { HasDependents problem.now.points problem.now.flow.pairs dependents.now }
+    requires seats { All (RestsSeated table.now problem.now) seats.old }
+    ensures { All (RestsIn table.now) seats.new }
+{
+    let bell = Bell::new();
+    let bell = &bell;
+    let count = seats.len();
+    for_each_mut(
+        rt,
+        seats,
+        count,
+        &|_, seat: &mut RestedSeat|
+            requires { HasDependents problem.now.points problem.now.flow.pairs dependents.now × RestsSeated table.now problem.now seat.old }
+            ensures { RestsIn table.entry.now seat.new }
+        { run_worker(rt, alloc, table, problem, dependents, gate, bell, seat) },
+    );
+}
+
+/// Joins the workers' seats.
+fn join_all<'p>(table: &SharedTable<'p>, first: &mut Seat<Held<'p>>, seats: Vec<RestedSeat>)
+    requires first { IsFirst table.now (length seats.items) 0 first.old }
+    requires seats { All (RestsIn table.now) seats.items }
+    ensures first { IsFirst table.now (length seats.items) (length seats.items) first.new }
+    ensures base { first.new.known.base ≡ first.old.known.base }
+{
+    for seat in seats {
+        table.join(first, seat.into_seat::<Held<'p>>());
+    }
+}
+
+/// What workers have left.
+#[derive(Clone, Copy)]
+enum End {
+    /// Nothing is left to do: the log is the least table.
+    Least,
+    /// An entry is kept past the budget.
+    Over,
+    /// Only the start entry was sought, and the log has it.
+    First,
+    /// Works are left.
+    Unfinished,
+}
+
+/// What has come of the core.
+fn end_of(core: &Core) -> End
+    ensures { IsEnd core.now result }
+{
+    core.is_core();
+    if let Some(_place) = core.found() {
+        return End::First;
+    }
+    if core.past().is_some() {
+        return End::Over;
+    }
+    if core.quiet() {
+        return End::Least;
+    }
+    End::Unfinished
+}
+
+/// The answer that the core of the workers gives, or that memory was refused where works are left.
+fn answer<'p>(core: Core<'p>) -> Result<Done<'p>, OutOfMemory>
+    ensures { IfOk result (IsAnswered core.entry) }
+{
+    match end_of(&core) {
+        End::Least => Ok(Done::Least(core)),
+        End::Over => Ok(Done::Over(core)),
+        End::First => Ok(Done::First(core)),
+        End::Unfinished => Err(OutOfMemory),
+    }
+}
+
+/// A shared table around the core, and its first seat.
+fn share<'p>(
+    alloc: Global,
+    core: Core<'p>,
+) -> Result<(SharedTable<'p>, Seat<Held<'p>>), OutOfMemory>
+    requires { core.story ≡ [] }
+    ensures first { IfOk result (λ made. IsFirst made.0 0 0 made.1) }
+    ensures nothing { IfOk result (λ made. HasSeenNothing made.1) }
+    ensures base { IfOk result (λ made. made.1.known.base ≡ Some core.entry.base) }
+{
+    match SharedTable::new(alloc, core) {
+        Ok(made) => Ok(made),
+        Err(_core) => Err(OutOfMemory),
+    }
+}
+
+/// The core that so many workers leave: each does works until no work is left or none is given out
+/// any more. Nobody else does anything.
+fn work_together<'p, R: Threads + Wait + Sync, G: Gate + Sync>(
+    rt: &R,
+    alloc: Global,
+    problem: &Problem,
+    dependents: &Dependents,
+    workers: u32,
+    table: SharedTable<'p>,
+    first: Seat<Held<'p>>,
+    gate: &G,
+) -> Result<Core<'p>, OutOfMemory>
+    requires some { 1 ≤ workers }
+    requires few { workers ≤ 16 }
+    requires dependents { HasDependents problem.now.points problem.now.flow.pairs dependents.now }
+    requires first { IsFirst table 0 0 first }
+    requires nothing { HasSeenNothing first }
+    requires based { IsBased problem.now first }
+    ensures base { IfOk result (λ core. first.entry.known.base ≡ Some core.base) }
+    ensures workers { IfOk result (λ core. All (IsOfWorkers workers) core.story) }
+    ensures core { IfOk result IsCore }
+{
+    let mut first = first;
+    let mut seats = seats_for(alloc, &table, problem, &mut first, workers)?;
+    work_each(
+        rt,
+        alloc,
+        &table,
+        problem,
+        dependents,
+        gate,
+        seats.as_mut_slice(),
+    );
+    join_all(&table, &mut first, seats);
+    Ok(table.into_core(first))
+}
+
+/// The least table of the problem, formed by so many workers, 1 to 16, in threads of their own; or,
+/// where `first` is set and the table has the start entry, a part of it with that entry. The workers
+/// are numbered from 1, and nobody else does anything. The budget is 1 to 1,000,000, and the
+/// dependents are those of the problem.
+///
+/// A worker for which memory is refused leaves its work to the others. Where works are left because
+/// all of them ended so, the answer is want of memory.
+///
+/// Each worker keeps a replica of the log, which takes as much memory as the log itself.
+///
+/// After Broadbent and Kobayashi, "Saturation-based model checking of higher-order recursion schemes"
+/// (CSL 2013).
+pub fn saturate<'p, R: Threads + Wait + Sync, G: Gate + Sync>(
+    rt: &R,
+    alloc: Global,
+    problem: &'p Problem,
+    dependents: &Dependents,
+    workers: u32,
+    budget: u32,
+    first: bool,
+    gate: &G,
+) -> Result<Done<'p>, OutOfMemory>
+    requires some { 1 ≤ workers }
+    requires few { workers ≤ 16 }
+    requires least { 1 ≤ budget }
+    requires greatest { budget ≤ 1000000 }
+    requires dependents { HasDependents problem.now.points problem.now.flow.pairs dependents.now }
+    ensures done { IfOk result (IsSharedDone (record { problem = problem.now; budget = budget; first = first }) workers) }
+    ensures verdict { IfOk result (λ done. HasClosedFlow problem.now → IsVerdict problem.now done) }
+{
+    know(problem);
+    least_tables_decide();
+    let core = Core::new(alloc, problem, budget, first)?;
+    let (table, seat) = share(alloc, core)?;
+    let core = work_together(rt, alloc, problem, dependents, workers, table, seat, gate)?;
+    answer(core)
+}
