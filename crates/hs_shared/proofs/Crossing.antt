@@ -1,4 +1,7 @@
 -- A shared table may be used by many threads: its core may go from one to another.
+--     table_sync, core_send      of a table; of a core. The search that is made where threads start doesn't find these: a core has too many parts,
+--                                so they are put together here from the facts that the check makes of each part (`TheSendSync`)
+--     captured_sync              of what a closure captures, from each part
 use denote.Ref.{NamedLft}
 use denote.Param.Send.{IsSend, IsSync, AllSend, AllSync, sendable, view_send, view_sync, recorded_send, recorded_sync, struct_send, struct_sync, shr_send}
 use denote.Struct.Declared.{fields, shape}

@@ -4,8 +4,7 @@
 --     IsSeatOf            the seat is this table's, and no call of it is under way
 --     Sees s P            P holds of the seat's base and of the state after the story that the seat has seen
 --     HasSeenOwn          among what the seat has seen, the steps under its number are exactly its own
-use Rattle.std.specs.Prelude.{◌≡◌, ℕ, false}
-use Rattle.std.specs.Prelude.{IfSome}
+use Rattle.std.specs.Prelude.{◌≡◌, ℕ, false, IfSome}
 use Rattle.atomic_table.specs.Seated.{TableId}
 use Rattle.hs_history.specs.Story.{Base, CoreStep}
 use Rattle.hs_history.specs.CoreStep.{State}

@@ -104,3 +104,22 @@ pub(crate) fn copy_log(from: &Replica, to: &mut Replica) -> Result<(), OutOfMemo
     }
     Ok(())
 }
+
+/// Adds to the replica what it lacks of the log, makes room for one event, and takes a work. After a
+/// refusal of memory nothing is taken.
+pub(crate) fn take_caught_up(
+    core: &mut Core,
+    worker: u32,
+    replica: &mut Replica,
+) -> Result<Taken, OutOfMemory>
+    requires { IsPrefix replica.old.log (log_of core.old) }
+    ensures ok { IfOk result (λ taken. (spare : ℕ) × Takes (record core.old { spare = spare }) worker taken core.new) }
+    ensures err { OnErr result (core.new ≡ core.old) }
+    ensures log { OnOk result (replica.new.log ≡ log_of core.old) }
+    ensures begins { IsPrefix replica.new.log (log_of core.old) }
+    ensures more { IsPrefix replica.old.log replica.new.log }
+    ensures kept { (replica.new.spare ≡ replica.old.spare) × (replica.new.indexed ≡ replica.old.indexed) × Grows replica.old.ids replica.new.ids }
+{
+    copy_log(core.replica(), replica)?;
+    take_work(core, worker)
+}

@@ -11,10 +11,10 @@ ghost use Rattle.hs_core.specs.Answers.{Takes, Publishes};
 ghost use Rattle.hs_turn.specs.Story.{told_by};
 ghost use Rattle.hs_turn.specs.Views.{first_seat, having_split, split_off, having_joined};
 ghost use Rattle.hs_shared.specs.Seats.{worker_of, IsSeatOf, Sees, HasSeenOwn};
-ghost use Rattle.hs_shared.specs.Calls.{Finds, Does, Looks};
+ghost use Rattle.hs_shared.specs.Calls.{Finds, Does, Looks, FinishesAndTakes};
 
 use crate::held::{CoreBase, Held, Told};
-use crate::hold::{copy_log, count, leave, publish_deduction, take_work};
+use crate::hold::{copy_log, count, leave, publish_deduction, take_caught_up, take_work};
 use hs_core::{Core, Deduced, Published, Replica, Taken};
 use hs_scheme::OutOfMemory;
 use hs_turn::{Guard, Rested, Seat, Turn};
@@ -27,7 +27,7 @@ use std::sync::Wait;
 pub type RestedSeat = Rested<CoreBase, Told>;
 
 /// A core behind a turn. Each call of a seat finds the core as it is then, does at most one step as
-/// the worker of the seat's number, and leaves it to the others. The calls that take a runtime may
+/// the worker of the seat's number (`finish_and_take_next` two), and leaves it to the others. The calls that take a runtime may
 /// wait for others; they end by themselves, however long that lasts.
 ///
 /// Contracts see which table it is. Of a seat they see that table, and what the seat knows: the base
@@ -69,6 +69,7 @@ impl<'p> SharedTable<'p> {
         ensures turn { result.0.turn.now ≡ self.now }
         ensures finds { Finds seat.old result.0.state.core }
         ensures before { result.1 ≡ length result.0.state.core.story }
+        ensures short { result.1 < 2 ^ 63 }
         ensures seat { seat.new ≡ record seat.old { known = record seat.old.known { holds = true; seen = result.0.state.core.story } } }
     {
         let guard = self.turn.enter(rt, seat);
@@ -173,6 +174,64 @@ impl<'p> SharedTable<'p> {
         let caught_up = copy_log(guard.state.core.replica(), replica);
         leave(guard, seat, before);
         caught_up
+    }
+
+    /// Adds to the replica what its log lacks of the log found, as `catch_up` does, and takes a pending
+    /// work, as `take` does, while no other call is under way. After a refusal of memory nothing is
+    /// taken.
+    pub fn take_next<R: Wait>(
+        &self,
+        rt: &R,
+        seat: &mut Seat<Held<'p>>,
+        replica: &mut Replica,
+    ) -> Result<Taken, OutOfMemory>
+        requires seat { IsSeatOf self.now seat.old }
+        requires replica { Sees seat.old (λ base state. IsPrefix replica.old.log state.log) }
+        ensures ok { IfOk result (λ taken.
+            Does (λ found left. Takes found seat.old.known.number taken left) seat.old seat.new) }
+        ensures err { OnErr result (Looks seat.old seat.new) }
+        ensures log { OnOk result (Sees seat.new (λ base state. replica.new.log ≡ state.log)) }
+        ensures begins { Sees seat.new (λ base state. IsPrefix replica.new.log state.log) }
+        ensures more { IsPrefix replica.old.log replica.new.log }
+        ensures kept { (replica.new.spare ≡ replica.old.spare) × (replica.new.indexed ≡ replica.old.indexed) × Grows replica.old.ids replica.new.ids }
+    {
+        let worker = seat.number();
+        let (mut guard, before) = self.enter(rt, seat);
+        let taken = take_caught_up(&mut guard.state.core, worker, replica);
+        leave(guard, seat, before);
+        taken
+    }
+
+    /// Closes the work under a ticket, as `finish` does, and then does what `take_next` does, all while
+    /// no other call is under way. After a refusal of memory the work is closed, and nothing is taken.
+    pub fn finish_and_take_next<R: Wait>(
+        &self,
+        rt: &R,
+        seat: &mut Seat<Held<'p>>,
+        ticket: u32,
+        replica: &mut Replica,
+    ) -> Result<Taken, OutOfMemory>
+        requires seat { IsSeatOf self.now seat.old }
+        requires own { HasSeenOwn seat.old }
+        requires closed { Sees seat.old (λ base state. CanFinish base state seat.old.known.number ticket) }
+        requires replica { Sees seat.old (λ base state. IsPrefix replica.old.log state.log) }
+        ensures ok { IfOk result (λ taken.
+            Does (λ found left. FinishesAndTakes seat.old.known.number ticket taken found left) seat.old seat.new) }
+        ensures err { OnErr result (
+            Does (λ found left. left ≡ stepped found seat.old.known.number (finishes ticket) found.spare) seat.old seat.new) }
+        ensures log { OnOk result (Sees seat.new (λ base state. replica.new.log ≡ state.log)) }
+        ensures begins { Sees seat.new (λ base state. IsPrefix replica.new.log state.log) }
+        ensures more { IsPrefix replica.old.log replica.new.log }
+        ensures kept { (replica.new.spare ≡ replica.old.spare) × (replica.new.indexed ≡ replica.old.indexed) × Grows replica.old.ids replica.new.ids }
+    {
+        let worker = seat.number();
+        let (mut guard, _) = self.enter(rt, seat);
+        guard.state.core.finish(worker, ticket);
+        guard.tell(seat);
+        let between = count(&guard.state.core);
+        let taken = take_caught_up(&mut guard.state.core, worker, replica);
+        leave(guard, seat, between);
+        taken
     }
 
     /// A new seat. It has seen what seat 0 has seen, and has no steps of its own; its number is one

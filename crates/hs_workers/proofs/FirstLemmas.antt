@@ -1,5 +1,5 @@
 -- Seat 0, from which the workers' seats are split off and into which they are joined.
-use Rattle.std.proofs.Common.{◌≡◌, ◌≢◌, refl, sym, ◌∙◌, ap, subst, ℕ, ◌+◌, ◌<◌, ◌≤◌, List, [], ◌∷◌, ◌++◌, length, get_or, Option, Some, All, arith, inl, inr, Contains}
+use Rattle.std.proofs.Common.{◌≡◌, ◌≢◌, refl, sym, ◌∙◌, ap, subst, ℕ, ◌+◌, ◌<◌, List, [], ◌∷◌, ◌++◌, get_or, Some, All, arith, inl, inr, Contains}
 use Rattle.std.proofs.lemmas.Bool.{cases_lt}
 use Rattle.std.proofs.lemmas.List.Elements.{All-contains, Contains-append_right, Contains-get_or}
 use mathlib.Core.List.{IsPrefix}
@@ -13,8 +13,8 @@ use Rattle.hs_turn.specs.declared.known.Known.{Known}
 use Rattle.hs_turn.specs.Story.{told_by}
 use Rattle.hs_turn.specs.Seats.{RestsIn}
 use Rattle.hs_turn.specs.Views.{first_seat, having_split, split_off, having_joined}
-use Rattle.hs_shared.specs.Seats.{SeatData, worker_of, IsSeatOf, HasSeenOwn}
-use Rattle.hs_workers.specs.Working.{IsSeated, IsFree, IsFirst, IsBased, HasSeenNothing, RestsSeated}
+use Rattle.hs_shared.specs.Seats.{SeatData, worker_of, HasSeenOwn}
+use Rattle.hs_workers.specs.Working.{IsFree, IsFirst, IsBased, HasSeenNothing, RestsSeated}
 use Rattle.hs_workers.specs.Answers.{IsOfWorkers}
 use Rattle.hs_workers.proofs.SeatLemmas.{see, none_by}
 

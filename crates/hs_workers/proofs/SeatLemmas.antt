@@ -1,5 +1,5 @@
 -- What a seat knows after a call.
-use Rattle.std.proofs.Common.{◌≡◌, ◌≢◌, refl, sym, ◌∙◌, ap, subst, ℕ, ◌-◌, ◌==◌, eqb, eq-eqb, Bool, true, false, cond, List, [], ◌∷◌, ◌++◌, Option, None, Some, All, Contains, append_assoc, length}
+use Rattle.std.proofs.Common.{◌≡◌, ◌≢◌, refl, sym, ◌∙◌, ap, subst, ℕ, ◌-◌, ◌==◌, eqb, eq-eqb, Bool, true, false, cond, List, [], ◌∷◌, ◌++◌, Option, None, Some, All, Contains, append_assoc}
 use Rattle.std.specs.Option.{IfSome}
 use Rattle.std.proofs.lemmas.List.{append-nil, append_cancel_left}
 use Rattle.std.proofs.lemmas.List.Elements.{All-nil, All-cons, Contains-push, filter-append}
@@ -8,7 +8,7 @@ use Rattle.atomic_table.specs.Seated.{TableId}
 use Rattle.hs_table.specs.Entries.{EntryData}
 use Rattle.hs_table_laws.proofs.Places.{some_same, member_at}
 use Rattle.hs_history.specs.declared.step.Work.{Work}
-use Rattle.hs_history.specs.Story.{Base, Deduction, Action, takes, adds, passes, finishes, gives_back, CoreStep, Story}
+use Rattle.hs_history.specs.Story.{Base, Deduction, Action, takes, adds, passes, CoreStep, Story}
 use Rattle.hs_history.specs.CoreStep.{State, acted, Holds, CanFinish, IsClosedWork}
 use Rattle.hs_history.specs.History.{state_after, IsLegal, IsWork}
 use Rattle.hs_history.proofs.Histories.{state_push, tickets_after}
@@ -21,7 +21,7 @@ use Rattle.hs_core.specs.Core.{CoreData, state_of, log_of, stepped}
 use Rattle.hs_core.specs.Answers.{Takes, Publishes, Passes}
 use Rattle.hs_core.proofs.Moving.{taken_work}
 use Rattle.hs_turn.specs.Story.{told_by}
-use Rattle.hs_shared.specs.Seats.{SeatData, worker_of, IsSeatOf, Sees, HasSeenOwn}
+use Rattle.hs_shared.specs.Seats.{SeatData, worker_of, Sees, HasSeenOwn}
 use Rattle.hs_shared.specs.Calls.{Finds, seat_after, Does, Looks}
 use Rattle.hs_workers.specs.Working.{IsSeated, Begins, HoldsAt, IsWorkAt, Moves, KeepsWorks}
 use Rattle.hs_workers.proofs.WorkingLemmas.{log_after, log_begins, in_whole, work_still}
@@ -186,17 +186,17 @@ module _ (old new : CoreData) (worker ticket : ℕ) (d : Deduction) where
   published_there NoRoom room h = absurd (room refl)
 
 -- takings
-taken_base : (old new : CoreData) (worker : ℕ) (answer : Taken) → Takes old worker answer new → new.base ≡ old.base
+pub taken_base : (old new : CoreData) (worker : ℕ) (answer : Taken) → Takes old worker answer new → new.base ≡ old.base
 taken_base old new worker (Found place) h = ap (λ (c : CoreData). c.base) h.1
 taken_base old new worker Over h = ap (λ (c : CoreData). c.base) h.2
 taken_base old new worker (Item work ticket) h = ap (λ (c : CoreData). c.base) h.1
 taken_base old new worker Idle h = ap (λ (c : CoreData). c.base) h.2
 taken_base old new worker Quiet h = ap (λ (c : CoreData). c.base) h.2
 
-taken_holds : (old new : CoreData) (worker : ℕ) (work : Work) (ticket : ℕ) → Takes old worker (Item work ticket) new → (state_of new).flight ticket ≡ Some (record { worker = worker; work = work })
+pub taken_holds : (old new : CoreData) (worker : ℕ) (work : Work) (ticket : ℕ) → Takes old worker (Item work ticket) new → (state_of new).flight ticket ≡ Some (record { worker = worker; work = work })
 taken_holds old new worker work ticket h = ap (λ (s : State). s.flight ticket) (stepped_state old new worker (takes work ticket) (old.spare - 1) h.1) ∙ put_here ticket (Some (record { worker = worker; work = work })) (state_of old).flight
 
-taken_is_work : (old new : CoreData) (worker : ℕ) (work : Work) (ticket : ℕ) → IsLegal old.base old.story → Takes old worker (Item work ticket) new → IsWork old.base.problem (log_of new) work
+pub taken_is_work : (old new : CoreData) (worker : ℕ) (work : Work) (ticket : ℕ) → IsLegal old.base old.story → Takes old worker (Item work ticket) new → IsWork old.base.problem (log_of new) work
 taken_is_work old new worker work ticket legal h =
     subst (λ (s : State). IsWork old.base.problem s.log work) (sym (stepped_state old new worker (takes work ticket) (old.spare - 1) h.1)) (taken_work old work legal h.0.pending)
 

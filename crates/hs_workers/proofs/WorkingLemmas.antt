@@ -1,5 +1,5 @@
 -- What a seat has seen, and a replica of it.
-use Rattle.std.proofs.Common.{◌≡◌, refl, sym, ◌∙◌, ap, subst, ℕ, ◌+◌, ◌<◌, ◌≤◌, List, [], ◌∷◌, ◌++◌, length, take, slice_get, get_or, Some, All, arith, Contains, inl, inr, append_assoc, length-append}
+use Rattle.std.proofs.Common.{sym, ◌∙◌, ap, subst, ◌<◌, List, ◌++◌, length, take, get_or, All, arith, Contains, append_assoc, length-append}
 use Rattle.std.proofs.lemmas.List.Elements.{Contains-get_or, Contains-append_left, All-weaker}
 use mathlib.Core.List.{IsPrefix}
 use Rattle.hs_scheme.specs.Problem.{ProblemData}

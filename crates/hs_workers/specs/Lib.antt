@@ -1,3 +1,4 @@
 pub mod Forming
 pub mod Working
 pub mod Answers
+pub mod Next

@@ -5,6 +5,7 @@
 --     HoldsAt, IsWorkAt   the seat holds the work under the ticket; it is a work of the log seen
 --     Moves               the seat has seen more, and is the same seat
 --     KeepsWorks          it holds what it held
+--     HasWhole            a replica's log is the log that the seat has seen
 --     HasAllAt            the log seen has each entry that was found
 --     IsFree, IsBusy      a worker without a work, and with one
 --     ClosesAt            the log seen has all that follows by the work
@@ -50,6 +51,10 @@ pub record Moves (old new : SeatData) : Type 0 where
 
 pub record KeepsWorks (old new : SeatData) : Type 0 where
   pub each : (ticket : ℕ) (work : Work) → HoldsAt old ticket work → HoldsAt new ticket work
+
+-- a replica's log is the log that the seat has seen
+abbrev pub HasWhole : SeatData → List EntryData → Type 0
+HasWhole s log = Sees s (λ base state. log ≡ state.log)
 
 abbrev pub HasAllAt : InternerData → List DeducedData → SeatData → Type 0
 HasAllAt ids found s = Sees s (λ base state. HasAll ids found state.log)

@@ -7,7 +7,8 @@ ghost use Rattle.hs_rules.specs.Conclusions.{IsDeduced};
 ghost use Rattle.hs_history.specs.declared.step.Work.{Work};
 ghost use Rattle.hs_turn.specs.Seats.{RestsIn};
 ghost use Rattle.hs_shared.specs.Seats.{IsSeatOf, Sees};
-ghost use Rattle.hs_workers.specs.Working.{IsSeated, Begins, HoldsAt, Moves, KeepsWorks, HasAllAt, IsFree, IsBusy, ClosesAt, RestsSeated};
+ghost use Rattle.hs_workers.specs.Working.{IsSeated, Begins, HoldsAt, Moves, KeepsWorks, HasAllAt, HasWhole, IsFree, IsBusy, ClosesAt, RestsSeated};
+ghost use Rattle.hs_workers.specs.Next.{next_after, IsReady};
 
 use crate::bell::Bell;
 use crate::forming::form;
@@ -25,12 +26,23 @@ use std::sync::Wait;
 /// What a worker does next.
 #[derive(Clone, Copy)]
 enum Next {
-    /// It takes a work.
-    Take,
+    /// It does this work, which it holds under the ticket.
+    Serve { work: Work, ticket: u32 },
     /// Nothing is pending, but others hold works: it takes again once the bell has rung.
     Wait,
     /// It ends.
     End,
+}
+
+/// What a worker does after this answer to its taking.
+fn next_after(taken: Taken) -> Next
+    ensures { result ≡ next_after taken }
+{
+    match taken {
+        Taken::Item { work, ticket } => Next::Serve { work, ticket },
+        Taken::Idle => Next::Wait,
+        Taken::Quiet | Taken::Over | Taken::Found { .. } => Next::End,
+    }
 }
 
 /// Publishes a deduction under the ticket. Answers whether the budget had room for it.
@@ -100,11 +112,11 @@ fn conclude<'p, R: Wait>(
 ) -> Result<bool, OutOfMemory>
     requires dependents { HasDependents problem.now.points problem.now.flow.pairs dependents.now }
     requires busy { IsBusy table.now problem.now seat.old replica.old.log ticket work }
+    requires whole { HasWhole seat.old replica.old.log }
     ensures busy { IsBusy table.now problem.now seat.new replica.new.log ticket work }
     ensures closed { IfOk result (λ all. IsTrue all → ClosesAt seat.new work) }
 {
     know(problem);
-    table.catch_up(rt, seat, replica)?;
     let found = form(alloc, problem, dependents, replica, work)?;
     let all = publish_all(rt, table, seat, ticket, replica, found.as_slice())?;
     if found.len() > 1 {
@@ -113,8 +125,45 @@ fn conclude<'p, R: Wait>(
     Ok(all)
 }
 
-/// Does the work, or gives it back where memory is refused or the budget has no room. Answers whether
-/// it did it.
+/// Takes a work, where there is one, and makes the replica the log seen.
+fn begin<'p, R: Wait>(
+    rt: &R,
+    table: &SharedTable<'p>,
+    problem: &Problem,
+    seat: &mut Seat<Held<'p>>,
+    replica: &mut Replica,
+) -> Next
+    requires free { IsFree table.now problem.now seat.old replica.old.log }
+    ensures { IsReady table.now problem.now seat.new replica.new.log result }
+{
+    match table.take_next(rt, seat, replica) {
+        Ok(taken) => next_after(taken),
+        Err(_) => Next::End,
+    }
+}
+
+/// Closes the work under the ticket, and begins the next one.
+fn close<'p, R: Wait>(
+    rt: &R,
+    table: &SharedTable<'p>,
+    problem: &Problem,
+    seat: &mut Seat<Held<'p>>,
+    replica: &mut Replica,
+    work: Work,
+    ticket: u32,
+) -> Next
+    requires busy { IsBusy table.now problem.now seat.old replica.old.log ticket work }
+    requires closed { ClosesAt seat.old work }
+    ensures { IsReady table.now problem.now seat.new replica.new.log result }
+{
+    match table.finish_and_take_next(rt, seat, ticket, replica) {
+        Ok(taken) => next_after(taken),
+        Err(_) => Next::End,
+    }
+}
+
+/// Does the work and begins the next one, or gives it back where memory is refused or the budget has
+/// no room.
 fn serve<'p, R: Wait>(
     rt: &R,
     alloc: Global,
@@ -126,59 +175,24 @@ fn serve<'p, R: Wait>(
     replica: &mut Replica,
     work: Work,
     ticket: u32,
-) -> bool
+) -> Next
     requires dependents { HasDependents problem.now.points problem.now.flow.pairs dependents.now }
     requires busy { IsBusy table.now problem.now seat.old replica.old.log ticket work }
-    ensures { IsFree table.now problem.now seat.new replica.new.log }
+    requires whole { HasWhole seat.old replica.old.log }
+    ensures { IsReady table.now problem.now seat.new replica.new.log result }
 {
     match conclude(
         rt, alloc, table, problem, dependents, bell, seat, replica, work, ticket,
     ) {
-        Ok(true) => {
-            table.finish(rt, seat, ticket);
-            true
-        }
+        Ok(true) => close(rt, table, problem, seat, replica, work, ticket),
         Ok(false) => {
             table.give_back(rt, seat, ticket);
-            false
+            Next::End
         }
         Err(_) => {
             table.give_back(rt, seat, ticket);
-            false
+            Next::End
         }
-    }
-}
-
-/// Takes a work, where there is one, and does it. An error says that memory was refused for taking.
-fn step<'p, R: Wait, G: Gate>(
-    rt: &R,
-    alloc: Global,
-    table: &SharedTable<'p>,
-    problem: &Problem,
-    dependents: &Dependents,
-    gate: &G,
-    bell: &Bell,
-    seat: &mut Seat<Held<'p>>,
-    replica: &mut Replica,
-) -> Result<Next, OutOfMemory>
-    requires dependents { HasDependents problem.now.points problem.now.flow.pairs dependents.now }
-    requires free { IsFree table.now problem.now seat.old replica.old.log }
-    ensures { IsFree table.now problem.now seat.new replica.new.log }
-{
-    let taken = table.take(rt, seat)?;
-    match taken {
-        Taken::Item { work, ticket } => {
-            gate.before(seat.number(), work);
-            if serve(
-                rt, alloc, table, problem, dependents, bell, seat, replica, work, ticket,
-            ) {
-                Ok(Next::Take)
-            } else {
-                Ok(Next::End)
-            }
-        }
-        Taken::Idle => Ok(Next::Wait),
-        Taken::Quiet | Taken::Over | Taken::Found { .. } => Ok(Next::End),
     }
 }
 
@@ -199,21 +213,30 @@ fn work_on<'p, R: Wait, G: Gate>(
 {
     let mut replica = Replica::new(alloc);
     let mut heard = None;
+    let mut next = begin(rt, table, problem, seat, &mut replica);
     for _ in rt.forever() {
-        match step(
-            rt,
-            alloc,
-            table,
-            problem,
-            dependents,
-            gate,
-            bell,
-            seat,
-            &mut replica,
-        ) {
-            Ok(Next::Take) => heard = bell.go_on(heard),
-            Ok(Next::Wait) => heard = bell.wait(rt, heard),
-            Ok(Next::End) | Err(_) => {
+        match next {
+            Next::Serve { work, ticket } => {
+                gate.before(seat.number(), work);
+                heard = bell.go_on(heard);
+                next = serve(
+                    rt,
+                    alloc,
+                    table,
+                    problem,
+                    dependents,
+                    bell,
+                    seat,
+                    &mut replica,
+                    work,
+                    ticket,
+                );
+            }
+            Next::Wait => {
+                heard = bell.wait(rt, heard);
+                next = begin(rt, table, problem, seat, &mut replica);
+            }
+            Next::End => {
                 bell.end(heard);
                 return;
             }

@@ -1,4 +1,4 @@
-use Rattle.std.proofs.Common.{◌≡◌, sym, ap, ◌∙◌, List, ◌++◌, drop, arith, append_assoc}
+use Rattle.std.proofs.Common.{sym, ap, ◌∙◌, List, ◌++◌, drop, arith, append_assoc}
 use Rattle.std.proofs.lemmas.List.{take-append-drop}
 use Rattle.hs_table.specs.Entries.{EntryData}
 use Rattle.hs_types.proofs.Numbers.{Grows-trans}

@@ -1,8 +1,6 @@
-use Rattle.std.proofs.Common.{◌≡◌, refl, sym, ◌∙◌, ap, [], ◌∷◌, ◌++◌, length, inl, inr, length-append, arith}
+use Rattle.std.proofs.Common.{◌≡◌, refl, sym, ◌∙◌, ap, [], ◌∷◌, length, inl, inr, length-append, arith}
 use Rattle.std.proofs.lemmas.List.{append-nil}
 use Rattle.hs_history.specs.Story.{CoreStep, Story}
-use Rattle.hs_turn.specs.declared.known.Known.{Known}
-use Rattle.hs_shared.specs.Seats.{SeatData}
 use Rattle.hs_shared.specs.Calls.{seat_after}
 use Rattle.hs_shared.proofs.hold.leave.Goals as goal
 

@@ -1,6 +1,6 @@
 use Rattle.std.proofs.Common.{◌≡◌, sym, ap, subst, ◌<◌, length, slice_get, unwrap_or, Some, []}
 use Rattle.hs_types.specs.Interned.{entry_of}
-use Rattle.hs_workers.proofs.FormingLemmas.{dependents_within, point_listed, place_formed, ok_more}
+use Rattle.hs_workers.proofs.FormingLemmas.{dependents_within, place_formed, ok_more}
 use Rattle.hs_workers.proofs.forming.form_place.Goals as goal
 
 pub form_at-requires-clause-points : goal.form_at-requires-clause-points

@@ -2,7 +2,7 @@ use Rattle.std.proofs.Common.{sym, ap, subst, ◌∙◌, ◌∷◌, ◌++◌, []
 use Rattle.hs_types.specs.Interned.{entry_of}
 use Rattle.hs_rules.specs.Conclusions.{DeducedData}
 use Rattle.hs_workers.specs.Forming.{KeepsNew}
-use Rattle.hs_workers.proofs.FormingLemmas.{keeps_none, keeps_new, keeps_known, kept_all}
+use Rattle.hs_workers.proofs.FormingLemmas.{keeps_new, keeps_known}
 use Rattle.hs_workers.proofs.forming.keep_new.Goals as goal
 
 pub loop-deduced-preserved-in-Continue-1 : goal.loop-deduced-preserved-in-Continue-1

@@ -1,4 +1,4 @@
-use Rattle.std.proofs.Common.{◌≡◌, sym, subst, ◌∙◌, IsSome}
+use Rattle.std.proofs.Common.{sym, subst, IsSome}
 use Rattle.hs_table_laws.proofs.Places.{member_at}
 use Rattle.hs_core.specs.Core.{log_of, deduction_of}
 use Rattle.hs_core.proofs.Moving.{least_answer, over_answer, mapped_some}

@@ -1,4 +1,4 @@
-use Rattle.std.proofs.Common.{◌≡◌, sym, ap, subst, ◌∙◌, ◌+◌, ◌∷◌, ◌++◌, [], length, arith, length-append, append_assoc}
+use Rattle.std.proofs.Common.{◌≡◌, sym, ap, subst, ◌∙◌, ◌+◌, ◌∷◌, ◌++◌, [], length, length-append, append_assoc}
 use Rattle.hs_turn.specs.Seats.{RestsIn}
 use Rattle.hs_shared.specs.Seats.{SeatData}
 use Rattle.hs_workers.specs.Working.{IsFirst}

@@ -1,4 +1,4 @@
-use Rattle.std.proofs.Common.{◌≡◌, sym, ap, ◌∙◌, subst}
+use Rattle.std.proofs.Common.{◌≡◌, sym, ap, ◌∙◌}
 use Rattle.hs_table_laws.proofs.Places.{some_same}
 use Rattle.hs_history.specs.Story.{Base}
 use Rattle.hs_core.specs.Core.{CoreData, log_of}

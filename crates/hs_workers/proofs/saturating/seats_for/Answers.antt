@@ -1,7 +1,7 @@
-use Rattle.std.proofs.Common.{◌≡◌, sym, ap, subst, ◌∙◌, ◌+◌, ◌∷◌, ◌++◌, [], List, length, All, arith, length-append}
+use Rattle.std.proofs.Common.{sym, ap, subst, ◌∙◌, ◌∷◌, [], length, All, arith, length-append}
 use Rattle.std.proofs.lemmas.List.Elements.{All-push}
 use Rattle.hs_shared.specs.Seats.{SeatData}
-use Rattle.hs_workers.specs.Working.{IsFirst, HasSeenNothing, RestsSeated}
+use Rattle.hs_workers.specs.Working.{RestsSeated}
 use Rattle.hs_workers.proofs.FirstLemmas.{first_split, nothing_split, split_rests}
 use Rattle.hs_workers.proofs.saturating.seats_for.Goals as goal
 

@@ -1,11 +1,10 @@
 use Rattle.std.proofs.Common.{◌≡◌, sym, ◌∙◌, ap, subst, ℕ, zero, suc, ◌<◌, List, [], ◌∷◌, length, get_or, Contains, All, arith, inl, inr}
 use Rattle.std.proofs.lemmas.Bool.{cases_lt}
-use Rattle.std.proofs.lemmas.List.Elements.{All-get_or}
 use Rattle.hs_types.specs.Interned.{entry_of}
 use Rattle.hs_rules.specs.Conclusions.{DeducedData, IsDeduced}
 use Rattle.hs_shared.specs.Seats.{Sees}
 use Rattle.hs_workers.specs.Forming.{HasAll}
-use Rattle.hs_workers.proofs.SeatLemmas.{see, seen, stays, begins_still, entry_still, moves_none, moves_trans}
+use Rattle.hs_workers.proofs.SeatLemmas.{see, seen, begins_still, entry_still, moves_none, moves_trans}
 use Rattle.hs_workers.proofs.worker.publish_all.Goals as goal
 
 any_default : {X : Type 0} (xs : List X) (n : ℕ) (a b : X) → n < length xs → get_or xs n a ≡ get_or xs n b

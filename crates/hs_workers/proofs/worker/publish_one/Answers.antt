@@ -1,8 +1,6 @@
-use Rattle.std.proofs.Common.{◌≡◌, Contains}
 use Rattle.hs_table.specs.Follows.{FollowsBy}
 use Rattle.hs_types.specs.Interned.{entry_of}
 use Rattle.hs_rules.specs.Conclusions.{IsDeduced}
-use Rattle.hs_core.specs.declared.answers.Published.TheVariants.{Over}
 use Rattle.hs_core.specs.Core.{deduction_of}
 use Rattle.hs_workers.proofs.SeatLemmas.{seen, see, held_by, looks_seated, looks_moves, looks_keeps, publish_seated, publish_moves, publish_keeps, publish_there}
 use Rattle.hs_workers.proofs.worker.publish_one.Goals as goal

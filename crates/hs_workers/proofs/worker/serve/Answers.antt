@@ -1,22 +1,10 @@
-use Rattle.hs_history.specs.Story.{finishes, gives_back}
-use Rattle.hs_workers.proofs.SeatLemmas.{held_by, may_close}
+use Rattle.hs_history.specs.Story.{gives_back}
+use Rattle.hs_workers.proofs.SeatLemmas.{held_by}
 use Rattle.hs_workers.proofs.BusyLemmas.{free_again}
 use Rattle.hs_workers.proofs.worker.serve.Goals as goal
 
-pub finish-requires-clause-seat : goal.finish-requires-clause-seat
-finish-requires-clause-seat g c = c.conclude.ensures.busy.free.seated.seat
-
-pub finish-requires-clause-own : goal.finish-requires-clause-own
-finish-requires-clause-own g c = c.conclude.ensures.busy.free.seated.own
-
-pub finish-requires-clause-closed : goal.finish-requires-clause-closed
-finish-requires-clause-closed g c =
-    let b = c.conclude.ensures.busy in
-    may_close c.conclude.new.seat b.free.seated.base c.args.ticket c.args.work b.free.seated.knows b.holds (c.in-Ok-true.ensures.closed c.in-Ok-true.field-0-test).sees
-
-pub returns-in-Ok-true : goal.returns-in-Ok-true
-returns-in-Ok-true g c =
-    free_again c.args.table.now c.args.problem.now c.conclude.new.seat c.finish.new.seat c.conclude.new.replica.log c.args.ticket c.args.work (finishes c.args.ticket) c.conclude.ensures.busy c.finish.ensures
+pub close-requires-clause-closed : goal.close-requires-clause-closed
+close-requires-clause-closed g c = c.in-Ok-true.ensures.closed c.in-Ok-true.field-0-test
 
 pub give_back-requires-clause-seat : goal.give_back-requires-clause-seat
 give_back-requires-clause-seat g c = c.conclude.ensures.busy.free.seated.seat

@@ -1,7 +1,7 @@
 use Rattle.std.proofs.Common.{◌≡◌, refl, sym, ap, ◌∙◌, subst}
 use Rattle.hs_history.specs.Story.{finishes}
 use Rattle.hs_history.specs.CoreStep.{CanFinish}
-use Rattle.hs_core.specs.Core.{CoreData, state_of, stepped}
+use Rattle.hs_core.specs.Core.{state_of, stepped}
 use Rattle.hs_shared.proofs.Seen.{may_finish}
 use Rattle.hs_shared.proofs.Leaving.{does_by, once_held, once_stepped}
 use Rattle.hs_shared.proofs.table.SharedTable.finish.Goals as goal

@@ -1,7 +1,7 @@
 use Rattle.std.proofs.Common.{◌≡◌, refl, sym, ap, ◌∙◌, subst}
 use Rattle.hs_history.specs.Story.{gives_back}
 use Rattle.hs_history.specs.CoreStep.{Holds}
-use Rattle.hs_core.specs.Core.{CoreData, state_of, stepped}
+use Rattle.hs_core.specs.Core.{state_of, stepped}
 use Rattle.hs_shared.proofs.Seen.{still_holds}
 use Rattle.hs_shared.proofs.Leaving.{does_by, once_held, once_stepped}
 use Rattle.hs_shared.proofs.table.SharedTable.give_back.Goals as goal

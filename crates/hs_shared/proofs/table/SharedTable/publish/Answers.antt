@@ -1,7 +1,6 @@
 use Rattle.std.proofs.Common.{sym, subst, inl}
 use Rattle.hs_history.specs.CoreStep.{Holds}
-use Rattle.hs_core.specs.declared.answers.Published.{Published}
-use Rattle.hs_core.specs.Core.{CoreData, state_of, deduction_of}
+use Rattle.hs_core.specs.Core.{state_of, deduction_of}
 use Rattle.hs_core.specs.Answers.{Publishes}
 use Rattle.hs_types.specs.Interned.{entry_of}
 use Rattle.hs_shared.proofs.Seen.{still_holds, follows}
