@@ -1,6 +1,7 @@
 //! The run on the words of the command line.
 
-ghost use Rattle.std.specs.Prelude.{◌≡◌, ◌⊎◌, map, All, IfOk, OnErr, string_bytes};
+ghost use Rattle.std.specs.Prelude.{◌≡◌, ◌≢◌, ◌⊎◌, map, All, IfOk, IfErr, OnErr, string_bytes};
+ghost use Rattle.std.specs.IoError.{error_kind};
 ghost use Rattle.std.specs.Vec.Iter.{into_iter_items};
 ghost use Rattle.hs_words.specs.Words.{texts};
 ghost use Rattle.hs_app.specs.Outcome as outcome;
@@ -38,7 +39,8 @@ fn borrowed(alloc: Global, words: &[String]) -> Result<Vec<&str>, AllocError>
 }
 
 /// The run on the words that the system gave: the status is that of `run` on all of them, in their
-/// order. Where there are none, or no memory for them, nothing is touched.
+/// order. Where the system gives none, or one isn't UTF-8, it is 13, and 10 where there is no memory
+/// for them; then nothing is touched.
 pub(crate) fn run_on<R: Threads + Wait + Sync, S: Source, O: Sink, E: Sink>(
     rt: &R,
     alloc: Global,
@@ -54,7 +56,9 @@ pub(crate) fn run_on<R: Threads + Wait + Sync, S: Source, O: Sink, E: Sink>(
         ⊎ outcome.Rows (ordered (map (λ p. image p) passes.items) (map string_bytes (into_iter_items given)))
         (source_run S.file S.left S.reading S.faults source.old source.new)
         (sink_run O.writing O.faults out.old out.new) (sink_run E.writing E.faults err.old err.new) result) }
-    ensures no_words { OnErr words (((result ≡ OUT_OF_MEMORY) ⊎ (result ≡ NO_WORDS)) × (source.new ≡ source.old) × (out.new ≡ out.old) × (err.new ≡ err.old)) }
+    ensures no_words { IfErr words (λ error. error_kind error ≢ ErrorKind.OutOfMemory → result ≡ NO_WORDS) }
+    ensures no_memory { IfErr words (λ error. error_kind error ≡ ErrorKind.OutOfMemory → result ≡ OUT_OF_MEMORY) }
+    ensures untouched { OnErr words ((source.new ≡ source.old) × (out.new ≡ out.old) × (err.new ≡ err.old)) }
 {
     let words = match words {
         Ok(words) => words,

@@ -11,18 +11,23 @@ use Rattle.hs_scheme.specs.Unsorted.{UnsortedData, IsUnsorted}
 use Rattle.hs_scheme.specs.Points.{points_of}
 use Rattle.hs_scheme.specs.Sorted.{SortedData, IsSorted, sorts_of}
 use Rattle.hs_scheme.specs.Flow.{IsFlow, IsSupported}
-use Rattle.hs_scheme.specs.SameTree.{FailsFromStart}
+use Rattle.hs_scheme.specs.Scheme.{AreRules}
+use Rattle.hs_scheme.specs.SameTree.{FailsFromStart, HaveSameTree}
 use Rattle.hs_scheme.specs.declared.term.Head.{Head}
-use Rattle.hs_scheme.specs.Tree.{Tree}
+use Rattle.hs_scheme.specs.declared.term.Head.TheVariants.{Tm}
+use Rattle.hs_scheme.specs.Tree.{Tree, node}
 use Rattle.hs_scheme.specs.TreeTerms.{AreSortedBy}
 use Rattle.hs_steps.proofs.Failing.{accepted_without_failure, no_failure_accepted}
 use Rattle.hs_steps.specs.Lengthened.{IsLengthened}
 use Rattle.hs_steps.proofs.Trees.{reaches_of_file, failures_of_file}
+use Rattle.hs_steps.proofs.SameEnds.{ends_alike}
+use Rattle.hs_steps.proofs.PathLemmas.{ends_fails}
 use Rattle.hs_reader.specs.Raw.{File}
 use Rattle.hs_reader.specs.Faults.{IsFileWithin}
 use Rattle.hs_resolve.specs.Numbering.{unsorted_of}
 use Rattle.hs_resolve.specs.Answer.{IsFaultless}
 use Rattle.hs_sorts.specs.Inference.{IsInferred}
+use Rattle.hs_passes.specs.Passing.{KeepsRest}
 use Rattle.hs_trace.specs.Path.{PathData}
 use Rattle.hs_trace.specs.Failing.{IsFailingPath}
 use Rattle.hs_app.specs.declared.refusal.Refusal.{Refusal}
@@ -32,7 +37,11 @@ use Rattle.hs_app.specs.declared.verdict.Verdict.{Verdict}
 use Rattle.hs_app.specs.declared.verdict.Verdict.TheVariants.{Accepted, Rejected, Long}
 use Rattle.hs_app.specs.declared.verdict.Decided.{Decided}
 use Rattle.hs_app.specs.Problems.{Asked, IsSimplified, IsRemoved, IsSortedFormOf, IsProblemOf, IsProblemWithin, HasManyPoints, HasMuchFlow, HasLongOrder}
-use Rattle.hs_app.specs.Verdict.{IsScheme, IsSound, IsSortRefusal, ReportsBy, DecidesProblem, DecidesForm, DecidesSimplified, DecidesSorted, Refused, Answers}
+use Rattle.hs_app.specs.Verdict.{IsScheme, IsSound, IsSortRefusal, FailsAlong, ReportsBy, DecidesProblem, DecidesForm, DecidesSimplified, DecidesSorted, Refused, Answers}
+
+-- a path to a terminal without transition fails
+ends_fail : (rules : List Rule) (ts : List TransitionData) (path : PathData) → IsFailingPath rules ts path → Fails rules ts path.used 0 start path.steps
+ends_fail rules ts path h = ends_fails rules ts path.used 0 start path.steps (path.state, node (Tm path.last) h.arguments, h.reaches, h.stuck)
 
 -- ---- the rules that were saturated, the lengthened ones, and those of the file
 
@@ -84,6 +93,25 @@ module _ (u : UnsortedData) (form : SortedData) (unsorted : IsUnsorted u) (is_so
     rejects_back : (path : Path) → FailsFromStart p.sorted.scheme.rules ts 0 path → Accepts u.rules u.automaton.transitions → ⊥
     rejects_back path h accepts = let g = failing_back path h in no_failure_accepted u.rules u.automaton.transitions accepts g.0 path g.1
 
+    -- so it does to the same terminal
+    ends_back : AreRules p.sorted.scheme.rules (length p.sorted.scheme.ranks) → (path : PathData) → IsFailingPath p.sorted.scheme.rules ts path
+        → FailsAlong u.rules u.automaton.transitions path
+    ends_back are path h =
+        let back : HaveSameTree form.scheme.ranks p.sorted.scheme.rules form.scheme.rules = λ l agree q way. let both = simplified.same_tree l agree q way in (both.1, both.0) in
+        let there =
+        ends_alike form.scheme.ranks p.sorted.scheme.rules form.scheme.rules
+        (subst (λ (ranks : List ℕ). AreRules p.sorted.scheme.rules (length ranks)) simplified.rest.ranks are) back form.automaton.transitions is_sorted.ranks
+        path.used path.state path.last h.arguments path.steps
+        (subst (λ (l : List TransitionData). Reaches p.sorted.scheme.rules l path.used 0 start path.steps path.state (node (Tm path.last) h.arguments)) of_form h.reaches)
+        (subst (λ (l : List TransitionData). next l path.state path.last ≡ None) of_form h.stuck) in (
+          there.0,
+          fails_too (record path { used = there.0 }) (record {
+            arguments = there.1;
+            reaches = there.2;
+            stuck = subst (λ (l : List TransitionData). next l path.state path.last ≡ None) of_form h.stuck;
+          }),
+        )
+
     -- where nothing was simplified, steps are counted along the file's rules
     walked_back : (b : Bool) → (b ≡ false → p.sorted ≡ form) → (path : PathData)
         → IsFailingPath (if b then p.sorted.scheme.rules else p.sorted.scheme.rules) ts path
@@ -102,8 +130,8 @@ module _ (u : UnsortedData) (form : SortedData) (unsorted : IsUnsorted u) (is_so
     same_form : settings.simplify ≡ false → p.sorted ≡ form
     same_form e = simplified.same (ap (λ (s : Settings). s.simplify) of ∙ e)
 
-    judged : (v : Verdict) (text : List ℕ) → ReportsBy settings p.sorted.scheme.rules ts p removed v text → ReportsBy settings u.rules u.automaton.transitions p removed v text
-    judged Accepted text r = record {
+    judged : AreRules p.sorted.scheme.rules (length p.sorted.scheme.ranks) → (v : Verdict) (text : List ℕ) → ReportsBy settings p.sorted.scheme.rules ts p removed v text → ReportsBy settings u.rules u.automaton.transitions p removed v text
+    judged are Accepted text r = record {
       accepts = accepts_back r.accepts;
       table = r.table;
       least = r.least;
@@ -113,21 +141,22 @@ module _ (u : UnsortedData) (form : SortedData) (unsorted : IsUnsorted u) (is_so
       count = r.count;
       tells = r.tells;
     }
-    judged Rejected text r = record {
-      rejects = rejects_back r.path.steps r.fails;
-      table = r.table;
-      reported = r.reported;
-      within = r.within;
-      path = r.path;
-      fails = failing_back r.path.steps r.fails;
-      walked = walked_back settings.simplify same_form r.path r.walked;
-      few = r.few;
-      supports = r.supports;
-      supported = r.supported;
-      names = r.names;
-      tells = r.tells;
-    }
-    judged Long text r = record {
+    judged are Rejected text r =
+        let there = record r.path { used = r.fails.0 } in record {
+          rejects = rejects_back r.path.steps (r.fails.0, ends_fail p.sorted.scheme.rules ts there r.fails.1);
+          table = r.table;
+          reported = r.reported;
+          within = r.within;
+          path = r.path;
+          fails = ends_back are there r.fails.1;
+          walked = walked_back settings.simplify same_form r.path r.walked;
+          few = r.few;
+          supports = r.supports;
+          supported = r.supported;
+          names = r.names;
+          tells = r.tells;
+        }
+    judged are Long text r = record {
       rejects = rejects_back r.whole r.fails;
       table = r.table;
       reported = r.reported;
@@ -148,6 +177,26 @@ module _ (u : UnsortedData) (form : SortedData) (unsorted : IsUnsorted u) (is_so
       fails = failing_back r.whole r.fails;
       tells = r.tells;
     }
+
+-- what is decided on a problem is decided on its scheme
+pub of_problem : (settings : Settings) (form : SortedData) (p : ProblemData) (removed : Option ℕ) (r : Result Decided Refusal) → IsProblemWithin form p → DecidesProblem settings p removed r
+    → DecidesForm settings form removed r
+of_problem settings form p removed (Ok d) w h = (p, (w, h))
+of_problem settings form p removed (Err EntryLimit) w h = (p, (w, h))
+of_problem settings form p removed (Err OutOfMemory) w h = tt
+of_problem settings form p removed (Err PointLimit) w h = absurd h
+of_problem settings form p removed (Err FlowLimit) w h = absurd h
+of_problem settings form p removed (Err Usage) w h = absurd h
+of_problem settings form p removed (Err Source) w h = absurd h
+of_problem settings form p removed (Err FileTooLong) w h = absurd h
+of_problem settings form p removed (Err (Syntax line)) w h = absurd h
+of_problem settings form p removed (Err (Limit which)) w h = absurd h
+of_problem settings form p removed (Err (Names fault)) w h = absurd h
+of_problem settings form p removed (Err (IllSorted rule)) w h = absurd h
+of_problem settings form p removed (Err (NotFirstOrder terminal)) w h = absurd h
+of_problem settings form p removed (Err (SortTooLarge rule)) w h = absurd h
+of_problem settings form p removed (Err (RuleTooLong rule)) w h = absurd h
+of_problem settings form p removed (Err Sink) w h = absurd h
 
 module _ (asked : Asked) (bytes : List ℕ) (file : File) (reads : IsFileWithin bytes file) (faultless : IsFaultless file) where
   of_file : IsScheme bytes (unsorted_of file)
@@ -218,11 +267,13 @@ module _ (asked : Asked) (bytes : List ℕ) (file : File) (reads : IsFileWithin 
         decides = record {
           problem = p;
           of = problem p w;
+          rest = subst (λ (s : SortedData). KeepsRest sorted s) (sym w.same) simplified.rest;
           removed = removed;
           lighter = subst (λ (s : SortedData). IsRemoved asked.settings.simplify sorted s removed) (sym w.same) lighter;
           reports =
               judged (unsorted_of file) sorted unsorted is_sorted inferred asked.settings asked refl p
-              (subst (λ (s : SortedData). IsSimplified asked sorted s) (sym w.same) simplified) removed d.verdict d.report.items h;
+              (subst (λ (s : SortedData). IsSimplified asked sorted s) (sym w.same) simplified) removed
+              (subst (λ (s : SortedData). AreRules s.scheme.rules (length s.scheme.ranks)) (sym w.same) w.are_rules) d.verdict d.report.items h;
         };
       }
 

@@ -10,6 +10,7 @@
 --                     is asked for, some supported list; it has the start entry
 use Rattle.std.specs.Prelude.{◌≡◌, ℕ, ◌+◌, ◌≤◌, ◌<◌, Bool, true, false, List, length, Option, Some, None, if◌then◌else◌}
 use Rattle.hs_scheme.specs.declared.flow.Pair.{Pair}
+use Rattle.hs_scheme.specs.Scheme.{AreRules}
 use Rattle.hs_scheme.specs.Points.{points_of}
 use Rattle.hs_scheme.specs.Flow.{IsSupported, IsFlow, IsFlowTable}
 use Rattle.hs_scheme.specs.Unsorted.{UnsortedData, IsUnsorted}
@@ -82,6 +83,7 @@ pub record HasMuchFlow (asked : Asked) (u : UnsortedData) : Type 0 where
 pub record IsProblemWithin (sorted : SortedData) (p : ProblemData) : Type 0 where
   pub same : p.sorted ≡ sorted
   pub is_sorted : IsSorted sorted
+  pub are_rules : AreRules sorted.scheme.rules (length sorted.scheme.ranks)
   pub points : p.points ≡ points_of sorted.scheme.rules
   pub few_points : length p.points.points ≤ 500000
   pub flow : IsFlow sorted.scheme.rules p.flow.pairs p.flow.heads

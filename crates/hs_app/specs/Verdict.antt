@@ -1,6 +1,7 @@
 -- What the bytes of a file are answered with.
 --     IsScheme, IsSound         the bytes are a file without faults in its names, and this is its scheme; it has sorts within the limits
 --     IsFailingPath             the path leads to a terminal without transition, which it names with its state
+--     FailsAlong                so it does after some number of steps
 --     Reports                   the text is the report of the verdict on a scheme
 --     Answers                   the verdict with its report, or the reason why there is none
 --     max_bytes, Has            the most bytes of a file; the answer of a file that isn't longer
@@ -29,6 +30,7 @@ use Rattle.hs_table.specs.Follows.{Support}
 use Rattle.hs_table.specs.Tables.{IsSupportedTable, IsLeastTable, HasSupports, HasStart, Exceeds}
 use Rattle.hs_naming.specs.Naming.{NamesPath}
 use Rattle.hs_checker.specs.Checked.{IsCount}
+use Rattle.hs_passes.specs.Passing.{KeepsRest}
 use Rattle.hs_trace.specs.Path.{PathData}
 use Rattle.hs_trace.specs.Failing.{IsFailingPath}
 use Rattle.hs_text.specs.Report.{IsReport}
@@ -74,6 +76,10 @@ pub record AreWithin (settings : Settings) : Type 0 where
 abbrev pub IsShown : ProblemData → Bool → shown.Verdict → List EntryData → Option ℕ → List ℕ → Type 0
 IsShown p table verdict log removed text = IsReport p verdict (if table then Some log else None) removed text
 
+-- the path leads to its last terminal, which has no transition in its state, after some number of steps
+abbrev pub FailsAlong : List Rule → List TransitionData → PathData → Type 0
+FailsAlong rules ts path = (used : ℕ) × IsFailingPath rules ts (record path { used = used })
+
 -- The rules whose tree is judged, with their transitions, the problem that was saturated, how much weight was taken off before, and the
 -- text of the report.
 module _ (settings : Settings) (rules : List Rule) (ts : List TransitionData) (p : ProblemData) (removed : Option ℕ) (text : List ℕ) where
@@ -95,14 +101,14 @@ module _ (settings : Settings) (rules : List Rule) (ts : List TransitionData) (p
     pub count : IsCount p table checked
     pub tells : Tells (shown_as.Accepted (length table) (Some checked)) table
 
-  -- it isn't, and the path that the table names leads to a terminal without transition
+  -- it isn't, and the path that the table names leads to its last terminal, which has no transition in its state
   pub record ReportsRejected : Type 0 where
     pub rejects : Accepts rules ts → ⊥
     pub table : List EntryData
     pub reported : IsReportedTable settings.first p table
     pub within : length table ≤ settings.entries
     pub path : PathData
-    pub fails : FailsFromStart rules ts 0 path.steps
+    pub fails : FailsAlong rules ts path
     pub walked : IsFailingPath rules_walked ts path
     pub few : path.used ≤ settings.steps
     pub supports : List Support
@@ -137,10 +143,12 @@ ReportsBy settings rules ts p removed Accepted text = ReportsAccepted settings r
 ReportsBy settings rules ts p removed Rejected text = ReportsRejected settings rules ts p removed text
 ReportsBy settings rules ts p removed Long text = ReportsLong settings rules ts p removed text
 
--- the verdict is on the rules of the file, and by the problem of their scheme
+-- The verdict is on the rules of the file, and by the problem of their scheme, in which the terminals, the states and their names are
+-- those of the file.
 pub record Reports (asked : Asked) (u : UnsortedData) (verdict : Verdict) (text : List ℕ) : Type 0 where
   pub problem : ProblemData
   pub of : IsProblemOf asked u problem
+  pub rest : KeepsRest of.form problem.sorted
   pub removed : Option ℕ
   pub lighter : IsRemoved asked.settings.simplify of.form problem.sorted removed
   pub reports : ReportsBy asked.settings u.rules u.automaton.transitions problem removed verdict text

@@ -12,7 +12,6 @@ ghost use Rattle.hs_checker.specs.Checked.{IsCount};
 ghost use Rattle.hs_app.specs.Problems.{IsReportedTable};
 ghost use Rattle.hs_app.specs.Verdict.{IsShown, DecidesProblem, AreWithin};
 
-use crate::problem::know;
 use crate::refusal::Refusal;
 use crate::verdict::{Decided, Settings, Verdict};
 use hs_checker::{CheckFault, check};
@@ -23,6 +22,7 @@ use hs_path::{Walk, walk};
 use hs_scheme::{OutOfMemory, Problem};
 use hs_table::Entry;
 use hs_text::{Verdict as Told, report};
+use hs_verdict::is_sorted_problem;
 use hs_workers::{Gate, saturate};
 use std::alloc::Global;
 use std::mem::forget;
@@ -47,7 +47,7 @@ fn report_with(
         return report(alloc, problem, verdict, None, removed);
     }
     core.is_core();
-    know(problem);
+    is_sorted_problem(problem);
     report(alloc, problem, verdict, Some(entries), removed)
 }
 
@@ -149,7 +149,7 @@ fn rejected(
     ensures { IfOk result (λ decided. DecidesProblem settings problem.now removed (Ok decided)) }
 {
     core.is_core();
-    know(problem);
+    is_sorted_problem(problem);
     namings_end_and_fail();
     let entries = core.len();
     match walk(alloc, problem, core, settings.steps)? {
@@ -262,7 +262,7 @@ pub(crate) fn decide_problem<R: Threads + Wait + Sync, G: Gate + Sync>(
     requires flow { HasClosedFlow problem.now }
     ensures { DecidesProblem settings problem.now removed result }
 {
-    know(problem);
+    is_sorted_problem(problem);
     let dependents = Dependents::of(alloc, problem)?;
     let done = saturate(
         rt,

@@ -2,7 +2,6 @@
 
 ghost use Rattle.std.specs.Prelude.{◌≡◌, ◌+◌, ◌<◌, ◌≤◌, length, MatchResult};
 ghost use Rattle.hs_scheme.specs.declared.flow.Pair.{Pair};
-ghost use Rattle.hs_verdict.specs.Premises.{IsSortedProblem};
 ghost use Rattle.hs_app.specs.Problems.{IsProblemWithin, IsPastLimits};
 
 use crate::refusal::Refusal;
@@ -29,16 +28,4 @@ pub(crate) fn problem_of(alloc: Global, sorted: Sorted) -> Result<Problem, Refus
         Err(FlowFault::OutOfMemory) => return Err(Refusal::OutOfMemory),
     };
     Ok(Problem::new(sorted, points, flow))
-}
-
-/// What holds of each problem.
-pub(crate) fn know(problem: &Problem)
-    ensures { IsSortedProblem problem.now }
-{
-    let _ = &problem.points;
-    let sorted = &problem.sorted;
-    let _ = &sorted.names;
-    let scheme = &sorted.scheme;
-    let _ = &scheme.rules;
-    sorted.automaton.is_automaton();
 }

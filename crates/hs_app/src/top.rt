@@ -240,7 +240,8 @@ fn exit_status(ending: &Ending) -> u8
 /// Reading takes time and memory in proportion to the file. What saturation takes isn't bounded by
 /// the file: a table has at most `--entries` entries, and a path is followed for at most `--steps`
 /// steps. Each of the workers passes `gate` before it does a work; with `Open` nobody waits there. The
-/// passes are applied in their order with `--simplify`, and dropped at the end in any case.
+/// passes, none of which has a tally yet, are applied in their order with `--simplify`, and dropped at
+/// the end in any case.
 pub fn run<R: Threads + Wait + Sync, S: Source, O: Sink, E: Sink, G: Gate + Sync>(
     rt: &R,
     alloc: Global,

@@ -7,11 +7,11 @@ ghost use Rattle.hs_core.specs.Saturation.{IsDone, IsVerdict};
 
 use crate::answers::{Done, Drained};
 use crate::draining::{answer, work_alone};
-use crate::sorted::is_sorted;
 use crate::state::Core;
 use hs_flow::Dependents;
 use hs_naming::least_tables_decide;
 use hs_scheme::{OutOfMemory, Problem};
+use hs_verdict::is_sorted_problem;
 use std::alloc::Global;
 
 /// The least table of the problem, formed by one worker, whose number is 0; or, where `first` is set
@@ -33,7 +33,7 @@ pub fn saturate_alone<'p>(
     ensures done { IfOk result (IsDone (record { problem = problem.now; budget = budget; first = first })) }
     ensures verdict { IfOk result (λ done. HasClosedFlow problem.now → IsVerdict problem.now done) }
 {
-    is_sorted(problem);
+    is_sorted_problem(problem);
     least_tables_decide();
     let mut core = Core::new(alloc, problem, budget, first)?;
     work_alone(alloc, &mut core, dependents)?;

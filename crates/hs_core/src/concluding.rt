@@ -5,10 +5,10 @@ ghost use Rattle.hs_types.specs.Interned.{Grows};
 ghost use Rattle.hs_rules.specs.Conclusions.{AnySupport, Uses, AreConclusions};
 ghost use Rattle.hs_core.specs.Core.{log_of};
 
-use crate::sorted::is_sorted;
 use crate::state::Core;
 use hs_rules::{Deduced, conclusions_with, seed_conclusions};
 use hs_scheme::OutOfMemory;
+use hs_verdict::is_sorted_problem;
 use std::alloc::Global;
 
 impl<'p> Core<'p> {
@@ -37,7 +37,7 @@ impl<'p> Core<'p> {
         ensures kept { self.new ≡ record self.old { ids = self.new.ids } }
         ensures grows { Grows self.old.ids self.new.ids }
     {
-        is_sorted(self.problem);
+        is_sorted_problem(self.problem);
         conclusions_with(alloc, self.problem, &mut self.replica, point, place)
     }
 }

@@ -12,7 +12,7 @@ mod answers;
 mod backing;
 mod concluding;
 mod draining;
-mod sorted;
+mod start;
 mod state;
 mod steps;
 mod tickets;

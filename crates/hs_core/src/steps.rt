@@ -11,7 +11,7 @@ ghost use Rattle.hs_core.specs.Inside.{KnowsStart};
 
 use crate::answers::{Published, Taken};
 use crate::backing::Backing;
-use crate::sorted::is_start;
+use crate::start::is_start;
 use crate::state::Core;
 use hs_history::{Event, Flight, Step, Work};
 use hs_rules::Deduced;

@@ -2,7 +2,6 @@
 
 ghost use Rattle.std.specs.Prelude.{◌≡◌, ◌<◌, ◌≤◌, ℕ, slice_get, Some, IfOk};
 ghost use Rattle.hs_table.specs.Tables.{HasStart, HasSupports, IsStart};
-ghost use Rattle.hs_verdict.specs.Premises.{IsSortedProblem};
 ghost use Rattle.hs_naming.specs.Leading.{StartLeads};
 ghost use Rattle.hs_core.specs.Core.{log_of, state_of, StartsAt};
 ghost use Rattle.hs_path.specs.Walked.{IsWalk};
@@ -16,17 +15,8 @@ use hs_history::every_history_supported;
 use hs_naming::namings_lead_the_start;
 use hs_scheme::{OutOfMemory, Problem};
 use hs_trace::Path;
+use hs_verdict::is_sorted_problem;
 use std::alloc::Global;
-
-/// The facts that the types of a problem's parts keep. Does nothing.
-fn know(problem: &Problem)
-    ensures { IsSortedProblem problem.now }
-{
-    let sorted = &problem.sorted;
-    let scheme = &sorted.scheme;
-    let _ = &scheme.rules;
-    sorted.automaton.is_automaton();
-}
 
 /// The walk from the start entry at this place on, once the start is replaced, where at least one step
 /// may be made.
@@ -92,7 +82,7 @@ pub fn walk(alloc: Global, problem: &Problem, core: &Core, steps: u64) -> Result
     requires start { HasStart problem.now (log_of core.now) }
     ensures { IfOk result (IsWalk problem.now (log_of core.now) (state_of core.now).supports steps) }
 {
-    know(problem);
+    is_sorted_problem(problem);
     core.is_core();
     every_history_supported();
     namings_lead_the_start();

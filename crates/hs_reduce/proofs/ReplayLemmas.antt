@@ -51,7 +51,7 @@ module _ (s : SortedData) (sorted : HasSorting s) where
   abbrev sorts : Sorts
   sorts = sorts_of s.sorts s.scheme.ranks
 
-  pub reached_sorted : (n q p : ℕ) (t u : Tree Head) (path : Path) → Reaches rules ts n q t path p u → IsTreeTerm sorts t → IsTreeTerm sorts u
+  reached_sorted : (n q p : ℕ) (t u : Tree Head) (path : Path) → Reaches rules ts n q t path p u → IsTreeTerm sorts t → IsTreeTerm sorts u
   reached_sorted zero q p t u path (e, (is, are)) k = along (λ (x : Tree Head). IsTreeTerm sorts x) are k
   reached_sorted (suc n) q p t u path l k =
       reached_sorted n l.state p l.term u l.rest l.holds (step_sorted rules (length s.scheme.ranks) (known s.scheme.ranks) ts sorts sorted q l.state t l.term l.label l.step k)

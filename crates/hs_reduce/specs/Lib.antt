@@ -3,5 +3,3 @@ pub mod Path
 pub mod Replays
 pub mod Advances
 pub mod Bounds
-pub mod Followed
-pub mod Labelled

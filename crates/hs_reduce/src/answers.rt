@@ -37,15 +37,3 @@ pub enum Bounded {
     /// It doesn't, and the path leads to an error in fewer steps than the cut has.
     Error(Path),
 }
-
-/// What following child numbers from the start comes to.
-#[derive(Debug, Drop)]
-pub enum Followed {
-    /// The path to a terminal without transition.
-    Fails(Path),
-    /// All steps are made along these terminals, each with the number of the child that follows, and
-    /// one more can be.
-    GoesOn(Vec<(u32, u32)>),
-    /// The numbers end before, or one of them is that of no child.
-    Ends,
-}

@@ -7,14 +7,12 @@
 
 mod answers;
 mod cutting;
-mod following;
 mod graph;
 mod limits;
 mod replacement;
 mod replaying;
 
-pub use answers::{Bounded, Followed, Replay};
+pub use answers::{Bounded, Replay};
 pub use cutting::bounded;
-pub use following::follow;
 pub use limits::{MAX_CUT, MAX_STEPS};
 pub use replaying::replay;

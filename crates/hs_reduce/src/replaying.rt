@@ -33,7 +33,7 @@ pub enum Advance {
 }
 
 /// The place and the state of the child with this number, counted from 1.
-pub(crate) fn child_at(to: &[u32], args: &[usize], number: u32) -> Option<(usize, u32)>
+fn child_at(to: &[u32], args: &[usize], number: u32) -> Option<(usize, u32)>
     ensures { MatchOption result ((number ≡ 0) ⊎ (length args.now < number) ⊎ (length to.now < number))
         (λ child. (i : ℕ) × (number ≡ i + 1) × (slice_get args.now i ≡ Some child.0) × (slice_get to.now i ≡ Some child.1)) }
 {

@@ -6,3 +6,4 @@ pub mod Lengthened
 pub mod Alike
 pub mod Trees
 pub mod PathLemmas
+pub mod SameEnds

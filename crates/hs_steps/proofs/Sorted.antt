@@ -102,7 +102,7 @@ module _ (s : Sorts) (f params rules terminals : ℕ) (ws : List (Tree Head)) (l
     substs_sort (more u us) g k r (a, b, is, of, others) = (a, b, is, subst_sort u a r.0 of, substs_sort us b k r.1 others)
 
 -- where transitions agree with ranks, the terminal of one has the rank of its number of states
-next_rank : (ranks : List (Option ℕ)) (ts : List TransitionData) (q a : ℕ) (qs : List ℕ) → AgreesWithRanks ranks ts → next ts q a ≡ Some qs → slice_get ranks a ≡ Some (Some (length qs))
+pub next_rank : (ranks : List (Option ℕ)) (ts : List TransitionData) (q a : ℕ) (qs : List ℕ) → AgreesWithRanks ranks ts → next ts q a ≡ Some qs → slice_get ranks a ≡ Some (Some (length qs))
 next_rank ranks [] q a qs all e = absurd (cc)
 next_rank ranks (t ∷ ts) q a qs all e =
     elim (is_of q a t) as (λ b. is_of q a t ≡ b → option_map (λ (u : TransitionData). u.to) (cond b (Some t) (find (is_of q a) ts)) ≡ Some qs → slice_get ranks a ≡ Some (Some (length qs))) [

@@ -47,7 +47,7 @@ module _ (rules : List Rule) (terminals : ℕ) (ranks : List (Option ℕ)) (ts :
         λ accepts n. not_refused (run ts 0 (cut rules n start)) (λ e. not_both (run ts 0 (cut others n start)) (accepts n) ((same_refusals n).0 e)),
       )
 
-known_at : (ranks : List ℕ) (a n : ℕ) → slice_get (known ranks) a ≡ Some (Some n) → slice_get ranks a ≡ Some n
+pub known_at : (ranks : List ℕ) (a n : ℕ) → slice_get (known ranks) a ≡ Some (Some n) → slice_get ranks a ≡ Some n
 known_at [] a n e = absurd (cc)
 known_at (r ∷ ranks) zero n e = (cc)
 known_at (r ∷ ranks) (suc a) n e = known_at ranks a n e

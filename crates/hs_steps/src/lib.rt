@@ -2,10 +2,12 @@
 //! a function that does nothing.
 #![tactic(auto)]
 
+mod ends;
 mod laws;
 mod lengthening;
 mod paths;
 
+pub use ends::same_trees_end_alike;
 pub use laws::{
     cuts_grow, full_rules_take_all_arguments, refusals_are_failing_paths,
     refusals_have_a_first_step, steps_keep_the_sort, terms_have_all_arguments,

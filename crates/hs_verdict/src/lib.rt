@@ -11,6 +11,21 @@ ghost use Rattle.hs_table.specs.Follows.{Support};
 ghost use Rattle.hs_table.specs.Tables.{IsSupportedTable, IsClosedTable, HasSupports, HasStart};
 ghost use Rattle.hs_verdict.specs.Premises.{IsSortedProblem, HasClosedFlow};
 
+use hs_scheme::Problem;
+
+/// What the types of a problem's parts keep: a sorted scheme, an automaton, and the points of its
+/// rules. Does nothing.
+pub fn is_sorted_problem(problem: &Problem)
+    ensures { IsSortedProblem problem.now }
+{
+    let _ = &problem.points;
+    let sorted = &problem.sorted;
+    let _ = &sorted.names;
+    let scheme = &sorted.scheme;
+    let _ = &scheme.rules;
+    sorted.automaton.is_automaton();
+}
+
 /// Over a flow that is closed, a closed table has the start entry wherever some path from the start
 /// fails, that is, leads in some number of steps to a terminal that has no transition.
 pub fn complete_tables_have_the_start()

@@ -1,7 +1,7 @@
 use Rattle.hs_app.proofs.deciding.decide_problem.Goals as goal
 
 pub of_done-decided-requires-clause-sorted : goal.of_done-decided-requires-clause-sorted
-of_done-decided-requires-clause-sorted g c = c.know.ensures
+of_done-decided-requires-clause-sorted g c = c.is_sorted_problem.ensures
 
 pub of_done-decided-requires-clause-done : goal.of_done-decided-requires-clause-done
 of_done-decided-requires-clause-done g c = c.in_ok-done.ensures.done

@@ -27,7 +27,7 @@ returns-in_ok-report-in-Found c =
       reported = c.requires.reported;
       within = subst (λ (n : ℕ). length log ≤ n) c.requires.budget (core_within c.args.core.now c.is_core.ensures);
       path = c.in-Found.path;
-      fails = (c.in-Found.path.used, c.namings_end_and_fail.ensures.fails p log supports c.know.ensures supported c.in-Found.path.used c.in-Found.path.steps found.names);
+      fails = (c.in-Found.path.used, found.fails);
       walked = either_way c.args.settings.simplify (λ (rules : List Rule). IsFailingPath rules p.sorted.automaton.transitions c.in-Found.path) p.sorted.scheme.rules found.fails;
       few = found.few;
       supports = supports;
@@ -65,7 +65,7 @@ returns-in_ok-report-in-StepLimit c =
       longer = cut.longer;
       rest = cut.rest;
       begins = cut.begins;
-      fails = (cut.need, c.namings_end_and_fail.ensures.fails p log supports c.know.ensures supported cut.need cut.path cut.names);
+      fails = (cut.need, c.namings_end_and_fail.ensures.fails p log supports c.is_sorted_problem.ensures supported cut.need cut.path cut.names);
       tells =
           subst (λ (n : ℕ). IsShown p c.args.settings.table (Long n c.args.settings.steps) log c.args.removed c.in_ok-report-in-StepLimit.report.items)
           c.len-entries.ensures (c.in_ok-report-in-StepLimit.ensures);

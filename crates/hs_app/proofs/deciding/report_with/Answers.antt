@@ -17,7 +17,7 @@ pub report-requires-2-clause-shape : goal.report-requires-2-clause-shape
 report-requires-2-clause-shape c = λ table e.
     shown (λ (t : List EntryData). All (InShape c.args.problem.now) t) (log_of c.args.core.now) c.args.entries.now table
     (subst (λ (p : ProblemData). All (InShape p) (log_of c.args.core.now)) (sym c.requires.problem)
-    (core_shape c.args.core.now c.is_core.ensures (subst (λ (p : ProblemData). IsAutomaton p.sorted.automaton) c.requires.problem c.know.ensures.automaton)))
+    (core_shape c.args.core.now c.is_core.ensures (subst (λ (p : ProblemData). IsAutomaton p.sorted.automaton) c.requires.problem c.is_sorted_problem.ensures.automaton)))
     c.requires.entries e
 
 pub report-requires-2-clause-distinct : goal.report-requires-2-clause-distinct

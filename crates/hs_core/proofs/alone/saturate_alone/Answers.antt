@@ -9,7 +9,7 @@ use Rattle.hs_core.proofs.alone.saturate_alone.Goals as goal
 pub returns-in-Quiet-clause-verdict : goal.returns-in-Quiet-clause-verdict
 returns-in-Quiet-clause-verdict c = λ closed.
     let base = c.in_ok-work_alone.ensures.goes.base ∙ ap (λ (x : CoreData). x.base) c.in_ok-core.ensures in
-    c.least_tables_decide.ensures c.args.problem.now (log_of c.work_alone.new.core) c.is_sorted.ensures closed
+    c.least_tables_decide.ensures c.args.problem.now (log_of c.work_alone.new.core) c.is_sorted_problem.ensures closed
     (subst (λ (b : Base). IsLeastTable b.problem (log_of c.work_alone.new.core)) base c.in-Quiet.ensures.least)
 
 pub returns-in-Found-clause-done : goal.returns-in-Found-clause-done

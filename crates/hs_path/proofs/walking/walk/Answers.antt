@@ -11,4 +11,4 @@ returns-then-steps-eq0 c =
     let p = c.args.problem.now in
     let supports = (state_of core).supports in
     let log = along (λ (q : ProblemData). HasSupports q (log_of core) supports) (sym c.requires.problem) (c.every_history_supported.ensures.supported core.base core.story c.is_core.ensures.legal) in
-    no_steps p (log_of core) supports (c.namings_lead_the_start.ensures p (log_of core) supports c.know.ensures log c.requires.start) c.args.steps c.new.result.items c.if-steps-eq0.true c.new.ensures.items
+    no_steps p (log_of core) supports (c.namings_lead_the_start.ensures p (log_of core) supports c.is_sorted_problem.ensures log c.requires.start) c.args.steps c.new.result.items c.if-steps-eq0.true c.new.ensures.items

@@ -1,28 +1,18 @@
-//! What a problem's parts say of it.
+//! The start entry of a problem.
 
 ghost use Rattle.std.specs.Prelude.{◌≡◌, ◌↔◌, slice_get, Some, IsTrue};
 ghost use Rattle.hs_table.specs.Tables.{IsStart};
 ghost use Rattle.hs_types.specs.Interned.{IsRow, entry_of};
-ghost use Rattle.hs_verdict.specs.Premises.{IsSortedProblem};
 
 use hs_scheme::Problem;
 use hs_types::{Interner, Row, View};
-
-/// The facts that the types of a problem's parts keep. Does nothing.
-pub(crate) fn is_sorted(problem: &Problem)
-    ensures { IsSortedProblem problem.now }
-{
-    let sorted = &problem.sorted;
-    let scheme = &sorted.scheme;
-    let _ = &scheme.rules;
-    sorted.automaton.is_automaton();
-}
+use hs_verdict::is_sorted_problem;
 
 /// The point of the start's body.
 fn start_body(problem: &Problem) -> u32
     ensures { slice_get problem.now.points.bodies 0 ≡ Some result }
 {
-    is_sorted(problem);
+    is_sorted_problem(problem);
     problem.points.body_of(0)
 }
 
