@@ -1,5 +1,5 @@
 -- What parameters may become, one more of it.
-use Rattle.std.proofs.Common.{◌≡◌, refl, sym, ℕ, zero, suc, ◌<◌, Vec, ◌↔◌, ◌∙◌, ap, subst, Bool, true, false, not, ◌&&◌, nat_eq, length, arith, List, [], ◌∷◌, ◌++◌, cond, ◌⊎◌, inl, inr, Contains}
+use Rattle.std.proofs.Common.{◌≡◌, refl, sym, ℕ, zero, suc, ◌<◌, ◌↔◌, ◌∙◌, ap, subst, Bool, true, false, not, ◌&&◌, nat_eq, length, arith, List, [], ◌∷◌, ◌++◌, cond, ◌⊎◌, inl, inr, Contains}
 use Rattle.std.specs.Bool.{Decides}
 use Rattle.std.specs.List.{list_any}
 use Rattle.std.proofs.lemmas.Bool.{eqb-true, eq-eqb}
@@ -7,11 +7,10 @@ use Rattle.std.proofs.lemmas.List.Elements.{Contains-append_cases, Contains-appe
 use Rattle.std.proofs.lemmas.Map.Made.{is_member-Decides}
 use Rattle.hs_flow.specs.declared.bases.Base.{Base}
 use Rattle.hs_flow.specs.contracts.bases.BasePartialEq.TheImpl.{eq-value}
-use Rattle.std.specs.declared.alloc.Global.{Global}
 use Rattle.hs_scheme.specs.Parameters.{IsParameter, parameter_of}
 use Rattle.hs_scheme.proofs.ParameterLemmas.{number_once}
-use Rattle.hs_flow.specs.Bases.{HasFlag, InRows, IsOutside, IsNew}
-use Rattle.hs_flow.proofs.GainLemmas.{only_in}
+use Rattle.hs_flow.specs.Bases.{HasFlag, InRows, IsOutside, TellsNew}
+use Rattle.hs_flow.proofs.PairLemmas.{only_in}
 
 both : (b c : Bool) → b && c ≡ true → (b ≡ true) × (c ≡ true)
 both true true h = (refl, refl)
@@ -76,7 +75,7 @@ bases_have old new b keys = subst (λ (bs : List Base). Contains bs b) (sym keys
     by true there = (is_member-Decides base_same old b).0 there
     by false absent = Contains-push old b
 
-has_row : (rows : List (Vec Bool Global)) (k j : ℕ) → HasFlag rows k j → k < length rows
+has_row : (rows : List (List Bool)) (k j : ℕ) → HasFlag rows k j → k < length rows
 has_row [] k j h = absurd (cc)
 has_row (v ∷ rows) zero j h = omega arith
 has_row (v ∷ rows) (suc k) j h = omega (arith, has_row rows k j h)
@@ -89,15 +88,15 @@ module _ (old new : List Base) (b : Base) (added : Bool) (keys : new ≡ cond (l
     λ h. elim h [ inl was ↦ bases_keep old new b c keys was | inr is ↦ subst (Contains new) (sym is) (bases_have old new b keys) ],
   )
 
-  pub others_new : IsNew (Contains old b) added
+  pub others_new : TellsNew (Contains old b) added
   others_new = by added refl
     where
-      by : (t : Bool) → added ≡ t → IsNew (Contains old b) t
+      by : (t : Bool) → added ≡ t → TellsNew (Contains old b) t
       by true is = λ was. base_new old new b added tells is was
       by false is = base_there old new b added tells is
 
 -- a base for which there is no row
-module _ (counts : List ℕ) (rows : List (Vec Bool Global)) (old new : List Base) (b : Base) (out : IsOutside counts rows b) where
+module _ (counts : List ℕ) (rows : List (List Bool)) (old new : List Base) (b : Base) (out : IsOutside counts rows b) where
   pub outside_more : ((c : Base) → Contains new c ↔ (Contains old c ⊎ (c ≡ b))) → (c : Base)
       → (InRows counts rows c ⊎ (IsOutside counts rows c × Contains new c)) ↔ ((InRows counts rows c ⊎ (IsOutside counts rows c × Contains old c)) ⊎ (c ≡ b))
   outside_more more c = (
@@ -112,12 +111,12 @@ module _ (counts : List ℕ) (rows : List (Vec Bool Global)) (old new : List Bas
     ],
   )
 
-  pub outside_new : (added : Bool) → IsNew (Contains old b) added → IsNew (InRows counts rows b ⊎ (IsOutside counts rows b × Contains old b)) added
+  pub outside_new : (added : Bool) → TellsNew (Contains old b) added → TellsNew (InRows counts rows b ⊎ (IsOutside counts rows b × Contains old b)) added
   outside_new true tells = λ h. elim h [ inl r ↦ out r.param r.base (has_row rows _ _ r.flag) | inr (o, was) ↦ tells was ]
   outside_new false tells = inr (out, tells)
 
 -- a base that has a row
-module _ (counts : List ℕ) (old new : List (Vec Bool Global)) (others : List Base) (b : Base) (k j : ℕ) (param : IsParameter counts b.rule b.param) (base : IsParameter counts b.base b.given)
+module _ (counts : List ℕ) (old new : List (List Bool)) (others : List Base) (b : Base) (k j : ℕ) (param : IsParameter counts b.rule b.param) (base : IsParameter counts b.base b.given)
     (k_is : k ≡ parameter_of counts b.rule b.param) (j_is : j ≡ parameter_of counts b.base b.given) (within : k < length old) where
   pub flag_more : length new ≡ length old → ((x y : ℕ) → HasFlag new x y ↔ (HasFlag old x y ⊎ ((x ≡ k) × (y ≡ j)))) → (c : Base)
       → (InRows counts new c ⊎ (IsOutside counts new c × Contains others c)) ↔ ((InRows counts old c ⊎ (IsOutside counts old c × Contains others c)) ⊎ (c ≡ b))
@@ -143,7 +142,7 @@ module _ (counts : List ℕ) (old new : List (Vec Bool Global)) (others : List B
     ],
   )
 
-  pub flag_new : (added : Bool) → IsNew (HasFlag old k j) added → IsNew (InRows counts old b ⊎ (IsOutside counts old b × Contains others b)) added
+  pub flag_new : (added : Bool) → TellsNew (HasFlag old k j) added → TellsNew (InRows counts old b ⊎ (IsOutside counts old b × Contains others b)) added
   flag_new true tells = λ h. elim h [
     | inl r ↦ tells (here r.flag)
     | inr (o, other) ↦ o param base (omega (arith, k_is, within))

@@ -1,19 +1,17 @@
 -- Lists of points that grow by one point at a time.
-use Rattle.std.proofs.Common.{◌≡◌, ◌≢◌, refl, sym, ◌∙◌, ap, subst, ℕ, zero, suc, ◌+◌, ◌-◌, ◌<◌, ◌≤◌, Bool, true, false, nat_eq, ◌&&◌, List, [], ◌∷◌, ◌++◌, length, get_or, take, slice_get, Some, length-append, arith, ◌⊎◌, inl, inr, Contains, ◌↔◌, cond, Vec, map, filter}
+use Rattle.std.proofs.Common.{◌≡◌, ◌≢◌, refl, sym, ◌∙◌, ap, subst, ℕ, zero, suc, ◌+◌, ◌-◌, ◌<◌, ◌≤◌, Bool, true, false, nat_eq, ◌&&◌, List, [], ◌∷◌, ◌++◌, length, get_or, take, slice_get, Some, length-append, arith, ◌⊎◌, inl, inr, Contains, ◌↔◌, cond, filter}
 use Rattle.std.specs.List.Sorted.{IsStrictlyIncreasing}
-use Rattle.std.specs.declared.alloc.Global.{Global}
 use Rattle.std.proofs.lemmas.Bool.{eqb-true, eq-eqb, cases_lt}
 use Rattle.std.proofs.lemmas.Option.{slice_get_within}
-use Rattle.std.proofs.lemmas.List.{take_more, get_or_append_left, get_or_push, get_or_default, length-map}
+use Rattle.std.proofs.lemmas.List.{take_more, get_or_append_left, get_or_push, get_or_default}
 use Rattle.std.proofs.lemmas.List.Elements.{All-append, All-cons, Contains-append_left, Contains-append_right, Contains-append_cases}
 use Rattle.hs_scheme.specs.declared.flow.FlowPair.{FlowPair}
 use Rattle.hs_scheme.specs.declared.term.Head.{Head}
 use Rattle.hs_scheme.specs.Points.{PointData, PointsData, point_at}
 use Rattle.hs_scheme.specs.Dependents.{HeadReads, IsDependent}
 use Rattle.hs_scheme.proofs.DemandLemmas.{some_same, read-slice_get, slice_get-read}
-use Rattle.hs_flow.specs.Rows.{row}
 use Rattle.hs_flow.specs.Dependents.{RisesTo, AddsTo, HasPoint, HasDependents, list_of}
-use Rattle.hs_flow.proofs.GainLemmas.{nothing_in, only_in, first_in}
+use Rattle.hs_flow.proofs.PairLemmas.{nothing_in, only_in, first_in}
 use Rattle.std.proofs.lemmas.Option.{slice_get-get_or}
 
 -- the point at the end of an ascending list, of which it isn't the last yet
@@ -37,21 +35,21 @@ rises_push point xs apart r = record {
 }
 
 -- the point goes into the list of one number
-module _ (old new : List (Vec ℕ Global)) (number point : ℕ) (long : length new ≡ length old) (is : (k : ℕ) → row new k ≡ cond (nat_eq k number) (row old k ++ point ∷ []) (row old k)) where
+module _ (old new : List (List ℕ)) (number point : ℕ) (long : length new ≡ length old) (is : (k : ℕ) → list_of new k ≡ cond (nat_eq k number) (list_of old k ++ point ∷ []) (list_of old k)) where
   abbrev grown : Bool → ℕ → List ℕ
-  grown b p = cond b (row old p ++ point ∷ []) (row old p)
+  grown b p = cond b (list_of old p ++ point ∷ []) (list_of old p)
 
-  pushed_only : (p d : ℕ) (b : Bool) → nat_eq p number ≡ b → Contains (grown b p) d → Contains (row old p) d ⊎ ((d ≡ point) × (p ≡ number))
-  pushed_only p d true here h = elim (Contains-append_cases (row old p) (point ∷ []) d h) [ inl was ↦ inl was | inr last ↦ inr (only_in point d last, eqb-true p number here) ]
+  pushed_only : (p d : ℕ) (b : Bool) → nat_eq p number ≡ b → Contains (grown b p) d → Contains (list_of old p) d ⊎ ((d ≡ point) × (p ≡ number))
+  pushed_only p d true here h = elim (Contains-append_cases (list_of old p) (point ∷ []) d h) [ inl was ↦ inl was | inr last ↦ inr (only_in point d last, eqb-true p number here) ]
   pushed_only p d false elsewhere h = inl h
 
-  pushed_all : (p d : ℕ) (b : Bool) → nat_eq p number ≡ b → Contains (row old p) d ⊎ ((d ≡ point) × (p ≡ number)) → Contains (grown b p) d
-  pushed_all p d true here (inl was) = Contains-append_left (row old p) (point ∷ []) d was
-  pushed_all p d true here (inr (same, at)) = subst (λ e. Contains (row old p ++ point ∷ []) e) (sym same) (Contains-append_right (row old p) (point ∷ []) point (first_in point []))
+  pushed_all : (p d : ℕ) (b : Bool) → nat_eq p number ≡ b → Contains (list_of old p) d ⊎ ((d ≡ point) × (p ≡ number)) → Contains (grown b p) d
+  pushed_all p d true here (inl was) = Contains-append_left (list_of old p) (point ∷ []) d was
+  pushed_all p d true here (inr (same, at)) = subst (λ e. Contains (list_of old p ++ point ∷ []) e) (sym same) (Contains-append_right (list_of old p) (point ∷ []) point (first_in point []))
   pushed_all p d false elsewhere (inl was) = was
   pushed_all p d false elsewhere (inr (same, at)) = let yes = eq-eqb p number at in absurd (cc)
 
-  pub pushed_adds : ((x : ℕ) → slice_get (row old number) (length (row old number) - 1) ≡ Some x → x ≡ point → ⊥) → AddsTo (λ p. p ≡ number) point old new
+  pub pushed_adds : ((x : ℕ) → slice_get (list_of old number) (length (list_of old number) - 1) ≡ Some x → x ≡ point → ⊥) → AddsTo (λ p. p ≡ number) point old new
   pushed_adds apart = record {
     exact = λ p d. (
       λ h. pushed_only p d (nat_eq p number) refl (subst (λ (xs : List ℕ). Contains xs d) (is p) h),
@@ -61,33 +59,33 @@ module _ (old new : List (Vec ℕ Global)) (number point : ℕ) (long : length n
     len = long;
   }
     where
-      by : (p : ℕ) (b : Bool) → nat_eq p number ≡ b → RisesTo point (row old p) → RisesTo point (grown b p)
-      by p true here r = rises_push point (row old p) (subst (λ k. (x : ℕ) → slice_get (row old k) (length (row old k) - 1) ≡ Some x → x ≡ point → ⊥) (sym (eqb-true p number here)) apart) r
+      by : (p : ℕ) (b : Bool) → nat_eq p number ≡ b → RisesTo point (list_of old p) → RisesTo point (grown b p)
+      by p true here r = rises_push point (list_of old p) (subst (λ k. (x : ℕ) → slice_get (list_of old k) (length (list_of old k) - 1) ≡ Some x → x ≡ point → ⊥) (sym (eqb-true p number here)) apart) r
       by p false elsewhere r = r
 
 -- it is the last there already
-pub kept_adds : (old : List (Vec ℕ Global)) (number point : ℕ) → slice_get (row old number) (length (row old number) - 1) ≡ Some point → AddsTo (λ p. p ≡ number) point old old
+pub kept_adds : (old : List (List ℕ)) (number point : ℕ) → slice_get (list_of old number) (length (list_of old number) - 1) ≡ Some point → AddsTo (λ p. p ≡ number) point old old
 kept_adds old number point last = record {
   exact = λ p d. (
     λ h. inl h,
     λ h. elim h [
       | inl was ↦ was
-      | inr new ↦ let r = read-slice_get (row old number) (length (row old number) - 1) point last in
-          subst (λ k. Contains (row old k) d) (sym new.1) (subst (λ e. Contains (row old number) e) (sym new.0) (length (row old number) - 1, r.0, r.1))
+      | inr new ↦ let r = read-slice_get (list_of old number) (length (list_of old number) - 1) point last in
+          subst (λ k. Contains (list_of old k) d) (sym new.1) (subst (λ e. Contains (list_of old number) e) (sym new.0) (length (list_of old number) - 1, r.0, r.1))
     ],
   );
   rises = λ p r. r;
   len = refl;
 }
 
-pub adds_nothing : (point : ℕ) (S : ℕ → Type 0) (old : List (Vec ℕ Global)) → ((p : ℕ) → S p → ⊥) → AddsTo S point old old
+pub adds_nothing : (point : ℕ) (S : ℕ → Type 0) (old : List (List ℕ)) → ((p : ℕ) → S p → ⊥) → AddsTo S point old old
 adds_nothing point S old never = record {
   exact = λ p d. (λ h. inl h, λ h. elim h [ inl was ↦ was | inr new ↦ absurd (never p new.1) ]);
   rises = λ p r. r;
   len = refl;
 }
 
-pub adds_then : (point : ℕ) (S T U : ℕ → Type 0) (a b c : List (Vec ℕ Global)) → ((p : ℕ) → (S p ⊎ T p) ↔ U p) → AddsTo S point a b → AddsTo T point b c → AddsTo U point a c
+pub adds_then : (point : ℕ) (S T U : ℕ → Type 0) (a b c : List (List ℕ)) → ((p : ℕ) → (S p ⊎ T p) ↔ U p) → AddsTo S point a b → AddsTo T point b c → AddsTo U point a c
 adds_then point S T U a b c both f g = record {
   exact = λ p d. (
     λ h. elim ((g.exact p d).0 h) [
@@ -103,7 +101,7 @@ adds_then point S T U a b c both f g = record {
   len = g.len ∙ f.len;
 }
 
-pub adds_same : (point : ℕ) (S T : ℕ → Type 0) (a b : List (Vec ℕ Global)) → ((p : ℕ) → S p ↔ T p) → AddsTo S point a b → AddsTo T point a b
+pub adds_same : (point : ℕ) (S T : ℕ → Type 0) (a b : List (List ℕ)) → ((p : ℕ) → S p ↔ T p) → AddsTo S point a b → AddsTo T point a b
 adds_same point S T a b same f = record {
   exact = λ p d. (
     λ h. elim ((f.exact p d).0 h) [ inl was ↦ inl was | inr new ↦ inr (new.0, (same p).0 new.1) ],
@@ -148,7 +146,7 @@ module _ {X : Type 0} (m : X → Bool) where
   from_step y ys x rest true e (suc k, within, is) = let r = rest (k, omega arith, is) in (skip y x ys r.0, r.1)
   from_step y ys x rest false e there = let r = rest there in (skip y x ys r.0, r.1)
 
-  filter_from : (xs : List X) (x : X) → Contains (filter m xs) x → Contains xs x × (m x ≡ true)
+  pub filter_from : (xs : List X) (x : X) → Contains (filter m xs) x → Contains xs x × (m x ≡ true)
   filter_from [] x h = absurd (nothing_in x h)
   filter_from (y ∷ ys) x h = from_step y ys x (filter_from ys x) (m y) refl h
 
@@ -208,8 +206,8 @@ point_reads points flows d rule head args lt their_args their_rule their_head p 
     )
 
 -- the lists, with the points so far and then all of them
-pub dependents_more : (points : PointsData) (flows : List FlowPair) (n : ℕ) (old new : List (Vec ℕ Global)) → AddsTo (λ p. IsDependent points flows p n) n old new
-    → ((p d : ℕ) → Contains (row old p) d ↔ ((d < n) × IsDependent points flows p d)) → (p d : ℕ) → Contains (row new p) d ↔ ((d < n + 1) × IsDependent points flows p d)
+pub dependents_more : (points : PointsData) (flows : List FlowPair) (n : ℕ) (old new : List (List ℕ)) → AddsTo (λ p. IsDependent points flows p n) n old new
+    → ((p d : ℕ) → Contains (list_of old p) d ↔ ((d < n) × IsDependent points flows p d)) → (p d : ℕ) → Contains (list_of new p) d ↔ ((d < n + 1) × IsDependent points flows p d)
 dependents_more points flows n old new adds so_far p d = (
   λ h. elim ((adds.exact p d).0 h) [
     | inl was ↦ let w = (so_far p d).0 was in (omega (arith, w.0), w.1)
@@ -221,25 +219,19 @@ dependents_more points flows n old new adds so_far p d = (
   ]),
 )
 
-pub rises_more : (points : PointsData) (flows : List FlowPair) (n : ℕ) (old new : List (Vec ℕ Global)) → AddsTo (λ p. IsDependent points flows p n) n old new
-    → ((p d : ℕ) → Contains (row old p) d ↔ ((d < n) × IsDependent points flows p d)) → ((p : ℕ) → IsStrictlyIncreasing (row old p)) → (p : ℕ) → IsStrictlyIncreasing (row new p)
+pub rises_more : (points : PointsData) (flows : List FlowPair) (n : ℕ) (old new : List (List ℕ)) → AddsTo (λ p. IsDependent points flows p n) n old new
+    → ((p d : ℕ) → Contains (list_of old p) d ↔ ((d < n) × IsDependent points flows p d)) → ((p : ℕ) → IsStrictlyIncreasing (list_of old p)) → (p : ℕ) → IsStrictlyIncreasing (list_of new p)
 rises_more points flows n old new adds so_far up p = (adds.rises p (record {
   ascending = up p;
   below = λ k d lt.
-      let r = (so_far p (get_or (row old p) k d)).0 (k, lt, get_or_default (row old p) k (get_or (row old p) k d) d lt) in
+      let r = (so_far p (get_or (list_of old p) k d)).0 (k, lt, get_or_default (list_of old p) k (get_or (list_of old p) k d) d lt) in
       omega (arith, r.0);
 })).ascending
 
-pub list_of-rows : (rows : List (Vec ℕ Global)) (p : ℕ) → list_of (map (λ v. v.items) rows) p ≡ row rows p
-list_of-rows [] p = refl
-list_of-rows (v ∷ rows) zero = refl
-list_of-rows (v ∷ rows) (suc p) = list_of-rows rows p
-
-pub has_dependents : (points : PointsData) (flows : List FlowPair) (n : ℕ) (rows : List (Vec ℕ Global)) → length rows ≡ length points.points → length points.points ≤ n
-    → ((p d : ℕ) → Contains (row rows p) d ↔ ((d < n) × IsDependent points flows p d)) → ((p : ℕ) → IsStrictlyIncreasing (row rows p)) → HasDependents points flows (map (λ v. v.items) rows)
-has_dependents points flows n rows long all exact up = record {
-  each = length-map rows (λ v. v.items) ∙ long;
-  ascending = λ p. subst (λ (xs : List ℕ). IsStrictlyIncreasing xs) (sym (list_of-rows rows p)) (up p);
-  exact = λ p d. subst (λ (xs : List ℕ). Contains xs d ↔ IsDependent points flows p d) (sym (list_of-rows rows p))
-      (λ h. ((exact p d).0 h).1, λ h. (exact p d).1 (omega (arith, slice_get_within points.points d h.of h.at), h));
+pub has_dependents : (points : PointsData) (flows : List FlowPair) (n : ℕ) (lists : List (List ℕ)) → length lists ≡ length points.points → length points.points ≤ n
+    → ((p d : ℕ) → Contains (list_of lists p) d ↔ ((d < n) × IsDependent points flows p d)) → ((p : ℕ) → IsStrictlyIncreasing (list_of lists p)) → HasDependents points flows lists
+has_dependents points flows n lists long all exact up = record {
+  each = long;
+  ascending = up;
+  exact = λ p d. (λ h. ((exact p d).0 h).1, λ h. (exact p d).1 (omega (arith, slice_get_within points.points d h.of h.at), h));
 }

@@ -1,11 +1,13 @@
-pub mod GainLemmas
+pub mod ListLemmas
+pub mod PairLemmas
+pub mod PassingLemmas
 pub mod PassLemmas
-pub mod RowLemmas
+pub mod NotingLemmas
+pub mod AnalysisLemmas
 pub mod UserLemmas
 pub mod SpreadLemmas
-pub mod JoinLemmas
 pub mod SupportLemmas
 pub mod TableLemmas
+pub mod ParameterTables
 pub mod DependentLemmas
 pub mod BaseLemmas
-pub mod FreshLemmas

@@ -1,19 +1,25 @@
 -- What a point passes on, argument by argument.
 use Rattle.std.proofs.Common.{◌≡◌, refl, sym, ◌∙◌, ap, subst, ℕ, ◌+◌, ◌<◌, ◌≤◌, ◌⊎◌, List, length, get_or, slice_get, Some, arith, inl, inr, Contains}
 use Rattle.std.proofs.lemmas.List.{get_or_default}
-use Rattle.std.proofs.lemmas.Option.{slice_get_within, get_or_from_slice_get}
+use Rattle.std.proofs.lemmas.Option.{slice_get_within}
 use Rattle.std.proofs.lemmas.Bool.{cases_lt}
 use Rattle.hs_scheme.specs.declared.term.Rule.{Rule}
 use Rattle.hs_scheme.specs.declared.flow.FlowPair.{FlowPair}
 use Rattle.hs_scheme.specs.declared.flow.Pair.{Pair}
 use Rattle.hs_scheme.specs.declared.flow.Pair.TheVariants.{OfFlow, OfHead}
-use Rattle.hs_scheme.specs.declared.flow.HeadPair.{HeadPair}
-use Rattle.hs_scheme.specs.Points.{PointData, points_of, IsArgument}
 use Rattle.hs_scheme.specs.Flow.{Passes}
-use Rattle.hs_scheme.proofs.PlaceLemmas.{once}
 use Rattle.hs_scheme.proofs.DemandLemmas.{some_same, slice_get-read}
-use Rattle.hs_flow.specs.Gain.{Gains, AreFresh, IsEarlier, PassedBy}
-use Rattle.hs_flow.proofs.GainLemmas.{gains_weaker, gains_keep, gains_cases}
+use Rattle.hs_scheme.specs.Points.{PointsData, points_of, point_at}
+use Rattle.hs_flow.specs.Users.{UserMap}
+use Rattle.hs_flow.specs.Passing.{PassedBy}
+use Rattle.hs_flow.specs.Pairs.{PairsData, IsAddable, ArePairs, FindsOnly}
+use Rattle.hs_flow.proofs.PairLemmas.{finds_keep, finds_cases, addable_more}
+use Rattle.hs_flow.proofs.PassingLemmas.{passed_by, passes_of}
+
+-- the pair is of a parameter before this one
+abbrev pub IsEarlier : ℕ → Pair → Type 0
+IsEarlier param (OfFlow f) = f.param < param
+IsEarlier param (OfHead h) = ⊥
 
 module _ (rules : List Rule) (point : ℕ) (args : List ℕ) (base given : ℕ) (rule : Rule) (at : slice_get rules base ≡ Some rule) where
   pub pass_flow : (i a : ℕ) (q : Pair) → slice_get args i ≡ Some a → given + i < rule.params → q ≡ OfFlow (record { rule = base; param = given + i; point = a }) → Passes rules point args base given q
@@ -42,48 +48,27 @@ module _ (rules : List Rule) (point : ℕ) (args : List ℕ) (base given : ℕ) 
     passed_all g long same head (OfHead h) (is, has) =
         subst (λ (p : Pair). Contains keys p) (ap (λ m. OfHead (record { point = point; rule = base; given = m })) same ∙ ap (λ k. OfHead k) (sym is)) head
 
-  -- one more argument is passed on
-  module _ (mid new : List Pair) (n param a : ℕ) (there : slice_get args n ≡ Some a) (is : param ≡ given + n) (less : param < rule.params)
-      (gains : Gains (λ q. q ≡ OfFlow (record { rule = base; param = param; point = a })) mid new) where
-    pub step_gains : Gains (Passes rules point args base given) mid new
-    step_gains = gains_weaker (λ q. q ≡ OfFlow (record { rule = base; param = param; point = a })) (Passes rules point args base given) mid new
-        (λ q e. pass_flow n a q there (omega arith) (e ∙ ap (λ m. OfFlow (record { rule = base; param = m; point = a })) is)) gains
-
-    pub step_so_far : Contains new (OfFlow (record { rule = base; param = param; point = a }))
-        → ((i b : ℕ) → i < n → slice_get args i ≡ Some b → Contains mid (OfFlow (record { rule = base; param = given + i; point = b })))
-        → (i b : ℕ) → i < n + 1 → slice_get args i ≡ Some b → Contains new (OfFlow (record { rule = base; param = given + i; point = b }))
-    step_so_far here so_far i b lt at_i = elim (cases_lt i n) [
-      | inl less ↦ gains_keep (λ q. q ≡ OfFlow (record { rule = base; param = param; point = a })) mid new (OfFlow (record { rule = base; param = given + i; point = b })) gains (so_far i b less at_i)
-      | inr more ↦
-          let last : n ≡ i = omega arith in
-          let same : a ≡ b = some_same a b (sym there ∙ (ap (λ k. slice_get args k) last ∙ at_i)) in
-          subst (λ (p : Pair). Contains new p) (λ j. OfFlow (record { rule = base; param = (is ∙ ap (λ k. given + k) last) j; point = same j })) here
-    ]
-
--- what is passed on next isn't there: it wasn't before, and what was passed on since is of earlier parameters
-module _ (rules : List Rule) (point : ℕ) (args : List ℕ) (base given : ℕ) (rule : Rule) (at : slice_get rules base ≡ Some rule) (first found : List Pair) where
-  pub flow_fresh : (n param a : ℕ) → slice_get args n ≡ Some a → param ≡ given + n → param < rule.params → AreFresh (Passes rules point args base given) first
-      → ((q : Pair) → Contains found q → Contains first q ⊎ IsEarlier param q) → Contains found (OfFlow (record { rule = base; param = param; point = a })) → ⊥
-  flow_fresh n param a there is less fresh behind h = elim (behind (OfFlow (record { rule = base; param = param; point = a })) h) [
-    | inl was ↦ fresh (OfFlow (record { rule = base; param = param; point = a }))
-        (pass_flow rules point args base given rule at n a (OfFlow (record { rule = base; param = param; point = a })) there (omega arith) (ap (λ m. OfFlow (record { rule = base; param = m; point = a })) is)) was
-    | inr earlier ↦ omega (arith, earlier)
-  ]
-
-  pub head_fresh : (param g : ℕ) → g ≡ given + length args → g < rule.params → AreFresh (Passes rules point args base given) first
-      → ((q : Pair) → Contains found q → Contains first q ⊎ IsEarlier param q) → Contains found (OfHead (record { point = point; rule = base; given = g })) → ⊥
-  head_fresh param g is less fresh behind h = elim (behind (OfHead (record { point = point; rule = base; given = g })) h) [
-    | inl was ↦ fresh (OfHead (record { point = point; rule = base; given = g })) (pass_head rules point args base given rule at g (OfHead (record { point = point; rule = base; given = g })) is less refl) was
-    | inr earlier ↦ earlier
+-- one more argument is passed on
+module _ (args : List ℕ) (base given : ℕ) (mid new : PairsData) (n param a : ℕ) (there : slice_get args n ≡ Some a) (is : param ≡ given + n)
+    (finds : FindsOnly (λ q. q ≡ OfFlow (record { rule = base; param = param; point = a })) mid new) where
+  pub step_so_far : Contains new.found (OfFlow (record { rule = base; param = param; point = a }))
+      → ((i b : ℕ) → i < n → slice_get args i ≡ Some b → Contains mid.found (OfFlow (record { rule = base; param = given + i; point = b })))
+      → (i b : ℕ) → i < n + 1 → slice_get args i ≡ Some b → Contains new.found (OfFlow (record { rule = base; param = given + i; point = b }))
+  step_so_far here so_far i b lt at_i = elim (cases_lt i n) [
+    | inl less ↦ finds_keep (λ q. q ≡ OfFlow (record { rule = base; param = param; point = a })) mid new finds (OfFlow (record { rule = base; param = given + i; point = b })) (so_far i b less at_i)
+    | inr more ↦
+        let last : n ≡ i = omega arith in
+        let same : a ≡ b = some_same a b (sym there ∙ (ap (λ k. slice_get args k) last ∙ at_i)) in
+        subst (λ (p : Pair). Contains new.found p) (λ j. OfFlow (record { rule = base; param = (is ∙ ap (λ k. given + k) last) j; point = same j })) here
   ]
 
 later : (n : ℕ) (q : Pair) → IsEarlier n q → IsEarlier (n + 1) q
 later n (OfFlow f) h = omega arith
 later n (OfHead k) h = h
 
-pub step_behind : (found new first : List Pair) (param a base : ℕ) → Gains (λ q. q ≡ OfFlow (record { rule = base; param = param; point = a })) found new
-    → ((q : Pair) → Contains found q → Contains first q ⊎ IsEarlier param q) → (q : Pair) → Contains new q → Contains first q ⊎ IsEarlier (param + 1) q
-step_behind found new first param a base gains behind q h = elim (gains_cases (λ p. p ≡ OfFlow (record { rule = base; param = param; point = a })) found new q gains h) [
+pub step_behind : (mid new : PairsData) (first : List Pair) (param a base : ℕ) → FindsOnly (λ q. q ≡ OfFlow (record { rule = base; param = param; point = a })) mid new
+    → ((q : Pair) → Contains mid.found q → Contains first q ⊎ IsEarlier param q) → (q : Pair) → Contains new.found q → Contains first q ⊎ IsEarlier (param + 1) q
+step_behind mid new first param a base finds behind q h = elim (finds_cases (λ p. p ≡ OfFlow (record { rule = base; param = param; point = a })) mid new finds q h) [
   | inl was ↦ elim (behind q was) [ inl before ↦ inl before | inr earlier ↦ inr (later param q earlier) ]
   | inr is ↦ inr (subst (IsEarlier (param + 1)) (sym is) (below param))
 ]
@@ -91,22 +76,61 @@ step_behind found new first param a base gains behind q h = elim (gains_cases (�
     below : (n : ℕ) → n < n + 1
     below n = omega arith
 
--- only one point passes a pair on, and where its head is one base only
-module _ (rules : List Rule) where
-  its_place : (p i a : ℕ) (d : PointData) → slice_get (points_of rules).points p ≡ Some d → slice_get d.args i ≡ Some a → IsArgument (points_of rules) p i a
-  its_place p i a d at arg = ap (λ (x : PointData). slice_get x.args i) (get_or_from_slice_get (points_of rules).points p d _ at) ∙ arg
+-- what is passed on next isn't there: it wasn't at first, and what was passed on since is of earlier parameters
+pub not_yet : (param : ℕ) (q : Pair) (first found : List Pair) → (Contains first q → ⊥) → (IsEarlier param q → ⊥) → ((p : Pair) → Contains found p → Contains first p ⊎ IsEarlier param p) → Contains found q → ⊥
+not_yet param q first found absent late behind h = elim (behind q h) [ inl was ↦ absent was | inr earlier ↦ late earlier ]
 
-  pub passed_once : (base given p other more r : ℕ) (q : Pair) → PassedBy rules base given p q → PassedBy rules other more r q → (p ≡ r) × ((base ≡ other) × (given ≡ more))
-  passed_once base given p other more r (OfFlow f) a b =
-      let s = once rules f.point p a.passes.0 r b.passes.0 (its_place p a.passes.0 f.point a.of a.at a.passes.1.0) (its_place r b.passes.0 f.point b.of b.at b.passes.1.0) in
-      (s.0, (sym a.passes.1.1 ∙ b.passes.1.1, omega (arith, s.1, a.passes.1.2, b.passes.1.2)))
-  passed_once base given p other more r (OfHead h) a b =
-      let s = same_head _ _ (sym a.passes.0 ∙ b.passes.0) in
-      let of : a.of ≡ b.of = some_same a.of b.of (sym a.at ∙ (ap (λ k. slice_get (points_of rules).points k) s.0 ∙ b.at)) in
-      (s.0, (s.1.0, omega (arith, s.1.1, ap (λ (d : PointData). length d.args) of)))
-    where
-      same_head : (h k : HeadPair) → h ≡ k → (h.point ≡ k.point) × ((h.rule ≡ k.rule) × (h.given ≡ k.given))
-      same_head h k e = (ap (λ (x : HeadPair). x.point) e, (ap (λ (x : HeadPair). x.rule) e, ap (λ (x : HeadPair). x.given) e))
+pub not_earlier : (param base a : ℕ) → IsEarlier param (OfFlow (record { rule = base; param = param; point = a })) → ⊥
+not_earlier param base a h = omega (arith, h)
 
 pub slice_get-number : (xs : List ℕ) (k : ℕ) → k < length xs → slice_get xs k ≡ Some (get_or xs k 0)
 slice_get-number xs k lt = slice_get-read xs k (get_or xs k 0) lt (get_or_default xs k (get_or xs k 0) 0 lt)
+
+-- what a pass of a point stands on: its arguments and the rule were read
+pub record Passing (rules : List Rule) (base given point : ℕ) (args : List ℕ) (rule : Rule) : Type 0 where
+  pub by : (q : Pair) → Passes rules point args base given q → PassedBy rules base given point q
+  pub of : (q : Pair) → PassedBy rules base given point q → Passes rules point args base given q
+  pub at : slice_get rules base ≡ Some rule
+
+pub passing : {points : PointsData} {users : UserMap} {a old : PairsData} → a ≡ old → ArePairs points users a → (base given point : ℕ) (args : List ℕ) (rule : Rule)
+    → slice_get a.rules base ≡ Some rule → point < length (points_of old.rules).points → args ≡ (point_at points point).args → Passing old.rules base given point args rule
+passing {points} {users} {a} {old} view are base given point args rule at lt read =
+    let same : points ≡ points_of old.rules = are.points_are ∙ ap (λ (x : PairsData). points_of x.rules) view in
+    let here : point < length points.points = subst (λ (ps : PointsData). point < length ps.points) (sym same) lt in
+    record {
+      by = passed_by old.rules points same base given point args here read;
+      of = passes_of old.rules points same base given point args here read;
+      at = subst (λ (x : PairsData). slice_get x.rules base ≡ Some rule) view at;
+    }
+
+module _ (rules : List Rule) (base given point : ℕ) (args : List ℕ) (rule : Rule) (w : Passing rules base given point args rule) where
+  pub flow_by : (i a param : ℕ) → slice_get args i ≡ Some a → param ≡ given + i → param < rule.params → PassedBy rules base given point (OfFlow (record { rule = base; param = param; point = a }))
+  flow_by i a param there is less =
+      w.by (OfFlow (record { rule = base; param = param; point = a })) (pass_flow rules point args base given rule w.at i a (OfFlow (record { rule = base; param = param; point = a })) there (omega arith)
+      (ap (λ m. OfFlow (record { rule = base; param = m; point = a })) is))
+
+  pub head_by : (g : ℕ) → g ≡ given + length args → g < rule.params → PassedBy rules base given point (OfHead (record { point = point; rule = base; given = g }))
+  head_by g is less = w.by (OfHead (record { point = point; rule = base; given = g })) (pass_head rules point args base given rule w.at g (OfHead (record { point = point; rule = base; given = g })) is less refl)
+
+  pub early_by : (keys : List Pair) (n : ℕ) → ((i a : ℕ) → i < n → slice_get args i ≡ Some a → Contains keys (OfFlow (record { rule = base; param = given + i; point = a })))
+      → rule.params ≤ given + n → n ≤ length args → (q : Pair) → PassedBy rules base given point q → Contains keys q
+  early_by keys n so_far end short q h = passed_early rules point args base given rule w.at keys n so_far end short q (w.of q h)
+
+  pub done_by : (keys : List Pair) (n g : ℕ) → ((i a : ℕ) → i < n → slice_get args i ≡ Some a → Contains keys (OfFlow (record { rule = base; param = given + i; point = a })))
+      → length args ≤ n → g ≡ given + length args → Contains keys (OfHead (record { point = point; rule = base; given = g })) → (q : Pair) → PassedBy rules base given point q → Contains keys q
+  done_by keys n g so_far long same there q h = passed_all rules point args base given rule w.at keys n so_far g long same there q (w.of q h)
+
+-- what is passed on next can be added
+module _ (old : PairsData) (base given point : ℕ) (args : List ℕ) (rule : Rule) (w : Passing old.rules base given point args rule) (can : (q : Pair) → PassedBy old.rules base given point q → IsAddable old q)
+    (mid : PairsData) (finds : FindsOnly (PassedBy old.rules base given point) old mid) (param : ℕ) (behind : (q : Pair) → Contains mid.found q → Contains old.found q ⊎ IsEarlier param q) where
+  pub flow_addable : (i a : ℕ) → slice_get args i ≡ Some a → param ≡ given + i → param < rule.params → IsAddable mid (OfFlow (record { rule = base; param = param; point = a }))
+  flow_addable i a there is less =
+      let c = can (OfFlow (record { rule = base; param = param; point = a })) (flow_by old.rules base given point args rule w i a param there is less) in
+      addable_more (PassedBy old.rules base given point) old mid finds (OfFlow (record { rule = base; param = param; point = a })) c
+      (not_yet param (OfFlow (record { rule = base; param = param; point = a })) old.found mid.found c.absent (not_earlier param base a) behind)
+
+  pub head_addable : param ≡ given + length args → param < rule.params → IsAddable mid (OfHead (record { point = point; rule = base; given = param }))
+  head_addable is less =
+      let c = can (OfHead (record { point = point; rule = base; given = param })) (head_by old.rules base given point args rule w param is less) in
+      addable_more (PassedBy old.rules base given point) old mid finds (OfHead (record { point = point; rule = base; given = param })) c
+      (not_yet param (OfHead (record { point = point; rule = base; given = param })) old.found mid.found c.absent (λ e. e) behind)

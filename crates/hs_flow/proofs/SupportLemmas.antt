@@ -1,65 +1,51 @@
 -- What is found stays supported as it grows, and its points are in range.
-use Rattle.std.proofs.Common.{◌≡◌, ◌≢◌, AllPairs, refl, sym, ◌∙◌, ap, subst, ℕ, ◌+◌, ◌-◌, ◌<◌, ◌≤◌, List, [], ◌∷◌, ◌++◌, length, get_or, take, slice_get, Some, length-append, arith, inl, inr, Contains, Vec, All}
-use Rattle.std.specs.declared.alloc.Global.{Global}
+use Rattle.std.proofs.Common.{◌≡◌, sym, ◌∙◌, ap, subst, ℕ, ◌<◌, List, [], ◌∷◌, ◌++◌, ◌⊎◌, length, take, slice_get, Some, length-append, arith, inl, inr, Contains, All}
 use Rattle.std.proofs.lemmas.Bool.{cases_lt}
+use Rattle.std.proofs.lemmas.List.Elements.{Contains-append_cases}
 use Rattle.std.proofs.lemmas.Option.{slice_get_within}
-use Rattle.std.proofs.lemmas.List.{take_more, take-append-le, length-take, get_or-take, get_or_append_left, get_or-append_right}
+use Rattle.std.proofs.lemmas.List.{take_all, take-append-le, length-take, get_or-take, get_or_append_left, get_or_push}
 use Rattle.hs_scheme.specs.declared.term.Rule.{Rule}
 use Rattle.hs_scheme.specs.declared.flow.FlowPair.{FlowPair}
 use Rattle.hs_scheme.specs.declared.flow.HeadPair.{HeadPair}
 use Rattle.hs_scheme.specs.declared.flow.Pair.{Pair}
 use Rattle.hs_scheme.specs.declared.flow.Pair.TheVariants.{OfFlow, OfHead}
-use Rattle.hs_scheme.specs.Points.{PointData, points_of}
+use Rattle.hs_scheme.specs.Points.{PointData, PointsData, points_of}
 use Rattle.hs_scheme.specs.Problem.{FlowWithin, HeadWithin}
 use Rattle.hs_scheme.specs.Flow.{HasParameter, Demands, IsSupported}
 use Rattle.hs_scheme.proofs.PointLemmas.{args_within}
-use Rattle.hs_scheme.proofs.DemandLemmas.{slice_get-read, read-slice_get, Demands-more}
-use Rattle.hs_flow.specs.Gain.{Gains}
-use Rattle.hs_flow.specs.Rows.{row}
+use Rattle.hs_scheme.proofs.DemandLemmas.{slice_get-read, read-slice_get}
+use Rattle.hs_flow.specs.declared.bases.Base.{Base}
 use Rattle.hs_flow.specs.Users.{UserMap}
-use Rattle.hs_flow.specs.Index.{IsIndex, point_of}
-use Rattle.hs_flow.proofs.GainLemmas.{nothing_in, append_once}
+use Rattle.hs_flow.specs.Passing.{PassedAtFirst, PassedFor}
+use Rattle.hs_flow.specs.Pairs.{PairsData, Has, IsAddable, ArePairs, FindsOnly}
+use Rattle.hs_flow.specs.Analysis.{point_of}
+use Rattle.hs_flow.proofs.PairLemmas.{only_in, append_once, grown, finds_nothing, finds_one, finds_there}
+use Rattle.hs_flow.proofs.PassingLemmas.{addable_demanded}
 
 pub in_take : {X : Type 0} (n : ℕ) (xs : List X) (x : X) → Contains (take n xs) x → Contains xs x
 in_take n xs x (k, within, is) = (k, omega (arith, length-take n xs), sym (get_or-take n xs k x (omega (arith, length-take n xs))) ∙ is)
 
--- a pair that is read from the list
-pub read_pair : (xs items : List Pair) (k : ℕ) (x : Pair) → xs ≡ items → (k < length xs) × ((d : Pair) → x ≡ get_or xs k d) → slice_get items k ≡ Some x
-read_pair xs items k x same (lt, is) = subst (λ (ps : List Pair). slice_get ps k ≡ Some x) same (slice_get-read xs k x lt (sym (is x)))
-
-module _ (rules : List Rule) (P : Pair → Type 0) (old new : List Pair) (gains : Gains P old new) (demanded : (q : Pair) → P q → Demands rules old q) (s : IsSupported rules old) where
-  early : (i : ℕ) → i ≤ length old → take i new ≡ take i old
-  early i le = ap (take i) gains.is ∙ take-append-le i old gains.added le
-
-  by_place : (i : ℕ) (q : Pair) → slice_get new i ≡ Some q → Demands rules (take i new) q
-  by_place i q at = let r = read-slice_get new i q at in elim (cases_lt i (length old)) [
+-- a demanded pair that isn't there is put at the end
+module _ (rules : List Rule) (old : List Pair) (k : Pair) (absent : Contains old k → ⊥) (demanded : Demands rules old k) (s : IsSupported rules old) where
+  by_place : (i : ℕ) (q : Pair) → slice_get (old ++ k ∷ []) i ≡ Some q → Demands rules (take i (old ++ k ∷ [])) q
+  by_place i q at = let r = read-slice_get (old ++ k ∷ []) i q at in elim (cases_lt i (length old)) [
     | inl less ↦
-        let here : slice_get old i ≡ Some q = slice_get-read old i q less (sym (ap (λ (ps : List Pair). get_or ps i q) gains.is ∙ get_or_append_left old gains.added q i less) ∙ r.1) in
-        subst (λ (ps : List Pair). Demands rules ps q) (sym (early i (omega arith))) (s.demanded i q here)
+        let here : slice_get old i ≡ Some q = slice_get-read old i q less (sym (get_or_append_left old (k ∷ []) q i less) ∙ r.1) in
+        subst (λ (ps : List Pair). Demands rules ps q) (sym (take-append-le i old (k ∷ []) (omega arith))) (s.demanded i q here)
     | inr more ↦
-        let long : length new ≡ length old + length gains.added = ap length gains.is ∙ length-append old gains.added in
-        let there : Contains gains.added q = (
-          i - length old,
-          omega (arith, r.0),
-          sym (ap (λ (ps : List Pair). get_or ps i q) gains.is ∙ get_or-append_right old gains.added (length old) i q refl more) ∙ r.1,
-        ) in
-        Demands-more rules old (take i new) (λ p h. elsewhere i more p h) q (demanded q (gains.with q there))
+        let last : length old ≡ i = omega (arith, r.0, length-append old (k ∷ [])) in
+        subst (λ (ps : List Pair). Demands rules ps q) (sym (take-append-le i old (k ∷ []) (omega arith) ∙ take_all i old more))
+        (subst (λ (p : Pair). Demands rules old p) (sym (get_or_push old k q i last) ∙ r.1) demanded)
   ]
-    where
-      elsewhere : (j : ℕ) → length old ≤ j → (p : Pair) → Contains old p → Contains (take j new) p
-      elsewhere j le p (k, within, is) =
-          let grown : length old ≤ length new = omega (arith, ap length gains.is, length-append old gains.added) in
-          (k, omega (arith, length-take j new), get_or-take j new k p (omega arith) ∙ (ap (λ (ps : List Pair). get_or ps k p) gains.is ∙ (get_or_append_left old gains.added p k within ∙ is)))
 
-  pub supported_more : IsSupported rules new
-  supported_more = record {
-    distinct = subst (λ (ps : List Pair). AllPairs (λ a b. a ≢ b) ps) (sym gains.is) (append_once old gains.added s.distinct gains.once (λ q was h. gains.fresh q h was));
+  pub supported_push : IsSupported rules (old ++ k ∷ [])
+  supported_push = record {
+    distinct = append_once old (k ∷ []) s.distinct (λ i j d less within. absurd (omega arith)) (λ q was h. absent (subst (Contains old) (only_in k q h) was));
     demanded = by_place;
   }
 
-pub nothing_supported : (rules : List Rule) (none : List Pair) → length none ≡ 0 → IsSupported rules none
-nothing_supported rules [] e = record { distinct = λ i j d less within. absurd (omega arith); demanded = λ i q at. absurd (omega (arith, slice_get_within [] i q at)) }
-nothing_supported rules (q ∷ qs) e = absurd (omega arith)
+pub nothing_supported : (rules : List Rule) → IsSupported rules []
+nothing_supported rules = record { distinct = λ i j d less within. absurd (omega arith); demanded = λ i q at. absurd (omega (arith, slice_get_within [] i q at)) }
 
 -- what is demanded names points, rules and parameters in range
 pub flow_within : (rules : List Rule) (found : List Pair) (f : FlowPair) → Demands rules found (OfFlow f) → FlowWithin rules (length (points_of rules).points) f
@@ -83,21 +69,38 @@ pub point_within : (rules : List Rule) (found : List Pair) (q : Pair) → Demand
 point_within rules found (OfFlow f) d = (flow_within rules found f d).point
 point_within rules found (OfHead h) d = (head_within rules found h d).point
 
--- before any pair is taken
-pub index_none : (users : UserMap) (flows : List (Vec FlowPair Global)) (heads : List (Vec HeadPair Global)) → ((u : ℕ) → row flows u ≡ []) → ((u : ℕ) → row heads u ≡ []) → IsIndex users [] flows heads
-index_none users flows heads no_flows no_heads = record {
-  flows = λ u f h. absurd (nothing_in f (subst (λ (fs : List FlowPair). Contains fs f) (no_flows u) h));
-  used = λ f p h k. absurd (nothing_in (OfFlow f) h);
-  heads = λ u k. (λ h. absurd (nothing_in k (subst (λ (ks : List HeadPair). Contains ks k) (no_heads u) h)), λ h. absurd (nothing_in (OfHead k) h.1));
+-- a pair that can be added is put at the end
+pub are_push : (points : PointsData) (users : UserMap) (a : PairsData) (q : Pair) → ArePairs points users a → IsAddable a q → ArePairs points users (grown a (q ∷ []))
+are_push points users a q are can = record {
+  points_are = are.points_are;
+  users_are = are.users_are;
+  supported = supported_push a.rules a.found q can.absent (addable_demanded a q can) are.supported;
+  passed = λ p h. elim (Contains-append_cases a.found (q ∷ []) p h) [
+    | inl was ↦ are.passed p was
+    | inr last ↦ subst (λ (x : Pair). PassedAtFirst a.rules x ⊎ ((b : Base) × (Has a b × PassedFor a.rules b x))) (sym (only_in q p last))
+        (elim can.passed [ inl first ↦ inl first | inr (b, (had, (may, for))) ↦ inr (b, (had, for)) ])
+  ];
 }
 
--- one more pair is taken
-module _ (old new : List Pair) (n : ℕ) (pair : Pair) (P : Pair → Type 0) (gains : Gains P old new) (at : slice_get old n ≡ Some pair) where
-  pub taken_more : take (n + 1) old ≡ take n old ++ pair ∷ []
-  taken_more = let r = read-slice_get old n pair at in take_more old n pair r.0 ∙ ap (λ q. take n old ++ q ∷ []) r.1
+-- the same, as the fields are after a push
+module _ (points : PointsData) (users : UserMap) (a old : PairsData) (q : Pair) (items : List Pair) (view : a ≡ old) (are : ArePairs points users a) (can : IsAddable old q) (pushed : items ≡ a.found ++ q ∷ []) where
+  pub pushed_are : ArePairs points users (record { rules = a.rules; max = a.max; found = items; bases = a.bases })
+  pushed_are = subst (λ (ps : List Pair). ArePairs points users (record { rules = a.rules; max = a.max; found = ps; bases = a.bases })) (sym pushed)
+      (are_push points users a q are (subst (λ (x : PairsData). IsAddable x q) (sym view) can))
 
-  pub grows : length old ≤ length new
-  grows = omega (arith, ap length gains.is, length-append old gains.added)
+  pushed_is : record { rules = a.rules; max = a.max; found = items; bases = a.bases } ≡ grown old (q ∷ [])
+  pushed_is = (λ i. record { rules = a.rules; max = a.max; found = pushed i; bases = a.bases }) ∙ ap (λ (x : PairsData). grown x (q ∷ [])) view
 
-  pub taken_still : take (n + 1) new ≡ take n old ++ pair ∷ []
-  taken_still = ap (take (n + 1)) gains.is ∙ (take-append-le (n + 1) old gains.added (omega (arith, slice_get_within old n pair at)) ∙ taken_more)
+  pub pushed_finds : FindsOnly (λ p. p ≡ q) old (record { rules = a.rules; max = a.max; found = items; bases = a.bases })
+  pushed_finds = finds_one old _ q pushed_is
+
+  pub pushed_there : Contains items q
+  pushed_there = finds_there old (record { rules = a.rules; max = a.max; found = items; bases = a.bases }) q pushed_is
+
+-- nothing was pushed
+module _ (points : PointsData) (users : UserMap) (a old : PairsData) (items : List Pair) (view : a ≡ old) (are : ArePairs points users a) (same : items ≡ a.found) where
+  pub same_are : ArePairs points users (record { rules = a.rules; max = a.max; found = items; bases = a.bases })
+  same_are = subst (λ (ps : List Pair). ArePairs points users (record { rules = a.rules; max = a.max; found = ps; bases = a.bases })) (sym same) are
+
+  pub same_finds : (P : Pair → Type 0) → FindsOnly P old (record { rules = a.rules; max = a.max; found = items; bases = a.bases })
+  same_finds P = subst (λ (x : PairsData). FindsOnly P old x) (sym ((λ i. record { rules = a.rules; max = a.max; found = same i; bases = a.bases }) ∙ view)) (finds_nothing P old)

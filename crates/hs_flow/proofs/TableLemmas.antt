@@ -22,19 +22,9 @@ use Rattle.hs_scheme.specs.Points.{points_of}
 use Rattle.hs_scheme.specs.Problem.{FlowWithin, HeadWithin}
 use Rattle.hs_scheme.proofs.FlowLemmas.{flow_cmp_total, flow_cmp-equal, head_cmp_total, head_cmp-equal}
 use Rattle.hs_scheme.proofs.DemandLemmas.{Demands-more, slice_get-read, read-slice_get}
+use Rattle.hs_flow.specs.Tables.{flows_in, heads_in}
 use Rattle.hs_flow.proofs.SupportLemmas.{flow_within, head_within}
-use Rattle.hs_flow.proofs.GainLemmas.{nothing_in, first_in}
-
--- the flow pairs and the head pairs, in the order in which they stand
-abbrev pub flows_in : List Pair → List FlowPair
-flows_in [] = []
-flows_in (OfFlow f ∷ ps) = f ∷ flows_in ps
-flows_in (OfHead h ∷ ps) = flows_in ps
-
-abbrev pub heads_in : List Pair → List HeadPair
-heads_in [] = []
-heads_in (OfFlow f ∷ ps) = heads_in ps
-heads_in (OfHead h ∷ ps) = h ∷ heads_in ps
+use Rattle.hs_flow.proofs.PairLemmas.{nothing_in, first_in}
 
 flows_in-push : (ps : List Pair) (q : Pair) → flows_in (ps ++ q ∷ []) ≡ flows_in ps ++ flows_in (q ∷ [])
 flows_in-push [] q = refl
@@ -69,7 +59,7 @@ flow_in (OfFlow g ∷ ps) f (suc k, within, is) = skip g f (flows_in ps) (flow_i
 flow_in (OfHead h ∷ ps) f (zero, within, is) = absurd (cc)
 flow_in (OfHead h ∷ ps) f (suc k, within, is) = flow_in ps f (k, omega arith, is)
 
-flow_back : (ps : List Pair) (f : FlowPair) → Contains (flows_in ps) f → Contains ps (OfFlow f)
+pub flow_back : (ps : List Pair) (f : FlowPair) → Contains (flows_in ps) f → Contains ps (OfFlow f)
 flow_back [] f h = absurd (nothing_in f h)
 flow_back (OfFlow g ∷ ps) f (zero, within, is) = (0, omega arith, ap (λ x. OfFlow x) is)
 flow_back (OfFlow g ∷ ps) f (suc k, within, is) = skip (OfFlow g) (OfFlow f) ps (flow_back ps f (k, omega arith, is))

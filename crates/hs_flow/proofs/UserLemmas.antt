@@ -1,6 +1,5 @@
 -- The users of a parameter, one point after another.
-use Rattle.std.proofs.Common.{◌≡◌, ◌≢◌, AllPairs, refl, sym, ◌∙◌, ap, subst, ℕ, ◌+◌, ◌<◌, Bool, true, false, ◌&&◌, List, [], ◌∷◌, ◌++◌, Some, cond, nat_eq, nat_lt, slice_index, Vec, Contains, slice_get, get_or, length, All, ◌↔◌, inl, inr, arith}
-use Rattle.std.specs.declared.alloc.Global.{Global}
+use Rattle.std.proofs.Common.{◌≡◌, ◌≢◌, AllPairs, refl, sym, ◌∙◌, ap, subst, ℕ, ◌+◌, ◌<◌, Bool, true, false, ◌&&◌, List, [], ◌∷◌, ◌++◌, Some, cond, nat_eq, nat_lt, slice_index, Contains, slice_get, get_or, length, All, ◌↔◌, inl, inr, arith}
 use Rattle.std.proofs.lemmas.Bool.{eqb-true, eq-eqb, cases_lt}
 use Rattle.std.proofs.lemmas.List.{get_or_default}
 use Rattle.std.proofs.lemmas.Option.{slice_get_within}
@@ -13,9 +12,9 @@ use Rattle.hs_scheme.proofs.DemandLemmas.{some_same}
 use Rattle.hs_scheme.specs.Parameters.{IsParameter, parameter_of}
 use Rattle.hs_scheme.proofs.ParameterLemmas.{number_once}
 use Rattle.std.proofs.lemmas.Bool.Decides.{nat_tests}
-use Rattle.hs_flow.specs.Rows.{row}
-use Rattle.hs_flow.specs.Users.{UserMap, row_of, users_of, IsUser, IsUserMap}
-use Rattle.hs_flow.proofs.GainLemmas.{only_in, first_in}
+use Rattle.hs_flow.specs.Lists.{list_of}
+use Rattle.hs_flow.specs.Users.{UserMap, list_for, users_of, IsUser, IsUserMap}
+use Rattle.hs_flow.proofs.PairLemmas.{only_in, first_in}
 
 both : (b c : Bool) → b && c ≡ true → (b ≡ true) × (c ≡ true)
 both true true h = (refl, refl)
@@ -38,23 +37,23 @@ isnt_lt x n never = by (nat_lt x n) refl
     by true e = absurd (never (lt_of x n e))
     by false e = refl
 
--- the row of a parameter, and where there is none
-pub row_is : (counts : List ℕ) (rows : List (Vec ℕ Global)) (rule x n : ℕ) → IsParameter counts rule x → n ≡ parameter_of counts rule x → row rows n ≡ row_of counts rows rule x
-row_is counts rows rule x n lt is = ap (row rows) is ∙ ap (λ t. cond t (row rows (parameter_of counts rule x)) []) (sym (is_lt x (slice_index counts rule) lt))
+-- the list of a parameter, and where there is none
+pub list_is : (counts : List ℕ) (rows : List (List ℕ)) (rule x n : ℕ) → IsParameter counts rule x → n ≡ parameter_of counts rule x → list_of rows n ≡ list_for counts rows rule x
+list_is counts rows rule x n lt is = ap (list_of rows) is ∙ ap (λ t. cond t (list_of rows (parameter_of counts rule x)) []) (sym (is_lt x (slice_index counts rule) lt))
 
-pub no_row : (counts : List ℕ) (rows : List (Vec ℕ Global)) (rule x : ℕ) → (IsParameter counts rule x → ⊥) → [] ≡ row_of counts rows rule x
-no_row counts rows rule x never = ap (λ t. cond t (row rows (parameter_of counts rule x)) []) (sym (isnt_lt x (slice_index counts rule) never))
+pub no_list : (counts : List ℕ) (rows : List (List ℕ)) (rule x : ℕ) → (IsParameter counts rule x → ⊥) → [] ≡ list_for counts rows rule x
+no_list counts rows rule x never = ap (λ t. cond t (list_of rows (parameter_of counts rule x)) []) (sym (isnt_lt x (slice_index counts rule) never))
 
-pub all_empty : (counts : List ℕ) (rows : List (Vec ℕ Global)) (rule x : ℕ) → ((k : ℕ) → row rows k ≡ []) → row_of counts rows rule x ≡ []
+pub all_empty : (counts : List ℕ) (rows : List (List ℕ)) (rule x : ℕ) → ((k : ℕ) → list_of rows k ≡ []) → list_for counts rows rule x ≡ []
 all_empty counts rows rule x empty = by (nat_lt x (slice_index counts rule))
   where
-    by : (t : Bool) → cond t (row rows (parameter_of counts rule x)) [] ≡ []
+    by : (t : Bool) → cond t (list_of rows (parameter_of counts rule x)) [] ≡ []
     by true = empty (parameter_of counts rule x)
     by false = refl
 
--- the row of one parameter gets the point at its end
-module _ (counts : List ℕ) (old new : List (Vec ℕ Global)) (n rule param point : ℕ) (here : IsParameter counts rule param) (is : n ≡ parameter_of counts rule param)
-    (grown : (k : ℕ) → row new k ≡ cond (nat_eq k n) (row old k ++ point ∷ []) (row old k)) (r x : ℕ) where
+-- the list of one parameter gets the point at its end
+module _ (counts : List ℕ) (old new : List (List ℕ)) (n rule param point : ℕ) (here : IsParameter counts rule param) (is : n ≡ parameter_of counts rule param)
+    (grown : (k : ℕ) → list_of new k ≡ cond (nat_eq k n) (list_of old k ++ point ∷ []) (list_of old k)) (r x : ℕ) where
   abbrev at : ℕ
   at = parameter_of counts r x
 
@@ -87,11 +86,11 @@ module _ (counts : List ℕ) (old new : List (Vec ℕ Global)) (n rule param poi
           absurd (never (subst (λ (y : ℕ). IsParameter counts r y) (eqb-true param x p.1) (subst (λ (q : ℕ). IsParameter counts q param) (eqb-true rule r p.0) here)))
       by false k = refl
 
-  pub user_added : row_of counts new r x ≡ cond key (row_of counts old r x ++ point ∷ []) (row_of counts old r x)
+  pub user_added : list_for counts new r x ≡ cond key (list_for counts old r x ++ point ∷ []) (list_for counts old r x)
   user_added = by (nat_lt x (slice_index counts r)) refl
     where
-      by : (t : Bool) → nat_lt x (slice_index counts r) ≡ t → cond t (row new at) [] ≡ cond key (cond t (row old at) [] ++ point ∷ []) (cond t (row old at) [])
-      by true e = grown at ∙ ap (λ t. cond t (row old at ++ point ∷ []) (row old at)) (same_key (lt_of x (slice_index counts r) e))
+      by : (t : Bool) → nat_lt x (slice_index counts r) ≡ t → cond t (list_of new at) [] ≡ cond key (cond t (list_of old at) [] ++ point ∷ []) (cond t (list_of old at) [])
+      by true e = grown at ∙ ap (λ t. cond t (list_of old at ++ point ∷ []) (list_of old at)) (same_key (lt_of x (slice_index counts r) e))
       by false e = sym (ap (λ t. cond t ([] ++ point ∷ []) []) (other_key (not_lt x (slice_index counts r) e)))
 
 module _ (points : List PointData) (n : ℕ) (d : PointData) (at : slice_get points n ≡ Some d) (was : ℕ → ℕ → List ℕ) (so_far : (rule x p : ℕ) → Contains (was rule x) p ↔ ((p < n) × IsUser points rule x p)) where
@@ -145,7 +144,7 @@ module _ (points : List PointData) (n : ℕ) (d : PointData) (at : slice_get poi
       ],
     )
 
--- a row that gets a point behind those it has
+-- a list that gets a point behind those it has
 pub once_more : (was : List ℕ) (n : ℕ) (t : Bool) → ((p : ℕ) → Contains was p → p < n) → AllPairs (λ a b. a ≢ b) was → AllPairs (λ a b. a ≢ b) (cond t (was ++ n ∷ []) was)
 once_more was n true below once = all_pairs_push (λ a b. a ≢ b) was n once (λ i d lt e. omega (arith, below (get_or was i d) (Contains-get_or was i d lt)))
 once_more was n false below once = once

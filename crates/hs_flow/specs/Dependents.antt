@@ -1,16 +1,11 @@
 -- Lists of points that grow by one point at a time.
 --     HasDependents points flows lists     the list of each point has just its dependents, ascending
-use Rattle.std.specs.Prelude.{◌≡◌, ℕ, ◌≤◌, List, [], length, All, Contains, ◌⊎◌, ◌↔◌, slice_get, unwrap_or, Vec}
+use Rattle.std.specs.Prelude.{◌≡◌, ℕ, ◌≤◌, List, length, All, Contains, ◌⊎◌, ◌↔◌}
 use Rattle.std.specs.List.Sorted.{IsStrictlyIncreasing}
-use Rattle.std.specs.declared.alloc.Global.{Global}
 use Rattle.hs_scheme.specs.declared.flow.FlowPair.{FlowPair}
 use Rattle.hs_scheme.specs.Points.{PointsData}
 use Rattle.hs_scheme.specs.Dependents.{IsDependent}
-use Rattle.hs_flow.specs.Rows.{row}
-
--- the list of a point
-abbrev pub list_of : List (List ℕ) → ℕ → List ℕ
-list_of lists p = unwrap_or (slice_get lists p) []
+pub use Rattle.hs_flow.specs.Lists.{list_of}
 
 pub record HasDependents (points : PointsData) (flows : List FlowPair) (lists : List (List ℕ)) : Type 0 where
   pub each : length lists ≡ length points.points
@@ -23,9 +18,9 @@ pub record RisesTo (point : ℕ) (xs : List ℕ) : Type 0 where
   pub below : All (λ x. x ≤ point) xs
 
 -- new has the point in each list of which S holds, and is otherwise as old
-pub record AddsTo (S : ℕ → Type 0) (point : ℕ) (old new : List (Vec ℕ Global)) : Type 0 where
-  pub exact : (p d : ℕ) → Contains (row new p) d ↔ (Contains (row old p) d ⊎ ((d ≡ point) × S p))
-  pub rises : (p : ℕ) → RisesTo point (row old p) → RisesTo point (row new p)
+pub record AddsTo (S : ℕ → Type 0) (point : ℕ) (old new : List (List ℕ)) : Type 0 where
+  pub exact : (p d : ℕ) → Contains (list_of new p) d ↔ (Contains (list_of old p) d ⊎ ((d ≡ point) × S p))
+  pub rises : (p : ℕ) → RisesTo point (list_of old p) → RisesTo point (list_of new p)
   pub len : length new ≡ length old
 
 -- the point of one of the pairs

@@ -1,6 +1,8 @@
-pub mod Gain
-pub mod Rows
+pub mod Lists
 pub mod Bases
 pub mod Users
-pub mod Index
+pub mod Passing
+pub mod Pairs
+pub mod Analysis
+pub mod Tables
 pub mod Dependents

@@ -1,13 +1,14 @@
-//! What parameters may become, as far as the points with them at their head have passed it on.
+//! What parameters may become.
 
-ghost use Rattle.std.specs.Prelude.{◌≡◌, ◌<◌, ◌↔◌, ◌⊎◌, ℕ, length, Contains, IfOk, OnOk};
+ghost use Rattle.std.specs.Prelude.{◌≡◌, ◌↔◌, ◌⊎◌, Contains, IfOk, OnOk, OnErr};
 ghost use Rattle.hs_flow.specs.declared.bases.Base.{Base as AnyBase};
-ghost use Rattle.hs_flow.specs.Bases.{HasFlag, HasBase, IsNew};
+ghost use Rattle.hs_flow.specs.Bases.{HasBase, TellsNew};
 
-use crate::rows::empty;
+use crate::lists::Lists;
 use hs_scheme::{OutOfMemory, Parameters};
 use indexmap::IndexSet;
 use std::alloc::Global;
+use std::marker::Model;
 
 /// The most parameters of a scheme whose bases are kept as flags: 64 MiB for all of them at most.
 const MOST_IN_ROWS: u32 = 8_192;
@@ -27,38 +28,25 @@ pub(crate) struct Base {
 pub(crate) struct Bases {
     /// For each parameter, by its number, its bases, by theirs. A parameter without bases has an
     /// empty row, and there is no row where the parameters are too many.
-    rows: Vec<Vec<bool>>,
+    rows: Lists<bool>,
     others: IndexSet<Base>,
 }
 
-/// Sets a flag in the row of this number, and answers whether it wasn't set.
-fn set_flag(
-    rows: &mut Vec<Vec<bool>>,
-    number: usize,
-    flag: usize,
-    width: usize,
-) -> Result<bool, OutOfMemory>
-    requires row { number < length rows.old.items }
-    requires flag { flag < width }
-    ensures len { length rows.new.items ≡ length rows.old.items }
-    ensures flags { OnOk result ((k j : ℕ) → HasFlag rows.new.items k j ↔ (HasFlag rows.old.items k j ⊎ ((k ≡ number) × (j ≡ flag)))) }
-    ensures added { IfOk result (IsNew (HasFlag rows.old.items number flag)) }
-{
-    let row = &mut rows[number];
-    if row.len() <= flag {
-        row.resize(width, false)?;
-    }
-    if row[flag] {
-        return Ok(false);
-    }
-    row[flag] = true;
-    Ok(true)
+impl Model for Bases {
+    ghost use Rattle.hs_flow.specs.Bases.{BasesData, coded_bases};
+
+    ghost Value = { BasesData };
+
+    ghost coded = { coded_bases };
+
+    ghost view = { λ a. record { rows = a.rows; others = a.others.keys } };
 }
 
 /// Adds a base to the set, and answers whether it is new.
 fn add_other(others: &mut IndexSet<Base>, base: Base) -> Result<bool, OutOfMemory>
     ensures bases { OnOk result ((b : AnyBase) → Contains others.new.keys b ↔ (Contains others.old.keys b ⊎ (b ≡ base))) }
-    ensures added { IfOk result (IsNew (Contains others.old.keys base)) }
+    ensures new { IfOk result (TellsNew (Contains others.old.keys base)) }
+    ensures same { OnErr result (others.new.keys ≡ others.old.keys) }
 {
     let added = others.insert(base)?;
     Ok(added)
@@ -75,7 +63,7 @@ impl Bases {
             0
         };
         Ok(Bases {
-            rows: empty(alloc, count)?,
+            rows: Lists::empty(alloc, count)?,
             others: IndexSet::new(alloc),
         })
     }
@@ -83,7 +71,8 @@ impl Bases {
     /// Adds a base, and answers whether it is new. Constant time on average.
     pub(crate) fn insert(&mut self, params: &Parameters, base: Base) -> Result<bool, OutOfMemory>
         ensures bases { OnOk result ((b : AnyBase) → HasBase params.now self.new b ↔ (HasBase params.now self.old b ⊎ (b ≡ base))) }
-        ensures added { IfOk result (IsNew (HasBase params.now self.old base)) }
+        ensures new { IfOk result (TellsNew (HasBase params.now self.old base)) }
+        ensures same { OnErr result (self.new ≡ self.old) }
     {
         let Some(number) = params.number(base.rule, base.param) else {
             return add_other(&mut self.others, base);
@@ -95,6 +84,6 @@ impl Bases {
             return add_other(&mut self.others, base);
         }
         let width = params.count() as usize;
-        set_flag(&mut self.rows, number as usize, flag as usize, width)
+        self.rows.set_flag(number as usize, flag as usize, width)
     }
 }

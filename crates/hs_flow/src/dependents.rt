@@ -6,7 +6,7 @@ ghost use Rattle.hs_scheme.specs.Points.{NonterminalWithin};
 ghost use Rattle.hs_scheme.specs.Dependents.{HeadReads, IsDependent};
 ghost use Rattle.hs_flow.specs.Dependents.{HasDependents, AddsTo, HasPoint};
 
-use crate::rows::{empty, push_at};
+use crate::lists::Lists;
 use hs_scheme::{FlowPair, FlowTable, Head, OutOfMemory, Points, Problem};
 use std::alloc::Global;
 use std::marker::Model;
@@ -18,88 +18,88 @@ use std::marker::Model;
 /// Contracts see the list of the points' lists.
 #[derive(Debug, Drop)]
 pub struct Dependents {
-    rows: Vec<Vec<u32>>,
+    lists: Lists<u32>,
 }
 
 impl Model for Dependents {
-    ghost use Rattle.std.specs.Prelude.{List, ℕ, map};
+    ghost use Rattle.std.specs.Prelude.{List, ℕ};
 
     ghost Value = { List (List ℕ) };
 
-    ghost view = { λ a. map (λ row. row.items) a.rows.items };
+    ghost view = { λ a. a.lists };
 }
 
 /// Adds the point to the list of this number, unless it is the last there.
-fn add_once(rows: &mut Vec<Vec<u32>>, number: u32, point: u32) -> Result<(), OutOfMemory>
-    requires { number < length rows.old.items }
-    ensures { OnOk result (AddsTo (λ p. p ≡ number) point rows.old.items rows.new.items) }
+fn add_once(lists: &mut Lists<u32>, number: u32, point: u32) -> Result<(), OutOfMemory>
+    requires { number < length lists.old }
+    ensures { OnOk result (AddsTo (λ p. p ≡ number) point lists.old lists.new) }
 {
-    if let Some(last) = rows[number as usize].last() {
+    if let Some(last) = lists.list(number as usize).last() {
         if *last == point {
             return Ok(());
         }
     }
-    push_at(rows, number as usize, point)
+    lists.push(number as usize, point)
 }
 
 /// Adds the point to the lists of its arguments.
-fn add_to_arguments(rows: &mut Vec<Vec<u32>>, args: &[u32], point: u32) -> Result<(), OutOfMemory>
-    requires { All (λ a. a < length rows.old.items) args.now }
-    ensures { OnOk result (AddsTo (Contains args.now) point rows.old.items rows.new.items) }
+fn add_to_arguments(lists: &mut Lists<u32>, args: &[u32], point: u32) -> Result<(), OutOfMemory>
+    requires { All (λ a. a < length lists.old) args.now }
+    ensures { OnOk result (AddsTo (Contains args.now) point lists.old lists.new) }
 {
     for arg in args {
-        add_once(rows, *arg, point)?;
+        add_once(lists, *arg, point)?;
     }
     Ok(())
 }
 
 /// Adds the point to the lists of the points of these flow pairs.
-fn add_to_flow(rows: &mut Vec<Vec<u32>>, flow: &[FlowPair], point: u32) -> Result<(), OutOfMemory>
-    requires { All (λ (f : FlowPair). f.point < length rows.old.items) flow.now }
-    ensures { OnOk result (AddsTo (HasPoint flow.now) point rows.old.items rows.new.items) }
+fn add_to_flow(lists: &mut Lists<u32>, flow: &[FlowPair], point: u32) -> Result<(), OutOfMemory>
+    requires { All (λ (f : FlowPair). f.point < length lists.old) flow.now }
+    ensures { OnOk result (AddsTo (HasPoint flow.now) point lists.old lists.new) }
 {
     for pair in flow {
-        add_once(rows, pair.point, point)?;
+        add_once(lists, pair.point, point)?;
     }
     Ok(())
 }
 
 /// Adds the point to the lists of those from which the types of its head come.
 fn add_to_head(
-    rows: &mut Vec<Vec<u32>>,
+    lists: &mut Lists<u32>,
     points: &Points,
     flow: &FlowTable,
     rule: u32,
     head: Head,
     point: u32,
 ) -> Result<(), OutOfMemory>
-    requires rows { length rows.old.items ≡ length points.now.points }
+    requires lists { length lists.old ≡ length points.now.points }
     requires flow { All (λ (f : FlowPair). f.point < length points.now.points) flow.now.pairs }
     requires head { NonterminalWithin (length points.now.bodies) head }
-    ensures { OnOk result (AddsTo (HeadReads points.now.bodies flow.now.pairs rule head) point rows.old.items rows.new.items) }
+    ensures { OnOk result (AddsTo (HeadReads points.now.bodies flow.now.pairs rule head) point lists.old lists.new) }
 {
     match head {
-        Head::Var(param) => add_to_flow(rows, flow.flow_of(rule, param), point),
-        Head::Nt(base) => add_once(rows, points.body_of(base), point),
+        Head::Var(param) => add_to_flow(lists, flow.flow_of(rule, param), point),
+        Head::Nt(base) => add_once(lists, points.body_of(base), point),
         Head::Tm(_) => Ok(()),
     }
 }
 
 /// Adds the point to the lists of all those of which it is a dependent.
 fn add_point(
-    rows: &mut Vec<Vec<u32>>,
+    lists: &mut Lists<u32>,
     points: &Points,
     flow: &FlowTable,
     point: u32,
 ) -> Result<(), OutOfMemory>
-    requires rows { length rows.old.items ≡ length points.now.points }
+    requires lists { length lists.old ≡ length points.now.points }
     requires flow { All (λ (f : FlowPair). f.point < length points.now.points) flow.now.pairs }
     requires point { point < length points.now.points }
-    ensures { OnOk result (AddsTo (λ p. IsDependent points.now flow.now.pairs p point) point rows.old.items rows.new.items) }
+    ensures { OnOk result (AddsTo (λ p. IsDependent points.now flow.now.pairs p point) point lists.old lists.new) }
 {
-    add_to_arguments(rows, points.args_of(point), point)?;
+    add_to_arguments(lists, points.args_of(point), point)?;
     let rule = points.rule_of(point);
-    add_to_head(rows, points, flow, rule, points.head_of(point), point)
+    add_to_head(lists, points, flow, rule, points.head_of(point), point)
 }
 
 /// The dependents of each of these points by this flow.
@@ -111,11 +111,11 @@ pub(crate) fn lists_of(
     requires { All (λ (f : FlowPair). f.point < length points.now.points) flow.now.pairs }
     ensures { IfOk result (HasDependents points.now flow.now.pairs) }
 {
-    let mut rows = empty(alloc, points.count() as usize)?;
+    let mut lists = Lists::empty(alloc, points.count() as usize)?;
     for point in 0..points.count() {
-        add_point(&mut rows, points, flow, point)?;
+        add_point(&mut lists, points, flow, point)?;
     }
-    Ok(Dependents { rows })
+    Ok(Dependents { lists })
 }
 
 impl Dependents {
@@ -134,6 +134,6 @@ impl Dependents {
         requires { p < length self.now }
         ensures { slice_get self.now p ≡ Some result.now }
     {
-        self.rows[p as usize].as_slice()
+        self.lists.list(p as usize)
     }
 }

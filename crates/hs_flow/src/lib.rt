@@ -5,10 +5,9 @@ mod analysis;
 mod bases;
 mod dependents;
 mod fault;
-mod found;
-mod index;
-mod rows;
-mod spread;
+mod lists;
+mod pairs;
+mod table;
 mod users;
 
 pub use analysis::analyse;

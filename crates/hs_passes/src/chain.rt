@@ -1,6 +1,6 @@
 //! Passes one after another.
 
-ghost use Rattle.std.specs.Prelude.{◌≡◌, ◌+◌, ◌≤◌, ◌^◌, map, sum_by, All, IfOk, OnOk, OnErr};
+ghost use Rattle.std.specs.Prelude.{◌≡◌, ◌+◌, ◌≤◌, ◌^◌, ◌++◌, ◌∷◌, [], map, sum_by, All, IfOk, OnOk, OnErr};
 ghost use Rattle.hs_scheme.specs.SameTree.{HaveSameTree};
 ghost use Rattle.hs_passes.specs.Weight.{weight};
 ghost use Rattle.hs_passes.specs.Passing.{KeepsRest, composed, raised, RaisedUpTo};
@@ -27,11 +27,14 @@ fn apply_boxed(
     pass.apply(alloc, sorted)
 }
 
-/// Adds a pass to a list, both without a tally so far.
+/// Adds a pass at the end of a list, both without a tally so far. After a refusal of memory the list is
+/// as it was.
 pub fn add(passes: &mut Vec<Box<dyn Pass>>, pass: Box<dyn Pass>) -> Result<(), OutOfMemory>
     requires passes { All (λ p. taken p ≡ 0) passes.old.items }
     requires pass { taken pass ≡ 0 }
-    ensures { OnOk result (All (λ p. taken p ≡ 0) passes.new.items) }
+    ensures last { OnOk result (passes.new.items ≡ passes.old.items ++ pass ∷ []) }
+    ensures tallies { OnOk result (All (λ p. taken p ≡ 0) passes.new.items) }
+    ensures refused { OnErr result (passes.new.items ≡ passes.old.items) }
 {
     passes.push(pass)?;
     Ok(())

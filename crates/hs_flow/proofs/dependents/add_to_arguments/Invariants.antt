@@ -4,4 +4,4 @@ use Rattle.hs_flow.specs.Dependents.{AddsTo}
 use Rattle.hs_flow.proofs.dependents.add_to_arguments.Given as goal
 
 abbrev pub invariant-loop-arg : goal.invariant-loop-arg
-invariant-loop-arg l = AddsTo (Contains (take l.arg-index l.args)) l.point l.initial.rows.items l.rows.items
+invariant-loop-arg l = AddsTo (Contains (take l.arg-index l.args)) l.point l.initial.lists l.lists

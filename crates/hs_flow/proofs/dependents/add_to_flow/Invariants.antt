@@ -4,4 +4,4 @@ use Rattle.hs_flow.specs.Dependents.{AddsTo, HasPoint}
 use Rattle.hs_flow.proofs.dependents.add_to_flow.Given as goal
 
 abbrev pub invariant-loop-pair : goal.invariant-loop-pair
-invariant-loop-pair l = AddsTo (HasPoint (take l.pair-index l.flow)) l.point l.initial.rows.items l.rows.items
+invariant-loop-pair l = AddsTo (HasPoint (take l.pair-index l.flow)) l.point l.initial.lists l.lists

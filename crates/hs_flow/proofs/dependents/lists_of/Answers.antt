@@ -7,9 +7,9 @@ loop-point-preserved c =
     let points = c.args.points.now in let flows = c.args.flow.now.pairs in let n = c.loop-point.point in
     record {
       long = c.in_ok-add_point.ensures.len ∙ c.loop-point.invariant.long;
-      exact = dependents_more points flows n c.loop-point.rows.items c.add_point.new.rows.items c.in_ok-add_point.ensures c.loop-point.invariant.exact;
-      ascending = rises_more points flows n c.loop-point.rows.items c.add_point.new.rows.items c.in_ok-add_point.ensures c.loop-point.invariant.exact c.loop-point.invariant.ascending;
+      exact = dependents_more points flows n c.loop-point.lists c.add_point.new.lists c.in_ok-add_point.ensures c.loop-point.invariant.exact;
+      ascending = rises_more points flows n c.loop-point.lists c.add_point.new.lists c.in_ok-add_point.ensures c.loop-point.invariant.exact c.loop-point.invariant.ascending;
     }
 
 pub returns : goal.returns
-returns c = has_dependents c.args.points.now c.args.flow.now.pairs c.loop-point.point c.loop-point.rows.items c.loop-point.invariant.long (omega arith) c.loop-point.invariant.exact c.loop-point.invariant.ascending
+returns c = has_dependents c.args.points.now c.args.flow.now.pairs c.loop-point.point c.loop-point.lists c.loop-point.invariant.long (omega arith) c.loop-point.invariant.exact c.loop-point.invariant.ascending

@@ -2,12 +2,12 @@
 use Rattle.std.proofs.Common.{◌≡◌, ◌<◌, ◌↔◌, ℕ, Contains, length}
 use Rattle.std.specs.List.Sorted.{IsStrictlyIncreasing}
 use Rattle.hs_scheme.specs.Dependents.{IsDependent}
-use Rattle.hs_flow.specs.Rows.{row}
+use Rattle.hs_flow.specs.Lists.{list_of}
 use Rattle.hs_flow.proofs.dependents.lists_of.Given as goal
 
 abbrev pub invariant-loop-point : goal.invariant-loop-point
 invariant-loop-point l = record {
-  long : length l.rows.items ≡ length l.points.points;
-  exact : (p d : ℕ) → Contains (row l.rows.items p) d ↔ ((d < l.point) × IsDependent l.points l.flow.pairs p d);
-  ascending : (p : ℕ) → IsStrictlyIncreasing (row l.rows.items p);
+  long : length l.lists ≡ length l.points.points;
+  exact : (p d : ℕ) → Contains (list_of l.lists p) d ↔ ((d < l.point) × IsDependent l.points l.flow.pairs p d);
+  ascending : (p : ℕ) → IsStrictlyIncreasing (list_of l.lists p);
 }

@@ -1,0 +1,86 @@
+-- Lists by number.
+use Rattle.std.proofs.Common.{◌≡◌, refl, sym, ◌∙◌, ap, subst, ℕ, zero, suc, ◌<◌, Bool, true, false, nat_eq, List, [], ◌∷◌, ◌++◌, map, set, length, get_or, slice_get, Option, Some, cond, Vec, arith, ◌⊎◌, inl, inr, ◌↔◌, Result, Ok, Err}
+use Rattle.std.specs.Prelude.{unwrap_or, OnErr}
+use Rattle.std.specs.Option.{option_map}
+use Rattle.std.specs.declared.alloc.Global.{Global}
+use Rattle.std.proofs.Math.Seq.{map-set_same}
+use Rattle.std.proofs.lemmas.Bool.{eqb-true, eq-eqb}
+use Rattle.std.proofs.lemmas.List.{length-set, length-map, map-set, get_or-set_other}
+use Rattle.std.proofs.lemmas.Option.{slice_get-map, unwrap_or-slice_get}
+use Rattle.std.proofs.lemmas.Grind.{get_or-set_at}
+use Rattle.hs_scheme.proofs.DemandLemmas.{slice_get-read}
+use Rattle.hs_flow.specs.Lists.{list_of, IsPushed}
+use Rattle.hs_flow.specs.Bases.{HasFlag}
+
+pub on_err : {A E : Type 0} (r : Result A E) (P : Type 0) → P → OnErr r P
+on_err (Ok a) P p = tt
+on_err (Err e) P p = p
+
+-- a list that was read is the list of its number
+pub list-read : {T : Type 0} (lists : List (List T)) (k : ℕ) (xs : List T) → slice_get lists k ≡ Some xs → list_of lists k ≡ xs
+list-read {T} lists k xs at = ap (λ (o : Option (List T)). unwrap_or o []) at
+
+-- one more empty list
+pub mapped-push : {T : Type 0} (rows : List (Vec T Global)) (v : Vec T Global) → v.items ≡ [] → ((k : ℕ) → list_of (map (λ (r : Vec T Global). r.items) rows) k ≡ [])
+    → (k : ℕ) → list_of (map (λ (r : Vec T Global). r.items) (rows ++ v ∷ [])) k ≡ []
+mapped-push [] v e so_far zero = e
+mapped-push [] v e so_far (suc k) = refl
+mapped-push (r ∷ rows) v e so_far zero = so_far zero
+mapped-push (r ∷ rows) v e so_far (suc k) = mapped-push rows v e (λ j. so_far (suc j)) k
+
+-- a list in the place of another
+list-set : {T : Type 0} (lists : List (List T)) (n : ℕ) (xs : List T) → n < length lists → (k : ℕ) → list_of (set lists n xs) k ≡ cond (nat_eq k n) xs (list_of lists k)
+list-set {T} lists n xs lt k = by (nat_eq k n) refl
+  where
+    other : nat_eq k n ≡ false → k ≡ n → ⊥
+    other e same = let yes = eq-eqb k n same in absurd (cc)
+
+    by : (t : Bool) → nat_eq k n ≡ t → list_of (set lists n xs) k ≡ cond t xs (list_of lists k)
+    by true e = unwrap_or-slice_get (set lists n xs) k [] ∙ get_or-set_at lists n k xs [] (eqb-true k n e) lt
+    by false e = unwrap_or-slice_get (set lists n xs) k [] ∙ (get_or-set_other lists n k xs [] (other e) ∙ sym (unwrap_or-slice_get lists k []))
+
+-- the row of this number is replaced, among the rows as which lists are kept
+module _ {T : Type 0} (rows : List (Vec T Global)) (n : ℕ) (old new : Vec T Global) (lists : List (List T)) (view : map (λ (r : Vec T Global). r.items) rows ≡ lists)
+    (lt : n < length lists) (is : old ≡ get_or rows n old) where
+  abbrev items : Vec T Global → List T
+  items r = r.items
+
+  within : n < length rows
+  within = omega (arith, lt, ap (λ (ls : List (List T)). length ls) view, length-map rows items)
+
+  pub row_is : list_of lists n ≡ old.items
+  row_is =
+      ap (λ (ls : List (List T)). list_of ls n) (sym view)
+      ∙ (ap (λ (o : Option (List T)). unwrap_or o []) (slice_get-map items rows n ∙ ap (option_map items) (slice_get-read rows n old within (sym is))))
+
+  pub row_set : (k : ℕ) → list_of (map items (set rows n new)) k ≡ cond (nat_eq k n) new.items (list_of lists k)
+  row_set k = ap (λ (ls : List (List T)). list_of ls k) (map-set items rows n new ∙ ap (λ (ls : List (List T)). set ls n new.items) view) ∙ list-set lists n new.items lt k
+
+  pub row_pushed : (x : T) → new.items ≡ old.items ++ x ∷ [] → IsPushed n x lists (map items (set rows n new))
+  row_pushed x pushed = record {
+    len = length-map (set rows n new) items ∙ (length-set rows n new ∙ (sym (length-map rows items) ∙ ap (λ (ls : List (List T)). length ls) view));
+    each = λ k. row_set k ∙ by k (nat_eq k n) refl;
+  }
+    where
+      by : (k : ℕ) (t : Bool) → nat_eq k n ≡ t → cond t new.items (list_of lists k) ≡ cond t (list_of lists k ++ x ∷ []) (list_of lists k)
+      by k true e = pushed ∙ ap (λ (xs : List T). xs ++ x ∷ []) (sym (ap (λ (j : ℕ). list_of lists j) (eqb-true k n e) ∙ row_is))
+      by k false e = refl
+
+  pub row_same : new.items ≡ old.items → map items (set rows n new) ≡ lists
+  row_same same = map-set_same items rows n new old (same ∙ ap items is) ∙ view
+
+-- a flag of the row is set
+module _ (rows : List (Vec Bool Global)) (n flag : ℕ) (old new : Vec Bool Global) (lists : List (List Bool)) (view : map (λ (r : Vec Bool Global). r.items) rows ≡ lists)
+    (lt : n < length lists) (is : old ≡ get_or rows n old) (step : (j : ℕ) → (slice_get new.items j ≡ Some true) ↔ ((slice_get old.items j ≡ Some true) ⊎ (j ≡ flag))) where
+  pub row_flags : (k j : ℕ) → HasFlag (map (λ (r : Vec Bool Global). r.items) (set rows n new)) k j ↔ (HasFlag lists k j ⊎ ((k ≡ n) × (j ≡ flag)))
+  row_flags k j = subst (λ (xs : List Bool). (slice_get xs j ≡ Some true) ↔ (HasFlag lists k j ⊎ ((k ≡ n) × (j ≡ flag)))) (sym (row_set rows n old new lists view lt is k)) (by (nat_eq k n) refl)
+    where
+      here : nat_eq k n ≡ true → list_of lists k ≡ old.items
+      here e = ap (λ (m : ℕ). list_of lists m) (eqb-true k n e) ∙ row_is rows n old new lists view lt is
+
+      by : (t : Bool) → nat_eq k n ≡ t → (slice_get (cond t new.items (list_of lists k)) j ≡ Some true) ↔ (HasFlag lists k j ⊎ ((k ≡ n) × (j ≡ flag)))
+      by true e = (
+        λ h. elim ((step j).0 h) [ inl was ↦ inl (subst (λ (xs : List Bool). slice_get xs j ≡ Some true) (sym (here e)) was) | inr j_is ↦ inr (eqb-true k n e, j_is) ],
+        λ h. (step j).1 (elim h [ inl was ↦ inl (subst (λ (xs : List Bool). slice_get xs j ≡ Some true) (here e) was) | inr now ↦ inr now.1 ]),
+      )
+      by false e = (λ h. inl h, λ h. elim h [ inl was ↦ was | inr now ↦ let yes = eq-eqb k n now.0 in absurd (cc) ])

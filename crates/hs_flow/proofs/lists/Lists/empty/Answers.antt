@@ -1,0 +1,12 @@
+use Rattle.std.proofs.Common.{◌≡◌, sym, ap, subst, ℕ, List, [], length, length-append, ◌∷◌, map, Vec, arith}
+use Rattle.std.specs.declared.alloc.Global.{Global}
+use Rattle.hs_flow.specs.Lists.{list_of}
+use Rattle.hs_flow.proofs.ListLemmas.{mapped-push}
+use Rattle.hs_flow.proofs.lists.Lists.empty.Goals as goal
+
+pub loop-preserved : goal.loop-preserved
+loop-preserved g c = record {
+  long = omega (arith, ap (λ (rs : List (Vec g.row.T.Denot Global)). length rs) c.in_ok-push.ensures.items, length-append c.loop.rows.items (c.new.result ∷ []), c.loop.invariant.long);
+  empty = subst (λ (rs : List (Vec g.row.T.Denot Global)). (k : ℕ) → list_of (map (λ (r : Vec g.row.T.Denot Global). r.items) rs) k ≡ []) (sym c.in_ok-push.ensures.items)
+      (mapped-push c.loop.rows.items c.new.result c.new.ensures.items c.loop.invariant.empty);
+}

@@ -1,0 +1,22 @@
+use Rattle.std.proofs.Common.{arith}
+use Rattle.hs_flow.specs.Pairs.{PairsData}
+use Rattle.hs_flow.proofs.SupportLemmas.{pushed_are}
+use Rattle.hs_flow.proofs.pairs.Pairs.add.Goals as goal
+
+pub invariant_of-self-then-len-self : goal.invariant_of-self-then-len-self
+invariant_of-self-then-len-self c =
+    let a : PairsData = record { rules = c.self.inside.rules.now; max = c.self.inside.max; found = c.self.inside.found.items; bases = c.self.inside.bases } in
+    pushed_are c.self.inside.points.now c.self.inside.users.now a c.args.self.now c.args.pair c.push.new.self.items c.self.view_is c.self.invariant c.requires c.in_ok-push.ensures.items
+
+pub returns-then-len-self-clause-limit : goal.returns-then-len-self-clause-limit
+returns-then-len-self-clause-limit c =
+    let a : PairsData = record { rules = c.self.inside.rules.now; max = c.self.inside.max; found = c.self.inside.found.items; bases = c.self.inside.bases } in
+    record {
+      within = tt;
+      over = λ e. ((pushed_are c.self.inside.points.now c.self.inside.users.now a c.args.self.now c.args.pair c.push.new.self.items c.self.view_is c.self.invariant c.requires c.in_ok-push.ensures.items).supported, omega arith);
+    }
+
+pub invariant_of-self-2 : goal.invariant_of-self-2
+invariant_of-self-2 c =
+    let a : PairsData = record { rules = c.self.inside.rules.now; max = c.self.inside.max; found = c.self.inside.found.items; bases = c.self.inside.bases } in
+    pushed_are c.self.inside.points.now c.self.inside.users.now a c.args.self.now c.args.pair c.push.new.self.items c.self.view_is c.self.invariant c.requires c.in_ok-push.ensures.items
