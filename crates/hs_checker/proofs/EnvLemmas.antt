@@ -1,16 +1,17 @@
 -- What is joined does not depend on the order of the entries, nor on repeats.
-use Rattle.std.proofs.Common.{◌≡◌, refl, sym, ◌∙◌, ap, subst, ℕ, zero, suc, ◌+◌, ◌<◌, ◌≤◌, ◌&&◌, nat_eq, Some, None, List, [], ◌∷◌, length, get_or, slice_get, map, drop, arith, Contains, ◌↔◌, Bor}
+use Rattle.std.proofs.Common.{◌≡◌, refl, sym, ◌∙◌, ap, subst, ℕ, zero, suc, ◌+◌, ◌<◌, ◌≤◌, Bool, true, false, ◌&&◌, nat_eq, cond, Some, None, List, [], ◌∷◌, ◌++◌, length, get_or, set, slice_get, map, take, drop, arith, Contains, ◌↔◌, Bor}
 use Rattle.std.specs.List.{flat_map}
 use Rattle.std.specs.Ordering.{is_eq}
 use Rattle.std.proofs.lemmas.Bool.{eqb-true, eq-eqb}
 use Rattle.std.proofs.lemmas.Cmp.{tied_itself}
 use Rattle.hs_scheme.specs.Tree.{node, none, more, children}
 use Rattle.hs_table.specs.Types.{TypeTree, arrow, type_cmp}
-use Rattle.hs_table.specs.Entries.{EntryData}
+use Rattle.hs_table.specs.Entries.{Env, EntryData, set_at}
 use Rattle.hs_table_laws.proofs.Orders.{type_cmp_total, type_same}
-use Rattle.hs_table_plain.specs.Enumeration.{joined, extended, picks, retyped, through}
+use Rattle.hs_table_laws.proofs.Places.{here}
+use Rattle.hs_table_plain.specs.Enumeration.{union, union_from, joined, extended, picks, retyped, through}
 use Rattle.hs_table_plain.proofs.Loops.{and_true, both_true, through_step}
-use Rattle.hs_table_plain.proofs.Members.{from_flat_map, into_flat_map, from_map, into_map}
+use Rattle.hs_table_plain.proofs.Members.{from_flat_map, into_flat_map, from_map, into_map, only}
 use Rattle.hs_table_plain.proofs.ChoiceLemmas.{from_cond, into_cond}
 use Rattle.hs_checker.specs.Any.{AnyOf}
 use Rattle.hs_checker.proofs.Between.{equal_of}
@@ -94,3 +95,93 @@ drop_none (suc k) (x ∷ xs) le = drop_none k xs (omega arith)
 pub picks_done : (E : List EntryData) (u : ℕ) (set : List TypeTree) (k : ℕ) (es start : List EntryData) → length set ≤ k
     → ((e : EntryData) → Contains (picks E u (drop k set) es) e ↔ Contains (picks E u set start) e) → (e : EntryData) → Contains es e ↔ Contains (picks E u set start) e
 picks_done E u set k es start le h e = subst (λ (s : List TypeTree). Contains (picks E u s es) e ↔ Contains (picks E u set start) e) (drop_none k set le) (h e)
+
+-- the first k sets joined with those of the second environment, from number j of it on
+abbrev pub partly_joined : ℕ → ℕ → Env → Env → Env
+partly_joined j zero e r = e
+partly_joined j (suc k) [] r = []
+partly_joined j (suc k) (s ∷ e) r = union s (set_at r j) ∷ partly_joined (suc j) k e r
+
+pub partly_long : (j k : ℕ) (e r : Env) → length (partly_joined j k e r) ≡ length e
+partly_long j zero e r = refl
+partly_long j (suc k) [] r = refl
+partly_long j (suc k) (s ∷ e) r = ap suc (partly_long (suc j) k e r)
+
+pub partly_more : (j k : ℕ) (e r : Env) (s v : List TypeTree) → k < length e → s ≡ get_or (partly_joined j k e r) k s → v ≡ union s (set_at r (j + k)) → set (partly_joined j k e r) k v ≡ partly_joined j (suc k) e r
+partly_more j k [] r s v lt read made = absurd (omega arith)
+partly_more j zero (t ∷ e) r s v lt read made =
+    let n : j + 0 ≡ j = omega arith in
+    ap (λ x. x ∷ e) (made ∙ ((λ i. union (read i) (set_at r (n i)))))
+partly_more j (suc k) (t ∷ e) r s v lt read made =
+    let n : j + suc k ≡ suc j + k = omega arith in
+    ap (λ x. union t (set_at r j) ∷ x) (partly_more (suc j) k e r s v (omega arith) read (made ∙ ap (λ m. union s (set_at r m)) n))
+
+pub partly_all : (j k : ℕ) (e r : Env) → length e ≤ k → partly_joined j k e r ≡ union_from j e r
+partly_all j zero [] r le = refl
+partly_all j zero (s ∷ e) r le = absurd (omega arith)
+partly_all j (suc k) [] r le = refl
+partly_all j (suc k) (s ∷ e) r le = ap (λ x. union s (set_at r j) ∷ x) (partly_all (suc j) k e r (omega arith))
+
+-- all of a list have been changed
+pub changed_all : {X : Type 0} (f : X → X) (xs : List X) (k : ℕ) → length xs ≤ k → map f (take k xs) ++ drop k xs ≡ map f xs
+changed_all f [] zero le = refl
+changed_all f [] (suc k) le = refl
+changed_all f (x ∷ xs) zero le = absurd (omega arith)
+changed_all f (x ∷ xs) (suc k) le = ap (λ ys. f x ∷ ys) (changed_all f xs k (omega arith))
+
+pub changed_long : {X : Type 0} (f : X → X) (xs : List X) (k : ℕ) → length (map f (take k xs) ++ drop k xs) ≡ length xs
+changed_long f [] zero = refl
+changed_long f [] (suc k) = refl
+changed_long f (x ∷ xs) zero = refl
+changed_long f (x ∷ xs) (suc k) = ap suc (changed_long f xs k)
+
+pub any_of_map : {X : Type 0} (f : X → X) (xs ys : List X) (y : X) → ys ≡ map f xs → Contains ys y ↔ AnyOf (λ (x y : X). y ≡ f x) xs y
+any_of_map f xs ys y made = (
+  λ c. let s = from_map f xs y (subst (λ zs. Contains zs y) made c) in record { item = s.item; there = s.there; holds = s.is },
+  λ a. subst (λ zs. Contains zs y) (sym made) (subst (λ z. Contains (map f xs) z) (sym a.holds) (into_map f xs a.item a.there)),
+)
+
+-- of a single item
+pub any_of_one : {X Y : Type 0} (P : X → Y → Type 0) (xs : List X) (x : X) (y : Y) → length xs ≡ 1 → x ≡ get_or xs 0 x → AnyOf P xs y ↔ P x y
+any_of_one P [] x y one read = absurd (omega arith)
+any_of_one P (z ∷ []) x y one read = (
+  λ a. subst (λ w. P w y) (only z a.item a.there ∙ sym read) a.holds,
+  λ h. record { item = z; there = here z []; holds = subst (λ w. P w y) read h },
+)
+any_of_one P (z ∷ w ∷ xs) x y one read = absurd (omega arith)
+
+-- the type of what is begun with doesn't matter
+map_append : {X Y : Type 0} (f : X → Y) (xs ys : List X) → map f (xs ++ ys) ≡ map f xs ++ map f ys
+map_append f [] ys = refl
+map_append f (x ∷ xs) ys = ap (λ zs. f x ∷ zs) (map_append f xs ys)
+
+module _ (t : TypeTree) (u : ℕ) (a : TypeTree) where
+  one_extended : (e x : EntryData) (b : Bool) → cond b (joined (retyped t e) x ∷ []) [] ≡ map (retyped t) (cond b (joined e x ∷ []) [])
+  one_extended e x true = refl
+  one_extended e x false = refl
+
+  all_extended : (E : List EntryData) (e : EntryData) → flat_map (extended u a (retyped t e)) E ≡ map (retyped t) (flat_map (extended u a e) E)
+  all_extended [] e = refl
+  all_extended (x ∷ E) e =
+      (λ i. one_extended e x (nat_eq x.point u && is_eq (type_cmp x.ty a)) i ++ all_extended E e i)
+      ∙ sym (map_append (retyped t) (extended u a e x) (flat_map (extended u a e) E))
+
+  each_extended : (E es : List EntryData) → flat_map (λ e. flat_map (extended u a e) E) (map (retyped t) es) ≡ map (retyped t) (flat_map (λ e. flat_map (extended u a e) E) es)
+  each_extended E [] = refl
+  each_extended E (e ∷ es) =
+      (λ i. all_extended E e i ++ each_extended E es i)
+      ∙ sym (map_append (retyped t) (flat_map (extended u a e) E) (flat_map (λ e. flat_map (extended u a e) E) es))
+
+picks_retyped : (E : List EntryData) (t : TypeTree) (u : ℕ) (s : List TypeTree) (es : List EntryData) → picks E u s (map (retyped t) es) ≡ map (retyped t) (picks E u s es)
+picks_retyped E t u [] es = refl
+picks_retyped E t u (a ∷ s) es = ap (picks E u s) (each_extended t u a E es) ∙ picks_retyped E t u s (flat_map (λ e. flat_map (extended u a e) E) es)
+
+twice_retyped : (t s : TypeTree) (es : List EntryData) → map (retyped t) (map (retyped s) es) ≡ map (retyped t) es
+twice_retyped t s [] = refl
+twice_retyped t s (e ∷ es) = ap (λ ys. retyped t e ∷ ys) (twice_retyped t s es)
+
+pub through_retyped : (E : List EntryData) (us : List ℕ) (ty t : TypeTree) (es : List EntryData) → through E us ty (map (retyped t) es) ≡ through E us ty es
+through_retyped E [] ty t es = twice_retyped ty t es
+through_retyped E (u ∷ us) (node (Some q) ts) t es = refl
+through_retyped E (u ∷ us) (node None none) t es = refl
+through_retyped E (u ∷ us) (node None (more r ts)) t es = ap (through E us r) (picks_retyped E t u (children ts) es) ∙ through_retyped E us r t (picks E u (children ts) es)

@@ -42,17 +42,17 @@ key_equal point ty e = (
   λ both. both_equal (nat_cmp e.point point) (type_cmp e.ty ty) (nat_itself e.point point both.0) (ap (type_cmp e.ty) (sym both.1) ∙ tied_itself type_cmp_total e.ty),
 )
 
-get_or-map : {X Y : Type 0} (f : X → Y) (xs : List X) (k : ℕ) (d : X) → get_or (map f xs) k (f d) ≡ f (get_or xs k d)
+pub get_or-map : {X Y : Type 0} (f : X → Y) (xs : List X) (k : ℕ) (d : X) → get_or (map f xs) k (f d) ≡ f (get_or xs k d)
 get_or-map f [] k d = refl
 get_or-map f (x ∷ xs) zero d = refl
 get_or-map f (x ∷ xs) (suc k) d = get_or-map f xs k d
 
-same_read : {X : Type 0} (xs : List X) (k : ℕ) (c d : X) → k < length xs → get_or xs k c ≡ get_or xs k d
+pub same_read : {X : Type 0} (xs : List X) (k : ℕ) (c d : X) → k < length xs → get_or xs k c ≡ get_or xs k d
 same_read [] k c d h = absurd (omega arith)
 same_read (x ∷ xs) zero c d h = refl
 same_read (x ∷ xs) (suc k) c d h = same_read xs k c d (omega arith)
 
-length-map : {X Y : Type 0} (f : X → Y) (xs : List X) → length (map f xs) ≡ length xs
+pub length-map : {X Y : Type 0} (f : X → Y) (xs : List X) → length (map f xs) ≡ length xs
 length-map f [] = refl
 length-map f (x ∷ xs) = ap suc (length-map f xs)
 
@@ -115,6 +115,31 @@ module _ (rows : List (Bor EntryData)) (up : IsIndex (map (λ (r : Bor EntryData
       elim (cases_lt k i) [
         | inl low ↦ let e : index_cmp (get_or rows k s.item).now x ≡ Less = sides.0 k s.item (omega arith) low in absurd (cc)
         | inr high ↦ let e : index_cmp (get_or rows k s.item).now x ≡ Greater = sides.1 k s.item high lt in absurd (cc)
+      ]
+
+  pub key_found : (t : ℕ) (ty : TypeTree) (r : Result ℕ ℕ) → IsSearchInRange r (length rows) → IsBinarySearchResult (λ (y : Bor EntryData). key_cmp t ty y.now) rows r → is_ok r ≡ true
+      → (x : EntryData) × (Contains (map (λ (r : Bor EntryData). r.now) rows) x × ((x.point ≡ t) × (x.ty ≡ ty)))
+  key_found t ty (Ok i) within there h = go rows within there
+    where
+      go : (xs : List (Bor EntryData)) → i < length xs → ((d : Bor EntryData) → key_cmp t ty (get_or xs i d).now ≡ Equal) → (x : EntryData) × (Contains (map (λ (r : Bor EntryData). r.now) xs) x × ((x.point ≡ t) × (x.ty ≡ ty)))
+      go [] lt at = absurd (omega arith)
+      go (r ∷ rs) lt at =
+          let x = get_or (r ∷ rs) i r in
+          (x.now, (into_map (λ (r : Bor EntryData). r.now) (r ∷ rs) x (Contains-get_or (r ∷ rs) i r lt), (key_equal t ty x.now).0 (at r)))
+  key_found t ty (Err i) within there h = absurd (cc)
+
+  pub found_key : (t : ℕ) (ty : TypeTree) (r : Result ℕ ℕ) → IsBinarySearchResult (λ (y : Bor EntryData). key_cmp t ty y.now) rows r → (x : EntryData) → Contains (map (λ (r : Bor EntryData). r.now) rows) x → (x.point ≡ t) × (x.ty ≡ ty) → is_ok r ≡ true
+  found_key t ty (Ok i) there x c at = refl
+  found_key t ty (Err i) there x c at =
+      let sides = there (keys_up t ty) in
+      let s = from_map (λ (r : Bor EntryData). r.now) rows x c in
+      let k = s.there.0 in
+      let lt = s.there.1 in
+      let read : get_or rows k s.item ≡ s.item = s.there.2 in
+      let tied : key_cmp t ty (get_or rows k s.item).now ≡ Equal = ap (λ (r : Bor EntryData). key_cmp t ty r.now) read ∙ (ap (key_cmp t ty) (sym s.is) ∙ (key_equal t ty x).1 at) in
+      elim (cases_lt k i) [
+        | inl low ↦ let e : key_cmp t ty (get_or rows k s.item).now ≡ Less = sides.0 k s.item (omega arith) low in absurd (cc)
+        | inr high ↦ let e : key_cmp t ty (get_or rows k s.item).now ≡ Greater = sides.1 k s.item high lt in absurd (cc)
       ]
 
 -- a part that a fact picks out, behind references

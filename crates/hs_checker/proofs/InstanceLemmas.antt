@@ -1,7 +1,5 @@
 -- Instances, and what follows by them.
-use Rattle.std.proofs.Common.{◌≡◌, refl, sym, ◌∙◌, ap, subst, ℕ, zero, suc, ◌+◌, ◌<◌, true, false, Option, Some, None, MatchOption, List, [], ◌∷◌, ◌++◌, length, map, set, replicate, slice_index, take, drop, get_or, slice_get, option_map, Bor, arith, Contains, inl, inr, ◌↔◌}
-use Rattle.std.specs.Bool.{◌==◌}
-use Rattle.std.proofs.lemmas.Bool.{eqb-true}
+use Rattle.std.proofs.Common.{◌≡◌, refl, sym, ◌∙◌, ap, subst, ℕ, zero, suc, ◌+◌, ◌<◌, Option, Some, None, MatchOption, List, [], ◌∷◌, ◌++◌, length, set, replicate, slice_index, take, drop, get_or, slice_get, option_map, arith, Contains, inl, inr, ◌↔◌}
 use Rattle.hs_scheme.specs.declared.term.Head.{Head}
 use Rattle.hs_scheme.specs.Tree.{node, none, more, children, children-forest, forest-children}
 use Rattle.hs_scheme.specs.declared.term.Head.TheVariants.{Tm}
@@ -136,17 +134,6 @@ module _ (p : ProblemData) (E : List EntryData) (shapes : AreInShape p E) where
               },
         )
 
--- what no row, and some row, at an argument says of the type
-pub none_at : (E : List EntryData) (rows : List (Bor EntryData)) (u : ℕ) (a : TypeTree) → ((e : EntryData) → Contains (map (λ (r : Bor EntryData). r.now) rows) e ↔ (Contains E e × ((e.point ≡ u) × (e.ty ≡ a)))) → (length rows == 0) ≡ true → HasTypeAt E u a → ⊥
-none_at E [] u a exact empty h = none_in h.entry ((exact h.entry).1 (h.there, (h.at, h.typed)))
-none_at E (r ∷ rows) u a exact empty h = let e : length (r ∷ rows) ≡ 0 = eqb-true (length (r ∷ rows)) 0 empty in absurd (omega arith)
-
-pub some_at : (E : List EntryData) (rows : List (Bor EntryData)) (u : ℕ) (a : TypeTree) → ((e : EntryData) → Contains (map (λ (r : Bor EntryData). r.now) rows) e ↔ (Contains E e × ((e.point ≡ u) × (e.ty ≡ a)))) → (length rows == 0) ≡ false → HasTypeAt E u a
-some_at E [] u a exact empty = absurd (cc)
-some_at E (r ∷ rows) u a exact empty =
-    let both = (exact r.now).0 (here r.now (map (λ (r : Bor EntryData). r.now) rows)) in
-    record { entry = r.now; there = both.0; at = both.1.0; typed = both.1.1 }
-
 pub types_at_more : (E : List EntryData) (u : ℕ) (set : List TypeTree) (k : ℕ) (a : TypeTree) → k < length set → a ≡ get_or set k a → HasTypesAt E u (take k set) → HasTypeAt E u a → HasTypesAt E u (take (k + 1) set)
 types_at_more E u set k a lt read before own b c = elim ((next_member set k a b lt read).0 c) [
   | inl t ↦ before b t
@@ -162,14 +149,6 @@ fits_arrow E (v ∷ us) u set t ty at is =
       λ both. subst (λ z. Fits E (v ∷ us) z) (sym is) (subst (λ (s : List TypeTree). HasTypesAt E v s) (sym kids) (subst (λ w. HasTypesAt E w set) (sym same) both.0), both.1),
       λ h. let g = subst (λ z. Fits E (v ∷ us) z) is h in (subst (λ w. HasTypesAt E w set) same (subst (λ (s : List TypeTree). HasTypesAt E v s) kids g.0), g.1),
     )
-
-pub fits_state : (E : List EntryData) (us : List ℕ) (u q : ℕ) (ty : TypeTree) → slice_get us 0 ≡ Some u → ty ≡ state q → Fits E us ty → ⊥
-fits_state E [] u q ty at is h = absurd (cc)
-fits_state E (v ∷ us) u q ty at is h = subst (λ z. Fits E (v ∷ us) z) is h
-
-pub fits_none : (E : List EntryData) (us : List ℕ) (ty : TypeTree) → slice_get us 0 ≡ None → Fits E us ty
-fits_none E [] ty at = tt
-fits_none E (v ∷ us) ty at = absurd (cc)
 
 -- cases of a search that may find nothing
 pub match_map : {X : Type 0} (o : Option X) (P P' : Type 0) (Q Q' : X → Type 0) → (P → P') → ((x : X) → Q x → Q' x) → MatchOption o P Q → MatchOption o P' Q'

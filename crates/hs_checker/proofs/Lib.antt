@@ -2,6 +2,7 @@ pub mod Between
 pub mod GapLemmas
 pub mod Ordered
 pub mod IndexLemmas
+pub mod StartLemmas
 pub mod Steps
 pub mod TypeLemmas
 pub mod EnvLemmas

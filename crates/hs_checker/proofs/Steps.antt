@@ -1,6 +1,5 @@
 -- What a step of a loop adds, where a list gains what each item gives.
 use Rattle.std.proofs.Common.{◌≡◌, refl, subst, ℕ, zero, suc, arith, ◌+◌, ◌<◌, List, [], ◌∷◌, length, get_or, take, Contains, inl, inr, ◌⊎◌, ◌↔◌}
-use Rattle.hs_table_laws.proofs.Places.{none_in}
 use Rattle.hs_table_plain.proofs.Members.{next_member}
 use Rattle.hs_checker.specs.Any.{AnyOf}
 
@@ -46,10 +45,6 @@ module _ {X Y : Type 0} (P : X → Y → Type 0) (xs : List X) (k : ℕ) (x : X)
       ]
     ]),
   )
-
-pub none_yet : {X Y : Type 0} (P : X → Y → Type 0) (xs : List X) (y : Y) → AnyOf P (take 0 xs) y → ⊥
-none_yet P [] y a = none_in a.item a.there
-none_yet P (x ∷ xs) y a = none_in a.item a.there
 
 pub same_read : {X : Type 0} (xs : List X) (k : ℕ) (c d : X) → k < length xs → get_or xs k c ≡ get_or xs k d
 same_read [] k c d h = absurd (omega arith)

@@ -1,5 +1,5 @@
--- The order of an index: by point, then by type, then as entries are ordered.
-use Rattle.std.specs.Prelude.{ℕ, List}
+-- The order of an index: by point, then by type, then as entries are ordered; and where its points begin.
+use Rattle.std.specs.Prelude.{ℕ, ◌+◌, ◌<◌, ◌≤◌, List, length, slice_index_or, Contains}
 use Rattle.std.specs.List.Sorted.{IsSorted}
 use Rattle.std.specs.Ordering.{nat_cmp, ordering_then}
 use Rattle.std.specs.declared.cmp.Ordering.{Ordering}
@@ -15,3 +15,14 @@ index_cmp a b = ordering_then (key_cmp b.point b.ty a) (entry_cmp a b)
 
 abbrev pub IsIndex : List EntryData → Type 0
 IsIndex xs = IsSorted index_cmp xs
+
+-- the first n entries are of lesser points, and no others
+pub record IsStart (es : List EntryData) (point n : ℕ) : Type 0 where
+  pub within : n ≤ length es
+  pub before : (k : ℕ) (d : EntryData) → k < n → (slice_index_or es k d).point < point
+  pub behind : (k : ℕ) (d : EntryData) → n ≤ k → k < length es → point ≤ (slice_index_or es k d).point
+
+-- so for each point, and for one past the last
+pub record AreStarts (es : List EntryData) (starts : List ℕ) : Type 0 where
+  pub each : (point d : ℕ) → point < length starts → IsStart es point (slice_index_or starts point d)
+  pub within : (e : EntryData) → Contains es e → e.point + 1 < length starts

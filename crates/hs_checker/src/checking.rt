@@ -104,8 +104,8 @@ fn count_closed(alloc: Global, problem: &Problem, index: &Index) -> Result<u64, 
 /// Time is in proportion to the meetings: of points with what their heads may become, of the points of
 /// terminals with the states, and of the partial results at each instance with the entries that they
 /// meet, with the logarithms of the numbers of pairs, types and entries. Memory is for a reference to
-/// each entry, and for the types of one point and what follows by one of them there. Types are
-/// compared as trees, and calls recurse as deep as they.
+/// each entry, a number for each point, and the types of one point and what follows by one of them
+/// there. Types are compared as trees, and calls recurse as deep as they.
 pub fn check(alloc: Global, problem: &Problem, table: &[Entry]) -> Result<u64, CheckFault>
     ensures closed { OnOk result (HasClosedFlow problem.now × (IsClosedTable problem.now table.now × (HasStart problem.now table.now → ⊥))) }
     ensures count { IfOk result (IsCount problem.now table.now) }

@@ -1,15 +1,32 @@
 //! The entries of a table in order, so that those of a point and a type stand together.
 
-ghost use Rattle.std.specs.Prelude.{◌≡◌, ◌↔◌, Contains, IsTrue, IfOk, OnOk, map};
+ghost use Rattle.std.specs.Prelude.{◌≡◌, ◌↔◌, ◌<◌, ◌≤◌, ℕ, slice_index_or, length, map};
+ghost use Rattle.std.specs.Prelude.{Contains, IsTrue, IfOk, OnOk, MatchOption};
+ghost use Rattle.std.specs.Borrow.{Bor};
+ghost use Rattle.std.specs.declared.cmp.Ordering.TheVariants.{Equal};
+ghost use Rattle.hs_table.specs.Types.{type_cmp};
 ghost use Rattle.hs_table.specs.Entries.{EntryData, InShape};
-ghost use Rattle.hs_checker.specs.Order.{index_cmp, key_cmp};
+ghost use Rattle.hs_checker.specs.Order.{index_cmp, key_cmp, IsIndex, AreStarts};
+ghost use Rattle.hs_checker.specs.Slots.{HasTypeAt};
 
 use crate::shape::is_in_shape;
 use hs_scheme::{OutOfMemory, Problem};
-use hs_table::{Entry, Ty};
+use hs_table::{Entry, Shape, Ty};
 use std::alloc::Global;
 use std::cmp::Ordering;
 use std::marker::Model;
+
+/// The order of types. Most are states, which are compared at once.
+fn compare(ty: &Ty, other: &Ty) -> Ordering
+    ensures { result ≡ type_cmp ty.now other.now }
+{
+    if let Shape::State(q) = &ty.shape {
+        if let Shape::State(p) = &other.shape {
+            return q.cmp(p);
+        }
+    }
+    ty.compare(other)
+}
 
 /// The entry against a point and a type.
 fn place(entry: &Entry, point: u32, ty: &Ty) -> Ordering
@@ -19,7 +36,7 @@ fn place(entry: &Entry, point: u32, ty: &Ty) -> Ordering
     if by_point != Ordering::Equal {
         return by_point;
     }
-    entry.ty.compare(ty)
+    compare(&entry.ty, ty)
 }
 
 /// The order of the index: by point, by type, and then as entries are ordered.
@@ -38,13 +55,15 @@ fn order(entry: &Entry, other: &Entry) -> Ordering
 #[derive(Drop)]
 pub(crate) struct Index<'a> {
     rows: Vec<&'a Entry>,
+    /// For each point, and for one past the last, how many rows are of lesser points.
+    starts: Vec<usize>,
 }
 
 impl<'a> Model for Index<'a> {
     ghost use Rattle.std.specs.Prelude.{List, map};
     ghost use Rattle.std.specs.Coded.{coded_list};
     ghost use Rattle.hs_table.specs.Entries.{EntryData, coded_entry};
-    ghost use Rattle.hs_checker.specs.Order.{IsIndex};
+    ghost use Rattle.hs_checker.specs.Order.{IsIndex, AreStarts};
 
     ghost Value = { List EntryData };
 
@@ -52,7 +71,10 @@ impl<'a> Model for Index<'a> {
 
     ghost view = { λ a. map (λ r. r.now) a.rows.items };
 
-    ghost invariant = { λ a. IsIndex (map (λ r. r.now) a.rows.items) };
+    ghost invariant = { λ a. record {
+      sorted : IsIndex (map (λ r. r.now) a.rows.items);
+      starts : AreStarts (map (λ r. r.now) a.rows.items) a.starts.items;
+    } };
 }
 
 /// Those of the entries that are in shape.
@@ -72,9 +94,50 @@ fn shaped<'a>(
     Ok(rows)
 }
 
+/// For each of so many points, and for one past them, how many of the rows are of lesser points. The
+/// rows are in order, and of these points.
+fn starts_of(alloc: Global, rows: &[&Entry], points: u32) -> Result<Vec<usize>, OutOfMemory>
+    requires sorted { IsIndex (map (λ r. r.now) rows.now) }
+    requires within { (e : EntryData) → Contains (map (λ r. r.now) rows.now) e → e.point < points }
+    ensures { IfOk result (λ starts. AreStarts (map (λ r. r.now) rows.now) starts.items) }
+{
+    let mut starts = Vec::with_capacity(alloc, points as usize + 1)?;
+    for point in 0..points {
+        starts.push(rows.partition_point(|row| row.point.cmp(&point).is_lt()))?;
+    }
+    starts.push(rows.len())?;
+    Ok(starts)
+}
+
+/// How many of the rows, from the first on, are of the point and the type.
+fn count_of(rows: &[&Entry], point: u32, ty: &Ty) -> usize
+    ensures within { result ≤ length rows.now }
+    ensures equal { (k : ℕ) (d : Bor EntryData) →
+        k < result → key_cmp point ty.now (slice_index_or rows.now k d).now ≡ Equal }
+    ensures end { (d : Bor EntryData) →
+        result < length rows.now → key_cmp point ty.now (slice_index_or rows.now result d).now ≡ Equal → ⊥ }
+{
+    for (count, row) in rows.iter().enumerate() {
+        if place(row, point, ty) != Ordering::Equal {
+            return count;
+        }
+    }
+    rows.len()
+}
+
+/// Whether the entry stands at this place.
+fn is_at(rows: &[&Entry], place: usize, entry: &Entry) -> bool
+    ensures { IsTrue result → Contains (map (λ r. r.now) rows.now) entry.now }
+{
+    match rows.get(place) {
+        None => false,
+        Some(row) => order(row, entry) == Ordering::Equal,
+    }
+}
+
 impl<'a> Index<'a> {
     /// The index of those of the table's entries that are in shape. Time is in the number of entries
-    /// by its logarithm.
+    /// and in that of points by the logarithm of the number of entries.
     pub(crate) fn of(
         alloc: Global,
         problem: &Problem,
@@ -84,38 +147,61 @@ impl<'a> Index<'a> {
     {
         let mut rows = shaped(alloc, problem, table)?;
         rows.sort_by(|a, b| order(a, b))?;
-        Ok(Index { rows })
+        let starts = starts_of(alloc, rows.as_slice(), problem.points.count())?;
+        Ok(Index { rows, starts })
     }
 
-    /// Whether the entry is there.
-    pub(crate) fn holds(&self, entry: &Entry) -> bool
-        ensures { IsTrue result ↔ Contains self.now entry.now }
+    /// The entries at the point, in their order. Takes constant time.
+    pub(crate) fn at_point(&self, point: u32) -> &[&'a Entry]
+        ensures has { (e : EntryData) →
+            Contains (map (λ r. r.now) result.now) e ↔ (Contains self.now e × (e.point ≡ point)) }
+        ensures sorted { IsIndex (map (λ r. r.now) result.now) }
     {
-        self.rows
-            .as_slice()
-            .binary_search_by(|row| order(row, entry))
+        let rows = self.rows.as_slice();
+        let starts = self.starts.as_slice();
+        let place = point as usize;
+        if place + 1 >= starts.len() {
+            return &rows[..0];
+        }
+        let from = starts[place];
+        let to = starts[place + 1];
+        &rows[from..to]
+    }
+
+    /// The place of the entry among those at its point, if it is there. It is looked for at the place
+    /// that is guessed first, which takes constant time, and then in the logarithm of their number.
+    pub(crate) fn find(&self, entry: &Entry, guess: usize) -> Option<usize>
+        ensures { MatchOption result (Contains self.now entry.now → ⊥) (λ _. Contains self.now entry.now) }
+    {
+        let rows = self.at_point(entry.point);
+        if is_at(rows, guess, entry) {
+            return Some(guess);
+        }
+        match rows.binary_search_by(|row| order(row, entry)) {
+            Ok(place) => Some(place),
+            Err(_) => None,
+        }
+    }
+
+    /// Whether an entry at the point has the type. Time is in the logarithm of the number of those at
+    /// the point.
+    pub(crate) fn has(&self, point: u32, ty: &Ty) -> bool
+        ensures { IsTrue result ↔ HasTypeAt self.now point ty.now }
+    {
+        self.at_point(point)
+            .binary_search_by(|row| place(row, point, ty))
             .is_ok()
     }
 
-    /// The entries at the point.
-    pub(crate) fn at_point(&self, point: u32) -> &[&'a Entry]
-        ensures { (e : EntryData) → Contains (map (λ r. r.now) result.now) e ↔ (Contains self.now e × (e.point ≡ point)) }
-    {
-        let rows = self.rows.as_slice();
-        let from = rows.partition_point(|row| row.point.cmp(&point).is_lt());
-        let rest = &rows[from..];
-        let count = rest.partition_point(|row| row.point.cmp(&point).is_eq());
-        &rest[..count]
-    }
-
-    /// The entries at the point with the type.
+    /// The entries at the point with the type. Time is in the logarithm of the number of the entries
+    /// at the point, and in the number of those that are given.
     pub(crate) fn at(&self, point: u32, ty: &Ty) -> &[&'a Entry]
         ensures { (e : EntryData) → Contains (map (λ r. r.now) result.now) e ↔ (Contains self.now e × ((e.point ≡ point) × (e.ty ≡ ty.now))) }
     {
-        let rows = self.rows.as_slice();
+        let rows = self.at_point(point);
         let from = rows.partition_point(|row| place(row, point, ty).is_lt());
         let rest = &rows[from..];
-        let count = rest.partition_point(|row| place(row, point, ty).is_eq());
+        let count = count_of(rest, point, ty);
         &rest[..count]
     }
 }

@@ -19,7 +19,7 @@ fn have_entries(index: &Index, arg: u32, set: &[Ty]) -> bool
     ensures { IsTrue result ↔ HasTypesAt index.now arg set.now }
 {
     for ty in set {
-        if index.at(arg, ty).is_empty() {
+        if !index.has(arg, ty) {
             return false;
         }
     }

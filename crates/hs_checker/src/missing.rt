@@ -1,6 +1,7 @@
 //! What follows at a point and isn't there.
 
 ghost use Rattle.std.specs.Prelude.{◌≡◌, ◌↔◌, ◌<◌, ◌∷◌, [], length, Contains, IfOk, MatchOption};
+ghost use Rattle.hs_table.specs.Types as types;
 ghost use Rattle.hs_table.specs.Types.{TypeTree};
 ghost use Rattle.hs_table.specs.Entries.{EntryData};
 ghost use Rattle.hs_table.specs.Follows.{Follows};
@@ -8,7 +9,7 @@ ghost use Rattle.hs_table.specs.Tables.{IsInstance};
 ghost use Rattle.hs_checker.specs.Slots.{AreInShape, IsConclusion};
 ghost use Rattle.hs_table_plain.specs.Enumeration as plain;
 
-use crate::heads::{empty_sets, singleton};
+use crate::heads::{empty_sets, singleton, state};
 use crate::index::Index;
 use crate::shape::parameters;
 use crate::unions::through;
@@ -16,7 +17,8 @@ use hs_scheme::{Head, OutOfMemory, Problem};
 use hs_table::{Entry, Ty};
 use std::alloc::Global;
 
-/// The entry with the head's type, and with what the head asks of the parameters.
+/// An entry with what the head asks of the parameters. Its type doesn't matter: what follows by it
+/// gets its own.
 fn opening(
     alloc: Global,
     point: u32,
@@ -24,7 +26,8 @@ fn opening(
     head: Head,
     ty: &Ty,
 ) -> Result<Entry, OutOfMemory>
-    ensures { IfOk result (λ entry. entry ≡ plain.opening point params head ty.now) }
+    ensures { IfOk result (λ entry.
+        entry ≡ plain.retyped (types.state 0) (plain.opening point params head ty.now)) }
 {
     let mut env = empty_sets(alloc, params as usize)?;
     if let Head::Var(parameter) = head {
@@ -35,19 +38,21 @@ fn opening(
     Ok(Entry {
         point,
         env,
-        ty: ty.copy(alloc)?,
+        ty: state(0),
     })
 }
 
-/// The first of the entries that isn't in the index.
-fn first_missing(index: &Index, entries: Vec<Entry>) -> Option<Entry>
+/// The first of the entries that isn't in the index. What follows comes mostly in the index's order, so
+/// each is looked for behind the one before; `guess` is the place for the first, and then for the next.
+fn first_missing(index: &Index, entries: Vec<Entry>, guess: &mut usize) -> Option<Entry>
     ensures { MatchOption result
         ((e : EntryData) → Contains entries.items e → Contains index.now e)
         (λ e. Contains entries.items e × (Contains index.now e → ⊥)) }
 {
     for entry in entries {
-        if !index.holds(&entry) {
-            return Some(entry);
+        match index.find(&entry, *guess) {
+            Some(place) => *guess = place.saturating_add(1),
+            None => return Some(entry),
         }
     }
     None
@@ -60,6 +65,7 @@ fn missing_by(
     args: &[u32],
     ty: &Ty,
     start: Entry,
+    guess: &mut usize,
 ) -> Result<Option<Entry>, OutOfMemory>
     ensures { IfOk result (λ found. MatchOption found
         ((e : EntryData) → Contains (plain.through index.now args.now ty.now (start ∷ [])) e → Contains index.now e)
@@ -68,7 +74,7 @@ fn missing_by(
     let mut entries = Vec::new(alloc);
     entries.push(start)?;
     let found = through(alloc, index, args, ty, entries)?;
-    Ok(first_missing(index, found))
+    Ok(first_missing(index, found, guess))
 }
 
 /// The first that follows by one of these types of the head and isn't in the index.
@@ -85,9 +91,10 @@ fn missing_among(
         ((e : EntryData) → IsConclusion index.now point params head args.now types.now e → Contains index.now e)
         (λ e. IsConclusion index.now point params head args.now types.now e × (Contains index.now e → ⊥))) }
 {
+    let mut guess = 0;
     for ty in types {
         let start = opening(alloc, point, params, head, ty)?;
-        match missing_by(alloc, index, args, ty, start)? {
+        match missing_by(alloc, index, args, ty, start, &mut guess)? {
             Some(entry) => return Ok(Some(entry)),
             None => {}
         }

@@ -59,7 +59,7 @@ fn asks_in_vain(index: &Index, args: &[u32], place: usize, r: u32) -> bool
 {
     match args.get(place) {
         None => false,
-        Some(arg) => index.at(*arg, &state(r)).is_empty(),
+        Some(arg) => !index.has(*arg, &state(r)),
     }
 }
 

@@ -33,61 +33,75 @@ fn place_of(set: &[Ty], ty: &Ty) -> Result<usize, usize>
     Err(set.len())
 }
 
-/// Adds the type to an ascending set, where it isn't there.
-fn insert(set: &mut Vec<Ty>, ty: Ty) -> Result<(), OutOfMemory>
-    ensures { OnOk result (set.new.items ≡ with_type ty set.old.items) }
+/// Adds an equal type to an ascending set, where it isn't there.
+fn insert(alloc: Global, set: &mut Vec<Ty>, ty: &Ty) -> Result<(), OutOfMemory>
+    ensures { OnOk result (set.new.items ≡ with_type ty.now set.old.items) }
 {
-    if let Err(place) = place_of(set.as_slice(), &ty) {
-        set.insert(place, ty)?;
+    if let Err(place) = place_of(set.as_slice(), ty) {
+        set.insert(place, ty.copy(alloc)?)?;
     }
     Ok(())
 }
 
-/// The types of both sets.
-fn union(alloc: Global, set: &TypeSet, other: &[Ty]) -> Result<TypeSet, OutOfMemory>
-    ensures { IfOk result (λ both. both ≡ plain.union set.now other.now) }
+/// Adds the types to an ascending set.
+fn add_types(alloc: Global, set: &mut Vec<Ty>, types: &[Ty]) -> Result<(), OutOfMemory>
+    ensures { OnOk result (set.new.items ≡ plain.union set.old.items types.now) }
 {
-    let mut types = set.copy(alloc)?.types;
-    for member in other {
-        insert(&mut types, member.copy(alloc)?)?;
+    for member in types {
+        insert(alloc, set, member)?;
     }
-    Ok(TypeSet { types })
+    Ok(())
 }
 
-/// The types of the set, and those that the entry asks of the parameter.
-fn union_at(
+/// Adds what the entry asks of the parameter.
+fn add_asked(
     alloc: Global,
-    set: &TypeSet,
+    set: &mut TypeSet,
     entry: &Entry,
     parameter: usize,
-) -> Result<TypeSet, OutOfMemory>
-    ensures { IfOk result (λ both. both ≡ plain.union set.now (set_at entry.now.env parameter)) }
+) -> Result<(), OutOfMemory>
+    ensures { OnOk result (set.new ≡ plain.union set.old (set_at entry.now.env parameter)) }
 {
     match entry.env.get(parameter) {
-        None => set.copy(alloc),
-        Some(other) => union(alloc, set, other.types.as_slice()),
+        None => Ok(()),
+        Some(asked) => add_types(alloc, &mut set.types, asked.types.as_slice()),
     }
 }
 
-/// The first entry, with what the second asks of the parameters.
+/// Adds what the entry asks of each parameter.
+fn add_env(alloc: Global, env: &mut Vec<TypeSet>, entry: &Entry) -> Result<(), OutOfMemory>
+    ensures { OnOk result (env.new.items ≡ plain.union_from 0 env.old.items entry.now.env) }
+{
+    for parameter in 0..env.len() {
+        let set = &mut env[parameter];
+        add_asked(alloc, set, entry, parameter)?;
+    }
+    Ok(())
+}
+
+/// The entry, with what the other asks of the parameters.
+fn join(alloc: Global, entry: &mut Entry, other: &Entry) -> Result<(), OutOfMemory>
+    ensures { OnOk result (entry.new ≡ plain.joined entry.old other.now) }
+{
+    add_env(alloc, &mut entry.env, other)
+}
+
+/// An entry that is the first, with what the second asks of the parameters.
 fn joined(alloc: Global, entry: &Entry, other: &Entry) -> Result<Entry, OutOfMemory>
     ensures { IfOk result (λ made. made ≡ plain.joined entry.now other.now) }
 {
-    let mut env = Vec::with_capacity(alloc, entry.env.len())?;
-    for (parameter, set) in entry.env.iter().enumerate() {
-        env.push(union_at(alloc, set, other, parameter)?)?;
-    }
-    Ok(Entry {
-        point: entry.point,
-        env,
-        ty: entry.ty.copy(alloc)?,
-    })
+    let mut made = entry.copy(alloc)?;
+    join(alloc, &mut made, other)?;
+    Ok(made)
 }
 
 /// The entries in order, each once.
 fn thin(entries: &mut Vec<Entry>) -> Result<(), OutOfMemory>
     ensures { OnOk result ((e : EntryData) → Contains entries.new.items e ↔ Contains entries.old.items e) }
 {
+    if entries.len() < 2 {
+        return Ok(());
+    }
     entries.sort_by(|a, b| a.compare(b))?;
     entries.dedup_by(|a, b| a.compare(b) == Ordering::Equal);
     Ok(())
@@ -120,24 +134,67 @@ fn extend_by(
     Ok(())
 }
 
+/// Each entry joined with each candidate, each once.
+fn joined_with_all(
+    alloc: Global,
+    candidates: &[&Entry],
+    entries: &[Entry],
+) -> Result<Vec<Entry>, OutOfMemory>
+    ensures { IfOk result (λ found. (e : EntryData) → Contains found.items e
+        ↔ AnyOf (λ r y. AnyOf (λ x y. y ≡ plain.joined x r.now) entries.now y) candidates.now e) }
+{
+    let mut found = Vec::new(alloc);
+    let mut room = ROOM;
+    for candidate in candidates {
+        extend_by(alloc, entries, candidate, &mut found)?;
+        room = thin_past(&mut found, room)?;
+    }
+    thin(&mut found)?;
+    Ok(found)
+}
+
+/// Joins each entry with the candidate.
+fn join_each(alloc: Global, entries: &mut Vec<Entry>, candidate: &Entry) -> Result<(), OutOfMemory>
+    ensures { OnOk result (entries.new.items ≡ map (λ x. plain.joined x candidate.now) entries.old.items) }
+{
+    for place in 0..entries.len() {
+        let entry = &mut entries[place];
+        join(alloc, entry, candidate)?;
+    }
+    Ok(())
+}
+
+/// Each entry joined with the only candidate, each once.
+fn joined_with_one(
+    alloc: Global,
+    candidate: &Entry,
+    entries: Vec<Entry>,
+) -> Result<Vec<Entry>, OutOfMemory>
+    ensures { IfOk result (λ found. (e : EntryData) →
+        Contains found.items e ↔ AnyOf (λ x y. y ≡ plain.joined x candidate.now) entries.items e) }
+{
+    let mut found = entries;
+    join_each(alloc, &mut found, candidate)?;
+    thin(&mut found)?;
+    Ok(found)
+}
+
 /// Each entry joined with each candidate for the type at the argument, each once.
 fn extended(
     alloc: Global,
     index: &Index,
     arg: u32,
     ty: &Ty,
-    entries: &[Entry],
+    entries: Vec<Entry>,
 ) -> Result<Vec<Entry>, OutOfMemory>
-    ensures { IfOk result (λ found. (e : EntryData) → Contains found.items e ↔ Contains (flat_map (λ x. flat_map (plain.extended arg ty.now x) index.now) entries.now) e) }
+    ensures { IfOk result (λ found. (e : EntryData) → Contains found.items e
+        ↔ Contains (flat_map (λ x. flat_map (plain.extended arg ty.now x) index.now) entries.items) e) }
 {
-    let mut found = Vec::new(alloc);
-    let mut room = ROOM;
-    for candidate in index.at(arg, ty) {
-        extend_by(alloc, entries, candidate, &mut found)?;
-        room = thin_past(&mut found, room)?;
+    let candidates = index.at(arg, ty);
+    if candidates.len() == 1 {
+        return joined_with_one(alloc, candidates[0], entries);
     }
-    thin(&mut found)?;
-    Ok(found)
+    joined_with_all(alloc, candidates, entries.as_slice())
 }
 
 /// Each entry joined with one candidate for each type of the set.
@@ -152,22 +209,27 @@ fn picks(
 {
     let mut found = entries;
     for ty in set {
-        found = extended(alloc, index, arg, ty, found.as_slice())?;
+        found = extended(alloc, index, arg, ty, found)?;
     }
     Ok(found)
+}
+
+/// Gives the entry this type in place of its own.
+fn retype(alloc: Global, entry: &mut Entry, ty: &Ty) -> Result<(), OutOfMemory>
+    ensures { OnOk result (entry.new ≡ plain.retyped ty.now entry.old) }
+{
+    entry.ty = ty.copy(alloc)?;
+    Ok(())
 }
 
 /// The entries with this type in place of theirs.
 fn retyped(alloc: Global, ty: &Ty, entries: Vec<Entry>) -> Result<Vec<Entry>, OutOfMemory>
     ensures { IfOk result (λ out. out.items ≡ map (plain.retyped ty.now) entries.items) }
 {
-    let mut out = Vec::with_capacity(alloc, entries.len())?;
-    for entry in entries {
-        out.push(Entry {
-            point: entry.point,
-            env: entry.env,
-            ty: ty.copy(alloc)?,
-        })?;
+    let mut out = entries;
+    for place in 0..out.len() {
+        let entry = &mut out[place];
+        retype(alloc, entry, ty)?;
     }
     Ok(out)
 }

@@ -1,6 +1,6 @@
 //! How a place comes into the lists of all that its entry answers.
 
-ghost use Rattle.std.specs.Prelude.{◌≡◌, ◌+◌, ◌^◌, ◌<◌, ◌≤◌, ◌↔◌, All, OnOk, Some, IsTrue, length, slice_get};
+ghost use Rattle.std.specs.Prelude.{◌≡◌, ◌+◌, ◌^◌, ◌<◌, ◌≤◌, ◌↔◌, All, IfOk, OnOk, Some, IsTrue, length, slice_get};
 ghost use Rattle.hs_types.specs.Interned.{type_of_id, set_of_id, env_of_id, IsRow};
 ghost use Rattle.hs_replica.specs.Index.{list_at, log_of, IsIndex, Gains, HasAll, AsksAt, AsksIn, TakesAt, TakesBy, PlaysRole};
 
@@ -14,7 +14,7 @@ fn add_asked(
     lists: &mut Lists,
     interner: &Interner,
     point: u32,
-    param: usize,
+    param: u32,
     set: SetId,
     place: u32,
 ) -> Result<(), OutOfMemory>
@@ -26,6 +26,16 @@ fn add_asked(
         add_once(lists, Key::Asking(point, param, *ty), place)?;
     }
     Ok(())
+}
+
+/// The parameter's number in 4 bytes, or want of memory where there are more.
+fn numbered(param: usize) -> Result<u32, OutOfMemory>
+    ensures { IfOk result (λ number. number ≡ param) }
+{
+    if param > u32::MAX as usize {
+        return Err(OutOfMemory);
+    }
+    Ok(param as u32)
 }
 
 /// Lists the place under all that the environment asks for.
@@ -41,7 +51,8 @@ fn add_asking(
     ensures all { OnOk result (HasAll interner.now (AsksIn point (env_of_id interner.now env)) place (list_at lists.new)) }
 {
     for (param, set) in interner.sets(env).iter().enumerate() {
-        add_asked(lists, interner, point, param, *set, place)?;
+        let number = numbered(param)?;
+        add_asked(lists, interner, point, number, *set, place)?;
     }
     Ok(())
 }
@@ -51,7 +62,7 @@ fn add_taken(
     lists: &mut Lists,
     interner: &Interner,
     point: u32,
-    arg: usize,
+    arg: u32,
     set: SetId,
     place: u32,
 ) -> Result<(), OutOfMemory>
@@ -78,11 +89,11 @@ fn add_taking(
     ensures all { OnOk result (HasAll interner.now (TakesBy point (type_of_id interner.now ty)) place (list_at lists.new)) }
 {
     let mut rest = ty;
-    let mut arg: usize = 0;
+    let mut arg: u32 = 0;
     while let View::Arrow(set, next) = interner.view(rest) {
         add_taken(lists, interner, point, arg, set, place)?;
         let Some(following) = arg.checked_add(1) else {
-            // No memory holds a type with 2^64 arguments.
+            // No interner has a type with 2^32 arguments.
             return Err(OutOfMemory);
         };
         rest = next;

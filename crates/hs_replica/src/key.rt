@@ -10,7 +10,7 @@ pub(crate) enum Key {
     /// Their point and their type.
     Typed(u32, TyId),
     /// Their point, and a type that their environments have at this parameter, counted from 0.
-    Asking(u32, usize, TyId),
+    Asking(u32, u32, TyId),
     /// Their point, and a type that their types take as this argument, counted from 0.
-    Taking(u32, usize, TyId),
+    Taking(u32, u32, TyId),
 }

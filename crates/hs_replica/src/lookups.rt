@@ -38,7 +38,7 @@ impl Replica {
         requires { ty < length self.now.ids.types }
         ensures { ArePlaces self.now.log self.now.indexed (asks point param (type_of_id self.now.ids ty)) result.now }
     {
-        self.places(Key::Asking(point, param as usize, ty))
+        self.places(Key::Asking(point, param, ty))
     }
 
     /// The places of the entries at this point whose type takes as this argument, counted from 0,
@@ -47,6 +47,6 @@ impl Replica {
         requires { ty < length self.now.ids.types }
         ensures { ArePlaces self.now.log self.now.indexed (takes point arg (type_of_id self.now.ids ty)) result.now }
     {
-        self.places(Key::Taking(point, arg as usize, ty))
+        self.places(Key::Taking(point, arg, ty))
     }
 }

@@ -20,7 +20,7 @@ use std::marker::Model;
 /// what they ask of a parameter and by what they take as an argument.
 ///
 /// Contracts see the entries themselves, and how many can be added without memory. An entry takes a
-/// row of 24 bytes and about as much again for finding it, beside what its environment and its type
+/// row of 12 bytes and about as much again for finding it, beside what its environment and its type
 /// take in the interner, which entries share, and what `index` adds.
 #[derive(Drop)]
 pub struct Replica {
@@ -159,7 +159,7 @@ impl Replica {
     /// An entry is listed by its point and by its point and type. If its type is a state, it is
     /// listed by each type in its environment, too; if it is an arrow and no entry before it has its
     /// point and type, by each type in the sets of its type. A place in a list costs 4 bytes, and a
-    /// list with its first four places about 80. Time is in proportion to the places, on average.
+    /// list with its first four places about 64. Time is in proportion to the places, on average.
     pub fn index(&mut self) -> Result<(), OutOfMemory>
         ensures ok { OnOk result (self.new.indexed ≡ length self.new.log) }
         ensures kept { self.new ≡ record self.old { indexed = self.new.indexed } }

@@ -1,9 +1,9 @@
 -- What the types of a head lead to.
-use Rattle.std.proofs.Common.{◌≡◌, ◌≢◌, refl, sym, ◌∙◌, ap, subst, ℕ, zero, suc, ◌<◌, Bool, true, false, ◌&&◌, nat_eq, List, [], ◌∷◌, ◌++◌, length, map, take, get_or, Option, arith, All, AllPairs, Contains, inl, inr}
+use Rattle.std.proofs.Common.{◌≡◌, ◌≢◌, refl, sym, ◌∙◌, ap, subst, ℕ, zero, suc, ◌<◌, Bool, true, false, ◌&&◌, nat_eq, List, [], ◌∷◌, ◌++◌, length, map, take, drop, get_or, Option, arith, All, AllPairs, Contains, ◌≤◌, ◌+◌, ◌||◌, ◌⊎◌, ◌↔◌, inl, inr}
 use Rattle.std.specs.Bool.{Decides}
-use Rattle.std.proofs.lemmas.Bool.{eqb-true, eq-eqb}
-use Rattle.std.proofs.lemmas.List.{map-append}
-use Rattle.std.proofs.lemmas.List.Elements.{Contains-push, All-contains}
+use Rattle.std.proofs.lemmas.Bool.{eqb-true, eq-eqb, cases_order}
+use Rattle.std.proofs.lemmas.List.{map-append, take-map, take-append-drop, drop_all, drop-append-le, length-map, length-append}
+use Rattle.std.proofs.lemmas.List.Elements.{Contains-push, Contains-append_left, Contains-append_right, Contains-append_cases, All-contains}
 use Rattle.std.proofs.lemmas.List.Quantifiers.{all_pairs_push}
 use Rattle.hs_table.specs.Entries.{Env, EntryData, IsEnv}
 use Rattle.hs_table_laws.proofs.Places.{some_same, at_take, member_at, here, later, uncons, none_in}
@@ -16,7 +16,8 @@ use Rattle.hs_rules.specs.Slots.{SlotData, slots, FixedData, FilledData, IsCandi
 use Rattle.hs_rules.specs.Filling.{fixed_of, IsFilled, AreFilled}
 use Rattle.hs_rules.specs.Joins.{PartialData, FillsBy, ArePlaced, AreJoined}
 use Rattle.hs_rules.specs.Found.{SearchData, HeadData, IsKnown, HaveEnvs, RowsAre, IsRowOf, HasRow, LeadsTo, IsConclusion, IsFound}
-use Rattle.hs_rules.proofs.Lists.{from_map}
+use Rattle.hs_rules.specs.declared.joining.TheConstants.{FEW}
+use Rattle.hs_rules.proofs.Lists.{from_map, into_map, taken_cases}
 use Rattle.hs_rules.proofs.SlotLemmas.{slot_of}
 
 both : (b c : Bool) → b && c ≡ true → (b ≡ true) × (c ≡ true)
@@ -36,27 +37,94 @@ row_own a = rw (eq-eqb a.point a.point refl, eq-eqb a.env a.env refl, eq-eqb a.t
 pub row_same : (a b : RowData) → Decides (eq-value.it a b) (a ≡ b)
 row_same a b = (row_true a b, λ e. subst (λ (c : RowData). eq-value.it a c ≡ true) e (row_own a))
 
--- a row that was seen is found
-pub row_there : (rows : List RowData) (found : List DeducedData) (row : RowData) → RowsAre rows found → Contains rows row → (d : DeducedData) × Contains found d × (d.row ≡ row)
-row_there rows found row h c =
-    let i = from_map (λ (d : DeducedData). d.row) found row (subst (λ (rs : List RowData). Contains rs row) h.same c) in
-    (i.item, i.there, sym i.is)
+abbrev rows_of : List DeducedData → List RowData
+rows_of found = map (λ (d : DeducedData). d.row) found
+
+-- the row is that of something found
+pub row_there : (found : List DeducedData) (row : RowData) → Contains (rows_of found) row → (d : DeducedData) × Contains found d × (d.row ≡ row)
+row_there found row c = let i = from_map (λ (d : DeducedData). d.row) found row c in (i.item, i.there, sym i.is)
+
+-- a row behind the first few is that of something found
+pub row_among : (rows : List RowData) (found : List DeducedData) (row : RowData) → RowsAre rows found → Contains rows row → Contains (rows_of found) row
+row_among rows found row h c =
+    subst (λ (rs : List RowData). Contains rs row) (take-append-drop FEW (rows_of found))
+    (Contains-append_right (take FEW (rows_of found)) (drop FEW (rows_of found)) row (subst (λ (rs : List RowData). Contains rs row) h.same c))
 
 pub row_pushed : (found pushed : List DeducedData) (d : DeducedData) → pushed ≡ found ++ d ∷ [] → (x : DeducedData) × Contains pushed x × (x.row ≡ d.row)
 row_pushed found pushed d is = (d, subst (λ (ds : List DeducedData). Contains ds d) (sym is) (Contains-push found d), refl)
 
+-- a row among the first few or behind them
+pub few_or_more : (rows : List RowData) (found few : List DeducedData) (row : RowData) → RowsAre rows found → few ≡ take FEW found → (r b c : Bool) → (b ≡ true ↔ Contains (rows_of few) row) → (c ≡ true ↔ Contains rows row)
+    → r ≡ b || c → r ≡ true ↔ Contains (rows_of found) row
+few_or_more rows found few row h is r b c first rest or = (λ t. into (either b c (sym or ∙ t)), λ k. or ∙ out_of k)
+  where
+    whole : rows_of few ++ rows ≡ rows_of found
+    whole = ap (λ (ds : List DeducedData). rows_of ds ++ rows) is ∙ (ap (λ (rs : List RowData). rs ++ rows) (sym (take-map (λ (d : DeducedData). d.row) FEW found))
+        ∙ (ap (λ (rs : List RowData). take FEW (rows_of found) ++ rs) h.same ∙ take-append-drop FEW (rows_of found)))
+
+    either : (x y : Bool) → x || y ≡ true → (x ≡ true) ⊎ (y ≡ true)
+    either true y e = inl refl
+    either false y e = inr e
+
+    into : (b ≡ true) ⊎ (c ≡ true) → Contains (rows_of found) row
+    into (inl e) = subst (λ (rs : List RowData). Contains rs row) whole (Contains-append_left (rows_of few) rows row (first.0 e))
+    into (inr e) = subst (λ (rs : List RowData). Contains rs row) whole (Contains-append_right (rows_of few) rows row (rest.0 e))
+
+    left_true : (x y : Bool) → x ≡ true → x || y ≡ true
+    left_true true y e = refl
+    left_true false y e = absurd (cc)
+
+    right_true : (x y : Bool) → y ≡ true → x || y ≡ true
+    right_true true y e = refl
+    right_true false y e = e
+
+    out_of : Contains (rows_of found) row → b || c ≡ true
+    out_of k = elim (Contains-append_cases (rows_of few) rows row (subst (λ (rs : List RowData). Contains rs row) (sym whole) k)) [
+      | inl f ↦ left_true b c (first.1 f)
+      | inr m ↦ right_true b c (rest.1 m)
+    ]
+
+-- none of those so far has the row
+pub none_more : (list : List DeducedData) (k : ℕ) (d : DeducedData) (row : RowData) → k < length list → d ≡ get_or list k d → (d.row ≡ row → ⊥) → (Contains (rows_of (take k list)) row → ⊥) → Contains (rows_of (take (k + 1) list)) row → ⊥
+none_more list k d row lt is other before c =
+    let r = row_there (take (k + 1) list) row c in
+    elim (taken_cases list k d r.0 lt is r.1) [
+      | inl was ↦ before (subst (λ (q : RowData). Contains (rows_of (take k list)) q) r.2 (into_map (λ (x : DeducedData). x.row) (take k list) r.0 was))
+      | inr own ↦ other (ap (λ (x : DeducedData). x.row) (sym own) ∙ r.2)
+    ]
+
 -- one more row
-pub rows_pushed : (rows more : List RowData) (found pushed : List DeducedData) (d : DeducedData) → RowsAre rows found → more ≡ rows ++ d.row ∷ [] → (Contains rows d.row → ⊥) → pushed ≡ found ++ d ∷ [] → RowsAre more pushed
-rows_pushed rows more found pushed d h keys fresh is = record {
-  same = keys ∙ (ap (λ (rs : List RowData). rs ++ d.row ∷ []) h.same ∙ (sym (map-append (λ (x : DeducedData). x.row) found (d ∷ [])) ∙ ap (map (λ (x : DeducedData). x.row)) (sym is)));
-  once = subst (λ (rs : List RowData). AllPairs (λ a b. a ≢ b) rs) (sym keys) (all_pairs_push (λ a b. a ≢ b) rows d.row h.once
-      (λ k z lt e. fresh (k, lt, same_read rows k d.row z lt ∙ e)));
+pub rows_pushed : (rows more : List RowData) (found pushed : List DeducedData) (d : DeducedData) → RowsAre rows found → (length found < FEW → more ≡ rows) → (FEW ≤ length found → more ≡ rows ++ d.row ∷ []) → (Contains (rows_of found) d.row → ⊥)
+    → pushed ≡ found ++ d ∷ [] → RowsAre more pushed
+rows_pushed rows more found pushed d h few many fresh is = record {
+  same = same;
+  once = subst (λ (rs : List RowData). AllPairs (λ a b. a ≢ b) rs) (sym pushed_rows) (all_pairs_push (λ a b. a ≢ b) (rows_of found) d.row h.once
+      (λ k z lt e. fresh (k, lt, same_read (rows_of found) k d.row z lt ∙ e)));
 }
   where
     same_read : (xs : List RowData) (k : ℕ) (c z : RowData) → k < length xs → get_or xs k c ≡ get_or xs k z
     same_read [] k c z h = absurd (omega arith)
     same_read (x ∷ xs) zero c z h = refl
     same_read (x ∷ xs) (suc k) c z h = same_read xs k c z (omega arith)
+
+    pushed_rows : rows_of pushed ≡ rows_of found ++ d.row ∷ []
+    pushed_rows = ap rows_of is ∙ map-append (λ (x : DeducedData). x.row) found (d ∷ [])
+
+    long : length (rows_of found) ≡ length found
+    long = length-map found (λ (x : DeducedData). x.row)
+
+    none_behind : length found < FEW → drop FEW (rows_of pushed) ≡ []
+    none_behind lt = drop_all FEW (rows_of pushed) (let l = ap (λ (rs : List RowData). length rs) pushed_rows ∙ length-append (rows_of found) (d.row ∷ []) in omega (arith, lt, l, long))
+
+    same : more ≡ drop FEW (rows_of pushed)
+    same = elim (cases_order (length found) FEW) [
+      | inl e ↦ behind (omega (arith, e))
+      | inr (inl lt) ↦ few lt ∙ (h.same ∙ (drop_all FEW (rows_of found) (omega (arith, lt, long)) ∙ sym (none_behind lt)))
+      | inr (inr gt) ↦ behind (omega (arith, gt))
+    ]
+      where
+        behind : FEW ≤ length found → more ≡ drop FEW (rows_of pushed)
+        behind le = many le ∙ (ap (λ (rs : List RowData). rs ++ d.row ∷ []) h.same ∙ (sym (drop-append-le FEW (rows_of found) (d.row ∷ []) (omega (arith, le, long))) ∙ ap (drop FEW) (sym pushed_rows)))
 
 -- candidates for slots are those of what is filled
 module _ (log : List EntryData) (limit : ℕ) (fixed : Option FixedData) where

@@ -1,14 +1,18 @@
 -- Environments joined slot by slot.
-use Rattle.std.proofs.Common.{◌≡◌, refl, sym, ◌∙◌, ap, subst, ℕ, ◌<◌, ◌≤◌, List, [], ◌∷◌, ◌++◌, length, get_or, slice_get, Some, arith, ◌⊎◌, inl, inr, Contains}
+use Rattle.std.proofs.Common.{◌≡◌, refl, sym, ◌∙◌, ap, subst, ℕ, ◌<◌, ◌≤◌, Bool, true, false, List, [], ◌∷◌, ◌++◌, length, take, get_or, slice_get, Some, arith, ◌⊎◌, inl, inr, Contains}
+use Rattle.std.specs.Bool.{OnTrue}
+use Rattle.std.specs.List.{list_any}
+use Rattle.std.proofs.lemmas.Map.Made.{is_member-Decides}
 use Rattle.std.proofs.lemmas.List.Elements.{Contains-append_left, Contains-push}
 use Rattle.hs_table.specs.Entries.{Env, EntryData, IsEnv}
 use Rattle.hs_types.specs.Interned.{InternerData, env_of_id, RowData, entry_of, Grows, IsUnionEnv}
+use Rattle.hs_types.specs.contracts.ids.EnvIdPartialEq.TheImpl.{eq-value}
 use Rattle.hs_types.proofs.Numbers.{env_within, env_stays}
-use Rattle.hs_table_laws.proofs.Places.{some_same, here, within_from}
+use Rattle.hs_table_laws.proofs.Places.{some_same, here, within_from, place_of, member_at, at_take}
 use Rattle.hs_rules.specs.Slots.{FilledData, Picked, none_left, pick, IsJoin}
 use Rattle.hs_rules.specs.Joins.{PartialData, FillsBy, IsPlaced, ArePlaced, SeenAre, IsMade, IsMadeOf, IsCovered, CanExtend, AreJoined}
 use Rattle.hs_rules.proofs.Lists.{read_in, read_other}
-use Rattle.hs_rules.proofs.SetLemmas.{only}
+use Rattle.hs_rules.proofs.SetLemmas.{only, env_same}
 use Rattle.hs_rules.proofs.SlotLemmas.{picked_append, last_of, none_of, join_none, join_more}
 
 -- one more is seen, and is in the list
@@ -17,6 +21,18 @@ seen_pushed seen more list pushed x h cases is env c = elim (cases env c) [
   | inl was ↦ let r = h env was in (r.0, subst (λ (ys : List PartialData). Contains ys r.0) (sym is) (Contains-append_left list (x ∷ []) r.0 r.1), r.2)
   | inr own ↦ (x, subst (λ (ys : List PartialData). Contains ys x) (sym is) (Contains-push list x), sym own)
 ]
+
+-- one of the first of a list is one of the list
+pub among_first : (n : ℕ) (list items : List PartialData) (env : ℕ) (r : Bool) → list ≡ items → OnTrue r ((x : PartialData) × Contains (take n list) x × (x.env ≡ env)) → OnTrue r ((x : PartialData) × Contains items x × (x.env ≡ env))
+among_first n list items env true is (x, there, same) =
+    let p = place_of (take n list) x there in
+    (x, subst (λ (ys : List PartialData). Contains ys x) is (member_at list p.0 x (at_take n list p.0 x p.1).1), same)
+among_first n list items env false is h = tt
+
+-- one that was seen is in the list
+pub seen_there : (seen : List ℕ) (list : List PartialData) (env : ℕ) (r : Bool) → SeenAre seen list → r ≡ list_any (eq-value.it env) seen → OnTrue r ((x : PartialData) × Contains list x × (x.env ≡ env))
+seen_there seen list env true h is = h env ((is_member-Decides env_same seen env).0 (sym is))
+seen_there seen list env false h is = tt
 
 pub pushed_there : (list pushed : List PartialData) (x : PartialData) → pushed ≡ list ++ x ∷ [] → (y : PartialData) × Contains pushed y × (y.env ≡ x.env)
 pushed_there list pushed x is = (x, subst (λ (ys : List PartialData). Contains ys x) (sym is) (Contains-push list x), refl)

@@ -1,5 +1,5 @@
 -- Conclusions as they are gathered.
-use Rattle.std.proofs.Common.{◌≡◌, ◌≢◌, refl, sym, ◌∙◌, ap, subst, ℕ, zero, suc, ◌<◌, List, [], ◌∷◌, length, map, get_or, slice_get, slice_index, Option, None, Some, arith, AllPairs, Contains, ◌⊎◌, inl, inr, ◌↔◌}
+use Rattle.std.proofs.Common.{◌≡◌, ◌≢◌, refl, sym, ◌∙◌, ap, subst, ℕ, zero, suc, ◌<◌, List, [], ◌∷◌, length, map, drop, get_or, slice_get, slice_index, Option, None, Some, arith, AllPairs, Contains, ◌⊎◌, inl, inr, ◌↔◌}
 use Rattle.std.proofs.lemmas.Option.{slice_get-get_or}
 use Rattle.std.proofs.lemmas.List.{length-map}
 use Rattle.std.proofs.lemmas.List.Elements.{Contains-append_cases}
@@ -18,6 +18,7 @@ use Rattle.hs_types.proofs.Numbers.{row_stays}
 use Rattle.hs_replica.specs.Replica.{ReplicaData, KeepsLog}
 use Rattle.hs_rules.specs.declared.search.Fixed.{Fixed}
 use Rattle.hs_rules.specs.Conclusions.{DeducedData, IsDeduced, Uses, AreConclusions}
+use Rattle.hs_rules.specs.declared.joining.TheConstants.{FEW}
 use Rattle.hs_rules.specs.Filling.{CanSearch, IsWithin}
 use Rattle.hs_rules.specs.Found.{HaveEnvs, RowsAre}
 use Rattle.hs_rules.specs.Parts.{ArePart, HasAll, UsesArgument, IsPlaceOf, IsInRule}
@@ -34,9 +35,8 @@ read_map (x ∷ found) (suc i) d = read_map found i d
 
 rows_once : (rows : List RowData) (found : List DeducedData) → RowsAre rows found → AllPairs (λ a b. a.row ≢ b.row) found
 rows_once rows found h = λ i j d lt below e.
-    let long = ap (λ (rs : List RowData). length rs) h.same ∙ length-map found (λ (x : DeducedData). x.row) in
-    let at : (k : ℕ) → get_or rows k d.row ≡ (get_or found k d).row = λ k. ap (λ (rs : List RowData). get_or rs k d.row) h.same ∙ read_map found k d in
-    h.once i j d.row lt (omega (arith, below, long)) (at i ∙ (e ∙ sym (at j)))
+    let long = length-map found (λ (x : DeducedData). x.row) in
+    h.once i j d.row lt (omega (arith, below, long)) (read_map found i d ∙ (e ∙ sym (read_map found j d)))
 
 pub part_conclusions : (p : ProblemData) (ids : InternerData) (E : List EntryData) (point : ℕ) (Counts : Support → Type 0) (rows : List RowData) (found : List DeducedData) → ArePart p ids E point Counts rows found → HasAll p ids E point Counts found
     → AreConclusions p ids E point Counts found
@@ -54,8 +54,8 @@ part_conclusions p ids E point Counts rows found part all = record {
 pub part_none : (p : ProblemData) (ids : InternerData) (E : List EntryData) (point : ℕ) (Counts : Support → Type 0) (rows : List RowData) (found : List DeducedData) → rows ≡ [] → found ≡ [] → ArePart p ids E point Counts rows found
 part_none p ids E point Counts rows found no_rows none = record {
   once = record {
-    same = no_rows ∙ sym (ap (map (λ (d : DeducedData). d.row)) none);
-    once = subst (λ (rs : List RowData). AllPairs (λ a b. a ≢ b) rs) (sym no_rows) (λ i j d lt below. absurd (omega arith));
+    same = no_rows ∙ sym (ap (λ (ds : List DeducedData). drop FEW (map (λ (d : DeducedData). d.row) ds)) none);
+    once = subst (λ (ds : List DeducedData). AllPairs (λ a b. a ≢ b) (map (λ (d : DeducedData). d.row) ds)) (sym none) (λ i j d lt below. absurd (omega arith));
   };
   each = λ d c. absurd (none_in d (subst (λ (ds : List DeducedData). Contains ds d) none c));
 }

@@ -1,13 +1,12 @@
--- Transitions agree with ranks; and a list with one number or none.
-use Rattle.std.proofs.Common.{◌≡◌, refl, sym, ◌∙◌, ap, subst, ℕ, zero, suc, Bool, true, false, nat_eq, cond, List, [], ◌∷◌, ◌++◌, length, find, slice_get, unwrap_or, Option, Some, option_map, Contains, IsTrue, ◌↔◌}
+-- Transitions agree with ranks.
+use Rattle.std.proofs.Common.{◌≡◌, refl, sym, ◌∙◌, ap, ℕ, zero, suc, true, false, nat_eq, cond, List, [], ◌∷◌, length, find, slice_get, unwrap_or, Option, Some, option_map, Contains}
 use Rattle.std.proofs.lemmas.Bool.{eqb-true}
 use Rattle.std.proofs.lemmas.List.Elements.{All-contains}
 use Rattle.hs_scheme.specs.Transition.{TransitionData}
 use Rattle.hs_scheme.specs.Automaton.{next, is_of}
 use Rattle.hs_scheme.specs.Sorted.{SortedData, IsSorted, known}
-use Rattle.hs_table_laws.proofs.Places.{some_same, none_in, here, later}
+use Rattle.hs_table_laws.proofs.Places.{some_same, here, later}
 use Rattle.hs_rules.proofs.Lists.{and_true}
-use Rattle.hs_rules.proofs.SetLemmas.{only}
 
 pub record Moved (ts : List TransitionData) (a : ℕ) (to : List ℕ) : Type 0 where
   pub transition : TransitionData
@@ -33,16 +32,3 @@ ranks_agree s is q a to e =
     let r = All-contains (λ (t : TransitionData). slice_get (known s.scheme.ranks) t.terminal ≡ Some (Some (length t.to))) s.automaton.transitions m.transition is.ranks m.among in
     let k = from_known s.scheme.ranks m.transition.terminal (length m.transition.to) r in
     ap (λ (xs : List ℕ). length xs) (sym m.leads) ∙ sym (ap (λ (o : Option ℕ). unwrap_or o 0) (ap (λ x. slice_get s.scheme.ranks x) (sym m.terminal) ∙ k))
-
-pub none_listed : (places : List ℕ) (test : Bool) (place : ℕ) → places ≡ [] → test ≡ false → (q : ℕ) → Contains places q ↔ (IsTrue test × (q ≡ place))
-none_listed places test place is no_test q = (
-  λ c. absurd (none_in q (subst (λ (xs : List ℕ). Contains xs q) is c)),
-  λ h. absurd (let e : true ≡ false = sym h.0 ∙ no_test in cc),
-)
-
-pub one_listed : (none places : List ℕ) (test : Bool) (place : ℕ) → none ≡ [] → places ≡ none ++ place ∷ [] → test ≡ true → (q : ℕ) → Contains places q ↔ (IsTrue test × (q ≡ place))
-one_listed none places test place empty is passes q =
-    let one : places ≡ place ∷ [] = is ∙ ap (λ (xs : List ℕ). xs ++ place ∷ []) empty in (
-      λ c. (passes, only place q (subst (λ (xs : List ℕ). Contains xs q) one c)),
-      λ h. subst (λ (xs : List ℕ). Contains xs q) (sym one) (subst (λ (n : ℕ). Contains (place ∷ []) n) (sym h.1) (here place [])),
-    )

@@ -3,16 +3,17 @@
 --     HeadData            a type of the head in numbers, with where it comes from and what it asks for
 --     IsKnown             its numbers are known, and it has a set for each argument
 --     HaveEnvs            entries at the arguments have environments for n parameters
---     RowsAre             the rows of what is found, each once
+--     RowsAre             the rows of what is found but for the first few; each row is found once
 --     IsRowOf, HasRow     rows for joined environments
 --     LeadsTo             the head's type leads to the environment, by these arguments
 --     IsConclusion        what is found comes of the head's type
 --     IsFound             the environment is found, with the point and the type
-use Rattle.std.specs.Prelude.{◌≡◌, ◌≢◌, ℕ, ◌<◌, List, length, map, take, Option, All, AllPairs, Contains}
+use Rattle.std.specs.Prelude.{◌≡◌, ◌≢◌, ℕ, ◌<◌, List, length, map, take, drop, Option, All, AllPairs, Contains}
 use Rattle.hs_table.specs.declared.support.HeadBy.{HeadBy}
 use Rattle.hs_table.specs.Entries.{Env, EntryData, IsEnv}
 use Rattle.hs_types.specs.Interned.{InternerData, set_of_id, env_of_id, RowData}
 use Rattle.hs_rules.specs.declared.search.Fixed.{Fixed}
+use Rattle.hs_rules.specs.declared.joining.TheConstants.{FEW}
 use Rattle.hs_rules.specs.declared.search.Search.{Search}
 use Rattle.hs_rules.specs.Conclusions.{DeducedData}
 use Rattle.hs_rules.specs.Slots.{Concludes}
@@ -45,8 +46,8 @@ abbrev pub HaveEnvs : List EntryData → List ℕ → ℕ → Type 0
 HaveEnvs E args n = (e : EntryData) → Contains E e → Contains args e.point → IsEnv n e.env
 
 pub record RowsAre (rows : List RowData) (found : List DeducedData) : Type 0 where
-  pub same : rows ≡ map (λ d. d.row) found
-  pub once : AllPairs (λ a b. a ≢ b) rows
+  pub same : rows ≡ drop FEW (map (λ d. d.row) found)
+  pub once : AllPairs (λ a b. a ≢ b) (map (λ d. d.row) found)
 
 -- a row of one of these environments
 pub record IsRowOf (point : ℕ) (h : HeadData) (partials : List PartialData) (d : DeducedData) : Type 0 where

@@ -12,7 +12,7 @@ use crate::deduced::Deduced;
 use crate::found::Found;
 use crate::gathering::{add_all, add_by_argument, add_by_head, add_seeds};
 use crate::search::Search;
-use crate::sources::Spot;
+use crate::spot::Spot;
 use hs_replica::Replica;
 use hs_scheme::{OutOfMemory, Problem};
 use indexmap::IndexSet;

@@ -1,6 +1,6 @@
 //! What is found, and what the types of a head lead to.
 
-ghost use Rattle.std.specs.Prelude.{◌≡◌, ◌⊎◌, ℕ, List, length, take, Contains, OnOk};
+ghost use Rattle.std.specs.Prelude.{◌≡◌, ◌<◌, ◌≤◌, ◌↔◌, ◌++◌, ◌∷◌, ◌⊎◌, [], ℕ, List, length, map, take, Contains, IsTrue, OnOk};
 ghost use Rattle.hs_table.specs.Entries.{Env};
 ghost use Rattle.hs_types.specs.Interned.{env_of_id};
 ghost use Rattle.hs_replica.specs.Replica.{KeepsLog};
@@ -10,15 +10,20 @@ ghost use Rattle.hs_rules.specs.Joins.{PartialData};
 ghost use Rattle.hs_rules.specs.Found.{HeadData, seek, IsKnown, HaveEnvs, RowsAre, IsRowOf, HasRow, LeadsTo, IsConclusion, IsFound};
 
 use crate::deduced::Deduced;
-use crate::joining::{Partial, joined};
+use crate::joining::{FEW, Partial, joined};
 use crate::search::{Search, fill, is_open};
 use hs_replica::Replica;
 use hs_scheme::OutOfMemory;
 use hs_table::HeadBy;
 use hs_types::{EnvId, Row, SetId, TyId};
 use indexmap::IndexSet;
+use smallvec::SmallVec;
 use std::alloc::Global;
+use std::default::MadeWith;
 use std::marker::Model;
+
+/// Sets of types. Four of them lie in the value itself.
+pub(crate) type Sets = SmallVec<SetId, 4>;
 
 /// A type `s1 -> .. -> sk -> t` of the head of a point with k arguments.
 #[derive(Drop)]
@@ -26,7 +31,7 @@ pub(crate) struct HeadType {
     pub(crate) by: HeadBy,
     /// What the head itself asks of the parameters.
     pub(crate) own: EnvId,
-    pub(crate) sets: Vec<SetId>,
+    pub(crate) sets: Sets,
     pub(crate) rest: TyId,
 }
 
@@ -38,11 +43,63 @@ impl Model for HeadType {
     ghost view = { λ a. record { by = a.by; own = a.own; sets = a.sets.items; rest = a.rest } };
 }
 
-/// What is found, each row once.
+impl MadeWith<Global> for HeadType {
+    fn made_with(alloc: Global) -> HeadType {
+        HeadType {
+            by: HeadBy::Rule { place: 0 },
+            own: EnvId::default(),
+            sets: SmallVec::new(alloc),
+            rest: TyId::default(),
+        }
+    }
+}
+
+/// Types of a head. Two of them lie in the value itself.
+pub(crate) type HeadTypes = SmallVec<HeadType, 2>;
+
+/// What is found, each row once. The first few rows are looked through one by one.
 #[derive(Drop)]
 pub(crate) struct Found {
     pub(crate) list: Vec<Deduced>,
+    /// The rows behind the first `FEW`.
     pub(crate) rows: IndexSet<Row>,
+}
+
+/// Whether one of these has the row.
+fn is_among(list: &[Deduced], row: &Row) -> bool
+    ensures { IsTrue result ↔ Contains (map (λ d. d.row) list.now) row.now }
+{
+    for deduced in list {
+        if deduced.row == *row {
+            return true;
+        }
+    }
+    false
+}
+
+/// Whether the row is found.
+fn has(found: &Found, row: &Row) -> bool
+    requires { RowsAre found.now.rows.keys found.now.list.items }
+    ensures { IsTrue result ↔ Contains (map (λ d. d.row) found.now.list.items) row.now }
+{
+    let list = found.list.as_slice();
+    if list.len() <= FEW {
+        return is_among(list, row);
+    }
+    is_among(&list[..FEW], row) || found.rows.contains(row)
+}
+
+/// Keeps the row of what is found at this place, unless it is among the first few.
+fn keep(rows: &mut IndexSet<Row>, place: usize, row: Row) -> Result<(), OutOfMemory>
+    requires { Contains rows.old.keys row → ⊥ }
+    ensures few { place < FEW → rows.new.keys ≡ rows.old.keys }
+    ensures more { FEW ≤ place → OnOk result (rows.new.keys ≡ rows.old.keys ++ row ∷ []) }
+{
+    if place < FEW {
+        return Ok(());
+    }
+    rows.insert(row)?;
+    Ok(())
 }
 
 /// Adds the row with its support, unless the row is there.
@@ -65,10 +122,10 @@ fn add(
         env: row.env,
         ty: row.ty,
     };
-    let added = found.rows.insert(key)?;
-    if !added {
+    if has(found, &key) {
         return Ok(());
     }
+    keep(&mut found.rows, found.list.len(), key)?;
     let args = args.to_vec(alloc)?;
     found.list.push(Deduced { row, head, args })?;
     Ok(())

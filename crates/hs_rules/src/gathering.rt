@@ -13,7 +13,8 @@ ghost use Rattle.hs_rules.specs.Parts.{ArePart, HasAll, UsesArgument, IsPlaceOf}
 
 use crate::found::{Found, conclude_all};
 use crate::search::{Fixed, Search};
-use crate::sources::{Spot, heads_all, heads_asking, heads_at, heads_nothing};
+use crate::sources::{heads_all, heads_asking, heads_at, heads_nothing};
+use crate::spot::Spot;
 use hs_replica::Replica;
 use hs_scheme::{Head, OutOfMemory, Points};
 use std::alloc::Global;

@@ -10,11 +10,12 @@ ghost use Rattle.hs_replica.specs.Places.{IsState};
 ghost use Rattle.hs_replica.specs.Replica.{KeepsLog};
 ghost use Rattle.hs_rules.specs.Heads.{GainsHeads, Just, BodyAt, ParamAt, AtSome, IsSplit};
 
-use crate::found::HeadType;
+use crate::found::{HeadType, HeadTypes, Sets};
 use hs_replica::Replica;
 use hs_scheme::OutOfMemory;
 use hs_table::HeadBy;
 use hs_types::{EnvId, Interner, SetId, TyId, View};
+use smallvec::SmallVec;
 use std::alloc::Global;
 
 /// The first sets of a type, so many of them, and what is left of it; `None` where it has fewer.
@@ -23,13 +24,13 @@ fn split(
     interner: &Interner,
     ty: TyId,
     count: usize,
-) -> Result<Option<(Vec<SetId>, TyId)>, OutOfMemory>
+) -> Result<Option<(Sets, TyId)>, OutOfMemory>
     requires { ty < length interner.now.types }
     ensures { IfOk result (λ r. MatchOption r
         ((sets : Env) (rest : TypeTree) → length sets ≡ count → type_of_id interner.now ty ≡ types.arrows sets rest → ⊥)
         (λ s. IsSplit interner.now ty count s.0.items s.1)) }
 {
-    let mut sets = Vec::new(alloc);
+    let mut sets = SmallVec::new(alloc);
     let mut rest = ty;
     for _ in 0..count {
         match interner.view(rest) {
@@ -76,7 +77,7 @@ pub(crate) fn push_given(
     full: &[SetId],
     ty: TyId,
     count: usize,
-    out: &mut Vec<HeadType>,
+    out: &mut HeadTypes,
 ) -> Result<(), OutOfMemory>
     requires own { own < length replica.old.ids.envs }
     requires full { All (λ s. s < length replica.old.ids.sets) full.now }
@@ -91,7 +92,7 @@ pub(crate) fn push_given(
         return Ok(());
     }
     let rest = rest_of(replica, full, count, ty)?;
-    let sets = (&full[..count]).to_vec(alloc)?;
+    let sets = SmallVec::from_slice(alloc, &full[..count])?;
     out.push(HeadType {
         by,
         own,
@@ -108,7 +109,7 @@ fn push_body(
     place: u32,
     own: EnvId,
     count: usize,
-    out: &mut Vec<HeadType>,
+    out: &mut HeadTypes,
 ) -> Result<(), OutOfMemory>
     requires place { place < length replica.old.log }
     requires own { own < length replica.old.ids.envs }
@@ -120,7 +121,7 @@ fn push_body(
     if let View::Arrow(_, _) = replica.interner().view(row.ty) {
         return Ok(());
     }
-    let full = replica.interner().sets(row.env).to_vec(alloc)?;
+    let full: Sets = SmallVec::from_slice(alloc, replica.interner().sets(row.env))?;
     push_given(
         alloc,
         replica,
@@ -140,7 +141,7 @@ pub(crate) fn push_bodies(
     places: &[u32],
     own: EnvId,
     count: usize,
-    out: &mut Vec<HeadType>,
+    out: &mut HeadTypes,
 ) -> Result<(), OutOfMemory>
     requires places { All (λ place. place < length replica.old.log) places.now }
     requires own { own < length replica.old.ids.envs }
@@ -163,7 +164,7 @@ fn push_param(
     params: usize,
     x: u32,
     count: usize,
-    out: &mut Vec<HeadType>,
+    out: &mut HeadTypes,
 ) -> Result<(), OutOfMemory>
     requires place { place < length replica.old.log }
     requires x { x < params }
@@ -194,7 +195,7 @@ pub(crate) fn push_params(
     params: usize,
     x: u32,
     count: usize,
-    out: &mut Vec<HeadType>,
+    out: &mut HeadTypes,
 ) -> Result<(), OutOfMemory>
     requires places { All (λ place. place < length replica.old.log) places.now }
     requires x { x < params }

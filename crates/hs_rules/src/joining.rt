@@ -5,6 +5,7 @@ ghost use Rattle.hs_table.specs.Entries.{EntryData, IsEnv};
 ghost use Rattle.hs_types.specs.Interned.{env_of_id};
 ghost use Rattle.hs_replica.specs.Replica.{KeepsLog};
 ghost use Rattle.hs_rules.specs.Slots.{FilledData};
+ghost use Rattle.std.specs.Bool.{OnTrue};
 ghost use Rattle.hs_rules.specs.Joins.{PartialData, FillsBy, ArePlaced, SeenAre, IsMade, IsMadeOf, IsCovered, CanExtend, AreJoined};
 
 use crate::search::Filled;
@@ -14,6 +15,7 @@ use hs_types::EnvId;
 use indexmap::IndexSet;
 use smallvec::SmallVec;
 use std::alloc::Global;
+use std::default::MadeWith;
 use std::marker::Model;
 
 /// An environment that some slots lead to, and for each of these slots the number of its argument
@@ -32,11 +34,62 @@ impl Model for Partial {
     ghost view = { λ a. record { env = a.env; args = a.args.items } };
 }
 
+impl MadeWith<Global> for Partial {
+    fn made_with(alloc: Global) -> Partial {
+        Partial {
+            env: EnvId::default(),
+            args: SmallVec::new(alloc),
+        }
+    }
+}
+
+/// Environments that some slots lead to. Two of them lie in the value itself.
+pub(crate) type PartialList = SmallVec<Partial, 2>;
+
+/// So many items of a list are looked through one by one. A hash set knows those behind them.
+pub(crate) const FEW: usize = 8;
+
 /// Environments, each once.
 #[derive(Drop)]
 struct Partials {
-    list: Vec<Partial>,
+    list: PartialList,
+    /// The numbers behind the first `FEW`.
     seen: IndexSet<EnvId>,
+}
+
+/// Whether the environment is one of these.
+fn is_among(list: &[Partial], env: EnvId) -> bool
+    ensures { OnTrue result ((x : PartialData) × Contains list.now x × (x.env ≡ env)) }
+{
+    for partial in list {
+        if partial.env == env {
+            return true;
+        }
+    }
+    false
+}
+
+/// Whether the environment is there.
+fn has(out: &Partials, env: EnvId) -> bool
+    requires { SeenAre out.now.seen.keys out.now.list.items }
+    ensures { OnTrue result ((x : PartialData) × Contains out.now.list.items x × (x.env ≡ env)) }
+{
+    let list = out.list.as_slice();
+    if list.len() <= FEW {
+        return is_among(list, env);
+    }
+    is_among(&list[..FEW], env) || out.seen.contains(&env)
+}
+
+/// Keeps the environment that comes to this place, unless it is among the first few.
+fn keep(seen: &mut IndexSet<EnvId>, place: usize, env: EnvId) -> Result<(), OutOfMemory>
+    ensures { OnOk result ((n : ℕ) → Contains seen.new.keys n → Contains seen.old.keys n ⊎ (n ≡ env)) }
+{
+    if place < FEW {
+        return Ok(());
+    }
+    seen.insert(env)?;
+    Ok(())
 }
 
 /// Adds the environment, unless it is there.
@@ -55,10 +108,10 @@ fn add(
         Contains out.old.list.items x ⊎ (x ≡ record { env = env; args = from.now ++ (arg, place) ∷ [] })) }
     ensures there { OnOk result ((x : PartialData) × Contains out.new.list.items x × (x.env ≡ env)) }
 {
-    let added = out.seen.insert(env)?;
-    if !added {
+    if has(out, env) {
         return Ok(());
     }
+    keep(&mut out.seen, out.list.len(), env)?;
     let mut args = SmallVec::from_slice(alloc, from)?;
     args.push((arg, place))?;
     out.list.push(Partial { env, args })?;
@@ -87,7 +140,7 @@ fn extend(
     let env = partial.env;
     let arg = slot.arg;
     let from = partial.args.as_slice();
-    for place in &slot.places {
+    for place in slot.places.as_slice() {
         let candidate = replica.row(*place).env;
         let joined = replica.union_envs(env, candidate)?;
         add(alloc, out, joined, from, arg, *place)?;
@@ -101,7 +154,7 @@ fn extended(
     replica: &mut Replica,
     partials: &[Partial],
     slot: &Filled,
-) -> Result<Vec<Partial>, OutOfMemory>
+) -> Result<PartialList, OutOfMemory>
     requires { CanExtend replica.old.ids replica.old.log partials.now slot.now }
     ensures only { IfOk result (λ out. (x : PartialData) → Contains out.items x →
         IsMadeOf replica.old.ids replica.new.ids replica.old.log partials.now slot.now x) }
@@ -111,7 +164,7 @@ fn extended(
     ensures kept { KeepsLog replica.old replica.new }
 {
     let mut out = Partials {
-        list: Vec::new(alloc),
+        list: SmallVec::new(alloc),
         seen: IndexSet::new(alloc),
     };
     for partial in partials {
@@ -130,7 +183,7 @@ pub(crate) fn joined(
     replica: &mut Replica,
     own: EnvId,
     slots: &[Filled],
-) -> Result<Vec<Partial>, OutOfMemory>
+) -> Result<PartialList, OutOfMemory>
     requires own { own < length replica.old.ids.envs }
     requires is_env { IsEnv (length (env_of_id replica.old.ids own)) (env_of_id replica.old.ids own) }
     requires placed { (f : FilledData) → Contains slots.now f → ArePlaced replica.old.log (length (env_of_id replica.old.ids own)) f }
@@ -138,7 +191,7 @@ pub(crate) fn joined(
         (length (env_of_id replica.old.ids own)) (env_of_id replica.old.ids own) slots.now out.items) }
     ensures kept { KeepsLog replica.old replica.new }
 {
-    let mut partials = Vec::new(alloc);
+    let mut partials: PartialList = SmallVec::new(alloc);
     partials.push(Partial {
         env: own,
         args: SmallVec::new(alloc),

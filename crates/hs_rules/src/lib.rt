@@ -8,8 +8,11 @@ mod found;
 mod gathering;
 mod heads;
 mod joining;
+mod nonterminals;
+mod parameters;
 mod search;
 mod sources;
+mod spot;
 mod terminals;
 
 pub use deduced::Deduced;

@@ -11,7 +11,9 @@ ghost use Rattle.hs_rules.specs.Filling.{CanSearch, fixed_of, AreFilled, GainsFi
 use hs_replica::Replica;
 use hs_scheme::OutOfMemory;
 use hs_types::{SetId, TyId};
+use smallvec::SmallVec;
 use std::alloc::Global;
+use std::default::MadeWith;
 use std::marker::Model;
 
 /// The entry at this place has to fill the slot of its type at this argument, counted from 0.
@@ -30,11 +32,14 @@ pub(crate) struct Search<'a> {
     pub(crate) fixed: Option<Fixed>,
 }
 
+/// Places of the log. A few of them lie in the value itself.
+pub(crate) type Places = SmallVec<u32, 4>;
+
 /// A slot: the number of its argument, and the places of its candidates.
 #[derive(Drop)]
 pub(crate) struct Filled {
     pub(crate) arg: u32,
-    pub(crate) places: Vec<u32>,
+    pub(crate) places: Places,
 }
 
 impl Model for Filled {
@@ -45,12 +50,24 @@ impl Model for Filled {
     ghost view = { λ a. record { arg = a.arg; places = a.places.items } };
 }
 
+impl MadeWith<Global> for Filled {
+    fn made_with(alloc: Global) -> Filled {
+        Filled {
+            arg: 0,
+            places: SmallVec::new(alloc),
+        }
+    }
+}
+
+/// Slots. Two of them lie in the value itself.
+pub(crate) type Slots = SmallVec<Filled, 2>;
+
 /// The places below the limit.
-pub(crate) fn below(alloc: Global, places: &[u32], limit: u32) -> Result<Vec<u32>, OutOfMemory>
+pub(crate) fn below(alloc: Global, places: &[u32], limit: u32) -> Result<Places, OutOfMemory>
     requires { IsStrictlyIncreasing places.now }
     ensures { IfOk result (λ out. (place : ℕ) → Contains out.items place ↔ (Contains places.now place × (place < limit))) }
 {
-    let mut out = Vec::new(alloc);
+    let mut out = SmallVec::new(alloc);
     for place in places {
         if *place >= limit {
             return Ok(out);
@@ -68,7 +85,7 @@ fn places_for(
     arg: u32,
     point: u32,
     ty: TyId,
-) -> Result<Vec<u32>, OutOfMemory>
+) -> Result<Places, OutOfMemory>
     requires search { CanSearch replica.now search.now.args.now search.now.limit search.now.fixed }
     requires ty { ty < length replica.now.ids.types }
     requires point { slice_get search.now.args.now arg ≡ Some point }
@@ -79,7 +96,7 @@ fn places_for(
     replica.interner().numbers_are_exact();
     if let Some(fixed) = search.fixed {
         if fixed.arg == arg && replica.row(fixed.place).ty == ty {
-            let mut only = Vec::new(alloc);
+            let mut only = SmallVec::new(alloc);
             only.push(fixed.place)?;
             return Ok(only);
         }
@@ -95,7 +112,7 @@ fn fill_set(
     arg: u32,
     point: u32,
     set: SetId,
-    out: &mut Vec<Filled>,
+    out: &mut Slots,
 ) -> Result<(), OutOfMemory>
     requires search { CanSearch replica.now search.now.args.now search.now.limit search.now.fixed }
     requires set { set < length replica.now.ids.sets }
@@ -167,14 +184,14 @@ pub(crate) fn fill(
     replica: &Replica,
     search: &Search,
     sets: &[SetId],
-) -> Result<Vec<Filled>, OutOfMemory>
+) -> Result<Slots, OutOfMemory>
     requires search { CanSearch replica.now search.now.args.now search.now.limit search.now.fixed }
     requires sets { All (λ s. s < length replica.now.ids.sets) sets.now }
     requires long { length sets.now ≡ length search.now.args.now }
     ensures { IfOk result (λ out. AreFilled (take search.now.limit replica.now.log) (fixed_of replica.now.log search.now.fixed)
         (slots 0 search.now.args.now (map (set_of_id replica.now.ids) sets.now)) out.items) }
 {
-    let mut out = Vec::new(alloc);
+    let mut out = SmallVec::new(alloc);
     let args = search.args;
     for (arg, set) in sets.iter().enumerate() {
         fill_set(

@@ -1,20 +1,26 @@
 //! The types of a terminal, in numbers.
 
-ghost use Rattle.std.specs.Prelude.{◌≡◌, ◌<◌, ◌^◌, ◌∷◌, [], ℕ, List, All, IfOk, OnOk, None, Some, length, map, replicate, set, slice_index};
+ghost use Rattle.std.specs.Prelude.{◌≡◌, ◌<◌, ◌^◌, ◌∷◌, [], ℕ, List, All, IfOk, OnOk, None, Some, length, map, replicate, set, slice_index, take};
+ghost use Rattle.hs_scheme.specs.declared.term.Head.TheVariants.{Tm};
 ghost use Rattle.hs_scheme.specs.Automaton.{next as next_states};
 ghost use Rattle.hs_table.specs.declared.support.HeadBy.TheVariants.{Terminal};
 ghost use Rattle.hs_table.specs.Types as types;
 ghost use Rattle.hs_table.specs.Follows.{rank_of};
-ghost use Rattle.hs_types.specs.Interned.{set_of_id, env_of_id};
+ghost use Rattle.hs_table.specs.Entries.{params_of};
+ghost use Rattle.hs_types.specs.Interned.{type_of_id, set_of_id, env_of_id};
 ghost use Rattle.hs_replica.specs.Replica.{KeepsLog};
-ghost use Rattle.hs_rules.specs.Heads.{GainsHeads, Just, AtSome, AtRange, ChildAt, ReadIn, InState};
+ghost use Rattle.hs_rules.specs.Filling.{CanSearch};
+ghost use Rattle.hs_rules.specs.Heads.{GainsHeads, Just, AtSome, AtRange, ChildAt, ReadIn, InState, AreHeads, Asks, AsksNothing, AnyHead, IsSpot};
 
-use crate::found::HeadType;
+use crate::found::{HeadTypes, Sets};
 use crate::heads::push_given;
+use crate::search::Search;
+use crate::spot::Spot;
 use hs_replica::Replica;
-use hs_scheme::{Automaton, OutOfMemory};
+use hs_scheme::{Automaton, OutOfMemory, Problem};
 use hs_table::HeadBy;
-use hs_types::{EnvId, SetId};
+use hs_types::{EnvId, SetId, TyId, View};
+use smallvec::SmallVec;
 use std::alloc::Global;
 
 /// The set without types.
@@ -37,10 +43,10 @@ fn state_set(replica: &mut Replica, q: u32) -> Result<SetId, OutOfMemory>
 }
 
 /// So many times this set.
-fn repeated(alloc: Global, set: SetId, count: usize) -> Result<Vec<SetId>, OutOfMemory>
+fn repeated(alloc: Global, set: SetId, count: usize) -> Result<Sets, OutOfMemory>
     ensures { IfOk result (λ sets. sets.items ≡ replicate count set) }
 {
-    let mut sets = Vec::new(alloc);
+    let mut sets = SmallVec::new(alloc);
     for _ in 0..count {
         sets.push(set)?;
     }
@@ -48,7 +54,7 @@ fn repeated(alloc: Global, set: SetId, count: usize) -> Result<Vec<SetId>, OutOf
 }
 
 /// So many empty sets.
-fn empty_sets(alloc: Global, replica: &mut Replica, count: usize) -> Result<Vec<SetId>, OutOfMemory>
+fn empty_sets(alloc: Global, replica: &mut Replica, count: usize) -> Result<Sets, OutOfMemory>
     ensures range { IfOk result (λ sets. All (λ s. s < length replica.new.ids.sets) sets.items) }
     ensures are { IfOk result (λ sets. map (set_of_id replica.new.ids) sets.items ≡ replicate count []) }
     ensures kept { KeepsLog replica.old replica.new }
@@ -63,7 +69,7 @@ fn child_sets(
     replica: &mut Replica,
     to: &[u32],
     place: usize,
-) -> Result<Vec<SetId>, OutOfMemory>
+) -> Result<Sets, OutOfMemory>
     requires { place < length to.now }
     ensures range { IfOk result (λ sets. All (λ s. s < length replica.new.ids.sets) sets.items) }
     ensures are { IfOk result (λ sets. map (set_of_id replica.new.ids) sets.items
@@ -85,7 +91,7 @@ fn push_state(
     full: &[SetId],
     q: u32,
     count: usize,
-    out: &mut Vec<HeadType>,
+    out: &mut HeadTypes,
 ) -> Result<(), OutOfMemory>
     requires own { own < length replica.old.ids.envs }
     requires full { All (λ s. s < length replica.old.ids.sets) full.now }
@@ -107,7 +113,7 @@ fn push_child(
     place: u32,
     own: EnvId,
     count: usize,
-    out: &mut Vec<HeadType>,
+    out: &mut HeadTypes,
 ) -> Result<(), OutOfMemory>
     requires place { place < length to.now }
     requires few { length to.now < 2 ^ 32 }
@@ -133,7 +139,7 @@ fn push_children(
     from: u32,
     own: EnvId,
     count: usize,
-    out: &mut Vec<HeadType>,
+    out: &mut HeadTypes,
 ) -> Result<(), OutOfMemory>
     requires few { length to.now < 2 ^ 32 }
     requires own { own < length replica.old.ids.envs }
@@ -159,7 +165,7 @@ fn push_in_state(
     q: u32,
     own: EnvId,
     count: usize,
-    out: &mut Vec<HeadType>,
+    out: &mut HeadTypes,
 ) -> Result<(), OutOfMemory>
     requires ranks { (to : List ℕ) → next_states automaton.now.transitions q terminal ≡ Some to → length to ≡ rank }
     requires own { own < length replica.old.ids.envs }
@@ -182,7 +188,7 @@ fn push_in_state(
 
 /// Adds the types of the terminal of this rank, where it has a transition only those by its
 /// children from a place on.
-pub(crate) fn push_terminal(
+fn push_terminal(
     alloc: Global,
     automaton: &Automaton,
     replica: &mut Replica,
@@ -191,7 +197,7 @@ pub(crate) fn push_terminal(
     from: u32,
     own: EnvId,
     count: usize,
-    out: &mut Vec<HeadType>,
+    out: &mut HeadTypes,
 ) -> Result<(), OutOfMemory>
     requires ranks { (q : ℕ) (to : List ℕ) → next_states automaton.now.transitions q terminal ≡ Some to → length to ≡ rank }
     requires own { own < length replica.old.ids.envs }
@@ -208,7 +214,7 @@ pub(crate) fn push_terminal(
 }
 
 /// Adds the types of the terminal in these states, by its child at this place.
-pub(crate) fn push_reading(
+fn push_reading(
     alloc: Global,
     automaton: &Automaton,
     replica: &mut Replica,
@@ -218,7 +224,7 @@ pub(crate) fn push_reading(
     states: &[u32],
     own: EnvId,
     count: usize,
-    out: &mut Vec<HeadType>,
+    out: &mut HeadTypes,
 ) -> Result<(), OutOfMemory>
     requires ranks { (q : ℕ) (to : List ℕ) → next_states automaton.now.transitions q terminal ≡ Some to → length to ≡ rank }
     requires own { own < length replica.old.ids.envs }
@@ -245,7 +251,7 @@ fn push_reads(
     q: u32,
     own: EnvId,
     count: usize,
-    out: &mut Vec<HeadType>,
+    out: &mut HeadTypes,
 ) -> Result<(), OutOfMemory>
     requires ranks { (to : List ℕ) → next_states automaton.now.transitions q terminal ≡ Some to → length to ≡ rank }
     requires own { own < length replica.old.ids.envs }
@@ -260,4 +266,128 @@ fn push_reads(
         return Ok(());
     }
     push_child(alloc, replica, q, to, place, own, count, out)
+}
+
+/// The rank of the terminal.
+fn rank(problem: &Problem, terminal: u32) -> u32
+    ensures { result ≡ rank_of problem.now terminal }
+{
+    match problem.sorted.scheme.ranks.get(terminal as usize) {
+        None => 0,
+        Some(rank) => *rank,
+    }
+}
+
+/// The types of a terminal at the head that ask for the type at the argument.
+pub(crate) fn terminal_asking(
+    alloc: Global,
+    spot: &Spot,
+    replica: &mut Replica,
+    search: &Search,
+    terminal: u32,
+    arg: u32,
+    ty: TyId,
+) -> Result<HeadTypes, OutOfMemory>
+    requires search { CanSearch replica.old search.now.args.now search.now.limit search.now.fixed }
+    requires spot { IsSpot spot.now.problem.now spot.now.rule spot.now.params (take search.now.limit replica.old.log) }
+    requires arg { arg < length search.now.args.now }
+    requires ty { ty < length replica.old.ids.types }
+    ensures heads { IfOk result (λ heads. AreHeads spot.now.problem.now (take search.now.limit replica.old.log)
+        (record { rule = spot.now.rule; head = Tm terminal; args = search.now.args.now })
+        replica.new.ids (Asks arg (type_of_id replica.old.ids ty)) heads.items) }
+    ensures kept { KeepsLog replica.old replica.new }
+{
+    let View::State(state) = replica.interner().view(ty) else {
+        return Ok(SmallVec::new(alloc));
+    };
+    let problem = spot.problem;
+    let rank = rank(problem, terminal);
+    let sorted = &problem.sorted;
+    let automaton = &sorted.automaton;
+    let own = replica.empty_env(spot.params as usize)?;
+    let states = automaton.reading(terminal, arg as usize, state);
+    let mut out = SmallVec::new(alloc);
+    push_reading(
+        alloc,
+        automaton,
+        replica,
+        terminal,
+        rank,
+        arg,
+        states,
+        own,
+        search.args.len(),
+        &mut out,
+    )?;
+    Ok(out)
+}
+
+/// All types of a terminal at the head.
+pub(crate) fn terminal_all(
+    alloc: Global,
+    spot: &Spot,
+    replica: &mut Replica,
+    search: &Search,
+    terminal: u32,
+) -> Result<HeadTypes, OutOfMemory>
+    requires search { CanSearch replica.old search.now.args.now search.now.limit search.now.fixed }
+    requires spot { IsSpot spot.now.problem.now spot.now.rule spot.now.params (take search.now.limit replica.old.log) }
+    ensures heads { IfOk result (λ heads. AreHeads spot.now.problem.now (take search.now.limit replica.old.log)
+        (record { rule = spot.now.rule; head = Tm terminal; args = search.now.args.now })
+        replica.new.ids AnyHead heads.items) }
+    ensures kept { KeepsLog replica.old replica.new }
+{
+    let problem = spot.problem;
+    let rank = rank(problem, terminal);
+    let sorted = &problem.sorted;
+    let automaton = &sorted.automaton;
+    let own = replica.empty_env(spot.params as usize)?;
+    let mut out = SmallVec::new(alloc);
+    push_terminal(
+        alloc,
+        automaton,
+        replica,
+        terminal,
+        rank,
+        0,
+        own,
+        search.args.len(),
+        &mut out,
+    )?;
+    Ok(out)
+}
+
+/// The types of a terminal at the head that ask for no argument.
+pub(crate) fn terminal_nothing(
+    alloc: Global,
+    spot: &Spot,
+    replica: &mut Replica,
+    args: &[u32],
+    terminal: u32,
+) -> Result<HeadTypes, OutOfMemory>
+    requires few { length args.now < 2 ^ 32 }
+    requires params { spot.now.params ≡ params_of spot.now.problem.now spot.now.rule }
+    ensures heads { IfOk result (λ heads. AreHeads spot.now.problem.now []
+        (record { rule = spot.now.rule; head = Tm terminal; args = args.now }) replica.new.ids AsksNothing heads.items) }
+    ensures kept { KeepsLog replica.old replica.new }
+{
+    let problem = spot.problem;
+    let rank = rank(problem, terminal);
+    let sorted = &problem.sorted;
+    let automaton = &sorted.automaton;
+    let own = replica.empty_env(spot.params as usize)?;
+    let mut out = SmallVec::new(alloc);
+    let from = args.len() as u32;
+    push_terminal(
+        alloc,
+        automaton,
+        replica,
+        terminal,
+        rank,
+        from,
+        own,
+        args.len(),
+        &mut out,
+    )?;
+    Ok(out)
 }

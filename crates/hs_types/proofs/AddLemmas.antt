@@ -1,11 +1,12 @@
 -- A list that is looked up among the lists stored, or stored as one more.
-use Rattle.std.proofs.Common.{◌≡◌, refl, sym, ◌∙◌, ap, subst, ℕ, ◌+◌, Bool, true, false, not, cond, List, [], ◌∷◌, ◌++◌, length, map, get_or, slice_get, position, Option, option_map, ◌||◌, Some, Vec, Contains, inl, inr, ltb, arith, ◌<◌}
+use Rattle.std.proofs.Common.{◌≡◌, refl, sym, ◌∙◌, ap, subst, ℕ, ◌+◌, Bool, true, false, not, nat_eq, cond, List, [], ◌∷◌, ◌++◌, length, map, get_or, slice_get, position, Option, option_map, ◌||◌, Some, Vec, Contains, inl, inr, ltb, arith, ◌<◌}
 use Rattle.std.specs.Bool.{Decides}
 use Rattle.std.specs.List.{list_any, position_or_len}
 use Rattle.std.specs.Cmp.Lexicographic.{pointwise}
 use Rattle.std.specs.declared.alloc.Global.{Global}
 use Rattle.std.proofs.lemmas.List.{length-map, get_or-map}
 use Rattle.std.proofs.lemmas.List.Quantifiers.{position-Some}
+use Rattle.std.proofs.lemmas.Bool.Decides.{Decides-eqb}
 use Rattle.std.proofs.lemmas.Map.Made.{is_member-Decides}
 use Rattle.std.proofs.lemmas.Option.{slice_get-map, slice_get-get_or}
 use Rattle.std.proofs.lemmas.Slice.Eq.{slice_eq-Decides}
@@ -59,3 +60,14 @@ items_read vs slice s n v items h e f is i =
     let k : s < length vs = omega (arith, h, length-map vs (λ (v : Vec ℕ Global). v.items)) in
     let at : v ≡ get_or vs s v = is ∙ (λ j. get_or (e j) (f j) v) in
     i ∙ ap (λ (w : Vec ℕ Global). w.items) at ∙ sym (get_or-map (λ (w : Vec ℕ Global). w.items) vs s v [] k)
+
+-- a list that is compared with one at a place
+pub guessed : {X : Type 0} (f : ℕ → X) (lists : List (List X)) (g : ℕ) (xs ys : List ℕ) (differ : Bool) → g < length lists → map f xs ≡ get_or lists g [] → differ ≡ not (pointwise nat_eq xs ys) → differ ≡ false
+    → slice_get lists g ≡ Some (map f ys)
+guessed f lists g xs ys differ lt is decides false_is =
+    let same : xs ≡ ys = (slice_eq-Decides Decides-eqb xs ys (pointwise nat_eq xs ys) refl).0 (from_not (pointwise nat_eq xs ys) (sym decides ∙ false_is)) in
+    slice_get-get_or lists g [] lt ∙ ap (λ zs. Some zs) (sym is ∙ ap (map f) same)
+  where
+    from_not : (b : Bool) → not b ≡ false → b ≡ true
+    from_not true e = refl
+    from_not false e = absurd (cc)

@@ -5,8 +5,8 @@ ghost use Rattle.std.specs.Prelude.{◌≡◌};
 use std::marker::Model;
 
 /// The number of a type in an interner, counted from 0.
-#[derive(Clone, Copy, Debug, PartialEq, Eq, Hash)]
-pub struct TyId(usize);
+#[derive(Clone, Copy, Debug, Default, PartialEq, Eq, Hash)]
+pub struct TyId(u32);
 
 impl Model for TyId {
     ghost use Rattle.std.specs.Prelude.{ℕ};
@@ -19,23 +19,30 @@ impl Model for TyId {
 }
 
 impl TyId {
-    pub(crate) fn at(place: usize) -> TyId
+    pub(crate) fn at(place: u32) -> TyId
         ensures { result ≡ place }
     {
         TyId(place)
+    }
+
+    /// The number, in the 4 bytes that it is kept in.
+    pub(crate) fn stored(self) -> u32
+        ensures { result ≡ self }
+    {
+        self.0
     }
 
     /// The number itself.
     pub fn number(self) -> usize
         ensures { result ≡ self }
     {
-        self.0
+        self.0 as usize
     }
 }
 
 /// The number of a set of types in an interner, counted from 0.
-#[derive(Clone, Copy, Debug, PartialEq, Eq, Hash)]
-pub struct SetId(usize);
+#[derive(Clone, Copy, Debug, Default, PartialEq, Eq, Hash)]
+pub struct SetId(u32);
 
 impl Model for SetId {
     ghost use Rattle.std.specs.Prelude.{ℕ};
@@ -48,23 +55,30 @@ impl Model for SetId {
 }
 
 impl SetId {
-    pub(crate) fn at(place: usize) -> SetId
+    pub(crate) fn at(place: u32) -> SetId
         ensures { result ≡ place }
     {
         SetId(place)
+    }
+
+    /// The number, in the 4 bytes that it is kept in.
+    pub(crate) fn stored(self) -> u32
+        ensures { result ≡ self }
+    {
+        self.0
     }
 
     /// The number itself.
     pub fn number(self) -> usize
         ensures { result ≡ self }
     {
-        self.0
+        self.0 as usize
     }
 }
 
 /// The number of an environment in an interner, counted from 0.
-#[derive(Clone, Copy, Debug, PartialEq, Eq, Hash)]
-pub struct EnvId(usize);
+#[derive(Clone, Copy, Debug, Default, PartialEq, Eq, Hash)]
+pub struct EnvId(u32);
 
 impl Model for EnvId {
     ghost use Rattle.std.specs.Prelude.{ℕ};
@@ -77,17 +91,24 @@ impl Model for EnvId {
 }
 
 impl EnvId {
-    pub(crate) fn at(place: usize) -> EnvId
+    pub(crate) fn at(place: u32) -> EnvId
         ensures { result ≡ place }
     {
         EnvId(place)
+    }
+
+    /// The number, in the 4 bytes that it is kept in.
+    pub(crate) fn stored(self) -> u32
+        ensures { result ≡ self }
+    {
+        self.0
     }
 
     /// The number itself.
     pub fn number(self) -> usize
         ensures { result ≡ self }
     {
-        self.0
+        self.0 as usize
     }
 }
 

@@ -1,19 +1,112 @@
 //! What has a number elsewhere gets one here.
 
-ghost use Rattle.std.specs.Prelude.{◌≡◌, ◌<◌, IfOk, Some, length, slice_get};
+ghost use Rattle.std.specs.Prelude.{◌≡◌, ◌<◌, All, IfOk, IfSome, Some, length, map, slice_get};
+ghost use Rattle.hs_table.specs.Types.{IsSet};
 ghost use Rattle.hs_types.specs.Interned.{type_of_id, set_of_id, env_of_id, Grows};
+ghost use Rattle.hs_types.specs.Nodes.{node_type, IsInRange};
 
+use crate::guesses::Guesses;
 use crate::ids::{EnvId, SetId, TyId, View};
 use crate::nodes::Nodes;
 use hs_scheme::OutOfMemory;
+use smallvec::SmallVec;
 use std::alloc::Global;
 
 impl Nodes {
+    /// The guess, where it is the node's type.
+    fn guessed_type(&self, guess: TyId, node: &View) -> Option<TyId>
+        ensures { IfSome result (λ own. slice_get self.now.types own ≡ Some (node_type self.now node.now)) }
+    {
+        if guess.number() >= self.count_types() || self.view(guess) != *node {
+            return None;
+        }
+        Some(guess)
+    }
+
+    /// The guess, where it is the set of these types.
+    fn guessed_set(&self, guess: SetId, types: &[TyId]) -> Option<SetId>
+        ensures { IfSome result (λ own. slice_get self.now.sets own ≡ Some (map (type_of_id self.now) types.now)) }
+    {
+        if guess.number() >= self.count_sets() || self.members(guess) != types {
+            return None;
+        }
+        Some(guess)
+    }
+
+    /// The guess, where it is the environment of these sets.
+    fn guessed_env(&self, guess: EnvId, sets: &[SetId]) -> Option<EnvId>
+        ensures { IfSome result (λ own. slice_get self.now.envs own ≡ Some (map (set_of_id self.now) sets.now)) }
+    {
+        if guess.number() >= self.count_envs() || self.sets(guess) != sets {
+            return None;
+        }
+        Some(guess)
+    }
+
+    /// The number here of this node, which the other's type has. Looks at the guess first.
+    fn number_type(
+        &mut self,
+        guesses: &mut Guesses,
+        id: TyId,
+        node: View,
+    ) -> Result<TyId, OutOfMemory>
+        requires { IsInRange self.old node }
+        ensures ok { IfOk result (λ own. slice_get self.new.types own ≡ Some (node_type self.old node)) }
+        ensures grows { Grows self.old self.new }
+    {
+        if let Some(own) = self.guessed_type(guesses.ty(id), &node) {
+            return Ok(own);
+        }
+        let own = self.add_type(node)?;
+        guesses.keep_type(id, own)?;
+        Ok(own)
+    }
+
+    /// The number here of the set of these types, which are in order and those of the other's set.
+    fn number_set(
+        &mut self,
+        guesses: &mut Guesses,
+        id: SetId,
+        types: &[TyId],
+    ) -> Result<SetId, OutOfMemory>
+        requires range { All (λ t. t < length self.old.types) types.now }
+        requires ascends { IsSet (map (type_of_id self.old) types.now) }
+        ensures ok { IfOk result (λ own. slice_get self.new.sets own ≡ Some (map (type_of_id self.old) types.now)) }
+        ensures grows { Grows self.old self.new }
+    {
+        if let Some(own) = self.guessed_set(guesses.set(id), types) {
+            return Ok(own);
+        }
+        let own = self.add_set(types)?;
+        guesses.keep_set(id, own)?;
+        Ok(own)
+    }
+
+    /// The number here of the environment of these sets, which are those of the other's.
+    fn number_env(
+        &mut self,
+        guesses: &mut Guesses,
+        id: EnvId,
+        sets: &[SetId],
+    ) -> Result<EnvId, OutOfMemory>
+        requires { All (λ s. s < length self.old.sets) sets.now }
+        ensures ok { IfOk result (λ own. slice_get self.new.envs own ≡ Some (map (set_of_id self.old) sets.now)) }
+        ensures grows { Grows self.old self.new }
+    {
+        if let Some(own) = self.guessed_env(guesses.env(id), sets) {
+            return Ok(own);
+        }
+        let own = self.add_env(sets)?;
+        guesses.keep_env(id, own)?;
+        Ok(own)
+    }
+
     /// The number here of the other's type. Recurses as deep as it is.
     #[cycle(import)]
     pub(crate) fn import_type(
         &mut self,
         alloc: Global,
+        guesses: &mut Guesses,
         from: &Nodes,
         id: TyId,
     ) -> Result<TyId, OutOfMemory>
@@ -23,13 +116,13 @@ impl Nodes {
     {
         match from.view(id) {
             View::State(q) => {
-                let own = self.add_type(View::State(q))?;
+                let own = self.number_type(guesses, id, View::State(q))?;
                 Ok(own)
             }
             View::Arrow(set, rest) => {
-                let own_set = self.import_set(alloc, from, set)?;
-                let own_rest = self.import_type(alloc, from, rest)?;
-                let own = self.add_type(View::Arrow(own_set, own_rest))?;
+                let own_set = self.import_set(alloc, guesses, from, set)?;
+                let own_rest = self.import_type(alloc, guesses, from, rest)?;
+                let own = self.number_type(guesses, id, View::Arrow(own_set, own_rest))?;
                 Ok(own)
             }
         }
@@ -37,18 +130,24 @@ impl Nodes {
 
     /// The number here of the other's set, whose types are in order here, too.
     #[cycle(import)]
-    fn import_set(&mut self, alloc: Global, from: &Nodes, id: SetId) -> Result<SetId, OutOfMemory>
+    fn import_set(
+        &mut self,
+        alloc: Global,
+        guesses: &mut Guesses,
+        from: &Nodes,
+        id: SetId,
+    ) -> Result<SetId, OutOfMemory>
         requires { id < length from.now.sets }
         ensures ok { IfOk result (λ own. slice_get self.new.sets own ≡ Some (set_of_id from.now id)) }
         ensures grows { Grows self.old self.new }
     {
         from.numbers_are_exact();
         let members = from.members(id);
-        let mut types = Vec::with_capacity(alloc, members.len())?;
+        let mut types: SmallVec<TyId, 8> = SmallVec::new(alloc);
         for member in members {
-            types.push(self.import_type(alloc, from, *member)?)?;
+            types.push(self.import_type(alloc, guesses, from, *member)?)?;
         }
-        let own = self.add_set(types.as_slice())?;
+        let own = self.number_set(guesses, id, types.as_slice())?;
         Ok(own)
     }
 
@@ -56,6 +155,7 @@ impl Nodes {
     pub(crate) fn import_env(
         &mut self,
         alloc: Global,
+        guesses: &mut Guesses,
         from: &Nodes,
         id: EnvId,
     ) -> Result<EnvId, OutOfMemory>
@@ -64,11 +164,11 @@ impl Nodes {
         ensures grows { Grows self.old self.new }
     {
         let sets = from.sets(id);
-        let mut own_sets = Vec::with_capacity(alloc, sets.len())?;
+        let mut own_sets: SmallVec<SetId, 8> = SmallVec::new(alloc);
         for set in sets {
-            own_sets.push(self.import_set(alloc, from, *set)?)?;
+            own_sets.push(self.import_set(alloc, guesses, from, *set)?)?;
         }
-        let own = self.add_env(own_sets.as_slice())?;
+        let own = self.number_env(guesses, id, own_sets.as_slice())?;
         Ok(own)
     }
 }

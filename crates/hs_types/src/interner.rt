@@ -6,11 +6,13 @@ ghost use Rattle.hs_table.specs.Types.{TypeTree, state, arrow, type_cmp};
 ghost use Rattle.hs_types.specs.Unions.{IsSetUnion, IsEnvUnion};
 ghost use Rattle.hs_types.specs.Interned.{type_of_id, set_of_id, env_of_id, IsRow, entry_of, IsView, IsInterner, Grows, IsSetOf, IsUnion, IsUnionEnv};
 
+use crate::guesses::Guesses;
 use crate::ids::{EnvId, Row, SetId, TyId, View};
 use crate::nodes::Nodes;
 use crate::unions::Unions;
 use hs_scheme::OutOfMemory;
 use hs_table::Entry;
+use smallvec::SmallVec;
 use std::alloc::Global;
 use std::cmp::Ordering;
 use std::marker::Model;
@@ -20,15 +22,17 @@ use std::marker::Model;
 /// Contracts see the three lists of what has numbers. Every call that takes `&mut self` lets the
 /// lists only grow at their ends, also where it answers want of memory.
 ///
-/// A type takes some 60 bytes, a set or an environment some 80, and 8 for each of its items. Beside
+/// A type takes some 40 bytes, a set or an environment some 80, and 4 for each of its items. Beside
 /// these the latest unions are kept, at most 524,288 of sets and as many of environments, in some
-/// 24 MiB each.
+/// 16 MiB each, and 4 bytes for each number of an interner that was imported from. There are at most
+/// 2^32 numbers of each kind; past that a call answers want of memory.
 #[derive(Drop)]
 pub struct Interner {
     alloc: Global,
     nodes: Nodes,
     set_unions: Unions,
     env_unions: Unions,
+    guesses: Guesses,
 }
 
 impl Model for Interner {
@@ -54,6 +58,7 @@ impl Interner {
             nodes: Nodes::new(alloc),
             set_unions: Unions::new(alloc),
             env_unions: Unions::new(alloc),
+            guesses: Guesses::new(alloc),
         }
     }
 
@@ -130,13 +135,16 @@ impl Interner {
         Ok(id)
     }
 
-    /// The number here of a type of the other interner. Walks the whole type, as deep as it is.
+    /// The number here of a type of the other interner. Walks the whole type, as deep as it is, and
+    /// hashes only what wasn't imported from there before.
     pub fn import_ty(&mut self, from: &Interner, ty: TyId) -> Result<TyId, OutOfMemory>
         requires { ty < length from.now.types }
         ensures ok { IfOk result (λ id. slice_get self.new.types id ≡ Some (type_of_id from.now ty)) }
         ensures grows { Grows self.old self.new }
     {
-        let id = self.nodes.import_type(self.alloc, &from.nodes, ty)?;
+        let id = self
+            .nodes
+            .import_type(self.alloc, &mut self.guesses, &from.nodes, ty)?;
         Ok(id)
     }
 
@@ -146,7 +154,9 @@ impl Interner {
         ensures ok { IfOk result (λ id. slice_get self.new.envs id ≡ Some (env_of_id from.now env)) }
         ensures grows { Grows self.old self.new }
     {
-        let id = self.nodes.import_env(self.alloc, &from.nodes, env)?;
+        let id = self
+            .nodes
+            .import_env(self.alloc, &mut self.guesses, &from.nodes, env)?;
         Ok(id)
     }
 
@@ -237,7 +247,7 @@ impl Interner {
         if self.nodes.members(a).is_empty() {
             return Some(b);
         }
-        let union = self.set_unions.find(a.number(), b.number())?;
+        let union = self.set_unions.find(a.stored(), b.stored())?;
         Some(SetId::at(union))
     }
 
@@ -255,7 +265,7 @@ impl Interner {
         }
         let union = self.nodes.union_sets(self.alloc, a, b)?;
         self.set_unions
-            .keep(a.number(), b.number(), union.number())?;
+            .keep(a.stored(), b.stored(), union.stored())?;
         Ok(union)
     }
 
@@ -269,7 +279,7 @@ impl Interner {
         if a == b {
             return Some(a);
         }
-        let union = self.env_unions.find(a.number(), b.number())?;
+        let union = self.env_unions.find(a.stored(), b.stored())?;
         Some(EnvId::at(union))
     }
 
@@ -283,7 +293,7 @@ impl Interner {
         ensures grows { Grows self.old self.new }
     {
         let count = self.sets(a).len();
-        let mut unions = Vec::with_capacity(self.alloc, count)?;
+        let mut unions: SmallVec<SetId, 8> = SmallVec::new(self.alloc);
         for place in 0..count {
             let first = self.sets(a)[place];
             let second = self.sets(b)[place];
@@ -308,7 +318,7 @@ impl Interner {
         }
         let union = self.join_envs(a, b)?;
         self.env_unions
-            .keep(a.number(), b.number(), union.number())?;
+            .keep(a.stored(), b.stored(), union.stored())?;
         Ok(union)
     }
 }

@@ -7,6 +7,7 @@
 #![tactic(auto)]
 
 mod compare;
+mod guesses;
 mod ids;
 mod import;
 mod interner;

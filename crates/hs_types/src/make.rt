@@ -6,6 +6,7 @@ ghost use Rattle.hs_types.specs.Interned.{type_of_id, set_of_id, Grows, IsSetOf,
 use crate::ids::{EnvId, SetId, TyId};
 use crate::nodes::Nodes;
 use hs_scheme::OutOfMemory;
+use smallvec::SmallVec;
 use std::alloc::Global;
 
 impl Nodes {
@@ -16,6 +17,10 @@ impl Nodes {
             × IsSetOf (map (type_of_id self.old) ids.now) (set_of_id self.new id)) }
         ensures grows { Grows self.old self.new }
     {
+        if ids.len() <= 1 {
+            let id = self.add_set(ids)?;
+            return Ok(id);
+        }
         let sorted = self.sorted(alloc, ids)?;
         let id = self.add_set(sorted.as_slice())?;
         Ok(id)
@@ -46,7 +51,7 @@ impl Nodes {
         ensures grows { Grows self.old self.new }
     {
         let empty = self.add_set(&[])?;
-        let sets = vec![in alloc; empty; n]?;
+        let sets: SmallVec<SetId, 8> = SmallVec::from_elem(alloc, empty, n)?;
         let id = self.add_env(sets.as_slice())?;
         Ok(id)
     }
@@ -67,7 +72,7 @@ impl Nodes {
     {
         let single = self.add_set(&[ty])?;
         let empty = self.add_set(&[])?;
-        let mut sets = vec![in alloc; empty; n]?;
+        let mut sets: SmallVec<SetId, 8> = SmallVec::from_elem(alloc, empty, n)?;
         sets[x] = single;
         let id = self.add_env(sets.as_slice())?;
         Ok(id)

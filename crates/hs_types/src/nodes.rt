@@ -34,8 +34,19 @@ impl Model for Nodes {
         (data_of a.types.keys (lists_of a.sets.keys) (lists_of a.envs.keys)) };
 }
 
+/// The number of what stands at the place, or want of memory: no interner has more than 2^32 types,
+/// sets or environments.
+fn numbered(place: usize) -> Result<u32, OutOfMemory>
+    ensures { IfOk result (λ number. number ≡ place) }
+{
+    if place > u32::MAX as usize {
+        return Err(OutOfMemory);
+    }
+    Ok(place as u32)
+}
+
 /// The place of the node, which is stored where it wasn't.
-fn add_node(types: &mut IndexSet<View>, node: View) -> Result<usize, OutOfMemory>
+fn store_node(types: &mut IndexSet<View>, node: View) -> Result<usize, OutOfMemory>
     ensures at { IfOk result (λ place. slice_get types.new.keys place ≡ Some node) }
     ensures adds { Adds types.old.keys types.new.keys node }
 {
@@ -44,7 +55,7 @@ fn add_node(types: &mut IndexSet<View>, node: View) -> Result<usize, OutOfMemory
 }
 
 /// The place of the list of types, which is stored where it wasn't.
-fn add_set(
+fn store_set(
     alloc: Global,
     sets: &mut IndexSet<Vec<TyId>>,
     types: &[TyId],
@@ -60,7 +71,7 @@ fn add_set(
 }
 
 /// The place of the list of sets, which is stored where it wasn't.
-fn add_env(
+fn store_env(
     alloc: Global,
     envs: &mut IndexSet<Vec<SetId>>,
     sets: &[SetId],
@@ -73,6 +84,41 @@ fn add_env(
     }
     let (place, _) = envs.insert_full(sets.to_vec(alloc)?)?;
     Ok(place)
+}
+
+/// The number of the node, which is stored where it wasn't.
+fn add_node(types: &mut IndexSet<View>, node: View) -> Result<u32, OutOfMemory>
+    ensures at { IfOk result (λ place. slice_get types.new.keys place ≡ Some node) }
+    ensures adds { Adds types.old.keys types.new.keys node }
+{
+    let place = store_node(types, node)?;
+    numbered(place)
+}
+
+/// The number of the list of types, which is stored where it wasn't.
+fn add_set(
+    alloc: Global,
+    sets: &mut IndexSet<Vec<TyId>>,
+    types: &[TyId],
+) -> Result<u32, OutOfMemory>
+    ensures at { IfOk result (λ place. slice_get (lists_of sets.new.keys) place ≡ Some types.now) }
+    ensures adds { Adds (lists_of sets.old.keys) (lists_of sets.new.keys) types.now }
+{
+    let place = store_set(alloc, sets, types)?;
+    numbered(place)
+}
+
+/// The number of the list of sets, which is stored where it wasn't.
+fn add_env(
+    alloc: Global,
+    envs: &mut IndexSet<Vec<SetId>>,
+    sets: &[SetId],
+) -> Result<u32, OutOfMemory>
+    ensures at { IfOk result (λ place. slice_get (lists_of envs.new.keys) place ≡ Some sets.now) }
+    ensures adds { Adds (lists_of envs.old.keys) (lists_of envs.new.keys) sets.now }
+{
+    let place = store_env(alloc, envs, sets)?;
+    numbered(place)
 }
 
 impl Nodes {
@@ -93,6 +139,27 @@ impl Nodes {
         ensures { IsInterner self.now }
     {
         let _ = &self.types;
+    }
+
+    /// How many types have numbers.
+    pub(crate) fn count_types(&self) -> usize
+        ensures { result ≡ length self.now.types }
+    {
+        self.types.len()
+    }
+
+    /// How many sets have numbers.
+    pub(crate) fn count_sets(&self) -> usize
+        ensures { result ≡ length self.now.sets }
+    {
+        self.sets.len()
+    }
+
+    /// How many environments have numbers.
+    pub(crate) fn count_envs(&self) -> usize
+        ensures { result ≡ length self.now.envs }
+    {
+        self.envs.len()
     }
 
     /// The number of the type of this node.

@@ -8,17 +8,17 @@ use hs_scheme::OutOfMemory;
 use indexmap::IndexMap;
 use std::alloc::Global;
 
-/// So many unions are kept at most, in some 24 MiB. Past that all are forgotten.
+/// So many unions are kept at most, in some 16 MiB. Past that all are forgotten.
 const MOST_KNOWN: usize = 524_288;
 
 /// Two numbers, the smaller first.
 #[derive(Clone, Copy, Debug, PartialEq, Eq, Hash)]
 pub(crate) struct Pair {
-    first: usize,
-    second: usize,
+    first: u32,
+    second: u32,
 }
 
-fn ordered(a: usize, b: usize) -> Pair
+fn ordered(a: u32, b: u32) -> Pair
     ensures { IsPair result a b }
 {
     if a <= b {
@@ -37,7 +37,7 @@ fn ordered(a: usize, b: usize) -> Pair
 /// The unions of pairs of numbers, as far as they were made and kept.
 #[derive(Drop)]
 pub(crate) struct Unions {
-    known: IndexMap<Pair, usize>,
+    known: IndexMap<Pair, u32>,
 }
 
 impl Unions {
@@ -51,7 +51,7 @@ impl Unions {
     }
 
     /// The union of a and b, where it is known. Constant time on average.
-    pub(crate) fn find(&self, a: usize, b: usize) -> Option<usize>
+    pub(crate) fn find(&self, a: u32, b: u32) -> Option<u32>
         ensures { IfSome result (λ union. Knows self.now.known.entries a b union) }
     {
         let union = self.known.get(&ordered(a, b))?;
@@ -68,7 +68,7 @@ impl Unions {
     }
 
     /// Keeps the union of a and b.
-    pub(crate) fn keep(&mut self, a: usize, b: usize, union: usize) -> Result<(), OutOfMemory>
+    pub(crate) fn keep(&mut self, a: u32, b: u32, union: u32) -> Result<(), OutOfMemory>
         ensures { KnowsMore self.old.known.entries self.new.known.entries a b union }
     {
         self.make_room();

@@ -18,4 +18,4 @@ pub returns : goal.returns
 returns c = λ t.
     let rows = c.at_point-entry-items.result.now in
     let all = subst (λ (rs : List (Bor EntryData)). Contains c.loop-entry.found.items t ↔ (Contains c.args.found.now.items t ⊎ AnyOf (λ (r : Bor EntryData) (t : TypeTree). t ≡ r.now.ty) rs t)) (take_all c.loop-entry.entry-index rows c.loop-entry-test.false) (c.loop-entry.invariant t) in
-    or_same _ _ _ _ all (types_at c.args.index.now rows c.args.point c.at_point-entry-items.ensures t)
+    or_same _ _ _ _ all (types_at c.args.index.now rows c.args.point c.at_point-entry-items.ensures.has t)

@@ -12,7 +12,7 @@ use Rattle.hs_checker.proofs.heads.nonterminal_types.Goals as goal
 pub add_body_type-requires : goal.add_body_type-requires
 add_body_type-requires c =
     let rows = c.at_point-entry-items.result.now in
-    ((c.at_point-entry-items.ensures c.entry-item.result.now).0 (into_map (λ (r : Bor EntryData). r.now) rows c.entry-item.result (c.loop-entry.entry-index, c.loop-entry-test.true, sym c.entry-item.is))).1
+    ((c.at_point-entry-items.ensures.has c.entry-item.result.now).0 (into_map (λ (r : Bor EntryData). r.now) rows c.entry-item.result (c.loop-entry.entry-index, c.loop-entry-test.true, sym c.entry-item.is))).1
 
 pub loop-entry-preserved : goal.loop-entry-preserved
 loop-entry-preserved c =
@@ -23,5 +23,5 @@ pub returns : goal.returns
 returns c = λ t.
     let rows = c.at_point-entry-items.result.now in
     let all = subst (λ (rs : List (Bor EntryData)). Contains c.loop-entry.found.items t ↔ AnyOf (λ (r : Bor EntryData) (t : TypeTree). Contains (body_type c.args.body r.now) t) rs t) (take_all c.loop-entry.entry-index rows c.loop-entry-test.false) (c.loop-entry.invariant t) in
-    let exact = body_types c.args.index.now rows c.args.body c.at_point-entry-items.ensures t in
+    let exact = body_types c.args.index.now rows c.args.body c.at_point-entry-items.ensures.has t in
     (λ k. exact.0 (all.0 k), λ k. all.1 (exact.1 k))

@@ -1,9 +1,8 @@
-use Rattle.std.proofs.Common.{sym, ◌∙◌, ap, subst, ℕ, length, Some}
+use Rattle.std.proofs.Common.{◌≡◌, sym, ◌∙◌, ap, true, false, not, subst, ℕ, length, Some}
 use Rattle.std.proofs.lemmas.Bool.{ltb-true}
 use Rattle.std.proofs.lemmas.Option.{slice_get-get_or}
 use Rattle.hs_table.specs.Types.{TypeTree}
 use Rattle.hs_checker.specs.Slots.{HasTypeAt}
-use Rattle.hs_checker.proofs.InstanceLemmas.{none_at}
 use Rattle.hs_checker.proofs.terminals.asks_in_vain.Goals as goal
 
 pub returns-in-Some : goal.returns-in-Some
@@ -11,6 +10,6 @@ returns-in-Some c = λ h. (
   c.in-Some.arg.now,
   (
     slice_get-get_or c.args.args.now c.args.place c.in-Some.arg.now (ltb-true c.args.place (length c.args.args.now) (sym c.in-Some.ensures.lookup.0)) ∙ ap (λ (u : ℕ). Some u) (sym c.in-Some.ensures.lookup.1),
-    subst (λ (z : TypeTree). HasTypeAt c.args.index.now c.in-Some.arg.now z → ⊥) c.state.ensures (none_at c.args.index.now c.at-in-Some.result.now c.in-Some.arg.now c.state.result c.at-in-Some.ensures (sym c.is_empty.ensures ∙ h)),
+    subst (λ (z : TypeTree). HasTypeAt c.args.index.now c.in-Some.arg.now z → ⊥) c.state.ensures (λ has. let f : false ≡ true = sym (ap not (c.has-in-Some.ensures.1 has)) ∙ h in absurd (cc)),
   ),
 )

@@ -1,24 +1,33 @@
 use Rattle.std.proofs.Common.{◌≡◌, subst, List, Contains, ◌↔◌, Bor}
-use Rattle.std.proofs.lemmas.List.{take_all}
+use Rattle.std.specs.List.{flat_map}
 use Rattle.hs_table.specs.Entries.{EntryData}
-use Rattle.hs_table_plain.specs.Enumeration.{joined}
+use Rattle.hs_table_plain.specs.Enumeration as plain
+use Rattle.hs_table_plain.proofs.ConclusionLemmas.{if_ok_map}
 use Rattle.hs_checker.specs.Any.{AnyOf}
-use Rattle.hs_checker.proofs.Steps.{any_step}
-use Rattle.hs_checker.proofs.EnvLemmas.{extended_by}
+use Rattle.hs_checker.proofs.EnvLemmas.{extended_by, any_of_one}
 use Rattle.hs_checker.proofs.unions.extended.Goals as goal
 
-pub loop-candidate-preserved : goal.loop-candidate-preserved
-loop-candidate-preserved c = λ e.
-    let thinned = c.in_ok-room.ensures e in
-    let step = any_step (λ (r : Bor EntryData) (y : EntryData). AnyOf (λ (x y : EntryData). y ≡ joined x r.now) c.args.entries.now y) c.at-candidate-items.result.now c.loop-candidate.candidate-index c.candidate-item.result c.loop-candidate-test.true c.candidate-item.is
-    (λ e. Contains c.loop-candidate.found.items e) (λ e. Contains c.extend_by.new.found.items e) c.in_ok-extend_by.ensures c.loop-candidate.invariant e in
-    (λ k. step.0 (thinned.0 k), λ k. thinned.1 (step.1 k))
+pub returns-then-candidates-eq1 : goal.returns-then-candidates-eq1
+returns-then-candidates-eq1 c =
+    let E = c.args.index.now in
+    let es = c.args.entries.items in
+    let rows = c.at-candidates.result.now in
+    let r = c.index-candidates-0.result in
+    if_ok_map c.joined_with_one.result (λ found. (e : EntryData) → Contains found.items e ↔ AnyOf (λ (x y : EntryData). y ≡ plain.joined x r.now) es e)
+    (λ found. (e : EntryData) → Contains found.items e ↔ Contains (flat_map (λ x. flat_map (plain.extended c.args.arg c.args.ty.now x) E) es) e)
+    (λ found each e.
+    let exact = extended_by E rows c.args.arg c.args.ty.now es c.at-candidates.ensures e in
+    let one = any_of_one (λ (r : Bor EntryData) (y : EntryData). AnyOf (λ (x y : EntryData). y ≡ plain.joined x r.now) es y) rows r e c.if-candidates-eq1.true c.index-candidates-0.is in
+    (λ k. exact.0 (one.1 ((each e).0 k)), λ k. (each e).1 (one.0 (exact.1 k)))) c.joined_with_one.ensures
 
 pub returns : goal.returns
-returns c = λ e.
-    let rows = c.at-candidate-items.result.now in
-    let all = subst (λ (rs : List (Bor EntryData)). Contains c.loop-candidate.found.items e ↔ AnyOf (λ (r : Bor EntryData) (y : EntryData). AnyOf (λ (x y : EntryData). y ≡ joined x r.now) c.args.entries.now y) rs e)
-    (take_all c.loop-candidate.candidate-index rows c.loop-candidate-test.false) (c.loop-candidate.invariant e) in
-    let exact = extended_by c.args.index.now rows c.args.arg c.args.ty.now c.args.entries.now c.at-candidate-items.ensures e in
-    let thinned = c.in_ok-thin.ensures e in
-    (λ k. exact.0 (all.0 (thinned.0 k)), λ k. thinned.1 (all.1 (exact.1 k)))
+returns c =
+    let E = c.args.index.now in
+    let es = c.args.entries.items in
+    let rows = c.at-candidates.result.now in
+    if_ok_map c.joined_with_all.result (λ found. (e : EntryData) → Contains found.items e ↔ AnyOf (λ (r : Bor EntryData) (y : EntryData). AnyOf (λ (x y : EntryData). y ≡ plain.joined x r.now) c.as_slice.result.now y) rows e)
+    (λ found. (e : EntryData) → Contains found.items e ↔ Contains (flat_map (λ x. flat_map (plain.extended c.args.arg c.args.ty.now x) E) es) e)
+    (λ found each e.
+    let exact = extended_by E rows c.args.arg c.args.ty.now es c.at-candidates.ensures e in
+    let mine = subst (λ (xs : List EntryData). Contains found.items e ↔ AnyOf (λ (r : Bor EntryData) (y : EntryData). AnyOf (λ (x y : EntryData). y ≡ plain.joined x r.now) xs y) rows e) c.as_slice.ensures.value (each e) in
+    (λ k. exact.0 (mine.0 k), λ k. mine.1 (exact.1 k))) c.joined_with_all.ensures

@@ -1,15 +1,11 @@
-use Rattle.std.proofs.Common.{subst, List, Contains, ◌↔◌, arith}
-use Rattle.std.specs.List.{flat_map}
-use Rattle.hs_table.specs.Entries.{EntryData}
-use Rattle.hs_table_plain.specs.Enumeration.{extended}
+use Rattle.std.proofs.Common.{arith}
 use Rattle.hs_checker.proofs.EnvLemmas.{picks_step, picks_done}
 use Rattle.hs_checker.proofs.unions.picks.Goals as goal
 
 pub loop-ty-preserved : goal.loop-ty-preserved
 loop-ty-preserved c = λ e.
     let E = c.args.index.now in
-    let each = subst (λ (es : List EntryData). (e : EntryData) → Contains c.in_ok-found.found.items e ↔ Contains (flat_map (λ x. flat_map (extended c.args.arg c.ty-item.result x) E) es) e) c.as_slice.ensures.value c.in_ok-found.ensures in
-    let step = picks_step E c.args.arg c.args.set.now c.loop-ty.ty-index c.ty-item.result c.loop-ty.found.items c.in_ok-found.found.items c.loop-ty-test.true c.ty-item.is each e in
+    let step = picks_step E c.args.arg c.args.set.now c.loop-ty.ty-index c.ty-item.result c.loop-ty.found.items c.in_ok-found.found.items c.loop-ty-test.true c.ty-item.is c.in_ok-found.ensures e in
     let before = c.loop-ty.invariant e in
     (λ k. before.0 (step.0 k), λ k. step.1 (before.1 k))
 

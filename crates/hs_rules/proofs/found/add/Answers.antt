@@ -1,18 +1,19 @@
-use Rattle.hs_types.specs.contracts.ids.RowPartialEq.TheImpl.{eq-value}
-use Rattle.hs_rules.proofs.SetLemmas.{set_there, set_pushed, set_fresh}
-use Rattle.hs_rules.proofs.FoundLemmas.{row_same, row_there, row_pushed, rows_pushed}
+use Rattle.std.proofs.Common.{◌≡◌, sym, ◌∙◌, true, false, arith}
+use Rattle.hs_rules.proofs.FoundLemmas.{row_there, row_among, row_pushed, rows_pushed}
 use Rattle.hs_rules.proofs.found.add.Goals as goal
 
-pub returns-then-not-added-clause-there : goal.returns-then-not-added-clause-there
-returns-then-not-added-clause-there c =
-    row_there c.args.found.now.rows.keys c.args.found.now.list.items c.args.row c.requires
-    (set_there eq-value.it row_same c.args.found.now.rows.keys c.insert.new.self.keys c.args.row c.in_ok-added.ensures.keys c.in_ok-added.added c.in_ok-added.ensures.added c.if-not-added.true)
+pub returns-then-has-clause-there : goal.returns-then-has-clause-there
+returns-then-has-clause-there c = row_there c.args.found.now.list.items c.args.row (c.has.ensures.0 c.if-has.true)
+
+pub keep-requires : goal.keep-requires
+keep-requires c = λ k. let f : true ≡ false = sym (c.has.ensures.1 (row_among c.args.found.now.rows.keys c.args.found.now.list.items c.args.row c.requires k)) ∙ c.if-has.false in absurd (cc)
 
 pub returns-clause-rows : goal.returns-clause-rows
 returns-clause-rows c =
-    rows_pushed c.args.found.now.rows.keys c.insert.new.self.keys c.args.found.now.list.items c.push.new.self.items _ c.requires
-    (set_pushed eq-value.it row_same c.args.found.now.rows.keys c.insert.new.self.keys c.args.row c.in_ok-added.ensures.keys c.in_ok-added.added c.in_ok-added.ensures.added c.if-not-added.false)
-    (set_fresh eq-value.it row_same c.args.found.now.rows.keys c.insert.new.self.keys c.args.row c.in_ok-added.ensures.keys c.in_ok-added.added c.in_ok-added.ensures.added c.if-not-added.false)
+    rows_pushed c.args.found.now.rows.keys c.keep.new.rows.keys c.args.found.now.list.items c.push.new.self.items _ c.requires
+    (λ lt. c.in_ok-keep.ensures.few (omega (arith, lt, c.len.ensures)))
+    (λ le. c.in_ok-keep.ensures.more (omega (arith, le, c.len.ensures)))
+    (λ k. let f : true ≡ false = sym (c.has.ensures.1 k) ∙ c.if-has.false in absurd (cc))
     c.in_ok-push.ensures.items
 
 pub returns-clause-there : goal.returns-clause-there

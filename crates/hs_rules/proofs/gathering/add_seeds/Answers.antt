@@ -17,7 +17,7 @@ conclude_all-requires-clause-search c =
     record { indexed = k.indexed ∙ (c.requires.indexed ∙ sym (ap (λ (l : List EntryData). length l) k.log)); limited = omega arith; few = c.requires.few; fixed_within = tt }
 
 pub conclude_all-requires-clause-heads : goal.conclude_all-requires-clause-heads
-conclude_all-requires-clause-heads c = λ h there. (c.in_ok-heads.ensures.heads.sound h (subst (λ (hs : List HeadData). Contains hs h) c.as_slice.ensures.value there)).0.known
+conclude_all-requires-clause-heads c = λ h there. (c.in_ok-heads.ensures.heads.sound h (subst (λ (hs : List HeadData). Contains hs h) c.as_slice.ensures there)).0.known
 
 pub conclude_all-requires-clause-envs : goal.conclude_all-requires-clause-envs
 conclude_all-requires-clause-envs c = λ h there e m. absurd (none_in e m)
@@ -37,7 +37,7 @@ returns-clause-part c =
     let are = c.in_ok-heads.ensures.heads in
     let new = c.conclude_all.new.found.list.items in
     let shapes : (e : EntryData) → Contains E e → InShape p e = λ e m. absurd (none_in e m) in
-    let some = along (λ i. OnOk c.conclude_all.result ((d : DeducedData) → Contains new d → Contains c.args.found.now.list.items d ⊎ ((h : HeadData) × Contains (c.as_slice.ensures.value i) h × IsConclusion J K (same i) s h d))) c.conclude_all.ensures.only in
+    let some = along (λ i. OnOk c.conclude_all.result ((d : DeducedData) → Contains new d → Contains c.args.found.now.list.items d ⊎ ((h : HeadData) × Contains (c.as_slice.ensures i) h × IsConclusion J K (same i) s h d))) c.conclude_all.ensures.only in
     on_ok_both c.conclude_all.result (RowsAre c.conclude_all.new.found.rows.keys new) ((d : DeducedData) → Contains new d → Contains c.args.found.now.list.items d ⊎ ((h : HeadData) × Contains heads h × IsConclusion J K log s h d))
     (ArePart p K E s.point (AnySupport) c.conclude_all.new.found.rows.keys new)
     (λ rows only_these. part_more p log s of c.requires.at refl shapes J K c.conclude_all.ensures.kept.grows I c.in_ok-heads.ensures.kept.grows (AnySupport) (AsksNothing) heads c.args.found.now.rows.keys c.conclude_all.new.found.rows.keys c.args.found.now.list.items new are
@@ -58,7 +58,7 @@ returns-clause-all c =
     let are = c.in_ok-heads.ensures.heads in
     let new = c.conclude_all.new.found.list.items in
     let shapes : (e : EntryData) → Contains E e → InShape p e = λ e m. absurd (none_in e m) in
-    let all = along (λ i. OnOk c.conclude_all.result ((h : HeadData) → Contains (c.as_slice.ensures.value i) h → (args : List (ℕ × ℕ)) (env : Env) → LeadsTo J (same i) s h args env → IsFound K s h env new)) c.conclude_all.ensures.all in
+    let all = along (λ i. OnOk c.conclude_all.result ((h : HeadData) → Contains (c.as_slice.ensures i) h → (args : List (ℕ × ℕ)) (env : Env) → LeadsTo J (same i) s h args env → IsFound K s h env new)) c.conclude_all.ensures.all in
     on_ok_map c.conclude_all.result ((h : HeadData) → Contains heads h → (args : List (ℕ × ℕ)) (env : Env) → LeadsTo J log s h args env → IsFound K s h env new) (HasAll p K E s.point (AnySupport) new)
     (λ each. all_reached p log s of c.requires.at refl shapes J K c.conclude_all.ensures.kept.grows (AsksNothing) (AnySupport) heads new are each
     (λ sup e f here_is k. (chosen_nothing p f.are, λ ids is picked. picked))) all

@@ -20,7 +20,7 @@ returns-clause-gains c =
     let given = arrows (map (set_of_id I) full) (type_of_id I row.ty) in
     let e = entry_of I row in
     let sets_are : map (set_of_id I) full ≡ env_of_id I row.env =
-    ap (map (set_of_id I)) (c.as_slice.ensures.value ∙ c.in_ok-full.ensures.items_if_clones_equal (λ x y same. same))
+    ap (map (set_of_id I)) (c.as_slice.ensures ∙ c.in_ok-full.ensures.ok)
     ∙ subst (λ (J : InternerData). map (set_of_id J) c.sets.result.now ≡ env_of_id J row.env) c.interner-2.ensures c.sets.ensures.sets in
     let is : given ≡ arrows e.env e.ty = ap (λ (ss : Env). arrows ss (type_of_id I row.ty)) sets_are in
     on_ok_map c.push_given.result (GainsHeads K c.args.count (Just (Rule c.args.place) own given) c.args.out.now.items c.push_given.new.out.items)

@@ -28,10 +28,10 @@ returns-clause-gains c =
     let full = c.args.full.now in
     let own = env_of_id I c.args.own in
     let ty = arrows (map (set_of_id I) full) (type_of_id I c.args.ty) in
-    let sets_are : c.in_ok-sets.sets.items ≡ take c.args.count full = c.in_ok-sets.ensures.items_if_clones_equal (λ x y same. same) in
+    let sets_are : c.in_ok-sets.sets.items ≡ take c.args.count full = c.in_ok-sets.ensures.ok in
     let h : HeadData = record { by = c.args.by; own = c.args.own; sets = c.in_ok-sets.sets.items; rest = c.in_ok-rest.rest } in
     let is = ap (λ (xs : List ℕ). arrows (map (set_of_id K) xs) (type_of_id K c.in_ok-rest.rest)) sets_are ∙ parts_type I K c.args.count full c.args.ty c.in_ok-rest.rest g c.requires.full c.in_ok-rest.ensures.is in
-    heads_one K c.args.count (Just c.args.by own ty) c.args.out.now.items c.push.new.self.items h c.in_ok-push.ensures.items
+    heads_one K c.args.count (Just c.args.by own ty) c.args.out.now.items c.push.new.self.items h c.in_ok-push.ensures.ok
     (record {
       own = env_within I K g c.args.own c.requires.own;
       sets = subst (λ (xs : List ℕ). All (λ s. s < length K.sets) xs) (sym sets_are) (sets_within I K (take c.args.count full) g (All-take (λ s. s < length I.sets) c.args.count full c.requires.full));

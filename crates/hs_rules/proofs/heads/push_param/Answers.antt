@@ -29,7 +29,7 @@ returns-clause-gains c =
     (λ x. IsSplit c.interner.result.now row.ty c.args.count x.0.items x.1) c.in-Some.is c.in_ok-sets.ensures) in
     let h : HeadData = record { by = Param c.args.x c.args.place; own = own; sets = c.in-Some.sets.items; rest = c.in-Some.rest } in
     let is : head_type K h ≡ e.ty = (λ i. arrows (sets_stay I K c.in-Some.sets.items g s.sets_within i) (type_stays I K g c.in-Some.rest s.rest_within i)) ∙ sym s.is in
-    heads_one K c.args.count (ParamAt log c.args.params c.args.x c.args.place) c.args.out.now.items c.push.new.self.items h c.in_ok-push.ensures.items
+    heads_one K c.args.count (ParamAt log c.args.params c.args.x c.args.place) c.args.out.now.items c.push.new.self.items h c.in_ok-push.ensures.ok
     (record {
       own = slice_get_within K.envs own own_env c.in_ok-own.ensures.ok;
       sets = sets_within I K c.in-Some.sets.items g s.sets_within;

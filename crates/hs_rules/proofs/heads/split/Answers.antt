@@ -20,7 +20,7 @@ loop-preserved c =
     let ids = c.args.interner.now in
     let set = c.in-Arrow.set in
     let v = c.in-Arrow.ensures in
-    let items = c.in_ok-push-in-Arrow.ensures.items in
+    let items = c.in_ok-push-in-Arrow.ensures.ok in
     let front = map (set_of_id ids) c.loop.sets.items in
     let more = ap (map (set_of_id ids)) items ∙ map-append (set_of_id ids) c.loop.sets.items (set ∷ []) in
     record {

@@ -12,8 +12,8 @@ use Rattle.hs_rules.proofs.joining.extend.Goals as goal
 
 pub row-candidate-requires : goal.row-candidate-requires
 row-candidate-requires c =
-    place_within c.args.replica.now.log c.loop-place.replica.log c.args.slot.now (length (env_of_id c.args.replica.now.ids c.args.partial.now.env)) c.loop-place.place-index c.deref-place-items.result.now
-    c.loop-place.invariant.kept.log (c.deref-place-items.ensures.value ∙ ap (λ (f : FilledData). f.places) c.slot.view_is) c.loop-place-test.true c.requires.placed
+    place_within c.args.replica.now.log c.loop-place.replica.log c.args.slot.now (length (env_of_id c.args.replica.now.ids c.args.partial.now.env)) c.loop-place.place-index c.as_slice-place-items.result.now
+    c.loop-place.invariant.kept.log (c.as_slice-place-items.ensures ∙ ap (λ (f : FilledData). f.places) c.slot.view_is) c.loop-place-test.true c.requires.placed
 
 pub union_envs-requires-clause-a : goal.union_envs-requires-clause-a
 union_envs-requires-clause-a c =
@@ -22,12 +22,12 @@ union_envs-requires-clause-a c =
 
 pub union_envs-requires-clause-long : goal.union_envs-requires-clause-long
 union_envs-requires-clause-long c =
-    let place = get_or c.deref-place-items.result.now c.loop-place.place-index 0 in
+    let place = get_or c.as_slice-place-items.result.now c.loop-place.place-index 0 in
     let env_is = ap (λ (x : PartialData). x.env) c.partial.view_is in
     subst (λ (n : ℕ). length (env_of_id c.loop-place.replica.ids n) ≡ length (env_of_id c.loop-place.replica.ids c.row-candidate.result.env)) (sym env_is)
     (same_length c.args.replica.now.ids c.loop-place.replica.ids c.args.replica.now.log c.args.partial.now.env place c.row-candidate.result c.loop-place.invariant.kept.grows c.requires.env
-    (place_placed c.args.replica.now.log c.args.slot.now (length (env_of_id c.args.replica.now.ids c.args.partial.now.env)) c.loop-place.place-index c.deref-place-items.result.now
-    (c.deref-place-items.ensures.value ∙ ap (λ (f : FilledData). f.places) c.slot.view_is) c.loop-place-test.true c.requires.placed)
+    (place_placed c.args.replica.now.log c.args.slot.now (length (env_of_id c.args.replica.now.ids c.args.partial.now.env)) c.loop-place.place-index c.as_slice-place-items.result.now
+    (c.as_slice-place-items.ensures ∙ ap (λ (f : FilledData). f.places) c.slot.view_is) c.loop-place-test.true c.requires.placed)
     (ap (λ l. slice_get l place) (sym c.loop-place.invariant.kept.log) ∙ c.row-candidate.ensures.entry))
 
 pub loop-place-preserved : goal.loop-place-preserved
@@ -38,7 +38,7 @@ loop-place-preserved c =
     let log = c.args.replica.now.log in
     let from = c.args.partial.now in
     let f = c.args.slot.now in
-    let items = c.deref-place-items.result.now in
+    let items = c.as_slice-place-items.result.now in
     let place = get_or items c.loop-place.place-index 0 in
     let row = c.row-candidate.result in
     let id = c.in_ok-joined.joined in
@@ -48,7 +48,7 @@ loop-place-preserved c =
     let env_is = ap (λ (x : PartialData). x.env) c.partial.view_is in
     let from_is = c.as_slice-from.ensures ∙ ap (λ (x : PartialData). x.args) c.partial.view_is in
     let arg_is = ap (λ (x : FilledData). x.arg) c.slot.view_is in
-    let places_is = c.deref-place-items.ensures.value ∙ ap (λ (x : FilledData). x.places) c.slot.view_is in
+    let places_is = c.as_slice-place-items.ensures ∙ ap (λ (x : FilledData). x.places) c.slot.view_is in
     let at = ap (λ l. slice_get l place) (sym c.loop-place.invariant.kept.log) ∙ c.row-candidate.ensures.entry in
     let there = subst (λ xs. Contains xs place) places_is (read_in items c.loop-place.place-index 0 c.loop-place-test.true) in
     let within = c.in_ok-joined.ensures.ok.0 in
@@ -69,6 +69,6 @@ loop-place-preserved c =
 
 pub returns-clause-all : goal.returns-clause-all
 returns-clause-all c = λ place e fills.
-    let r = reached c.args.replica.now.log c.args.slot.now c.deref-place-items.result.now c.loop-place.place-index place e
-    (c.deref-place-items.ensures.value ∙ ap (λ (f : FilledData). f.places) c.slot.view_is) c.loop-place-test.false fills in
+    let r = reached c.args.replica.now.log c.args.slot.now c.as_slice-place-items.result.now c.loop-place.place-index place e
+    (c.as_slice-place-items.ensures ∙ ap (λ (f : FilledData). f.places) c.slot.view_is) c.loop-place-test.false fills in
     c.loop-place.invariant.all r.k r.lt e r.at

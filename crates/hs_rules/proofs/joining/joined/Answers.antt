@@ -14,12 +14,12 @@ loop-slot-init c =
     record {
       kept = keeps_none c.args.replica.now;
       joined = joined_none c.args.replica.now.ids c.args.replica.now.log c.args.own c.push.new.self.items x c.requires.own c.requires.is_env
-          (c.in_ok-push.ensures.items ∙ ap (λ xs. xs ++ x ∷ []) c.new-partials.ensures.items) refl c.new.ensures.items;
+          (c.in_ok-push.ensures.ok ∙ ap (λ xs. xs ++ x ∷ []) c.new-partials.ensures.items) refl c.new.ensures.items;
     }
 
 pub extended-requires : goal.extended-requires
 extended-requires c =
-    subst (λ (xs : List PartialData). CanExtend c.loop-slot.replica.ids c.loop-slot.replica.log xs c.slot-item.result) (sym c.as_slice.ensures.value)
+    subst (λ (xs : List PartialData). CanExtend c.loop-slot.replica.ids c.loop-slot.replica.log xs c.slot-item.result) (sym c.as_slice.ensures)
     (can_extend c.loop-slot.replica.ids c.args.replica.now.log c.loop-slot.replica.log (length (env_of_id c.args.replica.now.ids c.args.own)) (env_of_id c.args.replica.now.ids c.args.own)
     (take c.loop-slot.slot-index c.args.slots.now) c.slot-item.result c.loop-slot.partials.items c.loop-slot.invariant.kept.log c.loop-slot.invariant.joined
     (c.requires.placed c.slot-item.result (c.loop-slot.slot-index, c.loop-slot-test.true, sym c.slot-item.is)))
@@ -35,7 +35,7 @@ loop-slot-preserved c =
     let old = c.loop-slot.partials.items in
     let new = c.in_ok-partials.partials.items in
     let same = c.loop-slot.invariant.kept.log in
-    let items = c.as_slice.ensures.value in
+    let items = c.as_slice.ensures in
     let some = subst (λ (l : List EntryData). (x : PartialData) → Contains new x → IsMadeOf J K l old f x) same
     (subst (λ (xs : List PartialData). (x : PartialData) → Contains new x → IsMadeOf J K c.loop-slot.replica.log xs f x) items c.in_ok-partials.ensures.only) in
     let all = subst (λ (l : List EntryData). (from : PartialData) → Contains old from → (place : ℕ) (e : EntryData) → FillsBy l f place e → IsCovered J K from e new) same

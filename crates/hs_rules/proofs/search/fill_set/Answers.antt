@@ -16,4 +16,4 @@ loop-ty-preserved c =
     let f : FilledData = record { arg = c.args.arg; places = c.in_ok-places.places.items } in
     subst (λ (ss : List SlotData). GainsFilled E fixed ss c.args.out.now.items c.push.new.self.items) (sym (next_of_set ids c.args.arg c.args.point c.loop-ty.ty-index items t c.loop-ty-test.true c.ty-item.is))
     (gains_then E fixed (slots_of c.args.arg c.args.point (map (type_of_id ids) (take c.loop-ty.ty-index items))) (s ∷ []) c.args.out.now.items c.loop-ty.out.items c.push.new.self.items c.loop-ty.invariant
-    (gains_one E fixed s c.loop-ty.out.items c.push.new.self.items f c.in_ok-push.ensures.items (record { arg = refl; places = c.in_ok-places.ensures })))
+    (gains_one E fixed s c.loop-ty.out.items c.push.new.self.items f c.in_ok-push.ensures.ok (record { arg = refl; places = c.in_ok-places.ensures })))

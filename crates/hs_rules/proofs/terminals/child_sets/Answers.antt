@@ -1,6 +1,7 @@
-use Rattle.std.proofs.Common.{◌∙◌, ◌<◌, length, set}
+use Rattle.std.proofs.Common.{sym, ◌∙◌, ◌<◌, ap, map, subst, List, ℕ, All, length, set}
 use Rattle.std.proofs.lemmas.List.Elements.{All-set}
 use Rattle.hs_types.specs.Interned.{set_of_id}
+use Rattle.hs_types.proofs.MakeLemmas.{set_refilled}
 use Rattle.hs_rules.proofs.FoundLemmas.{sets_stay, sets_within}
 use Rattle.hs_rules.proofs.TerminalLemmas.{map-set}
 use Rattle.hs_rules.proofs.terminals.child_sets.Goals as goal
@@ -9,7 +10,9 @@ pub returns-clause-range : goal.returns-clause-range
 returns-clause-range c =
     let J = c.empty_sets.new.replica.ids in
     let K = c.state_set.new.replica.ids in
-    All-set (λ s. s < length K.sets) c.in_ok-sets.sets.items c.args.place c.in_ok-one.one c.in_ok-one.ensures.range (sets_within J K c.in_ok-sets.sets.items c.in_ok-one.ensures.kept.grows c.in_ok-sets.ensures.range)
+    let sets = c.in_ok-sets.sets.items in
+    subst (λ (xs : List ℕ). All (λ s. s < length K.sets) xs) (sym (set_refilled sets c.deref_mut.result.now c.args.place c.in_ok-one.one c.deref_mut.ensures.value))
+    (All-set (λ s. s < length K.sets) sets c.args.place c.in_ok-one.one c.in_ok-one.ensures.range (sets_within J K sets c.in_ok-one.ensures.kept.grows c.in_ok-sets.ensures.range))
 
 pub returns-clause-are : goal.returns-clause-are
 returns-clause-are c =
@@ -17,4 +20,5 @@ returns-clause-are c =
     let K = c.state_set.new.replica.ids in
     let sets = c.in_ok-sets.sets.items in
     let same = sets_stay J K sets c.in_ok-one.ensures.kept.grows c.in_ok-sets.ensures.range ∙ c.in_ok-sets.ensures.are in
-    map-set (set_of_id K) sets c.args.place c.in_ok-one.one ∙ (λ i. set (same i) c.args.place (c.in_ok-one.ensures.is i))
+    ap (map (set_of_id K)) (set_refilled sets c.deref_mut.result.now c.args.place c.in_ok-one.one c.deref_mut.ensures.value)
+    ∙ (map-set (set_of_id K) sets c.args.place c.in_ok-one.one ∙ (λ i. set (same i) c.args.place (c.in_ok-one.ensures.is i)))

@@ -25,7 +25,7 @@ returns-in_ok-full-in-None-clause-gains c =
     let old = c.args.out.now.items in
     let new = c.push_state.new.out.items in
     let own_is = env_stays I J c.in_ok-full-in-None.ensures.kept.grows c.args.own c.requires.own in
-    let is : arrows full (state q) ≡ arrows (replicate c.args.rank []) (state q) = ap (λ (ss : Env). arrows ss (state q)) (ap (map (set_of_id J)) c.as_slice.ensures.value ∙ c.in_ok-full-in-None.ensures.are) in
+    let is : arrows full (state q) ≡ arrows (replicate c.args.rank []) (state q) = ap (λ (ss : Env). arrows ss (state q)) (ap (map (set_of_id J)) c.as_slice.ensures ∙ c.in_ok-full-in-None.ensures.are) in
     let none = sym c.in-None.ensures in
     on_ok_map c.push_state.result (GainsHeads K c.args.count (Just (Terminal q None) (env_of_id J c.args.own) (arrows full (state q))) old new)
     (GainsHeads K c.args.count (InState ts c.args.terminal c.args.rank c.args.from own q) old new)

@@ -1,28 +1,42 @@
-use Rattle.std.proofs.Common.{◌≡◌, sym, ◌∙◌, ap, subst, List, map, Contains, ◌↔◌, Bor, rules, take, drop, length, ◌-◌}
-use Rattle.std.specs.Ordering.{nat_cmp, is_lt, is_eq}
-use Rattle.std.specs.declared.cmp.Ordering.TheVariants.{Equal}
-use Rattle.std.proofs.lemmas.List.Sorted.{IsPartitionPoint-from_clause}
+use Rattle.std.proofs.Common.{◌≡◌, sym, ◌∙◌, ap, subst, ℕ, List, map, length, get_or, Contains, Bor, arith}
 use Rattle.hs_table.specs.Entries.{EntryData}
-use Rattle.hs_checker.specs.Order.{IsIndex}
-use Rattle.hs_checker.proofs.Between.{parted_less, rest_parted, rest_has}
-use Rattle.hs_checker.proofs.GapLemmas.{nat_equal, nat_itself}
-use Rattle.hs_checker.proofs.IndexLemmas.{points_up, picked}
+use Rattle.hs_checker.specs.Order.{IsIndex, AreStarts}
+use Rattle.hs_checker.proofs.StartLemmas.{none_of, part_up, part_has, index_part}
 use Rattle.hs_checker.proofs.index.Index.at_point.Goals as goal
 
-pub returns : goal.returns
-returns c =
-    let rows = c.as_slice-rows.result.now in
-    let t = c.args.point in
+-- what is known of the fields is known of the slices of them
+moved : (rows sliced : List (Bor EntryData)) (starts items : List ℕ) → sliced ≡ rows → items ≡ starts → AreStarts (map (λ (r : Bor EntryData). r.now) rows) starts → AreStarts (map (λ (r : Bor EntryData). r.now) sliced) items
+moved rows sliced starts items e f h =
+    subst (λ (xs : List ℕ). AreStarts (map (λ (r : Bor EntryData). r.now) sliced) xs) (sym f) (subst (λ (rs : List (Bor EntryData)). AreStarts (map (λ (r : Bor EntryData). r.now) rs) starts) (sym e) h)
+
+pub returns-then-place-starts-clause-has : goal.returns-then-place-starts-clause-has
+returns-then-place-starts-clause-has c = λ e. (
+  λ k. absurd (none_of c.as_slice-rows.result.now e k),
+  λ both.
+      let there = c.self.invariant.starts.within e (subst (λ (es : List EntryData). Contains es e) (sym c.self.view_is) both.0) in
+      absurd (omega (arith, there, both.1, c.if-place-starts.true, ap length c.as_slice-starts.ensures.value)),
+)
+
+pub slice_bounds-result-count : goal.slice_bounds-result-count
+slice_bounds-result-count c =
+    part_up c.as_slice-rows.result.now c.as_slice-starts.result.now c.args.point
+    (moved c.self.inside.rows.items c.as_slice-rows.result.now c.self.inside.starts.items c.as_slice-starts.result.now c.as_slice-rows.ensures.value c.as_slice-starts.ensures.value c.self.invariant.starts) c.if-place-starts.false
+
+pub slice_bounds-result-start : goal.slice_bounds-result-start
+slice_bounds-result-start c =
+    part_up c.as_slice-rows.result.now c.as_slice-starts.result.now c.args.point
+    (moved c.self.inside.rows.items c.as_slice-rows.result.now c.self.inside.starts.items c.as_slice-starts.result.now c.as_slice-rows.ensures.value c.as_slice-starts.ensures.value c.self.invariant.starts) c.if-place-starts.false
+
+pub returns-clause-has : goal.returns-clause-has
+returns-clause-has c = λ e.
     let f : Bor EntryData → EntryData = λ r. r.now in
-    let is : map f rows ≡ c.args.self.now = ap (map f) c.as_slice-rows.ensures.value ∙ c.self.view_is in
-    let up : IsIndex (map f rows) = subst (λ (es : List EntryData). IsIndex es) (sym (ap (map f) c.as_slice-rows.ensures.value)) c.self.invariant in
-    let low = c.partition_point-from.result in
-    let within = c.partition_point-from.ensures.bound in
-    let rises = points_up rows up t in
-    let point = IsPartitionPoint-from_clause (λ (r : Bor EntryData). is_lt (nat_cmp r.now.point t)) _ _ c.partition_point-from.ensures.partitioned (parted_less (λ (r : Bor EntryData). nat_cmp r.now.point t) rows rises) (λ a r q k. search rules) in
-    let split = IsPartitionPoint-from_clause (λ (r : Bor EntryData). is_eq (nat_cmp r.now.point t)) _ _ c.partition_point-count.ensures.partitioned (rest_parted (λ (r : Bor EntryData). nat_cmp r.now.point t) rows rises low point within) (λ a r q k. search rules) in
-    let ys : List (Bor EntryData) = take c.partition_point-count.result (take (length rows - low) (drop low rows)) in
-    λ e. subst (λ (es : List EntryData). Contains (map f ys) e ↔ (Contains es e × (e.point ≡ t))) is
-    (picked rows ys (λ (r : Bor EntryData). nat_cmp r.now.point t ≡ Equal) (λ (e : EntryData). e.point ≡ t)
-    (rest_has (λ (r : Bor EntryData). nat_cmp r.now.point t) rows rises low point within c.partition_point-count.result split c.partition_point-count.ensures.bound)
-    (λ r. (nat_equal r.now.point t, nat_itself r.now.point t)) e)
+    let is : map f c.as_slice-rows.result.now ≡ c.args.self.now = ap (map f) c.as_slice-rows.ensures.value ∙ c.self.view_is in
+    let exact = part_has c.as_slice-rows.result.now c.as_slice-starts.result.now c.args.point
+    (moved c.self.inside.rows.items c.as_slice-rows.result.now c.self.inside.starts.items c.as_slice-starts.result.now c.as_slice-rows.ensures.value c.as_slice-starts.ensures.value c.self.invariant.starts) c.if-place-starts.false e in
+    (λ k. let b = exact.0 k in (subst (λ (es : List EntryData). Contains es e) is b.0, b.1), λ b. exact.1 (subst (λ (es : List EntryData). Contains es e) (sym is) b.0, b.1))
+
+pub returns-clause-sorted : goal.returns-clause-sorted
+returns-clause-sorted c =
+    let f : Bor EntryData → EntryData = λ r. r.now in
+    index_part c.as_slice-rows.result.now (get_or c.as_slice-starts.result.now c.args.point 0) _
+    (subst (λ (rs : List (Bor EntryData)). IsIndex (map f rs)) (sym c.as_slice-rows.ensures.value) c.self.invariant.sorted)

@@ -21,13 +21,13 @@ loop-place-preserved c =
     let y_in : place < length c.sets-in-loop-place.result.now = omega (arith, c.loop-place-test.true, lc, ly, c.requires.long) in
     record {
       grows = Grows-trans I J K h.grows c.in_ok-union_sets.ensures.grows;
-      long = omega (arith, h.long, length-push us u, ap length c.in_ok-push.ensures.items);
+      long = omega (arith, h.long, length-push us u, ap length c.in_ok-push.ensures.ok);
       range = joined_range I J K h.grows c.in_ok-union_sets.ensures.grows c.args.a c.args.b c.requires.a c.requires.b us c.push.new.self.items place u c.index-sets-place.result c.index-sets-place-in-loop-place.result
           c.sets.result.now c.sets-in-loop-place.result.now c.sets.ensures.sets c.sets-in-loop-place.ensures.sets x_in y_in c.index-sets-place.is c.index-sets-place-in-loop-place.is
-          h.long h.range c.in_ok-union_sets.ensures.ok c.in_ok-push.ensures.items;
+          h.long h.range c.in_ok-union_sets.ensures.ok c.in_ok-push.ensures.ok;
       each = joined_each I J K h.grows c.in_ok-union_sets.ensures.grows c.args.a c.args.b c.requires.a c.requires.b us c.push.new.self.items place u c.index-sets-place.result c.index-sets-place-in-loop-place.result
           c.sets.result.now c.sets-in-loop-place.result.now c.sets.ensures.sets c.sets-in-loop-place.ensures.sets x_in y_in c.index-sets-place.is c.index-sets-place-in-loop-place.is
-          h.long h.range c.in_ok-union_sets.ensures.ok c.in_ok-push.ensures.items h.each;
+          h.long h.range c.in_ok-union_sets.ensures.ok c.in_ok-push.ensures.ok h.each;
     }
 
 pub returns-clause-ok : goal.returns-clause-ok
@@ -36,4 +36,4 @@ returns-clause-ok c =
     let h = c.loop-place.invariant in
     let lc = same_long I I c.args.a c.sets-count.result.now (Grows-refl I) c.requires.a c.sets-count.ensures.sets in
     joined_all (env_of_id I c.args.a) (env_of_id I c.args.b) c.loop-place.self c.env.new.self c.loop-place.unions.items c.as_slice.result.now c.in_ok-id.id c.requires.long
-    (omega (arith, h.long, lc, c.loop-place-test.false, c.loop-place.auto.place-end)) (λ k lt. h.each k (omega (arith, lt, lc, c.loop-place-test.false))) c.as_slice.ensures.value c.in_ok-id.ensures.ok
+    (omega (arith, h.long, lc, c.loop-place-test.false, c.loop-place.auto.place-end)) (λ k lt. h.each k (omega (arith, lt, lc, c.loop-place-test.false))) c.as_slice.ensures c.in_ok-id.ensures.ok

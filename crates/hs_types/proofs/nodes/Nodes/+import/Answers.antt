@@ -24,7 +24,7 @@ import_set-loop-member-preserved t c =
     record {
       grows = Grows-trans c.args.self.now J K h.grows g;
       range = more_range J.types K.types (state 0) F c.loop-member.types.items c.push.new.self.items c.members-members.result.now c.loop-member.member-index c.in_ok-import_type.field-0 c.member-item.result
-          g.types h.range h.same c.in_ok-import_type.ensures.ok c.loop-member-test.true c.member-item.is c.in_ok-push.ensures.items;
+          g.types h.range h.same c.in_ok-import_type.ensures.ok c.loop-member-test.true c.member-item.is c.in_ok-push.ensures.ok;
       same = more_same J.types K.types (state 0) F c.loop-member.types.items c.push.new.self.items c.members-members.result.now c.loop-member.member-index c.in_ok-import_type.field-0 c.member-item.result
-          g.types h.range h.same c.in_ok-import_type.ensures.ok c.loop-member-test.true c.member-item.is c.in_ok-push.ensures.items;
+          g.types h.range h.same c.in_ok-import_type.ensures.ok c.loop-member-test.true c.member-item.is c.in_ok-push.ensures.ok;
     }

@@ -14,7 +14,7 @@ loop-set-preserved c =
     record {
       grows = Grows-trans c.args.self.now J K h.grows g;
       range = more_range J.sets K.sets [] F c.loop-set.own_sets.items c.push.new.self.items c.sets-sets.result.now c.loop-set.set-index c.in_ok-import_set.field-0 c.set-item.result
-          g.sets h.range h.same c.in_ok-import_set.ensures.ok c.loop-set-test.true c.set-item.is c.in_ok-push.ensures.items;
+          g.sets h.range h.same c.in_ok-import_set.ensures.ok c.loop-set-test.true c.set-item.is c.in_ok-push.ensures.ok;
       same = more_same J.sets K.sets [] F c.loop-set.own_sets.items c.push.new.self.items c.sets-sets.result.now c.loop-set.set-index c.in_ok-import_set.field-0 c.set-item.result
-          g.sets h.range h.same c.in_ok-import_set.ensures.ok c.loop-set-test.true c.set-item.is c.in_ok-push.ensures.items;
+          g.sets h.range h.same c.in_ok-import_set.ensures.ok c.loop-set-test.true c.set-item.is c.in_ok-push.ensures.ok;
     }

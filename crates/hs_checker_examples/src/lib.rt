@@ -1,0 +1,5 @@
+//! Tests of the checker on worked examples, from files.
+#![tactic(auto)]
+
+#[cfg(test)]
+mod tests;

@@ -1,0 +1,13 @@
+use Rattle.std.proofs.Common.{sym, ◌∙◌, ap, Bool, ◌||◌, take}
+use Rattle.std.proofs.lemmas.Map.Made.{is_member-Decides}
+use Rattle.hs_rules.specs.declared.joining.TheConstants.{FEW}
+use Rattle.hs_rules.proofs.FoundLemmas.{row_same, few_or_more}
+use Rattle.hs_rules.proofs.found.has.Goals as goal
+
+pub returns-else-is_among : goal.returns-else-is_among
+returns-else-is_among c =
+    let rows = c.args.found.now.rows.keys in
+    let row = c.args.row.now in
+    let known = is_member-Decides row_same rows row in
+    few_or_more rows c.args.found.now.list.items (take FEW c.as_slice-list.result.now) row c.requires (ap (take FEW) c.as_slice-list.ensures.value) c.contains.result c.is_among-2.result c.contains.result
+    c.is_among-2.ensures (λ t. known.0 (sym c.contains.ensures ∙ t), λ k. c.contains.ensures ∙ known.1 k) (sym (ap (λ (b : Bool). b || c.contains.result) c.if-is_among.false))

@@ -1,0 +1,28 @@
+use Rattle.std.proofs.Common.{◌≡◌, ◌∙◌, ap, ◌&&◌, nat_eq, filter, length, take, Contains}
+use Rattle.std.proofs.lemmas.List.Elements.{All-contains}
+use Rattle.hs_scheme.specs.declared.flow.FlowPair.{FlowPair}
+use Rattle.hs_scheme.specs.Problem.{ProblemData}
+use Rattle.hs_table.specs.Entries.{EntryData, InShape}
+use Rattle.hs_replica.specs.Places.{here}
+use Rattle.hs_rules.specs.Heads.{GainsHeads, AtFlow}
+use Rattle.hs_rules.proofs.Lists.{along}
+use Rattle.hs_rules.proofs.SourceLemmas.{params_all}
+use Rattle.hs_rules.proofs.parameters.parameter_all.Goals as goal
+
+pub returns-clause-heads : goal.returns-clause-heads
+returns-clause-heads c =
+    let p = c.args.spot.now.problem.now in
+    let I = c.args.replica.now.ids in
+    let log = c.args.replica.now.log in
+    let limit = c.args.search.now.limit in
+    let args = c.args.search.now.args.now in
+    let rule = c.args.spot.now.rule in
+    let x = c.args.x in
+    let shapes = λ (e : EntryData) (m : Contains (take limit log) e). All-contains (InShape p) (take limit log) e c.requires.spot.shapes m in
+    let flows = ap (λ (q : ProblemData). q.flow.pairs) c.problem.view_is in
+    let K = c.push_flowing.new.replica.ids in
+    let heads = c.push_flowing.new.out.items in
+    let pairs = c.flow_of-pairs.result.now in
+    let are_pairs : pairs ≡ filter (λ (f : FlowPair). nat_eq f.rule rule && nat_eq f.param x) p.flow.pairs = c.flow_of-pairs.ensures.pairs ∙ ap (filter (λ (f : FlowPair). nat_eq f.rule rule && nat_eq f.param x)) flows in
+    let gains = along (λ i. GainsHeads K (length args) (AtFlow log (c.requires.spot.params_are i) x limit here pairs) (c.new-out.ensures.items i) heads) c.in_ok-push_flowing.ensures.gains in
+    params_all p log limit rule args shapes x pairs are_pairs K heads gains

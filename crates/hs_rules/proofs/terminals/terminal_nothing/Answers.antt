@@ -1,0 +1,41 @@
+use Rattle.std.proofs.Common.{◌≡◌, sym, ◌∙◌, ap, subst, ℕ, [], length, replicate, Some}
+use Rattle.std.proofs.lemmas.Option.{slice_get_within, get_or_from_slice_get}
+use Rattle.hs_scheme.specs.Automaton.{AutomatonData, next}
+use Rattle.hs_scheme.specs.Sorted.{SortedData, IsSorted}
+use Rattle.hs_scheme.specs.Problem.{ProblemData}
+use Rattle.hs_table.specs.Entries.{Env, params_of}
+use Rattle.hs_types.specs.Interned.{env_of_id}
+use Rattle.hs_rules.specs.Heads.{GainsHeads, AtRange, InState}
+use Rattle.hs_rules.proofs.Lists.{along}
+use Rattle.hs_rules.proofs.RankLemmas.{ranks_agree}
+use Rattle.hs_rules.proofs.SeedLemmas.{terminals_nothing}
+use Rattle.hs_rules.proofs.terminals.terminal_nothing.Goals as goal
+
+pub push_terminal-requires-clause-own : goal.push_terminal-requires-clause-own
+push_terminal-requires-clause-own c = slice_get_within c.empty_env.new.self.ids.envs c.in_ok-own.own (replicate c.args.spot.now.params []) c.in_ok-own.ensures.ok
+
+pub push_terminal-requires-clause-ranks : goal.push_terminal-requires-clause-ranks
+push_terminal-requires-clause-ranks c = λ q to moves.
+    let p = c.args.spot.now.problem.now in
+    let a = c.args.terminal in
+    let sorted_is : c.problem.inside.sorted ≡ p.sorted = ap (λ (q : ProblemData). q.sorted) c.problem.view_is in
+    let m_is : c.sorted.inside.automaton ≡ p.sorted.automaton = ap (λ (q : SortedData). q.automaton) (c.sorted.view_is ∙ sorted_is) in
+    let is_sorted : IsSorted p.sorted = subst (λ (q : SortedData). IsSorted q) (c.sorted.view_is ∙ sorted_is) c.sorted.invariant in
+    ranks_agree p.sorted is_sorted q a to (subst (λ (m : AutomatonData). next m.transitions q a ≡ Some to) m_is moves) ∙ sym c.rank-rank.ensures
+
+pub returns-clause-heads : goal.returns-clause-heads
+returns-clause-heads c =
+    let p = c.args.spot.now.problem.now in
+    let J = c.empty_env.new.self.ids in
+    let args = c.args.args.now in
+    let a = c.args.terminal in
+    let own = c.in_ok-own.own in
+    let none : Env = replicate c.args.spot.now.params [] in
+    let own_is : env_of_id J own ≡ replicate (params_of p c.args.spot.now.rule) [] = get_or_from_slice_get J.envs own none [] c.in_ok-own.ensures.ok ∙ ap (λ (k : ℕ). let e : Env = replicate k [] in e) c.requires.params in
+    let sorted_is : c.problem.inside.sorted ≡ p.sorted = ap (λ (q : ProblemData). q.sorted) c.problem.view_is in
+    let m_is : c.sorted.inside.automaton ≡ p.sorted.automaton = ap (λ (q : SortedData). q.automaton) (c.sorted.view_is ∙ sorted_is) in
+    let is_sorted : IsSorted p.sorted = subst (λ (q : SortedData). IsSorted q) (c.sorted.view_is ∙ sorted_is) c.sorted.invariant in
+    let K = c.push_terminal.new.replica.ids in
+    let heads = c.push_terminal.new.out.items in
+    let gains = along (λ i. GainsHeads K (length args) (AtRange (InState (m_is i).transitions a (c.rank-rank.ensures i) (length args) (own_is i)) 0 (m_is i).states) (c.new-out.ensures.items i) heads) c.in_ok-push_terminal.ensures.gains in
+    terminals_nothing p [] c.args.spot.now.rule args K heads a gains (λ q to moves. ranks_agree p.sorted is_sorted q a to moves)

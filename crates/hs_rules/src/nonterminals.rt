@@ -1,0 +1,115 @@
+//! The types of a nonterminal at a point's head, as they are wanted.
+
+ghost use Rattle.std.specs.Prelude.{◌<◌, IfOk, length, take};
+ghost use Rattle.hs_scheme.specs.declared.term.Head.TheVariants.{Nt};
+ghost use Rattle.hs_types.specs.Interned.{type_of_id};
+ghost use Rattle.hs_replica.specs.Replica.{KeepsLog};
+ghost use Rattle.hs_rules.specs.Filling.{CanSearch};
+ghost use Rattle.hs_rules.specs.Heads.{AreHeads, Asks, ComesFrom, AnyHead, IsSpot};
+
+use crate::found::HeadTypes;
+use crate::heads::push_bodies;
+use crate::search::{Search, below};
+use crate::spot::Spot;
+use hs_replica::Replica;
+use hs_scheme::OutOfMemory;
+use hs_types::TyId;
+use smallvec::SmallVec;
+use std::alloc::Global;
+
+/// The types of a nonterminal at the head that ask for the type at the argument.
+pub(crate) fn nonterminal_asking(
+    alloc: Global,
+    spot: &Spot,
+    replica: &mut Replica,
+    search: &Search,
+    nonterminal: u32,
+    arg: u32,
+    ty: TyId,
+) -> Result<HeadTypes, OutOfMemory>
+    requires search { CanSearch replica.old search.now.args.now search.now.limit search.now.fixed }
+    requires spot { IsSpot spot.now.problem.now spot.now.rule spot.now.params (take search.now.limit replica.old.log) }
+    requires head { nonterminal < length spot.now.problem.now.points.bodies }
+    requires arg { arg < length search.now.args.now }
+    requires ty { ty < length replica.old.ids.types }
+    ensures heads { IfOk result (λ heads. AreHeads spot.now.problem.now (take search.now.limit replica.old.log)
+        (record { rule = spot.now.rule; head = Nt nonterminal; args = search.now.args.now })
+        replica.new.ids (Asks arg (type_of_id replica.old.ids ty)) heads.items) }
+    ensures kept { KeepsLog replica.old replica.new }
+{
+    let problem = spot.problem;
+    let own = replica.empty_env(spot.params as usize)?;
+    let body = problem.points.body_of(nonterminal);
+    let places = below(alloc, replica.asking(body, arg, ty), search.limit)?;
+    let mut out = SmallVec::new(alloc);
+    push_bodies(
+        alloc,
+        replica,
+        places.as_slice(),
+        own,
+        search.args.len(),
+        &mut out,
+    )?;
+    Ok(out)
+}
+
+/// The type of a nonterminal at the head that comes from the place.
+pub(crate) fn nonterminal_at(
+    alloc: Global,
+    spot: &Spot,
+    replica: &mut Replica,
+    search: &Search,
+    nonterminal: u32,
+    place: u32,
+) -> Result<HeadTypes, OutOfMemory>
+    requires search { CanSearch replica.old search.now.args.now search.now.limit search.now.fixed }
+    requires spot { IsSpot spot.now.problem.now spot.now.rule spot.now.params (take search.now.limit replica.old.log) }
+    requires head { nonterminal < length spot.now.problem.now.points.bodies }
+    requires place { place < search.now.limit }
+    ensures heads { IfOk result (λ heads. AreHeads spot.now.problem.now (take search.now.limit replica.old.log)
+        (record { rule = spot.now.rule; head = Nt nonterminal; args = search.now.args.now })
+        replica.new.ids (ComesFrom place) heads.items) }
+    ensures kept { KeepsLog replica.old replica.new }
+{
+    let problem = spot.problem;
+    let body = problem.points.body_of(nonterminal);
+    if replica.row(place).point != body {
+        return Ok(SmallVec::new(alloc));
+    }
+    let own = replica.empty_env(spot.params as usize)?;
+    let mut out = SmallVec::new(alloc);
+    push_bodies(alloc, replica, &[place], own, search.args.len(), &mut out)?;
+    Ok(out)
+}
+
+/// All types of a nonterminal at the head.
+pub(crate) fn nonterminal_all(
+    alloc: Global,
+    spot: &Spot,
+    replica: &mut Replica,
+    search: &Search,
+    nonterminal: u32,
+) -> Result<HeadTypes, OutOfMemory>
+    requires search { CanSearch replica.old search.now.args.now search.now.limit search.now.fixed }
+    requires spot { IsSpot spot.now.problem.now spot.now.rule spot.now.params (take search.now.limit replica.old.log) }
+    requires head { nonterminal < length spot.now.problem.now.points.bodies }
+    ensures heads { IfOk result (λ heads. AreHeads spot.now.problem.now (take search.now.limit replica.old.log)
+        (record { rule = spot.now.rule; head = Nt nonterminal; args = search.now.args.now })
+        replica.new.ids AnyHead heads.items) }
+    ensures kept { KeepsLog replica.old replica.new }
+{
+    let problem = spot.problem;
+    let own = replica.empty_env(spot.params as usize)?;
+    let body = problem.points.body_of(nonterminal);
+    let places = below(alloc, replica.at_point(body), search.limit)?;
+    let mut out = SmallVec::new(alloc);
+    push_bodies(
+        alloc,
+        replica,
+        places.as_slice(),
+        own,
+        search.args.len(),
+        &mut out,
+    )?;
+    Ok(out)
+}

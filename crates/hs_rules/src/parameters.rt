@@ -1,0 +1,189 @@
+//! The types of a parameter at a point's head, as they are wanted.
+
+ghost use Rattle.std.specs.Prelude.{◌<◌, IfOk, OnOk, length, take};
+ghost use Rattle.hs_scheme.specs.declared.term.Head.TheVariants.{Var};
+ghost use Rattle.hs_types.specs.Interned.{type_of_id};
+ghost use Rattle.hs_replica.specs.Places.{here, takes};
+ghost use Rattle.hs_replica.specs.Replica.{KeepsLog};
+ghost use Rattle.hs_rules.specs.Filling.{CanSearch};
+ghost use Rattle.hs_rules.specs.Heads.{GainsHeads, AtFlow, AreHeads, Asks, ComesFrom, AnyHead, IsSpot};
+
+use crate::found::HeadTypes;
+use crate::heads::push_params;
+use crate::search::{Search, below};
+use crate::spot::Spot;
+use hs_replica::Replica;
+use hs_scheme::{FlowPair, OutOfMemory};
+use hs_types::TyId;
+use smallvec::SmallVec;
+use std::alloc::Global;
+
+/// Adds the types of parameter x of `params` that take an argument of the type, from the points of
+/// these pairs.
+fn push_taking(
+    alloc: Global,
+    replica: &mut Replica,
+    search: &Search,
+    pairs: &[FlowPair],
+    params: usize,
+    x: u32,
+    arg: u32,
+    ty: TyId,
+    out: &mut HeadTypes,
+) -> Result<(), OutOfMemory>
+    requires search { CanSearch replica.old search.now.args.now search.now.limit search.now.fixed }
+    requires x { x < params }
+    requires ty { ty < length replica.old.ids.types }
+    ensures gains { OnOk result (GainsHeads replica.new.ids (length search.now.args.now)
+        (AtFlow replica.old.log params x search.now.limit (λ u. takes u arg (type_of_id replica.old.ids ty)) pairs.now) out.old.items out.new.items) }
+    ensures kept { KeepsLog replica.old replica.new }
+{
+    for pair in pairs {
+        let places = below(alloc, replica.taking(pair.point, arg, ty), search.limit)?;
+        push_params(
+            alloc,
+            replica,
+            places.as_slice(),
+            params,
+            x,
+            search.args.len(),
+            out,
+        )?;
+    }
+    Ok(())
+}
+
+/// Adds all types of parameter x of `params`, from the points of these pairs.
+fn push_flowing(
+    alloc: Global,
+    replica: &mut Replica,
+    search: &Search,
+    pairs: &[FlowPair],
+    params: usize,
+    x: u32,
+    out: &mut HeadTypes,
+) -> Result<(), OutOfMemory>
+    requires search { CanSearch replica.old search.now.args.now search.now.limit search.now.fixed }
+    requires x { x < params }
+    ensures gains { OnOk result (GainsHeads replica.new.ids (length search.now.args.now)
+        (AtFlow replica.old.log params x search.now.limit here pairs.now) out.old.items out.new.items) }
+    ensures kept { KeepsLog replica.old replica.new }
+{
+    for pair in pairs {
+        let places = below(alloc, replica.at_point(pair.point), search.limit)?;
+        push_params(
+            alloc,
+            replica,
+            places.as_slice(),
+            params,
+            x,
+            search.args.len(),
+            out,
+        )?;
+    }
+    Ok(())
+}
+
+/// The types of parameter x at the head that ask for the type at the argument.
+pub(crate) fn parameter_asking(
+    alloc: Global,
+    spot: &Spot,
+    replica: &mut Replica,
+    search: &Search,
+    x: u32,
+    arg: u32,
+    ty: TyId,
+) -> Result<HeadTypes, OutOfMemory>
+    requires search { CanSearch replica.old search.now.args.now search.now.limit search.now.fixed }
+    requires spot { IsSpot spot.now.problem.now spot.now.rule spot.now.params (take search.now.limit replica.old.log) }
+    requires head { x < spot.now.params }
+    requires arg { arg < length search.now.args.now }
+    requires ty { ty < length replica.old.ids.types }
+    ensures heads { IfOk result (λ heads. AreHeads spot.now.problem.now (take search.now.limit replica.old.log)
+        (record { rule = spot.now.rule; head = Var x; args = search.now.args.now })
+        replica.new.ids (Asks arg (type_of_id replica.old.ids ty)) heads.items) }
+    ensures kept { KeepsLog replica.old replica.new }
+{
+    let problem = spot.problem;
+    let pairs = problem.flow.flow_of(spot.rule, x);
+    let mut out = SmallVec::new(alloc);
+    push_taking(
+        alloc,
+        replica,
+        search,
+        pairs,
+        spot.params as usize,
+        x,
+        arg,
+        ty,
+        &mut out,
+    )?;
+    Ok(out)
+}
+
+/// The type of parameter x at the head that comes from the place.
+pub(crate) fn parameter_at(
+    alloc: Global,
+    spot: &Spot,
+    replica: &mut Replica,
+    search: &Search,
+    x: u32,
+    place: u32,
+) -> Result<HeadTypes, OutOfMemory>
+    requires search { CanSearch replica.old search.now.args.now search.now.limit search.now.fixed }
+    requires spot { IsSpot spot.now.problem.now spot.now.rule spot.now.params (take search.now.limit replica.old.log) }
+    requires head { x < spot.now.params }
+    requires place { place < search.now.limit }
+    ensures heads { IfOk result (λ heads. AreHeads spot.now.problem.now (take search.now.limit replica.old.log)
+        (record { rule = spot.now.rule; head = Var x; args = search.now.args.now })
+        replica.new.ids (ComesFrom place) heads.items) }
+    ensures kept { KeepsLog replica.old replica.new }
+{
+    let problem = spot.problem;
+    let row = replica.row(place);
+    if !problem.flow.holds(spot.rule, x, row.point) {
+        return Ok(SmallVec::new(alloc));
+    }
+    let mut out = SmallVec::new(alloc);
+    push_params(
+        alloc,
+        replica,
+        &[place],
+        spot.params as usize,
+        x,
+        search.args.len(),
+        &mut out,
+    )?;
+    Ok(out)
+}
+
+/// All types of parameter x at the head.
+pub(crate) fn parameter_all(
+    alloc: Global,
+    spot: &Spot,
+    replica: &mut Replica,
+    search: &Search,
+    x: u32,
+) -> Result<HeadTypes, OutOfMemory>
+    requires search { CanSearch replica.old search.now.args.now search.now.limit search.now.fixed }
+    requires spot { IsSpot spot.now.problem.now spot.now.rule spot.now.params (take search.now.limit replica.old.log) }
+    requires head { x < spot.now.params }
+    ensures heads { IfOk result (λ heads. AreHeads spot.now.problem.now (take search.now.limit replica.old.log)
+        (record { rule = spot.now.rule; head = Var x; args = search.now.args.now })
+        replica.new.ids AnyHead heads.items) }
+    ensures kept { KeepsLog replica.old replica.new }
+{
+    let problem = spot.problem;
+    let pairs = problem.flow.flow_of(spot.rule, x);
+    let mut out = SmallVec::new(alloc);
+    push_flowing(
+        alloc,
+        replica,
+        search,
+        pairs,
+        spot.params as usize,
+        x,
+        &mut out,
+    )?;
+    Ok(out)
+}

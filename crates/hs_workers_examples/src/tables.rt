@@ -1,0 +1,202 @@
+//! Tables formed by any number of workers.
+
+use crate::making::{problem, problem_of};
+use crate::random::random_file;
+use crate::saturating::{Asked, Summary, saturated};
+use std::alloc::Global;
+use std::sync::Wait;
+use std::test::Fail;
+use std::thread::Threads;
+
+const WORKERS: [u32; 4] = [1, 2, 4, 16];
+
+const BRANCHING: &str = "S -> F c. F x -> br x (a (F (b x))).";
+
+const REJECTED: &str = "q0 br -> q0 q0. q0 a -> q0. q0 b -> q1. q0 c -> . q1 c -> .";
+
+const ACCEPTED: &str = "q0 br -> q0 q0. q0 a -> q0. q0 b -> q1. q1 b -> q1. q0 c -> . q1 c -> .";
+
+const TWICE: &str = "S -> Tw a c. Tw f x -> f (f x).";
+
+const TWICE_TRANSITIONS: &str = "q0 a -> q1. q1 a -> q2. q2 a -> q2. q0 c -> . q1 c -> .";
+
+/// Rules and transitions with the lines of their least table.
+const TABLES: &[(&str, &str, &str)] = &[
+    ("S -> a S.", "q0 a -> q0.", ""),
+    ("S -> S.", "q0 a -> .", ""),
+    (
+        BRANCHING,
+        ACCEPTED,
+        "0 S [] q1\n\
+         2 F [x:{}] q1\n\
+         4 F [x:{}] q1\n\
+         5 F [x:{}] q1\n",
+    ),
+    (
+        BRANCHING,
+        REJECTED,
+        "0 S [] q0\n\
+         0 S [] q1\n\
+         2 F [x:{}] q0\n\
+         2 F [x:{}] q1\n\
+         2 F [x:{q0}] q0\n\
+         2 F [x:{q1}] q0\n\
+         3 F [x:{q0}] q0\n\
+         3 F [x:{q1}] q1\n\
+         4 F [x:{}] q0\n\
+         4 F [x:{}] q1\n\
+         4 F [x:{q1}] q0\n\
+         5 F [x:{}] q0\n\
+         5 F [x:{}] q1\n\
+         5 F [x:{q1}] q0\n\
+         6 F [x:{}] q1\n\
+         6 F [x:{q1}] q0\n\
+         7 F [x:{q0}] q0\n\
+         7 F [x:{q1}] q1\n",
+    ),
+    (
+        TWICE,
+        TWICE_TRANSITIONS,
+        "0 S [] q0\n\
+         0 S [] q1\n\
+         0 S [] q2\n\
+         1 S [] {q1} -> q0\n\
+         1 S [] {q2} -> q1\n\
+         1 S [] {q2} -> q2\n\
+         2 S [] q2\n\
+         3 Tw [f:{{q1} -> q0,{q2} -> q1}; x:{q2}] q0\n\
+         3 Tw [f:{{q2} -> q1,{q2} -> q2}; x:{q2}] q1\n\
+         3 Tw [f:{{q2} -> q2}; x:{q2}] q2\n\
+         4 Tw [f:{{q2} -> q1}; x:{q2}] q1\n\
+         4 Tw [f:{{q2} -> q2}; x:{q2}] q2\n\
+         5 Tw [f:{}; x:{q2}] q2\n",
+    ),
+    (
+        "S -> Loop end. Loop k -> br (close k) (read (Loop k)).",
+        "q0 br -> q0 q0. q0 read -> q0. q0 close -> q1. q1 end -> .",
+        "0 S [] q1\n\
+         1 S [] q0\n\
+         2 Loop [k:{}] q1\n\
+         3 Loop [k:{}] q1\n\
+         4 Loop [k:{q0}] q0\n\
+         5 Loop [k:{}] q1\n\
+         6 Loop [k:{}] q1\n\
+         7 Loop [k:{q0}] q0\n",
+    ),
+    (
+        "S -> Ap (K c) c. Ap f x -> f x. K x y -> x.",
+        "q0 d -> .",
+        "0 S [] q0\n\
+         1 S [] {} -> q0\n\
+         2 S [] q0\n\
+         3 S [] q0\n\
+         4 Ap [f:{{} -> q0}; x:{}] q0\n\
+         5 Ap [f:{}; x:{q0}] q0\n\
+         6 K [x:{q0}; y:{}] q0\n",
+    ),
+    (
+        "S -> F c. F -> a.",
+        "q0 a -> q0.",
+        "0 S [] q0\n\
+         1 S [] q0\n\
+         2 F [~1:{q0}] q0\n\
+         3 F [~1:{q0}] q0\n",
+    ),
+];
+
+/// What workers answer on the problem of these rules and transitions.
+fn told<R: Threads + Wait + Sync>(
+    rt: &R,
+    alloc: Global,
+    rules: &str,
+    transitions: &str,
+    asked: Asked,
+) -> Result<Summary, Fail> {
+    let problem = problem(alloc, rules, transitions)?;
+    saturated(rt, alloc, &problem, asked)
+}
+
+/// What so many workers answer on the problem of a random file.
+fn told_of_random<R: Threads + Wait + Sync>(
+    rt: &R,
+    alloc: Global,
+    file: &str,
+    workers: u32,
+) -> Result<Summary, Fail> {
+    let problem = problem_of(alloc, file.as_bytes())?;
+    let asked = Asked {
+        workers,
+        budget: 100_000,
+        first: false,
+    };
+    saturated(rt, alloc, &problem, asked)
+}
+
+#[test]
+fn worked_tables_by_any_number_of_workers(rt: HostRuntime) -> Result<(), Fail> {
+    for (rules, transitions, expected) in TABLES {
+        for workers in WORKERS {
+            let asked = Asked {
+                workers,
+                budget: 1_000,
+                first: false,
+            };
+            let told = told(&rt, rt.alloc(), rules, transitions, asked)?;
+            assert_eq!(rt; told.answer, "least", "{rules} by {workers}");
+            let table = str::from_utf8(told.table.as_slice())?;
+            assert_eq!(rt; table, *expected, "{rules} by {workers}");
+        }
+    }
+    Ok(())
+}
+
+#[test]
+fn the_edge_of_the_budget(rt: HostRuntime) -> Result<(), Fail> {
+    for workers in WORKERS {
+        for (budget, answer, kept) in [(13, "least", false), (12, "over", true)] {
+            let asked = Asked {
+                workers,
+                budget,
+                first: false,
+            };
+            let told = told(&rt, rt.alloc(), TWICE, TWICE_TRANSITIONS, asked)?;
+            assert_eq!(rt; told.answer, answer, "{budget} by {workers}");
+            assert_eq!(rt;
+                (told.entries, told.kept),
+                (budget, kept),
+                "{budget} by {workers}"
+            );
+        }
+    }
+    Ok(())
+}
+
+#[test]
+fn the_start_entry_is_all_that_is_sought(rt: HostRuntime) -> Result<(), Fail> {
+    for workers in WORKERS {
+        let asked = Asked {
+            workers,
+            budget: 1_000,
+            first: true,
+        };
+        let rejected = told(&rt, rt.alloc(), BRANCHING, REJECTED, asked)?;
+        assert_eq!(rt; rejected.answer, "first", "{workers}");
+        assert!(rt; rejected.start && rejected.entries <= 18, "{workers}");
+        let accepted = told(&rt, rt.alloc(), BRANCHING, ACCEPTED, asked)?;
+        assert_eq!(rt; accepted.answer, "least", "{workers}");
+        assert!(rt; !accepted.start && accepted.entries == 4, "{workers}");
+    }
+    Ok(())
+}
+
+#[test]
+fn tables_of_random_schemes_by_one_worker_and_by_four(rt: HostRuntime) -> Result<(), Fail> {
+    for number in 0..100 {
+        let file = random_file(rt.alloc(), number)?;
+        let one = told_of_random(&rt, rt.alloc(), file.as_str(), 1)?;
+        let four = told_of_random(&rt, rt.alloc(), file.as_str(), 4)?;
+        assert_eq!(rt; (one.answer, four.answer), ("least", "least"), "{file}");
+        assert_eq!(rt; one.table.as_slice(), four.table.as_slice(), "{file}");
+    }
+    Ok(())
+}
