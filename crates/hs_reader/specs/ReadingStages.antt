@@ -222,10 +222,6 @@ IsMemory (Syntax line) = ⊥
 IsMemory (Limit w) = ⊥
 IsMemory OutOfMemory = Unit {0}
 
-abbrev pub GivesTerm : Tree RawName → Result (Tree RawName) ReadFault → Type 0
-GivesTerm t (Ok u) = u ≡ t
-GivesTerm t (Err e) = IsMemory e
-
 -- the rules and the transitions with one more
 abbrev pub with_rule : List Rule → RawName → List RawName → Tree RawName → List Rule
 with_rule rs n ps body = rs ++ record { name = n; params = ps; body = body } ∷ []

@@ -12,6 +12,6 @@ mod token;
 pub use fault::{ReadFault, Which};
 pub use laws::{one_answer, one_cutting, one_file, one_offending_token, some_file_begins};
 pub use limits::MAX_BYTES;
-pub use raw::{RawFile, RawName, RawRule, RawTerm, RawTransition};
+pub use raw::{RawFile, RawName, RawRule, RawTerm, RawText, RawTransition};
 pub use reader::read_file;
 pub use token::is_upper;

@@ -1,12 +1,43 @@
 //! What a file says, before its names are numbered.
 
-use hs_scheme::Name;
+ghost use Rattle.std.specs.Prelude.{◌≡◌};
+
 use std::marker::Model;
+
+/// The bytes of a name, where they stand in the file. Contracts see the list of these bytes.
+#[derive(Debug, Drop)]
+pub struct RawText<'a> {
+    bytes: &'a [u8],
+}
+
+impl<'a> Model for RawText<'a> {
+    ghost use Rattle.std.specs.Prelude.{List, ℕ};
+
+    ghost Value = { List ℕ };
+
+    ghost view = { λ text. text.bytes.now };
+}
+
+impl<'a> RawText<'a> {
+    /// The text of these bytes. Takes no memory.
+    pub(crate) fn of(bytes: &'a [u8]) -> RawText<'a>
+        ensures { result ≡ bytes.now }
+    {
+        RawText { bytes }
+    }
+
+    /// The bytes of the name. Takes no memory.
+    pub fn bytes(&self) -> &'a [u8]
+        ensures { result.now ≡ self.now }
+    {
+        self.bytes
+    }
+}
 
 /// A name as it stands in a file, and the line of its first byte, counted from 1.
 #[derive(Debug, Drop)]
-pub struct RawName {
-    pub text: Name,
+pub struct RawName<'a> {
+    pub text: RawText<'a>,
     pub line: u32,
 }
 
@@ -14,12 +45,12 @@ pub struct RawName {
 ///
 /// Contracts see a finite tree with a name at each node.
 #[derive(Debug, Drop)]
-pub struct RawTerm {
-    pub head: RawName,
-    pub args: Vec<RawTerm>,
+pub struct RawTerm<'a> {
+    pub head: RawName<'a>,
+    pub args: Vec<RawTerm<'a>>,
 }
 
-impl Model for RawTerm {
+impl<'a> Model for RawTerm<'a> {
     ghost use Rattle.hs_reader.specs.declared.raw.RawName.{RawName};
     ghost use Rattle.hs_scheme.specs.Tree.{Tree, node, forest, height, most_le-heights, tree_code};
     ghost use Rattle.hs_reader.specs.Raw.{coded_name};
@@ -39,13 +70,13 @@ impl Model for RawTerm {
 
 /// A rule: its name, its parameters and its right side.
 #[derive(Debug, Drop)]
-pub struct RawRule {
-    pub name: RawName,
-    pub params: Vec<RawName>,
-    pub body: RawTerm,
+pub struct RawRule<'a> {
+    pub name: RawName<'a>,
+    pub params: Vec<RawName<'a>>,
+    pub body: RawTerm<'a>,
 }
 
-impl Model for RawRule {
+impl<'a> Model for RawRule<'a> {
     ghost use Rattle.hs_reader.specs.Raw.{Rule, coded_rule};
 
     ghost Value = { Rule };
@@ -57,13 +88,13 @@ impl Model for RawRule {
 
 /// A transition: its state, its terminal and the states of the children, in order.
 #[derive(Debug, Drop)]
-pub struct RawTransition {
-    pub from: RawName,
-    pub terminal: RawName,
-    pub to: Vec<RawName>,
+pub struct RawTransition<'a> {
+    pub from: RawName<'a>,
+    pub terminal: RawName<'a>,
+    pub to: Vec<RawName<'a>>,
 }
 
-impl Model for RawTransition {
+impl<'a> Model for RawTransition<'a> {
     ghost use Rattle.hs_reader.specs.Raw.{Transition, coded_transition};
 
     ghost Value = { Transition };
@@ -79,12 +110,12 @@ impl Model for RawTransition {
 /// name is upper, parameters and terminals are lower, and the limits of [`Which`](crate::Which) hold,
 /// depth apart. The names are 16,777,216 at most, each occurrence counted.
 #[derive(Debug, Drop)]
-pub struct RawFile {
-    pub rules: Vec<RawRule>,
-    pub transitions: Vec<RawTransition>,
+pub struct RawFile<'a> {
+    pub rules: Vec<RawRule<'a>>,
+    pub transitions: Vec<RawTransition<'a>>,
 }
 
-impl Model for RawFile {
+impl<'a> Model for RawFile<'a> {
     ghost use Rattle.hs_reader.specs.Raw.{File, coded_file};
     ghost use Rattle.hs_reader.specs.Limits.{IsRaw};
 

@@ -7,39 +7,39 @@ ghost use Rattle.hs_reader.specs.Raw.{Rule, Transition, File};
 ghost use Rattle.hs_reader.specs.declared.fault.ReadFault.{ReadFault};
 ghost use Rattle.hs_reader.specs.Faults.{IsFileWithin, IsFaultOf, IsAnswer};
 ghost use Rattle.hs_reader.specs.Reading.{tokens};
-ghost use Rattle.hs_reader.specs.ReadingStages.{start, in_rules, in_head, in_body, between, in_transitions, in_transition, in_children, closed, added, is_full, named, run, read, Goes, GivesName, GivesCased, GivesTerm, with_rule, with_transition};
+ghost use Rattle.hs_reader.specs.ReadingStages.{start, in_rules, in_head, in_body, between, in_transitions, in_transition, in_children, closed, added, is_full, named, run, read, Goes, GivesName, GivesCased, IsMemory, with_rule, with_transition};
 
 use crate::cursor::Cursor;
 use crate::fault::{ReadFault, Which};
 use crate::limits::{MAX_CHILDREN, MAX_DEPTH, MAX_NAME, MAX_TRANSITIONS};
-use crate::raw::{RawFile, RawName, RawRule, RawTerm, RawTransition};
+use crate::raw::{RawFile, RawName, RawRule, RawTerm, RawText, RawTransition};
 use crate::token::{Token, is_upper};
-use hs_scheme::{MAX_ARGUMENTS, MAX_PARAMETERS, MAX_RULES, Name};
+use hs_scheme::{MAX_ARGUMENTS, MAX_PARAMETERS, MAX_RULES};
 use std::alloc::Global;
 
 /// A name that isn't too long.
-fn short_name(alloc: Global, bytes: &[u8], line: u32) -> Result<RawName, ReadFault>
+fn short_name(bytes: &[u8], line: u32) -> Result<RawName<'_>, ReadFault>
     ensures { GivesName line bytes.now result }
 {
     if bytes.len() > MAX_NAME {
         return Err(ReadFault::Limit { which: Which::Name });
     }
-    let text = Name::of(alloc, bytes)?;
+    let text = RawText::of(bytes);
     Ok(RawName { text, line })
 }
 
 /// A name that is to be upper, or lower.
-fn cased_name(alloc: Global, bytes: &[u8], line: u32, upper: bool) -> Result<RawName, ReadFault>
+fn cased_name(bytes: &[u8], line: u32, upper: bool) -> Result<RawName<'_>, ReadFault>
     ensures { GivesCased upper line bytes.now result }
 {
     if is_upper(bytes) != upper {
         return Err(ReadFault::Syntax { line });
     }
-    short_name(alloc, bytes, line)
+    short_name(bytes, line)
 }
 
 /// The parameters of a rule, up to its arrow.
-fn parameters(alloc: Global, cursor: &mut Cursor<'_>) -> Result<Vec<RawName>, ReadFault>
+fn parameters<'a>(alloc: Global, cursor: &mut Cursor<'a>) -> Result<Vec<RawName<'a>>, ReadFault>
     ensures value { (rs : List Rule) (n : RawName) → Goes
         (λ ps. read (in_body rs n ps.items [] None) cursor.new.line cursor.new.rest.now)
         result (read (in_head rs n []) cursor.old.line cursor.old.rest.now) }
@@ -49,7 +49,7 @@ fn parameters(alloc: Global, cursor: &mut Cursor<'_>) -> Result<Vec<RawName>, Re
     loop {
         match cursor.next() {
             Token::Name(bytes) => {
-                let param = cased_name(alloc, bytes, cursor.line, false)?;
+                let param = cased_name(bytes, cursor.line, false)?;
                 if params.len() == MAX_PARAMETERS {
                     return Err(ReadFault::Limit {
                         which: Which::Parameters,
@@ -64,7 +64,7 @@ fn parameters(alloc: Global, cursor: &mut Cursor<'_>) -> Result<Vec<RawName>, Re
 }
 
 /// Whether a term has as many arguments as it may.
-fn is_full(term: &Option<RawTerm>) -> bool
+fn is_full(term: &Option<RawTerm<'_>>) -> bool
     ensures { result ≡ is_full term.now }
 {
     match term {
@@ -73,22 +73,21 @@ fn is_full(term: &Option<RawTerm>) -> bool
     }
 }
 
-/// The term begun, with one term more.
-fn added(begun: Option<RawTerm>, term: RawTerm) -> Result<RawTerm, ReadFault>
-    ensures { GivesTerm (added begun term) result }
+/// Puts a term at the end of the arguments of the one begun, or begins with it.
+fn add<'a>(begun: &mut Option<RawTerm<'a>>, term: RawTerm<'a>) -> Result<(), ReadFault>
+    ensures added { OnOk result (begun.new ≡ Some (added begun.old term.entry)) }
+    ensures fault { IfErr result IsMemory }
 {
     match begun {
-        None => Ok(term),
-        Some(RawTerm { head, mut args }) => {
-            args.push(term)?;
-            Ok(RawTerm { head, args })
-        }
+        None => *begun = Some(term),
+        Some(begun) => begun.args.push(term)?,
     }
+    Ok(())
 }
 
 /// The right side of a rule, up to its dot. The terms begun before each open parenthesis wait in
 /// `outer`, the innermost last.
-fn body(alloc: Global, cursor: &mut Cursor<'_>) -> Result<RawTerm, ReadFault>
+fn body<'a>(alloc: Global, cursor: &mut Cursor<'a>) -> Result<RawTerm<'a>, ReadFault>
     ensures value { (rs : List Rule) (n : RawName) (ps : List RawName) → Goes
         (λ t. read (in_rules (with_rule rs n ps t)) cursor.new.line cursor.new.rest.now)
         result (read (in_body rs n ps [] None) cursor.old.line cursor.old.rest.now) }
@@ -99,14 +98,14 @@ fn body(alloc: Global, cursor: &mut Cursor<'_>) -> Result<RawTerm, ReadFault>
     loop {
         match cursor.next() {
             Token::Name(bytes) => {
-                let head = short_name(alloc, bytes, cursor.line)?;
+                let head = short_name(bytes, cursor.line)?;
                 if is_full(&begun) {
                     return Err(ReadFault::Limit {
                         which: Which::Arguments,
                     });
                 }
                 let args = Vec::new(alloc);
-                begun = Some(added(begun, RawTerm { head, args })?);
+                add(&mut begun, RawTerm { head, args })?;
             }
             Token::Left => {
                 if outer.len() == MAX_DEPTH {
@@ -129,7 +128,8 @@ fn body(alloc: Global, cursor: &mut Cursor<'_>) -> Result<RawTerm, ReadFault>
                 let Some(below) = outer.pop() else {
                     return Err(ReadFault::Syntax { line: cursor.line });
                 };
-                begun = Some(added(below, term)?);
+                begun = below;
+                add(&mut begun, term)?;
             }
             Token::Dot => {
                 let Some(term) = begun else {
@@ -146,10 +146,14 @@ fn body(alloc: Global, cursor: &mut Cursor<'_>) -> Result<RawTerm, ReadFault>
 }
 
 /// A rule behind its name.
-fn rule(alloc: Global, cursor: &mut Cursor<'_>, name: RawName) -> Result<RawRule, ReadFault>
+fn rule<'a>(
+    alloc: Global,
+    cursor: &mut Cursor<'a>,
+    name: RawName<'a>,
+) -> Result<RawRule<'a>, ReadFault>
     ensures value { (rs : List Rule) → Goes
         (λ r. read (in_rules (rs ++ r ∷ [])) cursor.new.line cursor.new.rest.now)
-        result (read (in_head rs name []) cursor.old.line cursor.old.rest.now) }
+        result (read (in_head rs name.entry []) cursor.old.line cursor.old.rest.now) }
     ensures within { OnOk result (length cursor.new.rest.now ≤ length cursor.old.rest.now) }
 {
     let params = parameters(alloc, cursor)?;
@@ -158,7 +162,7 @@ fn rule(alloc: Global, cursor: &mut Cursor<'_>, name: RawName) -> Result<RawRule
 }
 
 /// The rules, up to the marker behind them.
-fn rules(alloc: Global, cursor: &mut Cursor<'_>) -> Result<Vec<RawRule>, ReadFault>
+fn rules<'a>(alloc: Global, cursor: &mut Cursor<'a>) -> Result<Vec<RawRule<'a>>, ReadFault>
     ensures { Goes (λ rs. read (between rs.items) cursor.new.line cursor.new.rest.now)
         result (read (in_rules []) cursor.old.line cursor.old.rest.now) }
 {
@@ -166,7 +170,7 @@ fn rules(alloc: Global, cursor: &mut Cursor<'_>) -> Result<Vec<RawRule>, ReadFau
     loop {
         match cursor.next() {
             Token::Name(bytes) => {
-                let name = cased_name(alloc, bytes, cursor.line, true)?;
+                let name = cased_name(bytes, cursor.line, true)?;
                 if rules.len() == MAX_RULES {
                     return Err(ReadFault::Limit {
                         which: Which::Rules,
@@ -186,7 +190,7 @@ fn rules(alloc: Global, cursor: &mut Cursor<'_>) -> Result<Vec<RawRule>, ReadFau
 }
 
 /// The states behind an arrow, up to the dot.
-fn children(alloc: Global, cursor: &mut Cursor<'_>) -> Result<Vec<RawName>, ReadFault>
+fn children<'a>(alloc: Global, cursor: &mut Cursor<'a>) -> Result<Vec<RawName<'a>>, ReadFault>
     ensures value { (rs : List Rule) (us : List Transition) (q a : RawName) → Goes
         (λ to. read (in_transitions rs (with_transition us q a to.items)) cursor.new.line cursor.new.rest.now)
         result (read (in_children rs us q a []) cursor.old.line cursor.old.rest.now) }
@@ -196,7 +200,7 @@ fn children(alloc: Global, cursor: &mut Cursor<'_>) -> Result<Vec<RawName>, Read
     loop {
         match cursor.next() {
             Token::Name(bytes) => {
-                let child = short_name(alloc, bytes, cursor.line)?;
+                let child = short_name(bytes, cursor.line)?;
                 if to.len() == MAX_CHILDREN {
                     return Err(ReadFault::Limit {
                         which: Which::Children,
@@ -211,7 +215,7 @@ fn children(alloc: Global, cursor: &mut Cursor<'_>) -> Result<Vec<RawName>, Read
 }
 
 /// The terminal of a transition, and the arrow behind it.
-fn terminal(alloc: Global, cursor: &mut Cursor<'_>) -> Result<RawName, ReadFault>
+fn terminal<'a>(cursor: &mut Cursor<'a>) -> Result<RawName<'a>, ReadFault>
     ensures value { (rs : List Rule) (us : List Transition) (q : RawName) → Goes
         (λ a. read (in_children rs us q a []) cursor.new.line cursor.new.rest.now)
         result (read (in_transition rs us q) cursor.old.line cursor.old.rest.now) }
@@ -220,7 +224,7 @@ fn terminal(alloc: Global, cursor: &mut Cursor<'_>) -> Result<RawName, ReadFault
     let Token::Name(bytes) = cursor.next() else {
         return Err(ReadFault::Syntax { line: cursor.line });
     };
-    let terminal = cased_name(alloc, bytes, cursor.line, false)?;
+    let terminal = cased_name(bytes, cursor.line, false)?;
     let Token::Arrow = cursor.next() else {
         return Err(ReadFault::Syntax { line: cursor.line });
     };
@@ -228,23 +232,26 @@ fn terminal(alloc: Global, cursor: &mut Cursor<'_>) -> Result<RawName, ReadFault
 }
 
 /// A transition behind its state.
-fn transition(
+fn transition<'a>(
     alloc: Global,
-    cursor: &mut Cursor<'_>,
-    from: RawName,
-) -> Result<RawTransition, ReadFault>
+    cursor: &mut Cursor<'a>,
+    from: RawName<'a>,
+) -> Result<RawTransition<'a>, ReadFault>
     ensures value { (rs : List Rule) (us : List Transition) → Goes
         (λ t. read (in_transitions rs (us ++ t ∷ [])) cursor.new.line cursor.new.rest.now)
-        result (read (in_transition rs us from) cursor.old.line cursor.old.rest.now) }
+        result (read (in_transition rs us from.entry) cursor.old.line cursor.old.rest.now) }
     ensures within { OnOk result (length cursor.new.rest.now ≤ length cursor.old.rest.now) }
 {
-    let terminal = terminal(alloc, cursor)?;
+    let terminal = terminal(cursor)?;
     let to = children(alloc, cursor)?;
     Ok(RawTransition { from, terminal, to })
 }
 
 /// The transitions, up to the marker behind them.
-fn transitions(alloc: Global, cursor: &mut Cursor<'_>) -> Result<Vec<RawTransition>, ReadFault>
+fn transitions<'a>(
+    alloc: Global,
+    cursor: &mut Cursor<'a>,
+) -> Result<Vec<RawTransition<'a>>, ReadFault>
     ensures { (rs : List Rule) → Goes
         (λ us. read (closed rs us.items) cursor.new.line cursor.new.rest.now)
         result (read (in_transitions rs []) cursor.old.line cursor.old.rest.now) }
@@ -253,7 +260,7 @@ fn transitions(alloc: Global, cursor: &mut Cursor<'_>) -> Result<Vec<RawTransiti
     loop {
         match cursor.next() {
             Token::Name(bytes) => {
-                let state = short_name(alloc, bytes, cursor.line)?;
+                let state = short_name(bytes, cursor.line)?;
                 if transitions.len() == MAX_TRANSITIONS {
                     return Err(ReadFault::Limit {
                         which: Which::Transitions,
@@ -273,7 +280,7 @@ fn transitions(alloc: Global, cursor: &mut Cursor<'_>) -> Result<Vec<RawTransiti
 }
 
 /// The file, from its first token to its end.
-fn file(alloc: Global, bytes: &[u8]) -> Result<RawFile, ReadFault>
+fn file(alloc: Global, bytes: &[u8]) -> Result<RawFile<'_>, ReadFault>
     requires { length bytes.now ≤ 16777216 }
     ensures { Goes (λ f. Ok f) result (read start 1 bytes.now) }
 {
@@ -297,7 +304,7 @@ fn file(alloc: Global, bytes: &[u8]) -> Result<RawFile, ReadFault>
 /// The first token that offends is answered: `Syntax` with its line, counted from 1, where no file
 /// begins with the tokens up to it, and else `Limit` with the first limit that it passes, in the
 /// order of [`Which`]. `OutOfMemory` may come at any call.
-pub fn read_file(alloc: Global, bytes: &[u8]) -> Result<RawFile, ReadFault>
+pub fn read_file(alloc: Global, bytes: &[u8]) -> Result<RawFile<'_>, ReadFault>
     requires { length bytes.now ≤ 16777216 }
     ensures file { IfOk result (λ raw. IsFileWithin bytes.now raw) }
     ensures fault { IfErr result (IsFaultOf bytes.now) }

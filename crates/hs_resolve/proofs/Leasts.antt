@@ -39,6 +39,9 @@ module _ {A : Type 0} (P : ℕ → A → ℕ → Type 0) (items : List A) where
         | inr less ↦ inl (record { place = b.place; item = b.item; below = less; at = b.at; holds = b.holds })
       ]
 
+  pub least-next : (n : ℕ) (x : A) (a : Option ℕ) → slice_get items n ≡ Some x → IsLeast (λ line. Before P items n line ⊎ P n x line) a → IsLeast (Before P items (n + 1)) a
+  least-next n x a at h = least-same (λ line. Before P items n line ⊎ P n x line) (Before P items (n + 1)) a (before_to n x at) (before_from n x at) h
+
   pub least-more : (n : ℕ) (x : A) (a b : Option ℕ) → slice_get items n ≡ Some x → IsLeast (Before P items n) a → IsLeast (P n x) b → IsLeast (Before P items (n + 1)) (earliest a b)
   least-more n x a b at p q =
       least-same (λ line. Before P items n line ⊎ P n x line) (Before P items (n + 1)) (earliest a b) (before_to n x at) (before_from n x at)

@@ -2,7 +2,10 @@ pub mod Lists
 pub mod Distinct
 pub mod Leasts
 pub mod NameLoops
+pub mod Growing
+pub mod Bodies
 pub mod TransitionLoops
+pub mod Moves
 pub mod FirstFault
 pub mod Members
 pub mod Sound

@@ -1,8 +1,7 @@
 -- The steps of the passes over names, over plain lists.
-use Rattle.std.proofs.Common.{◌≡◌, refl, sym, ◌∙◌, ap, subst, ℕ, ◌+◌, Bool, true, false, not, ◌&&◌, cond, List, [], ◌∷◌, ◌++◌, take, filter, map, slice_get, Option, Some, None, arith, append_assoc}
+use Rattle.std.proofs.Common.{◌≡◌, refl, sym, ◌∙◌, ap, subst, ℕ, ◌+◌, true, false, not, ◌&&◌, cond, List, [], ◌∷◌, ◌++◌, take, filter, map, slice_get, Option, Some, None, arith, append_assoc}
 use Rattle.std.specs.List.{flat_map}
-use Rattle.std.proofs.lemmas.List.Elements.{filter-append}
-use Rattle.std.proofs.lemmas.List.{append-nil, map_push}
+use Rattle.std.proofs.lemmas.List.{append-nil}
 use Rattle.hs_scheme.specs.Tree.{Tree, forest, more}
 use Rattle.hs_scheme.specs.declared.term.Head.{Head}
 use Rattle.hs_reader.specs.declared.raw.RawName.{RawName}
@@ -14,7 +13,7 @@ use Rattle.hs_resolve.specs.Numbering.{is_terminal, terminals_in, numbered, numb
 use Rattle.hs_resolve.specs.Least.{IsLeast, earliest, Before}
 use Rattle.hs_resolve.specs.LineFaults.{Somewhere, RepeatsAt, IsUndefined}
 use Rattle.hs_resolve.proofs.Lists.{at_map, take-push, flat_map-push}
-use Rattle.hs_resolve.proofs.Distinct.{among-distinct, distinct-push, distinct-append, with_names-push}
+use Rattle.hs_resolve.proofs.Distinct.{among-distinct, distinct-push, distinct-append}
 use Rattle.hs_resolve.proofs.Leasts.{least-same, least-more}
 
 repeat-least : (names : List RawName) (n : ℕ) (x : RawName) → IsLeast (RepeatsAt names n x) (repeat_of (take n (texts names)) x)
@@ -38,17 +37,6 @@ module _ (names : List RawName) (n : ℕ) (x : RawName) (at : slice_get names n 
       e ∙ ap (λ o. earliest a o) (ap (λ ns. repeat_of ns x) was ∙ ap (λ c. cond c (Some x.line) None) (among-distinct (take n (texts names)) x.text)) in
       subst (λ o. IsLeast (Before (RepeatsAt names) names (n + 1)) o) (sym same)
       (least-more (RepeatsAt names) names n x a (repeat_of (take n (texts names)) x) at h (repeat-least names n x))
-
-  pub terminals-more : (p : List ℕ → Bool) (first old new : List (List ℕ)) → old ≡ with_names first (filter p (texts (take n names))) → new ≡ cond (p x.text) (with_name old x.text) old
-      → new ≡ with_names first (filter p (texts (take (n + 1) names)))
-  terminals-more p first old new was e =
-      let so_far = filter p (texts (take n names)) in
-      let next : filter p (texts (take (n + 1) names)) ≡ so_far ++ cond (p x.text) (x.text ∷ []) [] =
-      ap (filter p) (ap texts (take-push names n x at) ∙ map_push (λ m. m.text) (take n names) x) ∙ filter-append p (texts (take n names)) (x.text ∷ []) in
-      e ∙ (ap (λ ns. cond (p x.text) (with_name ns x.text) ns) was ∙ (elim (p x.text) as (λ b. cond b (with_name (with_names first so_far) x.text) (with_names first so_far) ≡ with_names first (so_far ++ cond b (x.text ∷ []) [])) [
-        | true ↦ sym (with_names-push first so_far x.text)
-        | false ↦ ap (with_names first) (sym (append-nil so_far))
-      ] ∙ ap (with_names first) (sym next)))
 
 pub undefined-least : (names : List (List ℕ)) (x : RawName) → IsLeast (IsUndefined names x) (cond (begins_upper x.text && not (is_among names x.text)) (Some x.line) None)
 undefined-least names x =

@@ -1,5 +1,5 @@
 -- What a file without faults stands for is a scheme with an automaton and names.
-use Rattle.std.proofs.Common.{◌≡◌, refl, sym, ◌∙◌, ap, subst, ℕ, suc, ◌<◌, ◌≤◌, Bool, true, false, not, ◌||◌, ◌&&◌, cond, nat_eq, List, [], ◌∷◌, ◌++◌, length, map, slice_get, Option, Some, None, option_map, find, is_some, All, ◌⊎◌, inl, inr, length-append, arith}
+use Rattle.std.proofs.Common.{◌≡◌, refl, sym, ◌∙◌, ap, subst, ℕ, suc, ◌<◌, ◌≤◌, Bool, true, false, not, ◌||◌, ◌&&◌, cond, nat_eq, List, [], ◌∷◌, ◌++◌, length, map, slice_get, Option, Some, None, option_map, find, is_some, All, ◌⊎◌, inl, inr, arith}
 use Rattle.std.specs.List.{list_any, flat_map, AllByRecursion}
 use Rattle.std.specs.Option.{option_map_or}
 use Rattle.std.specs.Str.{bytes_eq}
@@ -24,7 +24,7 @@ use Rattle.hs_resolve.specs.LineFaults.{same_left}
 use Rattle.hs_resolve.specs.Answer.{IsFaultless}
 use Rattle.hs_resolve.specs.Tables.{scoped_rule}
 use Rattle.hs_resolve.proofs.Lists.{at_map, is_some-position, map-map}
-use Rattle.hs_resolve.proofs.Distinct.{same_self, among-distinct, distinct-le, filter-le}
+use Rattle.hs_resolve.proofs.Distinct.{same_self, among-distinct, distinct-le}
 use Rattle.hs_resolve.proofs.Members.{some_at, all-map, all-same, all-append, map-same, any-at, any-before, any-filter, any-flat_map, or_left, or_right, position-at, number-name, number-within, apart-distinct, recursion-at, not-empty}
 
 len-numbered : (head : RawName → Head) (ts : Trees RawName) → length (children (numbered_each head ts)) ≡ length (children ts)
@@ -280,28 +280,6 @@ module _ (raw : File) (inside : IsRaw raw) (clean : IsFaultless raw) where
     params_are = p ∙ map-same (λ r. distinct (texts r.params)) (λ r. texts r.params) raw.rules params-apart;
   }
 
-flat_map-le : {A B C : Type 0} (f : A → List B) (g : A → List C) (xs : List A) → ((x : A) → length (f x) ≤ length (g x)) → length (flat_map f xs) ≤ length (flat_map g xs)
-flat_map-le f g [] h = omega arith
-flat_map-le f g (x ∷ xs) h =
-    omega (arith, h x, flat_map-le f g xs h, length-append (f x) (flat_map f xs), length-append (g x) (flat_map g xs))
-
-map-le : {A B C : Type 0} (f : A → B) (g : A → List C) (xs : List A) → ((x : A) → 0 < length (g x)) → length (map f xs) ≤ length (flat_map g xs)
-map-le f g [] h = omega arith
-map-le f g (x ∷ xs) h = omega (arith, h x, map-le f g xs h, length-append (g x) (flat_map g xs))
-
 pub left-few : (raw : File) → IsRaw raw → length (distinct (left_names raw)) ≤ 20000
 left-few raw inside =
     omega (arith, distinct-le (left_names raw), length-map (left raw) (λ (n : RawName). n.text), length-map raw.rules (λ (r : Rule). r.name), inside.within.rules)
-
-pub terminals-few : (raw : File) → IsRaw raw → length (terminal_names raw) ≤ 16777216
-terminals-few raw inside =
-    let bodies = flat_map terminals_in raw.rules in
-    let ends = map (λ (t : Transition). t.terminal.text) raw.transitions in
-    let in_rules = flat_map (λ (r : Rule). r.name ∷ (r.params ++ term_names r.body)) raw.rules in
-    let in_transitions = flat_map (λ (t : Transition). t.from ∷ (t.terminal ∷ t.to)) raw.transitions in
-    let front : length bodies ≤ length in_rules =
-    flat_map-le terminals_in (λ (r : Rule). r.name ∷ (r.params ++ term_names r.body)) raw.rules (λ r.
-    omega (arith, filter-le (is_terminal (texts r.params)) (texts (term_names r.body)), length-map (term_names r.body) (λ (n : RawName). n.text), length-append r.params (term_names r.body))) in
-    let back : length ends ≤ length in_transitions =
-    map-le (λ (t : Transition). t.terminal.text) (λ (t : Transition). t.from ∷ (t.terminal ∷ t.to)) raw.transitions (λ t. omega arith) in
-    omega (arith, front, back, distinct-le (bodies ++ ends), length-append bodies ends, length-append in_rules in_transitions, inside.count)

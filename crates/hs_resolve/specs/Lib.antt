@@ -7,3 +7,5 @@ pub mod Lengths
 pub mod Tables
 pub mod Choice
 pub mod Examples
+pub mod Bodies
+pub mod Moves

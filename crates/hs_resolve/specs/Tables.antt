@@ -2,14 +2,17 @@
 --     HasNumbers      numbers below 2 ^ 32 for these names
 --     scoped_rule     a rule with numbers for its names
 --     AreTables       the names of the file by number
+--     IsNumberedFile  its rules and transitions with these numbers, where it is a file
 --     AreLines        the least line of each line fault
 use Rattle.std.specs.Prelude.{◌≡◌, ℕ, ◌<◌, ◌^◌, List, map, length}
 use Rattle.hs_reader.specs.Raw.{File, Rule}
+use Rattle.hs_reader.specs.Limits.{IsRaw}
 use Rattle.hs_scheme.specs.declared.term.Rule.{Rule as NumberedRule}
 use Rattle.hs_resolve.specs.declared.line.FaultLines.{FaultLines}
 use Rattle.hs_resolve.specs.declared.resolving.Tables.{Tables}
+use Rattle.hs_resolve.specs.declared.resolving.Numbered.{Numbered}
 use Rattle.hs_resolve.specs.Names.{texts, distinct}
-use Rattle.hs_resolve.specs.Numbering.{left_names, terminal_names, state_names, rank_of, head_of, numbered}
+use Rattle.hs_resolve.specs.Numbering.{left_names, terminal_names, state_names, rank_of, head_of, numbered, transition_of}
 use Rattle.hs_resolve.specs.Lengths.{length_of}
 use Rattle.hs_resolve.specs.Least.{IsLeast}
 use Rattle.hs_resolve.specs.LineFaults.{DuplicateRule, DuplicateParam, Undefined, StartHasParams, DuplicateTransition, RankClash}
@@ -35,3 +38,8 @@ pub record AreTables (raw : File) (tables : Tables) : Type 0 where
   pub terminals : tables.terminals ≡ terminal_names raw
   pub states : tables.states ≡ state_names raw
   pub lengths : (x : List ℕ) → length_of tables.lengths x ≡ rank_of raw.transitions x
+
+pub record IsNumberedFile (raw : File) (numbered : Numbered) : Type 0 where
+  pub inside : IsRaw raw
+  pub rules : numbered.rules.items ≡ map (scoped_rule (distinct (left_names raw)) (terminal_names raw)) raw.rules
+  pub transitions : numbered.transitions.items ≡ map (transition_of (state_names raw) (terminal_names raw)) raw.transitions

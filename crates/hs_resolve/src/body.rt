@@ -1,144 +1,168 @@
-//! The names in the bodies of rules.
+//! The names in the bodies of rules, and the numbers for them.
 
-ghost use Rattle.std.specs.Prelude.{◌≡◌, ◌++◌, ◌&&◌, Some, None, not, map, filter, length, slice_get, if◌then◌else◌, IsTrue, false, IfOk, OnOk, is_some};
+ghost use Rattle.std.specs.Prelude.{◌≡◌, ◌++◌, ◌≤◌, List, ℕ, map, filter, length, if◌then◌else◌, All, IfOk, OnOk};
 ghost use Rattle.std.specs.List.{flat_map};
+ghost use Rattle.hs_scheme.specs.declared.term.Head.TheVariants.{Nt, Tm};
 ghost use Rattle.hs_reader.specs.Limits.{term_names};
-ghost use Rattle.hs_reader.specs.Grammar.{begins_upper};
-ghost use Rattle.hs_resolve.specs.Names.{texts, is_among, distinct, with_name, with_names};
+ghost use Rattle.hs_resolve.specs.Names as names;
+ghost use Rattle.hs_resolve.specs.Names.{texts, distinct, with_name, with_names};
 ghost use Rattle.hs_resolve.specs.Numbering as numbering;
 ghost use Rattle.hs_resolve.specs.Numbering.{terminals_in};
+ghost use Rattle.hs_resolve.specs.Least as least;
 ghost use Rattle.hs_resolve.specs.Least.{IsLeast};
 ghost use Rattle.hs_resolve.specs.LineFaults.{Somewhere, IsUndefined};
+ghost use Rattle.hs_resolve.specs.Tables.{HasNumbers};
+ghost use Rattle.hs_resolve.specs.Bodies.{unknown_at, undefined_at, undefined_in, IsHead, IsNumbered, IsScoped, AreScoped};
 
 use crate::line::earliest;
 use crate::name_index::NameIndex;
+use crate::numbering::number_in;
 use hs_reader::{RawName, RawRule, RawTerm, is_upper};
-use hs_scheme::OutOfMemory;
+use hs_scheme::{Head, OutOfMemory, Rule, Term};
 use std::alloc::Global;
 
-/// Puts the names of a term at the end, from left to right. Recurses as deep as the term.
-fn push_names<'a>(term: &'a RawTerm, names: &mut Vec<&'a RawName>) -> Result<(), OutOfMemory>
-    ensures { OnOk result (map (λ n. n.now) names.new.items
-        ≡ map (λ n. n.now) names.old.items ++ term_names term.now) }
-{
-    names.push(&term.head)?;
-    for arg in &term.args {
-        push_names(arg, names)?;
-    }
-    Ok(())
+/// What the bodies so far name.
+#[derive(Drop)]
+struct Met<'a> {
+    terminals: NameIndex<'a>,
+    undefined: Option<u32>,
 }
 
-/// The line of an upper name that isn't on the left of a rule.
-fn undefined_line(left: &NameIndex, name: &RawName) -> Option<u32>
-    ensures { result ≡ (if begins_upper name.now.text && not (is_among left.now name.now.text)
-        then Some name.now.line else None) }
+/// The nonterminal of an upper name. One that isn't on the left of a rule gets the number 0, and its
+/// line is noted.
+fn nonterminal(left: &NameIndex, name: &RawName, undefined: &mut Option<u32>) -> Head
+    requires { HasNumbers left.now }
+    ensures head { result ≡ Nt (names.number left.now name.now.text) }
+    ensures undefined { undefined.new ≡ least.earliest undefined.old (unknown_at left.now name.now) }
+{
+    match left.number(name.text.bytes()) {
+        Some(number) => Head::Nt(number as u32),
+        None => {
+            *undefined = earliest(*undefined, Some(name.line));
+            Head::Nt(0)
+        }
+    }
+}
+
+/// The terminal of a lower name, which is put at the end of those that were met before.
+fn terminal<'a>(name: &RawName<'a>, terminals: &mut NameIndex<'a>) -> Result<Head, OutOfMemory>
+    ensures added { OnOk result (terminals.new ≡ with_name terminals.old name.now.text) }
+    ensures head { IfOk result (λ head. (later : List (List ℕ))
+        → head ≡ Tm (names.number (terminals.new ++ later) name.now.text)) }
+{
+    Ok(Head::Tm(number_in(terminals, name)?))
+}
+
+/// What a name in a body stands for.
+fn head_of<'a>(
+    left: &NameIndex,
+    params: &NameIndex,
+    name: &RawName<'a>,
+    met: &mut Met<'a>,
+) -> Result<Head, OutOfMemory>
+    requires left { HasNumbers left.now }
+    requires params { HasNumbers params.now }
+    ensures terminals { OnOk result (met.new.terminals ≡ (if numbering.is_terminal params.now name.now.text
+        then with_name met.old.terminals name.now.text else met.old.terminals)) }
+    ensures undefined { OnOk result (met.new.undefined
+        ≡ least.earliest met.old.undefined (undefined_at left.now name.now)) }
+    ensures head { IfOk result (λ head. IsHead left.now params.now met.new.terminals name.now head) }
 {
     let text = name.text.bytes();
-    if is_upper(text) && !left.has(text) {
-        return Some(name.line);
+    if is_upper(text) {
+        return Ok(nonterminal(left, name, &mut met.undefined));
     }
-    None
-}
-
-/// The least line of an upper name that isn't on the left of a rule.
-fn undefined_among<'a>(left: &NameIndex<'a>, names: &[&'a RawName]) -> Option<u32>
-    ensures { IsLeast
-        (λ line. Somewhere (λ _ n. IsUndefined left.now n line) (map (λ n. n.now) names.now)) result }
-{
-    let mut least = None;
-    for name in names {
-        least = earliest(least, undefined_line(left, name));
+    match params.number(text) {
+        Some(parameter) => Ok(Head::Var(parameter as u32)),
+        None => terminal(name, &mut met.terminals),
     }
-    least
 }
 
-/// Whether a name in a body stands for a terminal, where these are the parameters.
-fn is_terminal(params: &NameIndex, name: &[u8]) -> bool
-    ensures { result ≡ numbering.is_terminal params.now name.now }
-{
-    !is_upper(name) && !params.has(name)
-}
-
-/// Puts the name into the index where it stands for a terminal.
-fn add_terminal<'a>(
-    params: &NameIndex<'a>,
-    name: &'a RawName,
-    terminals: &mut NameIndex<'a>,
-) -> Result<(), OutOfMemory>
-    ensures { OnOk result (terminals.new ≡ (if numbering.is_terminal params.now name.now.text
-        then with_name terminals.old name.now.text else terminals.old)) }
-{
-    let text = name.text.bytes();
-    if is_terminal(params, text) {
-        terminals.add(text)?;
-    }
-    Ok(())
-}
-
-/// Puts the terminals among the names at the end of those that were met before.
-fn add_terminals<'a>(
-    params: &NameIndex<'a>,
-    names: &[&'a RawName],
-    terminals: &mut NameIndex<'a>,
-) -> Result<(), OutOfMemory>
-    ensures { OnOk result (terminals.new ≡ with_names terminals.old
-        (filter (numbering.is_terminal params.now) (texts (map (λ n. n.now) names.now)))) }
-{
-    for name in names {
-        add_terminal(params, name, terminals)?;
-    }
-    Ok(())
-}
-
-/// Puts a body's terminals at the end of those that were met before, and answers the least line of
-/// an upper name that isn't on the left of a rule.
-fn read_body<'a>(
+/// The term with a head for each of its names. Recurses as deep as the term.
+fn term_of<'a>(
     alloc: Global,
-    left: &NameIndex<'a>,
-    params: &NameIndex<'a>,
-    body: &'a RawTerm,
-    terminals: &mut NameIndex<'a>,
-) -> Result<Option<u32>, OutOfMemory>
-    ensures terminals { OnOk result (terminals.new ≡ with_names terminals.old
-        (filter (numbering.is_terminal params.now) (texts (term_names body.now)))) }
-    ensures undefined { IfOk result (λ least. IsLeast
-        (λ line. Somewhere (λ _ n. IsUndefined left.now n line) (term_names body.now)) least) }
+    left: &NameIndex,
+    params: &NameIndex,
+    raw: &RawTerm<'a>,
+    met: &mut Met<'a>,
+) -> Result<Term, OutOfMemory>
+    requires left { HasNumbers left.now }
+    requires params { HasNumbers params.now }
+    ensures terminals { OnOk result (met.new.terminals ≡ with_names met.old.terminals
+        (filter (numbering.is_terminal params.now) (texts (term_names raw.now)))) }
+    ensures undefined { OnOk result (met.new.undefined
+        ≡ undefined_in left.now met.old.undefined (term_names raw.now)) }
+    ensures term { IfOk result (λ term. IsNumbered left.now params.now met.new.terminals raw.now term) }
 {
-    let mut names = Vec::new(alloc);
-    push_names(body, &mut names)?;
-    add_terminals(params, names.as_slice(), terminals)?;
-    Ok(undefined_among(left, names.as_slice()))
+    let head = head_of(left, params, &raw.head, met)?;
+    let mut args = Vec::with_capacity(alloc, raw.args.len())?;
+    for arg in &raw.args {
+        args.push(term_of(alloc, left, params, arg, met)?)?;
+    }
+    Ok(Term { head, args })
 }
 
-/// The terminals of the bodies by number, and the least line of an upper name that isn't on the
-/// left of a rule.
+/// The rule with numbers for its names.
+fn rule_of<'a>(
+    alloc: Global,
+    left: &NameIndex,
+    params: &NameIndex,
+    raw: &RawRule<'a>,
+    met: &mut Met<'a>,
+) -> Result<Rule, OutOfMemory>
+    requires left { HasNumbers left.now }
+    requires params { params.now ≡ distinct (texts raw.now.params) }
+    requires few { length raw.now.params ≤ 64 }
+    ensures terminals { OnOk result (met.new.terminals ≡ with_names met.old.terminals
+        (filter (numbering.is_terminal params.now) (texts (term_names raw.now.body)))) }
+    ensures undefined { OnOk result (met.new.undefined
+        ≡ undefined_in left.now met.old.undefined (term_names raw.now.body)) }
+    ensures rule { IfOk result (λ rule. IsScoped left.now met.new.terminals raw.now rule) }
+{
+    let body = term_of(alloc, left, params, &raw.body, met)?;
+    Ok(Rule {
+        params: raw.params.len() as u32,
+        body,
+    })
+}
+
+/// The rules with numbers for their names, and what their bodies name.
 #[derive(Drop)]
 pub(crate) struct Bodies<'a> {
+    pub(crate) rules: Vec<Rule>,
+    /// The terminals by number.
     pub(crate) terminals: NameIndex<'a>,
+    /// The least line of an upper name that isn't on the left of a rule.
     pub(crate) undefined: Option<u32>,
 }
 
-/// What the bodies of the rules name, where these are the parameters of each.
+/// The rules with numbers for their names, where these are the parameters of each.
 pub(crate) fn bodies_of<'a>(
     alloc: Global,
-    left: &NameIndex<'a>,
-    params: &[NameIndex<'a>],
-    rules: &'a [RawRule],
+    left: &NameIndex,
+    params: &[NameIndex],
+    rules: &[RawRule<'a>],
 ) -> Result<Bodies<'a>, OutOfMemory>
-    requires { params.now ≡ map (λ r. distinct (texts r.params)) rules.now }
+    requires left { HasNumbers left.now }
+    requires params { params.now ≡ map (λ r. distinct (texts r.params)) rules.now }
+    requires few { All (λ r. length r.params ≤ 64) rules.now }
     ensures terminals { IfOk result (λ b. b.terminals ≡ distinct (flat_map terminals_in rules.now)) }
     ensures undefined { IfOk result (λ b. IsLeast
         (λ line. Somewhere (λ _ r. Somewhere (λ _ n. IsUndefined left.now n line) (term_names r.body)) rules.now)
         b.undefined) }
+    ensures rules { IfOk result (λ b. AreScoped left.now b.terminals rules.now b.rules.items) }
 {
-    let mut terminals = NameIndex::new(alloc);
-    let mut undefined = None;
+    let mut numbered = Vec::with_capacity(alloc, rules.len())?;
+    let mut met = Met {
+        terminals: NameIndex::new(alloc),
+        undefined: None,
+    };
     for (number, rule) in rules.iter().enumerate() {
-        let line = read_body(alloc, left, &params[number], &rule.body, &mut terminals)?;
-        undefined = earliest(undefined, line);
+        numbered.push(rule_of(alloc, left, &params[number], rule, &mut met)?)?;
     }
     Ok(Bodies {
-        terminals,
-        undefined,
+        rules: numbered,
+        terminals: met.terminals,
+        undefined: met.undefined,
     })
 }

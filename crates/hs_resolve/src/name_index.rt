@@ -1,7 +1,7 @@
 //! Names by number.
 
-ghost use Rattle.std.specs.Prelude.{◌≡◌, ◌<◌, [], not, IfOk, OnOk, IfSome, length, map};
-ghost use Rattle.hs_resolve.specs.Names.{is_among, number_of, with_name};
+ghost use Rattle.std.specs.Prelude.{◌≡◌, ◌<◌, ◌++◌, List, ℕ, [], not, IfOk, OnOk, IfSome, length, map};
+ghost use Rattle.hs_resolve.specs.Names.{is_among, number_of, number, with_name};
 ghost use Rattle.hs_resolve.specs.Lengths.{length_of};
 
 use hs_scheme::{Name, OutOfMemory};
@@ -49,11 +49,15 @@ impl<'a> NameIndex<'a> {
         Ok(fresh)
     }
 
-    /// Whether a name is there. Takes no memory, and constant time on average.
-    pub(crate) fn has(&self, name: &[u8]) -> bool
-        ensures { result ≡ is_among self.now name.now }
+    /// The number of a name, which is put at the end where it isn't there yet. Constant time on
+    /// average in the number of names.
+    pub(crate) fn number_or_add(&mut self, name: &'a [u8]) -> Result<usize, OutOfMemory>
+        ensures number { IfOk result (λ n. (later : List (List ℕ))
+            → n ≡ number (self.new ++ later) name.now) }
+        ensures added { OnOk result (self.new ≡ with_name self.old name.now) }
     {
-        self.names.contains(name)
+        let (number, _) = self.names.insert_full(name)?;
+        Ok(number)
     }
 
     /// The number of a name. Takes no memory, and constant time on average.
@@ -61,6 +65,10 @@ impl<'a> NameIndex<'a> {
         ensures number { result ≡ number_of self.now name.now }
         ensures within { IfSome result (λ n. n < length self.now) }
     {
+        // No name is hashed in the body of a rule without parameters.
+        if self.names.is_empty() {
+            return None;
+        }
         self.names.get_index_of(name)
     }
 

@@ -1,144 +1,98 @@
-//! The numbers for the names of rules and transitions.
+//! The numbers for the names of transitions, and the names of parameters.
 
-ghost use Rattle.std.specs.Prelude.{◌≡◌, ◌<◌, ◌≤◌, ◌^◌, List, ℕ, map, length, All, IfOk};
+ghost use Rattle.std.specs.Prelude.{◌≡◌, ◌++◌, List, ℕ, map, IfOk, OnOk};
+ghost use Rattle.std.specs.List.{flat_map};
 ghost use Rattle.hs_resolve.specs.Names as names;
-ghost use Rattle.hs_resolve.specs.Names.{texts, distinct};
+ghost use Rattle.hs_resolve.specs.Names.{texts, distinct, with_name, with_names};
 ghost use Rattle.hs_resolve.specs.Numbering as definition;
-ghost use Rattle.hs_resolve.specs.Tables.{HasNumbers, scoped_rule};
+ghost use Rattle.hs_resolve.specs.Numbering.{states_in};
+ghost use Rattle.hs_resolve.specs.Moves.{AreNumbers, IsMove};
 
 use crate::name_index::NameIndex;
-use hs_reader::{RawName, RawRule, RawTerm, RawTransition, is_upper};
-use hs_scheme::{Head, Name, OutOfMemory, Rule, Term, Transition};
+use hs_reader::{RawName, RawTransition};
+use hs_scheme::{Name, OutOfMemory, Transition};
 use std::alloc::Global;
 
-/// The number of a name, and 0 for one that isn't there.
-fn number(index: &NameIndex, name: &[u8]) -> u32
-    requires { HasNumbers index.now }
-    ensures { result ≡ names.number index.now name.now }
+/// The number of a name, which is put at the end where it isn't there yet. More than 2^32 names are
+/// want of memory.
+pub(crate) fn number_in<'a>(
+    index: &mut NameIndex<'a>,
+    name: &RawName<'a>,
+) -> Result<u32, OutOfMemory>
+    ensures added { OnOk result (index.new ≡ with_name index.old name.now.text) }
+    ensures number { IfOk result (λ n. (later : List (List ℕ))
+        → n ≡ names.number (index.new ++ later) name.now.text) }
 {
-    match index.number(name) {
-        Some(number) => number as u32,
-        None => 0,
-    }
+    let number = index.number_or_add(name.text.bytes())?;
+    let Ok(number) = u32::try_from(number) else {
+        return Err(OutOfMemory);
+    };
+    Ok(number)
 }
 
-/// What a name in a body stands for.
-fn head_of(left: &NameIndex, params: &NameIndex, terminals: &NameIndex, name: &RawName) -> Head
-    requires left { HasNumbers left.now }
-    requires params { HasNumbers params.now }
-    requires terminals { HasNumbers terminals.now }
-    ensures { result ≡ definition.head_of left.now params.now terminals.now name.now }
-{
-    let text = name.text.bytes();
-    if is_upper(text) {
-        return Head::Nt(number(left, text));
-    }
-    match params.number(text) {
-        Some(parameter) => Head::Var(parameter as u32),
-        None => Head::Tm(number(terminals, text)),
-    }
-}
-
-/// The term with a head for each of its names. Recurses as deep as the term.
-fn term_of(
+/// The numbers of these states, which are put at the end of those that were met before.
+fn numbers_of<'a>(
     alloc: Global,
-    left: &NameIndex,
-    params: &NameIndex,
-    terminals: &NameIndex,
-    raw: &RawTerm,
-) -> Result<Term, OutOfMemory>
-    requires left { HasNumbers left.now }
-    requires params { HasNumbers params.now }
-    requires terminals { HasNumbers terminals.now }
-    ensures { IfOk result (λ t. t
-        ≡ definition.numbered (definition.head_of left.now params.now terminals.now) raw.now) }
+    states: &mut NameIndex<'a>,
+    to: &[RawName<'a>],
+) -> Result<Vec<u32>, OutOfMemory>
+    ensures states { OnOk result (states.new ≡ with_names states.old (texts to.now)) }
+    ensures numbers { IfOk result (λ qs. AreNumbers states.new to.now qs.items) }
 {
-    let mut args = Vec::with_capacity(alloc, raw.args.len())?;
-    for arg in &raw.args {
-        args.push(term_of(alloc, left, params, terminals, arg)?)?;
-    }
-    Ok(Term {
-        head: head_of(left, params, terminals, &raw.head),
-        args,
-    })
-}
-
-/// The rule with numbers for its names.
-fn rule_of(
-    alloc: Global,
-    left: &NameIndex,
-    params: &NameIndex,
-    terminals: &NameIndex,
-    raw: &RawRule,
-) -> Result<Rule, OutOfMemory>
-    requires left { HasNumbers left.now }
-    requires params { params.now ≡ distinct (texts raw.now.params) }
-    requires few { length raw.now.params ≤ 64 }
-    requires terminals { HasNumbers terminals.now }
-    ensures { IfOk result (λ r. r ≡ scoped_rule left.now terminals.now raw.now) }
-{
-    let body = term_of(alloc, left, params, terminals, &raw.body)?;
-    Ok(Rule {
-        params: raw.params.len() as u32,
-        body,
-    })
-}
-
-/// The rules with numbers for their names, where these are the names of the parameters of each.
-pub(crate) fn rules_of(
-    alloc: Global,
-    left: &NameIndex,
-    params: &[NameIndex],
-    terminals: &NameIndex,
-    rules: &[RawRule],
-) -> Result<Vec<Rule>, OutOfMemory>
-    requires left { HasNumbers left.now }
-    requires params { params.now ≡ map (λ r. distinct (texts r.params)) rules.now }
-    requires few { All (λ r. length r.params ≤ 64) rules.now }
-    requires terminals { HasNumbers terminals.now }
-    ensures { IfOk result (λ rs. rs.items ≡ map (scoped_rule left.now terminals.now) rules.now) }
-{
-    let mut numbered = Vec::with_capacity(alloc, rules.len())?;
-    for (number, rule) in rules.iter().enumerate() {
-        numbered.push(rule_of(alloc, left, &params[number], terminals, rule)?)?;
-    }
-    Ok(numbered)
-}
-
-/// The numbers of these states.
-fn states_of(alloc: Global, states: &NameIndex, texts: &[RawName]) -> Result<Vec<u32>, OutOfMemory>
-    requires { HasNumbers states.now }
-    ensures { IfOk result (λ qs. qs.items ≡ map (λ q. names.number states.now q.text) texts.now) }
-{
-    let mut numbers = Vec::with_capacity(alloc, texts.len())?;
-    for name in texts {
-        numbers.push(number(states, name.text.bytes()))?;
+    let mut numbers = Vec::with_capacity(alloc, to.len())?;
+    for name in to {
+        numbers.push(number_in(states, name)?)?;
     }
     Ok(numbers)
 }
 
-/// The transitions with numbers for their names.
-pub(crate) fn transitions_of(
+/// The transition with numbers for its names.
+fn transition_of<'a>(
     alloc: Global,
-    states: &NameIndex,
-    terminals: &NameIndex,
-    transitions: &[RawTransition],
-) -> Result<Vec<Transition>, OutOfMemory>
-    requires states { HasNumbers states.now }
-    requires terminals { HasNumbers terminals.now }
-    ensures { IfOk result (λ ts. ts.items
-        ≡ map (definition.transition_of states.now terminals.now) transitions.now) }
+    states: &mut NameIndex<'a>,
+    terminals: &mut NameIndex<'a>,
+    raw: &RawTransition<'a>,
+) -> Result<Transition, OutOfMemory>
+    ensures states { OnOk result (states.new ≡ with_names states.old (states_in raw.now)) }
+    ensures terminals { OnOk result (terminals.new ≡ with_name terminals.old raw.now.terminal.text) }
+    ensures transition { IfOk result (λ t. IsMove states.new terminals.new raw.now t) }
 {
+    let from = number_in(states, &raw.from)?;
+    let to = numbers_of(alloc, states, raw.to.as_slice())?;
+    let terminal = number_in(terminals, &raw.terminal)?;
+    Ok(Transition { from, terminal, to })
+}
+
+/// The transitions with numbers for their names, and the states by number.
+#[derive(Drop)]
+pub(crate) struct Moves<'a> {
+    pub(crate) states: NameIndex<'a>,
+    pub(crate) transitions: Vec<Transition>,
+}
+
+/// The transitions with numbers for their names. Their terminals are put at the end of those that
+/// were met before.
+pub(crate) fn transitions_of<'a>(
+    alloc: Global,
+    terminals: &mut NameIndex<'a>,
+    transitions: &[RawTransition<'a>],
+) -> Result<Moves<'a>, OutOfMemory>
+    ensures terminals { OnOk result (terminals.new
+        ≡ with_names terminals.old (map (λ t. t.terminal.text) transitions.now)) }
+    ensures states { IfOk result (λ moves. moves.states
+        ≡ distinct (flat_map states_in transitions.now)) }
+    ensures transitions { IfOk result (λ moves. moves.transitions.items
+        ≡ map (definition.transition_of moves.states terminals.new) transitions.now) }
+{
+    let mut states = NameIndex::new(alloc);
     let mut numbered = Vec::with_capacity(alloc, transitions.len())?;
     for transition in transitions {
-        let to = states_of(alloc, states, transition.to.as_slice())?;
-        numbered.push(Transition {
-            from: number(states, transition.from.text.bytes()),
-            terminal: number(terminals, transition.terminal.text.bytes()),
-            to,
-        })?;
+        numbered.push(transition_of(alloc, &mut states, terminals, transition)?)?;
     }
-    Ok(numbered)
+    Ok(Moves {
+        states,
+        transitions: numbered,
+    })
 }
 
 /// The names of the parameters of each rule.

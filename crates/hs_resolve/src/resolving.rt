@@ -5,17 +5,17 @@ ghost use Rattle.hs_resolve.specs.Least.{IsLeast};
 ghost use Rattle.hs_resolve.specs.LineFaults.{StartHasParams};
 ghost use Rattle.hs_resolve.specs.Numbering.{unsorted_of};
 ghost use Rattle.hs_resolve.specs.Answer.{IsFaultless, IsAnswered};
-ghost use Rattle.hs_resolve.specs.Tables.{AreLines, AreTables};
+ghost use Rattle.hs_resolve.specs.Tables.{AreLines, AreTables, IsNumberedFile};
 
 use crate::body::bodies_of;
 use crate::fault::{MAX_STATES, NameFault};
 use crate::line::FaultLines;
 use crate::name_index::NameIndex;
-use crate::numbering::{params_of, rules_of, transitions_of};
+use crate::numbering::{params_of, transitions_of};
 use crate::seen::{left_of, scopes_of};
-use crate::transitions::{add_transition_terminals, transition_names};
+use crate::transitions::transition_lines;
 use hs_reader::RawFile;
-use hs_scheme::{Automaton, Names, OutOfMemory, Unsorted};
+use hs_scheme::{Automaton, Names, OutOfMemory, Rule, Transition, Unsorted};
 use indexmap::IndexMap;
 use std::alloc::Global;
 
@@ -30,6 +30,20 @@ struct Tables<'a> {
     lines: FaultLines,
 }
 
+/// The rules and the transitions with numbers for their names.
+#[derive(Drop)]
+struct Numbered {
+    rules: Vec<Rule>,
+    transitions: Vec<Transition>,
+}
+
+/// What a file comes to.
+#[derive(Drop)]
+struct Resolved<'a> {
+    tables: Tables<'a>,
+    numbered: Numbered,
+}
+
 /// The line of the first rule where it has a parameter.
 fn start_line(raw: &RawFile) -> Option<u32>
     ensures { IsLeast (StartHasParams raw.now) result }
@@ -41,9 +55,11 @@ fn start_line(raw: &RawFile) -> Option<u32>
     Some(rule.name.line)
 }
 
-fn tables_of<'a>(alloc: Global, raw: &'a RawFile) -> Result<Tables<'a>, OutOfMemory>
-    ensures tables { IfOk result (λ t. AreTables raw.now t) }
-    ensures lines { IfOk result (λ t. AreLines raw.now t.lines) }
+/// The names of a file by number, with what was found on the way, and its rules and transitions.
+fn number_file<'a>(alloc: Global, raw: &RawFile<'a>) -> Result<Resolved<'a>, OutOfMemory>
+    ensures tables { IfOk result (λ r. AreTables raw.now r.tables) }
+    ensures numbered { IfOk result (λ r. IsNumberedFile raw.now r.numbered) }
+    ensures lines { IfOk result (λ r. AreLines raw.now r.tables.lines) }
 {
     let rules = raw.rules.as_slice();
     let transitions = raw.transitions.as_slice();
@@ -51,42 +67,51 @@ fn tables_of<'a>(alloc: Global, raw: &'a RawFile) -> Result<Tables<'a>, OutOfMem
     let scopes = scopes_of(alloc, rules)?;
     let bodies = bodies_of(alloc, &left.index, scopes.params.as_slice(), rules)?;
     let mut terminals = bodies.terminals;
-    add_transition_terminals(&mut terminals, transitions)?;
-    let names = transition_names(alloc, transitions)?;
-    Ok(Tables {
-        left: left.index,
-        params: scopes.params,
-        terminals,
-        states: names.states,
-        lengths: names.lengths,
-        lines: FaultLines {
-            duplicate_rule: left.repeated,
-            duplicate_param: scopes.repeated,
-            undefined: bodies.undefined,
-            start_has_params: start_line(raw),
-            duplicate_transition: names.repeated,
-            rank_clash: names.clash,
+    let moves = transitions_of(alloc, &mut terminals, transitions)?;
+    let lines = transition_lines(alloc, transitions)?;
+    Ok(Resolved {
+        tables: Tables {
+            left: left.index,
+            params: scopes.params,
+            terminals,
+            states: moves.states,
+            lengths: lines.lengths,
+            lines: FaultLines {
+                duplicate_rule: left.repeated,
+                duplicate_param: scopes.repeated,
+                undefined: bodies.undefined,
+                start_has_params: start_line(raw),
+                duplicate_transition: lines.repeated,
+                rank_clash: lines.clash,
+            },
+        },
+        numbered: Numbered {
+            rules: bodies.rules,
+            transitions: moves.transitions,
         },
     })
 }
 
 /// The scheme of a file without faults.
-fn unsorted(alloc: Global, raw: &RawFile, tables: &Tables) -> Result<Unsorted, OutOfMemory>
+fn unsorted(
+    alloc: Global,
+    raw: &RawFile,
+    tables: &Tables,
+    numbered: Numbered,
+) -> Result<Unsorted, OutOfMemory>
     requires tables { AreTables raw.now tables.now }
+    requires numbered { IsNumberedFile raw.now numbered }
     requires faultless { IsFaultless raw.now }
     ensures { IfOk result (λ u. u ≡ unsorted_of raw.now) }
 {
-    let left = &tables.left;
-    let params = tables.params.as_slice();
+    let Numbered { rules, transitions } = numbered;
     let terminals = &tables.terminals;
     let states = &tables.states;
-    let rules = rules_of(alloc, left, params, terminals, raw.rules.as_slice())?;
-    let transitions = transitions_of(alloc, states, terminals, raw.transitions.as_slice())?;
     let automaton = Automaton::of(alloc, states.len() as u32, transitions)?;
     let ranks = terminals.values_in(alloc, &tables.lengths)?;
     let names = Names {
-        rules: left.copies(alloc)?,
-        params: params_of(alloc, params)?,
+        rules: tables.left.copies(alloc)?,
+        params: params_of(alloc, tables.params.as_slice())?,
         terminals: terminals.copies(alloc)?,
         states: states.copies(alloc)?,
     };
@@ -115,12 +140,14 @@ pub fn resolve(alloc: Global, raw: &RawFile) -> Result<Unsorted, NameFault>
     ensures refused { (fault : NameFault) → IsAnswered raw.now fault
         → IsErrAnd result (λ e. (e ≡ NameFault.OutOfMemory) ⊎ (e ≡ fault)) }
 {
-    let tables = tables_of(alloc, raw)?;
+    let resolved = number_file(alloc, raw)?;
+    let numbered = resolved.numbered;
+    let tables = resolved.tables;
     if let Some(fault) = tables.lines.first() {
         return Err(fault);
     }
     if tables.states.len() > MAX_STATES {
         return Err(NameFault::TooManyStates);
     }
-    Ok(unsorted(alloc, raw, &tables)?)
+    Ok(unsorted(alloc, raw, &tables, numbered)?)
 }

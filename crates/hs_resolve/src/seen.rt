@@ -31,7 +31,7 @@ impl<'a> Seen<'a> {
         }
     }
 
-    fn add(&mut self, name: &'a RawName) -> Result<(), OutOfMemory>
+    fn add(&mut self, name: &RawName<'a>) -> Result<(), OutOfMemory>
         ensures index { OnOk result (self.new.index ≡ with_name self.old.index name.now.text) }
         ensures repeated { OnOk result (self.new.repeated
             ≡ least.earliest self.old.repeated (repeat_of self.old.index name.now)) }
@@ -44,7 +44,7 @@ impl<'a> Seen<'a> {
 }
 
 /// The names on the left of the rules.
-pub(crate) fn left_of<'a>(alloc: Global, rules: &'a [RawRule]) -> Result<Seen<'a>, OutOfMemory>
+pub(crate) fn left_of<'a>(alloc: Global, rules: &[RawRule<'a>]) -> Result<Seen<'a>, OutOfMemory>
     ensures index { IfOk result (λ seen. seen.index ≡ distinct (texts (map (λ r. r.name) rules.now))) }
     ensures repeated { IfOk result (λ seen. IsLeast
         (Repeats (map (λ r. r.name) rules.now)) seen.repeated) }
@@ -57,7 +57,7 @@ pub(crate) fn left_of<'a>(alloc: Global, rules: &'a [RawRule]) -> Result<Seen<'a
 }
 
 /// The names of a rule's parameters.
-fn params_of<'a>(alloc: Global, params: &'a [RawName]) -> Result<Seen<'a>, OutOfMemory>
+fn params_of<'a>(alloc: Global, params: &[RawName<'a>]) -> Result<Seen<'a>, OutOfMemory>
     ensures index { IfOk result (λ seen. seen.index ≡ distinct (texts params.now)) }
     ensures repeated { IfOk result (λ seen. IsLeast (Repeats params.now) seen.repeated) }
 {
@@ -77,7 +77,7 @@ pub(crate) struct Scopes<'a> {
 }
 
 /// The names of the parameters of each of the rules.
-pub(crate) fn scopes_of<'a>(alloc: Global, rules: &'a [RawRule]) -> Result<Scopes<'a>, OutOfMemory>
+pub(crate) fn scopes_of<'a>(alloc: Global, rules: &[RawRule<'a>]) -> Result<Scopes<'a>, OutOfMemory>
     ensures params { IfOk result (λ s. s.params.items ≡ map (λ r. distinct (texts r.params)) rules.now) }
     ensures repeated { IfOk result (λ s. IsLeast
         (λ line. Somewhere (λ _ r. Repeats r.params line) rules.now) s.repeated) }

@@ -1,61 +1,16 @@
-//! The states and the terminals of transitions, those that stand twice, and the terminals' ranks.
+//! The transitions that stand twice, and the lengths of those of a terminal.
 
 ghost use Rattle.std.specs.Prelude.{◌≡◌, ◌<◌, ◌≤◌, ◌^◌, ℕ, List, map, length, All, IfOk, OnOk};
-ghost use Rattle.std.specs.List.{flat_map};
-ghost use Rattle.hs_resolve.specs.Names.{distinct, with_names};
-ghost use Rattle.hs_resolve.specs.Numbering.{states_in, rank_of};
+ghost use Rattle.hs_resolve.specs.Numbering.{rank_of};
 ghost use Rattle.hs_resolve.specs.Least.{IsLeast};
 ghost use Rattle.hs_resolve.specs.LineFaults.{Somewhere, RepeatsLeft, Clashes};
 ghost use Rattle.hs_resolve.specs.Lengths.{length_of, first_or, own_length, clash_line};
 
 use crate::line::earliest;
-use crate::name_index::NameIndex;
 use hs_reader::RawTransition;
 use hs_scheme::OutOfMemory;
 use indexmap::{IndexMap, IndexSet};
 use std::alloc::Global;
-
-/// Puts the states of a transition at the end of those that were met before.
-fn add_states<'a>(
-    states: &mut NameIndex<'a>,
-    transition: &'a RawTransition,
-) -> Result<(), OutOfMemory>
-    ensures { OnOk result (states.new ≡ with_names states.old (states_in transition.now)) }
-{
-    states.add(transition.from.text.bytes())?;
-    for state in &transition.to {
-        states.add(state.text.bytes())?;
-    }
-    Ok(())
-}
-
-/// The states by number.
-fn states_of<'a>(
-    alloc: Global,
-    transitions: &'a [RawTransition],
-) -> Result<NameIndex<'a>, OutOfMemory>
-    ensures { IfOk result (λ states. states ≡ distinct (flat_map states_in transitions.now)) }
-{
-    let mut states = NameIndex::new(alloc);
-    for transition in transitions {
-        add_states(&mut states, transition)?;
-    }
-    Ok(states)
-}
-
-/// Puts the terminals of the transitions at the end of those that were met before.
-pub(crate) fn add_transition_terminals<'a>(
-    terminals: &mut NameIndex<'a>,
-    transitions: &'a [RawTransition],
-) -> Result<(), OutOfMemory>
-    ensures { OnOk result (terminals.new
-        ≡ with_names terminals.old (map (λ t. t.terminal.text) transitions.now)) }
-{
-    for transition in transitions {
-        terminals.add(transition.terminal.text.bytes())?;
-    }
-    Ok(())
-}
 
 /// The least line of a transition whose state and terminal an earlier one has.
 fn repeated_of(alloc: Global, transitions: &[RawTransition]) -> Result<Option<u32>, OutOfMemory>
@@ -84,7 +39,7 @@ fn repeated_of(alloc: Global, transitions: &[RawTransition]) -> Result<Option<u3
 /// where the first has another.
 fn note_length<'a>(
     lengths: &mut IndexMap<&'a [u8], u32>,
-    transition: &'a RawTransition,
+    transition: &RawTransition<'a>,
 ) -> Result<Option<u32>, OutOfMemory>
     requires { length transition.now.to < 2 ^ 32 }
     ensures lengths { OnOk result ((x : List ℕ) → length_of lengths.new x
@@ -115,7 +70,7 @@ struct Lengths<'a> {
 /// The lengths of the transitions of each terminal.
 fn lengths_of<'a>(
     alloc: Global,
-    transitions: &'a [RawTransition],
+    transitions: &[RawTransition<'a>],
 ) -> Result<Lengths<'a>, OutOfMemory>
     requires { All (λ t. length t.to ≤ 64) transitions.now }
     ensures first { IfOk result (λ lengths. (x : List ℕ)
@@ -132,35 +87,31 @@ fn lengths_of<'a>(
     Ok(Lengths { first, clash })
 }
 
-/// What the transitions of a file name, and the least lines of those that don't go together.
+/// What the transitions of a file say of lengths, and the least lines of those that don't go together.
 #[derive(Drop)]
-pub(crate) struct TransitionNames<'a> {
-    pub(crate) states: NameIndex<'a>,
+pub(crate) struct TransitionLines<'a> {
     pub(crate) repeated: Option<u32>,
     /// The lengths of the right sides of the first transitions of the terminals.
     pub(crate) lengths: IndexMap<&'a [u8], u32>,
     pub(crate) clash: Option<u32>,
 }
 
-/// What the transitions name.
-pub(crate) fn transition_names<'a>(
+/// What the transitions say of each other.
+pub(crate) fn transition_lines<'a>(
     alloc: Global,
-    transitions: &'a [RawTransition],
-) -> Result<TransitionNames<'a>, OutOfMemory>
+    transitions: &[RawTransition<'a>],
+) -> Result<TransitionLines<'a>, OutOfMemory>
     requires { All (λ t. length t.to ≤ 64) transitions.now }
-    ensures states { IfOk result (λ names. names.states ≡ distinct (flat_map states_in transitions.now)) }
-    ensures repeated { IfOk result (λ names. IsLeast
-        (λ line. Somewhere (λ i t. RepeatsLeft transitions.now i t line) transitions.now) names.repeated) }
-    ensures lengths { IfOk result (λ names. (x : List ℕ)
-        → length_of names.lengths x ≡ rank_of transitions.now x) }
-    ensures clash { IfOk result (λ names. IsLeast
-        (λ line. Somewhere (λ _ t. Clashes transitions.now t line) transitions.now) names.clash) }
+    ensures repeated { IfOk result (λ lines. IsLeast
+        (λ line. Somewhere (λ i t. RepeatsLeft transitions.now i t line) transitions.now) lines.repeated) }
+    ensures lengths { IfOk result (λ lines. (x : List ℕ)
+        → length_of lines.lengths x ≡ rank_of transitions.now x) }
+    ensures clash { IfOk result (λ lines. IsLeast
+        (λ line. Somewhere (λ _ t. Clashes transitions.now t line) transitions.now) lines.clash) }
 {
-    let states = states_of(alloc, transitions)?;
     let repeated = repeated_of(alloc, transitions)?;
     let lengths = lengths_of(alloc, transitions)?;
-    Ok(TransitionNames {
-        states,
+    Ok(TransitionLines {
         repeated,
         lengths: lengths.first,
         clash: lengths.clash,

@@ -1,8 +1,10 @@
-use Rattle.std.proofs.Common.{◌≡◌, ◌∙◌, reverse, sym, refl, arith, vec_len}
+use Rattle.std.proofs.Common.{◌≡◌, ◌∙◌, ap, reverse, sym, refl, arith, vec_len, Some}
+use Rattle.hs_scheme.specs.Tree.{Tree, node, none}
+use Rattle.hs_reader.specs.declared.raw.RawName.{RawName}
 use Rattle.std.proofs.lemmas.Bool.{eqb-true, eqb-false}
 use Rattle.std.proofs.lemmas.Result.{err_from_is_err_and}
 use Rattle.hs_reader.specs.Reading.{view}
-use Rattle.hs_reader.specs.ReadingStages.{in_body}
+use Rattle.hs_reader.specs.ReadingStages.{in_body, read, added}
 use Rattle.hs_reader.proofs.Running.{off, word_fault, continues, body_other}
 use Rattle.hs_reader.proofs.Bodies.{body_word, body_word_full, left_on, left_deep, left_full, right_bare, right_outside, right_on, dot_bare, dot_inside, dot_on}
 use Rattle.hs_reader.proofs.reader.body.Goals as goal
@@ -18,13 +20,16 @@ returns-then-is_full-clause-value c = λ rs n ps.
     c.loop-bytes.invariant.0 rs n ps
     ∙ body_word_full rs n ps (reverse c.loop-bytes.outer.items) c.loop-bytes.begun c.next.new.self.line c.in-Name.bytes.now _ _ c.in-Name.ensures.value c.in_ok-head-in-Name.ensures.1 (sym c.is_full.ensures ∙ c.if-is_full.true)
 
-pub loop-bytes-preserved-in-Name : goal.loop-bytes-preserved-in-Name
-loop-bytes-preserved-in-Name c = (
-  λ rs n ps. c.loop-bytes.invariant.0 rs n ps
-      ∙ body_word rs n ps (reverse c.loop-bytes.outer.items) c.loop-bytes.begun c.next.new.self.line c.in-Name.bytes.now c.in_ok-head-in-Name.head c.in_ok-added-in-Name.field-0 _ _ c.in-Name.ensures.value
-      c.in_ok-head-in-Name.ensures.0 c.in_ok-head-in-Name.ensures.1 (sym c.is_full.ensures ∙ c.if-is_full.false) (rw c.new-args.ensures.items at c.in_ok-added-in-Name.ensures),
-  omega (arith, c.in-Name.ensures.shorter),
-)
+pub loop-bytes-preserved-in-Continue-branch-2 : goal.loop-bytes-preserved-in-Continue-branch-2
+loop-bytes-preserved-in-Continue-branch-2 c =
+    let leaf : Tree RawName = node c.in_ok-head-in-Name.head none in
+    let with_leaf : c.add.new.begun ≡ Some (added c.loop-bytes.begun leaf) = rw c.new-args.ensures.items at c.in_ok-add-in-Name.ensures.added in (
+      λ rs n ps. c.loop-bytes.invariant.0 rs n ps
+          ∙ (body_word rs n ps (reverse c.loop-bytes.outer.items) c.loop-bytes.begun c.next.new.self.line c.in-Name.bytes.now c.in_ok-head-in-Name.head (added c.loop-bytes.begun leaf) _ _ c.in-Name.ensures.value
+          c.in_ok-head-in-Name.ensures.0 c.in_ok-head-in-Name.ensures.1 (sym c.is_full.ensures ∙ c.if-is_full.false) refl
+          ∙ ap (λ o. read (in_body rs n ps (reverse c.loop-bytes.outer.items) o) c.next.new.self.line c.next.new.self.rest.now) (sym with_leaf)),
+      omega (arith, c.in-Name.ensures.shorter),
+    )
 
 pub returns-then-len-eq-MAX_DEPTH-clause-value : goal.returns-then-len-eq-MAX_DEPTH-clause-value
 returns-then-len-eq-MAX_DEPTH-clause-value c = λ rs n ps.
@@ -56,7 +61,8 @@ returns-in_default-pop-clause-value c = λ rs n ps.
 pub loop-bytes-preserved : goal.loop-bytes-preserved
 loop-bytes-preserved c = (
   λ rs n ps. c.loop-bytes.invariant.0 rs n ps
-      ∙ right_on rs n ps c.loop-bytes.outer.items c.pop.new.self.items c.in-Some-pop.below c.loop-bytes.begun c.in-Some.term c.in_ok-added-in-Right.field-0 c.next.new.self.line _ _ c.in-Right.ensures.value c.in-Some.is c.in-Some-pop.ensures.items c.in_ok-added-in-Right.ensures,
+      ∙ (right_on rs n ps c.loop-bytes.outer.items c.pop.new.self.items c.in-Some-pop.below c.loop-bytes.begun c.in-Some.term (added c.in-Some-pop.below c.in-Some.term) c.next.new.self.line _ _ c.in-Right.ensures.value c.in-Some.is c.in-Some-pop.ensures.items refl
+      ∙ ap (λ o. read (in_body rs n ps (reverse c.pop.new.self.items) o) c.next.new.self.line c.next.new.self.rest.now) (sym c.in_ok-add-in-Right.ensures.added)),
   omega (arith, c.in-Right.ensures.shorter),
 )
 

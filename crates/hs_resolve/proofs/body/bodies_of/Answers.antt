@@ -1,16 +1,15 @@
 use Rattle.std.proofs.Common.{◌≡◌, ◌∙◌, ap, sym, subst, length, filter, refl, Option, slice_get, ℕ, ◌+◌, ◌<◌, arith}
 use Rattle.std.proofs.lemmas.Option.{slice_get_read, same_Some}
 use Rattle.std.proofs.lemmas.List.{length-map}
-use Rattle.hs_scheme.specs.Tree.{Tree}
-use Rattle.hs_reader.specs.declared.raw.RawName.{RawName}
 use Rattle.hs_reader.specs.Raw.{Rule}
 use Rattle.hs_reader.specs.Limits.{term_names}
-use Rattle.hs_resolve.specs.Names.{texts, distinct, with_names}
+use Rattle.hs_resolve.specs.Names.{texts, distinct}
 use Rattle.hs_resolve.specs.Numbering.{is_terminal}
 use Rattle.hs_resolve.specs.Least.{IsLeast, Before}
 use Rattle.hs_resolve.specs.LineFaults.{Somewhere, IsUndefined}
+use Rattle.hs_resolve.proofs.Bodies.{bodies-least, rules-more}
 use Rattle.hs_resolve.proofs.Lists.{at_map}
-use Rattle.hs_resolve.proofs.Leasts.{least-more, least-all}
+use Rattle.hs_resolve.proofs.Leasts.{least-all}
 use Rattle.hs_resolve.proofs.NameLoops.{bodies-more}
 use Rattle.hs_resolve.proofs.body.bodies_of.Goals as goal
 
@@ -23,20 +22,19 @@ loop-number-preserved c =
     let r = c.index-rules-number.result in
     let scope = c.index-params-number.result in
     let scopes = λ (x : Rule). distinct (texts x.params) in
-    let body : c.rule.inside.body ≡ r.body = ap (λ (x : Rule). x.body) c.rule.view_is in
     let at = slice_get_read rules (length rules) i r refl c.loop-number-test.true c.index-rules-number.is in
-    let within : i < length params = let e : length params ≡ length rules = ap length c.requires ∙ length-map rules scopes in omega (arith, c.loop-number-test.true) in
+    let within : i < length params = let e : length params ≡ length rules = ap length c.requires.params ∙ length-map rules scopes in omega (arith, c.loop-number-test.true) in
     let at_scope = slice_get_read params (length params) i scope refl within c.index-params-number.is in
-    let same : scope ≡ scopes r = same_Some scope (scopes r) (sym at_scope ∙ (ap (λ ps. slice_get ps i) c.requires ∙ at_map scopes rules i r at)) in
+    let same : scope ≡ scopes r = same_Some scope (scopes r) (sym at_scope ∙ (ap (λ ps. slice_get ps i) c.requires.params ∙ at_map scopes rules i r at)) in
     let P = λ (_ : ℕ) (x : Rule) (line : ℕ). Somewhere (λ _ n. IsUndefined left n line) (term_names x.body) in
+    let ensured = c.in_ok-rule_of.ensures in
     record {
-      terminals = bodies-more rules i r c.loop-number.terminals c.read_body.new.terminals scope at same c.loop-number.invariant.terminals
-          (subst (λ (t : Tree RawName). c.read_body.new.terminals ≡ with_names c.loop-number.terminals (filter (is_terminal scope) (texts (term_names t)))) body c.in_ok-line.ensures.terminals);
-      undefined = subst (λ (o : Option ℕ). IsLeast (Before P rules (i + 1)) o) (sym c.earliest-undefined.ensures)
-          (least-more P rules i r c.loop-number.undefined c.in_ok-line.line at c.loop-number.invariant.undefined
-          (subst (λ (t : Tree RawName). IsLeast (λ line. Somewhere (λ _ n. IsUndefined left n line) (term_names t)) c.in_ok-line.line) body c.in_ok-line.ensures.undefined));
+      terminals = bodies-more rules i r c.loop-number.met.terminals c.rule_of.new.met.terminals scope at same c.loop-number.invariant.terminals ensured.terminals;
+      undefined = subst (λ (o : Option ℕ). IsLeast (Before P rules (i + 1)) o) (sym ensured.undefined) (bodies-least left rules i r c.loop-number.met.undefined at c.loop-number.invariant.undefined);
+      rules = rules-more left (filter (is_terminal scope) (texts (term_names r.body))) c.loop-number.met.terminals c.rule_of.new.met.terminals rules i r c.loop-number.numbered.items c.push.new.self.items
+          c.in_ok-rule_of.field-0 at ensured.terminals c.loop-number.invariant.rules ensured.rule c.in_ok-push.ensures.items;
     }
 
 pub returns-clause-undefined : goal.returns-clause-undefined
 returns-clause-undefined c =
-    least-all (λ _ r line. Somewhere (λ _ n. IsUndefined c.args.left.now n line) (term_names r.body)) c.args.rules.now c.loop-number.number c.loop-number.undefined c.loop-number-test.false c.loop-number.invariant.undefined
+    least-all (λ _ r line. Somewhere (λ _ n. IsUndefined c.args.left.now n line) (term_names r.body)) c.args.rules.now c.loop-number.number c.loop-number.met.undefined c.loop-number-test.false c.loop-number.invariant.undefined

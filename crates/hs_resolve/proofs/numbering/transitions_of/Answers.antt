@@ -1,9 +1,10 @@
-use Rattle.std.proofs.Common.{◌≡◌, ◌∙◌, ap, refl, length, map}
+use Rattle.std.proofs.Common.{◌∙◌, ap, refl, length, map, [], ◌∷◌}
 use Rattle.std.proofs.lemmas.Option.{slice_get_read}
+use Rattle.std.proofs.lemmas.List.{take_all}
 use Rattle.hs_reader.specs.Raw.{Transition}
-use Rattle.hs_resolve.specs.Names.{number}
-use Rattle.hs_resolve.specs.Numbering.{transition_of}
-use Rattle.hs_resolve.proofs.Lists.{pushed-more}
+use Rattle.hs_resolve.specs.Numbering.{states_in, transition_of}
+use Rattle.hs_resolve.proofs.TransitionLoops.{mapped-more, states-more}
+use Rattle.hs_resolve.proofs.Moves.{moves-more, moves-all}
 use Rattle.hs_resolve.proofs.numbering.transitions_of.Goals as goal
 
 pub loop-transition-preserved : goal.loop-transition-preserved
@@ -11,12 +12,17 @@ loop-transition-preserved c =
     let ts = c.args.transitions.now in
     let i = c.loop-transition.transition-index in
     let t = c.transition-item.result in
-    let states = c.args.states.now in
-    let terminals = c.args.terminals.now in
-    let from : c.number.result ≡ number states t.from.text = c.number.ensures ∙ ap (number states) (c.bytes.ensures ∙ ap (λ (u : Transition). u.from.text) c.transition.view_is) in
-    let terminal : c.number-in-loop-transition.result ≡ number terminals t.terminal.text =
-    c.number-in-loop-transition.ensures ∙ ap (number terminals) (c.bytes-in-loop-transition.ensures ∙ ap (λ (u : Transition). u.terminal.text) c.transition.view_is) in
-    let to : c.in_ok-to.to.items ≡ map (λ q. number states q.text) t.to =
-    c.in_ok-to.ensures ∙ ap (map (λ q. number states q.text)) (c.as_slice.ensures.value ∙ ap (λ (u : Transition). u.to) c.transition.view_is) in
-    pushed-more (transition_of states terminals) ts i t c.loop-transition.numbered.items c.push.new.self.items _ (slice_get_read ts (length ts) i t refl c.loop-transition-test.true c.transition-item.is)
-    c.loop-transition.invariant c.in_ok-push.ensures.items (λ j. record { from = from j; terminal = terminal j; to = to j })
+    let at = slice_get_read ts (length ts) i t refl c.loop-transition-test.true c.transition-item.is in
+    let ensured = c.in_ok-transition_of.ensures in
+    record {
+      terminals = mapped-more (λ (u : Transition). u.terminal.text) ts i t c.args.terminals.now c.loop-transition.terminals c.transition_of.new.terminals at c.loop-transition.invariant.terminals ensured.terminals;
+      states = states-more ts i t c.loop-transition.states c.transition_of.new.states at c.loop-transition.invariant.states ensured.states;
+      transitions = moves-more ts i t (states_in t) (t.terminal.text ∷ []) c.loop-transition.states c.transition_of.new.states c.loop-transition.terminals c.transition_of.new.terminals
+          c.loop-transition.numbered.items c.push.new.self.items c.in_ok-transition_of.field-0 at ensured.states ensured.terminals c.loop-transition.invariant.transitions ensured.transition c.in_ok-push.ensures.items;
+    }
+
+pub returns-clause-transitions : goal.returns-clause-transitions
+returns-clause-transitions c =
+    let ts = c.args.transitions.now in
+    moves-all c.loop-transition.states c.loop-transition.terminals _ c.loop-transition.numbered.items c.loop-transition.invariant.transitions
+    ∙ ap (map (transition_of c.loop-transition.states c.loop-transition.terminals)) (take_all c.loop-transition.transition-index ts c.loop-transition-test.false)

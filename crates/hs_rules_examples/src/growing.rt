@@ -1,0 +1,134 @@
+//! Logs that grow entry by entry, and what follows from them by the indexed programs.
+
+ghost use Rattle.std.specs.Prelude.{◌≡◌, ◌<◌, length, All, IfOk, OnOk};
+ghost use Rattle.hs_scheme.specs.Automaton.{IsAutomaton};
+ghost use Rattle.hs_table.specs.Entries.{InShape};
+ghost use Rattle.hs_types.specs.Interned.{IsRow};
+ghost use Rattle.hs_rules.specs.Conclusions.{DeducedData, IsDeduced};
+ghost use Rattle.hs_rules_examples.specs.Shaped.{IsShaped};
+
+use hs_rules::{Deduced, Replica, conclusions, conclusions_with, seed_conclusions};
+use hs_scheme::{OutOfMemory, Problem};
+use hs_table::Entry;
+use hs_table_laws::what_follows_is_in_shape;
+use std::alloc::Global;
+
+/// The entries of the log.
+pub(crate) fn trees(alloc: Global, replica: &Replica) -> Result<Vec<Entry>, OutOfMemory>
+    ensures { IfOk result (λ log. log.items ≡ replica.now.log) }
+{
+    let mut log = Vec::with_capacity(alloc, replica.len() as usize)?;
+    for place in 0..replica.len() {
+        log.push(replica.interner().tree(alloc, replica.row(place))?)?;
+    }
+    Ok(log)
+}
+
+/// Adds the entries that were deduced.
+fn push_trees(
+    alloc: Global,
+    replica: &Replica,
+    found: &[Deduced],
+    out: &mut Vec<Entry>,
+) -> Result<(), OutOfMemory>
+    requires { All (λ (d : DeducedData). IsRow replica.now.ids d.row) found.now }
+{
+    for deduced in found {
+        out.push(replica.interner().tree(alloc, deduced.row)?)?;
+    }
+    Ok(())
+}
+
+/// What follows at the point by the call for all of it.
+pub(crate) fn at_once(
+    alloc: Global,
+    problem: &Problem,
+    replica: &mut Replica,
+    point: u32,
+) -> Result<Vec<Entry>, OutOfMemory>
+    requires point { point < length problem.now.points.points }
+    requires shape { All (InShape problem.now) replica.old.log }
+    ensures log { replica.new.log ≡ replica.old.log }
+{
+    let found = conclusions(alloc, problem, replica, point)?;
+    let mut out = Vec::new(alloc);
+    push_trees(alloc, replica, found.as_slice(), &mut out)?;
+    Ok(out)
+}
+
+/// What follows at the point from nothing, and then with each place.
+pub(crate) fn by_places(
+    alloc: Global,
+    problem: &Problem,
+    replica: &mut Replica,
+    point: u32,
+) -> Result<Vec<Entry>, OutOfMemory>
+    requires point { point < length problem.now.points.points }
+    requires shape { All (InShape problem.now) replica.old.log }
+    ensures log { replica.new.log ≡ replica.old.log }
+{
+    let mut out = Vec::new(alloc);
+    let seeds = seed_conclusions(alloc, problem, replica, point)?;
+    push_trees(alloc, replica, seeds.as_slice(), &mut out)?;
+    for place in 0..replica.len() {
+        let found = conclusions_with(alloc, problem, replica, point, place)?;
+        push_trees(alloc, replica, found.as_slice(), &mut out)?;
+    }
+    Ok(out)
+}
+
+/// What holds of the automaton of each problem.
+fn know(problem: &Problem)
+    ensures { IsAutomaton problem.now.sorted.automaton }
+{
+    let sorted = &problem.sorted;
+    sorted.automaton.is_automaton();
+}
+
+/// What was deduced from a log is in shape.
+fn are_shaped(problem: &Problem, replica: &Replica, found: &[Deduced])
+    requires { All (IsDeduced problem.now replica.now.ids replica.now.log) found.now }
+    ensures { All (IsShaped problem.now replica.now.ids) found.now }
+{
+    know(problem);
+    what_follows_is_in_shape();
+}
+
+/// Adds the first of the entries that the log lacks. Answers whether there was one.
+fn add_first(
+    problem: &Problem,
+    replica: &mut Replica,
+    found: &[Deduced],
+) -> Result<bool, OutOfMemory>
+    requires shape { All (InShape problem.now) replica.old.log }
+    requires found { All (IsShaped problem.now replica.old.ids) found.now }
+    ensures shape { OnOk result (All (InShape problem.now) replica.new.log) }
+{
+    for deduced in found {
+        if replica.find(deduced.row).is_none() && replica.len() < 1_000 {
+            replica.reserve(1)?;
+            replica.add(deduced.row);
+            return Ok(true);
+        }
+    }
+    Ok(false)
+}
+
+/// Adds an entry that follows from the log. Answers whether there was one that the log lacked.
+pub(crate) fn grow(
+    alloc: Global,
+    problem: &Problem,
+    replica: &mut Replica,
+) -> Result<bool, OutOfMemory>
+    requires shape { All (InShape problem.now) replica.old.log }
+    ensures shape { OnOk result (All (InShape problem.now) replica.new.log) }
+{
+    for point in 0..problem.points.count() {
+        let found = conclusions(alloc, problem, replica, point)?;
+        are_shaped(problem, replica, found.as_slice());
+        if add_first(problem, replica, found.as_slice())? {
+            return Ok(true);
+        }
+    }
+    Ok(false)
+}

@@ -1,0 +1,193 @@
+//! The indexed programs beside the plain one, on worked schemes and on a hundred made ones; and a
+//! log of one entry, step by step.
+
+ghost use Rattle.std.specs.Prelude.{◌≡◌, [], All, IfOk, IsTrue};
+ghost use Rattle.hs_table.specs.Entries.{InShape};
+ghost use Rattle.hs_types.specs.Interned.{IsRow};
+ghost use Rattle.hs_rules.specs.Conclusions.{DeducedData};
+
+use crate::comparing::{are_same, entries_of};
+use crate::growing::{grow, trees};
+use crate::making::problem_of;
+use hs_rules::{Deduced, Replica, conclusions, conclusions_with};
+use hs_scheme::{OutOfMemory, Problem};
+use hs_table::HeadBy;
+use hs_types::View;
+use std::alloc::Global;
+use std::test::Fail;
+
+#[test]
+fn worked_tables_agree_entry_by_entry(rt: HostRuntime) -> Result<(), Fail> {
+    let accepted = "q0 br -> q0 q0. q0 a -> q0. q0 b -> q1. q1 b -> q1. q0 c -> . q1 c -> .";
+    let rejected = "q0 br -> q0 q0. q0 a -> q0. q0 b -> q1. q0 c -> . q1 c -> .";
+    let branching = "S -> F c. F x -> br x (a (F (b x))).";
+    let twice = "S -> Tw a c. Tw f x -> f (f x).";
+    let twice_transitions = "q0 a -> q1. q1 a -> q2. q2 a -> q2. q0 c -> . q1 c -> .";
+    let resource = "S -> Loop end. Loop k -> br (close k) (read (Loop k)).";
+    let resource_transitions = "q0 br -> q0 q0. q0 read -> q0. q0 close -> q1. q1 end -> .";
+    let partial = "S -> Ap (K c) c. Ap f x -> f x. K x y -> x.";
+    let rows = [
+        ("S -> a S.", "q0 a -> q0.", 0),
+        ("S -> a b.", "q0 a -> q0.", 2),
+        ("S -> S.", "q0 a -> .", 0),
+        (branching, accepted, 4),
+        (branching, rejected, 18),
+        (twice, twice_transitions, 13),
+        (resource, resource_transitions, 8),
+        (partial, "q0 d -> .", 7),
+        ("S -> G b. G x -> c.", "q0 c -> .", 1),
+        ("S -> F c. F -> a.", "q0 a -> q0.", 4),
+        ("S -> Ap a c. Ap f -> f.", "q0 a -> q0.", 5),
+        ("S -> br a b.", "q0 br -> q0 q0.", 3),
+    ];
+    for (rules, transitions, expected) in rows {
+        let problem = problem_of(rt.alloc(), rules, transitions)?;
+        let entries = entries_of(rt.alloc(), &problem, false)?;
+        assert_eq!(rt; entries, Some(expected), "{rules}");
+    }
+    Ok(())
+}
+
+/// The problem of a scheme of three rules.
+fn made(alloc: Global, start: &str, body: &str, transitions: &str) -> Result<Problem, Fail> {
+    let rules = format!(in alloc; "S -> {start}. F f x -> {body}. G f x -> f (f x).")?;
+    problem_of(alloc, rules.as_str(), transitions)
+}
+
+#[test]
+fn a_hundred_schemes_agree(rt: HostRuntime) -> Result<(), Fail> {
+    let starts = [
+        "F a c",
+        "F (F a) (a c)",
+        "br (F a c) (F b c)",
+        "F (G a) c",
+        "G (F b) (G a c)",
+    ];
+    let bodies = [
+        "f x",
+        "f (f x)",
+        "br x (f x)",
+        "br (f x) (F f (a x))",
+        "f (G f x)",
+    ];
+    let automata = [
+        "q0 a -> q0. q0 c -> . q0 br -> q0 q0.",
+        "q0 a -> q1. q1 a -> q0. q1 b -> q1. q0 c -> . q0 br -> q0 q1.",
+        "q0 br -> q1 q0. q1 a -> q0. q1 c -> .",
+        "q0 a -> q1. q0 b -> q1. q1 c -> . q1 br -> q0 q0.",
+    ];
+    for start in starts {
+        for body in bodies {
+            for transitions in automata {
+                let problem = made(rt.alloc(), start, body, transitions)?;
+                let entries = entries_of(rt.alloc(), &problem, true)?;
+                assert!(rt; entries.is_some(), "{start}, {body}, {transitions}");
+            }
+        }
+    }
+    Ok(())
+}
+
+/// Whether one entry was found, without parameters and of state 0, that follows by this.
+fn is_one(
+    replica: &Replica,
+    found: &[Deduced],
+    point: u32,
+    head: HeadBy,
+    args: &[(u32, u32)],
+) -> bool
+    requires { All (λ (d : DeducedData). IsRow replica.now.ids d.row) found.now }
+{
+    if found.len() != 1 {
+        return false;
+    }
+    let deduced = &found[0];
+    deduced.row.point == point
+        && replica.interner().sets(deduced.row.env).is_empty()
+        && replica.interner().view(deduced.row.ty) == View::State(0)
+        && deduced.head == head
+        && deduced.args.as_slice() == args
+}
+
+/// The head of a terminal that is read in state 0.
+fn terminal(child: Option<u32>) -> HeadBy {
+    HeadBy::Terminal { state: 0, child }
+}
+
+/// Whether nothing follows from no entry at point 0, and one entry at point 1.
+fn begins(alloc: Global, problem: &Problem, replica: &mut Replica) -> Result<bool, OutOfMemory>
+    requires { All (InShape problem.now) replica.old.log }
+    ensures { replica.new.log ≡ replica.old.log }
+{
+    if problem.points.count() != 2 || replica.len() != 0 {
+        return Ok(false);
+    }
+    let none = conclusions(alloc, problem, replica, 0)?;
+    let found = conclusions(alloc, problem, replica, 1)?;
+    Ok(none.is_empty() && is_one(replica, found.as_slice(), 1, terminal(None), &[]))
+}
+
+/// Whether from that entry one follows at point 0.
+fn goes_on(alloc: Global, problem: &Problem, replica: &mut Replica) -> Result<bool, OutOfMemory>
+    requires { All (InShape problem.now) replica.old.log }
+{
+    if problem.points.count() != 2 || replica.len() != 1 {
+        return Ok(false);
+    }
+    let found = conclusions(alloc, problem, replica, 0)?;
+    let with = conclusions_with(alloc, problem, replica, 0, 0)?;
+    let head = terminal(Some(1));
+    Ok(
+        is_one(replica, found.as_slice(), 0, head, &[(0, 0)])
+            && is_one(replica, with.as_slice(), 0, head, &[(0, 0)]),
+    )
+}
+
+/// Appends the one entry of the other log to an empty one. Answers whether the logs were so.
+fn is_appended(from: &Replica, own: &mut Replica) -> Result<bool, OutOfMemory>
+    requires { own.old.log ≡ [] }
+    ensures { IfOk result (λ appended. IsTrue appended → own.new.log ≡ from.now.log) }
+{
+    if from.len() != 1 {
+        return Ok(false);
+    }
+    own.append(from.interner(), from.row(0))?;
+    Ok(true)
+}
+
+/// The same by `reserve`, `import` and `add`.
+fn is_added(from: &Replica, own: &mut Replica) -> Result<bool, OutOfMemory>
+    requires { own.old.log ≡ [] }
+    ensures { IfOk result (λ added. IsTrue added → own.new.log ≡ from.now.log) }
+{
+    if from.len() != 1 {
+        return Ok(false);
+    }
+    own.reserve(1)?;
+    let row = own.import(from.interner(), from.row(0))?;
+    own.add(row);
+    Ok(true)
+}
+
+/// Whether the logs have the same entries, one each.
+fn are_one(alloc: Global, one: &Replica, other: &Replica) -> Result<bool, OutOfMemory> {
+    let own = trees(alloc, one)?;
+    let others = trees(alloc, other)?;
+    Ok(own.len() == 1 && others.len() == 1 && are_same(own.as_slice(), others.as_slice()))
+}
+
+#[test]
+fn one_entry_and_then_the_other(rt: HostRuntime) -> Result<(), Fail> {
+    let alloc = rt.alloc();
+    let problem = problem_of(alloc, "S -> a b.", "q0 a -> q0.")?;
+    let mut replica = Replica::new(alloc);
+    assert!(rt; begins(alloc, &problem, &mut replica)?);
+    assert!(rt; grow(alloc, &problem, &mut replica)?);
+    let mut appended = Replica::new(alloc);
+    assert!(rt; is_appended(&replica, &mut appended)?);
+    assert!(rt; goes_on(alloc, &problem, &mut appended)?);
+    let mut added = Replica::new(alloc);
+    assert!(rt; is_added(&replica, &mut added)?);
+    assert!(rt; are_one(alloc, &appended, &added)?);
+    Ok(())
+}
