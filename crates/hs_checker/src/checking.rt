@@ -4,7 +4,7 @@ ghost use Rattle.std.specs.Prelude.{◌≡◌, ◌↔◌, [], IsTrue, IfOk, IfEr
 ghost use Rattle.hs_scheme.specs.Run.{Accepts};
 ghost use Rattle.hs_table.specs.Types.{state};
 ghost use Rattle.hs_table.specs.Tables.{IsClosedTable, HasStart};
-ghost use Rattle.hs_verdict.specs.Premises.{IsSortedProblem, HasClosedFlow};
+ghost use Rattle.hs_verdict.specs.Premises.{HasClosedFlow};
 ghost use Rattle.hs_checker.specs.Slots.{AreInShape};
 ghost use Rattle.hs_checker.specs.Checked.{IsCount, IsFault, IsGap, fault_of};
 
@@ -15,19 +15,8 @@ use crate::instances::instances;
 use crate::missing::missing_at;
 use hs_scheme::{Pair, Problem};
 use hs_table::{Entry, Shape};
+use hs_verdict::is_sorted_problem;
 use std::alloc::Global;
-
-/// What holds of each problem.
-fn know(problem: &Problem)
-    ensures { IsSortedProblem problem.now }
-{
-    let _ = &problem.points;
-    let sorted = &problem.sorted;
-    let _ = &sorted.names;
-    let scheme = &sorted.scheme;
-    let _ = &scheme.rules;
-    sorted.automaton.is_automaton();
-}
 
 /// The fault of a flow that lacks the pair.
 fn open(pair: Pair) -> CheckFault
@@ -112,7 +101,7 @@ pub fn check(alloc: Global, problem: &Problem, table: &[Entry]) -> Result<u64, C
     ensures accepted { OnOk result (Accepts problem.now.sorted.scheme.rules problem.now.sorted.automaton.transitions) }
     ensures fault { IfErr result (IsFault problem.now table.now) }
 {
-    know(problem);
+    is_sorted_problem(problem);
     if let Some(pair) = gap(alloc, problem, Kind::Flow)? {
         return Err(open(pair));
     }

@@ -1,7 +1,7 @@
 //! A checker for tables: whether a flow holds all that is demanded, and a table all that follows
 //! from it, without the start entry.
 //!
-//! It works on types as trees and shares nothing with what makes tables, so that its answer stands
+//! It works on types as trees and calls nothing of what makes tables, so that its answer stands
 //! alone.
 #![tactic(auto)]
 

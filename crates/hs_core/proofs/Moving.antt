@@ -34,13 +34,13 @@ use Rattle.hs_core.specs.declared.answers.Taken.TheVariants.{Item, Quiet, Idle, 
 use Rattle.hs_core.specs.declared.answers.Published.{Published}
 use Rattle.hs_core.specs.declared.answers.Published.TheVariants.{Known, Added, Over as NoRoom}
 use Rattle.hs_core.specs.Core.{CoreData, state_of, log_of, deduction_of, stepped}
-use Rattle.hs_core.specs.Answers.{IsFound, Takes, Publishes, Passes, IsLeastAnswer, IsOverAnswer}
-use Rattle.hs_core.specs.Saturation.{IsAlone}
+use Rattle.hs_core.specs.Answers.{IsFound, Takes, Publishes, Passes, IsLeastAnswer, IsOverAnswer, AreOfWorker}
+use Rattle.hs_core.specs.Saturation.{IsAlone, GivesBack}
 use Rattle.hs_core.specs.Draining.{weight, GoesAlone, SameFlight, NothingFlies, IsReady, IsThere, Ends}
 
--- worker 0 did some steps, after which the same works are in flight and not more are left
-pub record Moves (old new : CoreData) : Type 0 where
-  pub alone : GoesAlone old new
+-- a worker did some steps, after which the same works are in flight and not more are left
+pub record Moves (me : ℕ) (old new : CoreData) : Type 0 where
+  pub alone : GoesAlone me old new
   pub flight : SameFlight old new
   pub lighter : weight new ≤ weight old
 
@@ -48,46 +48,51 @@ pub record Moves (old new : CoreData) : Type 0 where
 pub state_same : (a b : CoreData) → b.base ≡ a.base → b.story ≡ a.story → state_of b ≡ state_of a
 state_same a b base story = λ i. state_after (base i) (story i)
 
-pub alone_same : (a b : CoreData) → b.base ≡ a.base → b.story ≡ a.story → GoesAlone a b
-alone_same a b base story = record { base = base; more = []; story = story ∙ sym (append_none a.story); alone = All-nil (λ (s : CoreStep). s.worker ≡ 0) }
-  where
-    append_none : (xs : List CoreStep) → xs ++ [] ≡ xs
-    append_none [] = refl
-    append_none (x ∷ xs) = ap (λ ys. x ∷ ys) (append_none xs)
+module _ {me : ℕ} where
+  pub alone_same : (a b : CoreData) → b.base ≡ a.base → b.story ≡ a.story → GoesAlone me a b
+  alone_same a b base story = record { base = base; more = []; story = story ∙ sym (append_none a.story); alone = All-nil (λ (s : CoreStep). s.worker ≡ me) }
+    where
+      append_none : (xs : List CoreStep) → xs ++ [] ≡ xs
+      append_none [] = refl
+      append_none (x ∷ xs) = ap (λ ys. x ∷ ys) (append_none xs)
 
-pub alone_step : (a b : CoreData) (action : Action) (spare : ℕ) → b ≡ stepped a 0 action spare → GoesAlone a b
-alone_step a b action spare is = record {
-  base = ap (λ (c : CoreData). c.base) is;
-  more = (record { worker = 0; action = action }) ∷ [];
-  story = ap (λ (c : CoreData). c.story) is;
-  alone = All-cons (λ (s : CoreStep). s.worker ≡ 0) (record { worker = 0; action = action }) [] refl (All-nil (λ (s : CoreStep). s.worker ≡ 0));
-}
+module _ {me : ℕ} where
+  pub alone_step : (a b : CoreData) (action : Action) (spare : ℕ) → b ≡ stepped a me action spare → GoesAlone me a b
+  alone_step a b action spare is = record {
+    base = ap (λ (c : CoreData). c.base) is;
+    more = (record { worker = me; action = action }) ∷ [];
+    story = ap (λ (c : CoreData). c.story) is;
+    alone = All-cons (λ (s : CoreStep). s.worker ≡ me) (record { worker = me; action = action }) [] refl (All-nil (λ (s : CoreStep). s.worker ≡ me));
+  }
 
-pub alone_trans : (a b c : CoreData) → GoesAlone a b → GoesAlone b c → GoesAlone a c
-alone_trans a b c f g = record {
-  base = g.base ∙ f.base;
-  more = f.more ++ g.more;
-  story = g.story ∙ ap (λ xs. xs ++ g.more) f.story ∙ append_assoc a.story f.more g.more;
-  alone = All-append (λ (s : CoreStep). s.worker ≡ 0) f.more g.more f.alone g.alone;
-}
+module _ {me : ℕ} where
+  pub alone_trans : (a b c : CoreData) → GoesAlone me a b → GoesAlone me b c → GoesAlone me a c
+  alone_trans a b c f g = record {
+    base = g.base ∙ f.base;
+    more = f.more ++ g.more;
+    story = g.story ∙ ap (λ xs. xs ++ g.more) f.story ∙ append_assoc a.story f.more g.more;
+    alone = All-append (λ (s : CoreStep). s.worker ≡ me) f.more g.more f.alone g.alone;
+  }
 
-pub moves_trans : (a b c : CoreData) → Moves a b → Moves b c → Moves a c
-moves_trans a b c f g = record {
-  alone = alone_trans a b c f.alone g.alone;
-  flight = λ t. g.flight t ∙ f.flight t;
-  lighter = omega (arith, f.lighter, g.lighter);
-}
+module _ {me : ℕ} where
+  pub moves_trans : (a b c : CoreData) → Moves me a b → Moves me b c → Moves me a c
+  moves_trans a b c f g = record {
+    alone = alone_trans a b c f.alone g.alone;
+    flight = λ t. g.flight t ∙ f.flight t;
+    lighter = omega (arith, f.lighter, g.lighter);
+  }
 
 -- a call that isn't a step
-pub moves_same : (a b : CoreData) → b.base ≡ a.base → b.story ≡ a.story → Moves a b
-moves_same a b base story = record {
-  alone = alone_same a b base story;
-  flight = λ t. ap (λ (s : State). s.flight t) (state_same a b base story);
-  lighter = subst (λ n. n ≤ weight a) (sym same) (omega arith);
-}
-  where
-    same : weight b ≡ weight a
-    same = λ i. 2 * ((base i).budget - length (state_after (base i) (story i)).log) + length (state_after (base i) (story i)).pending
+module _ {me : ℕ} where
+  pub moves_same : (a b : CoreData) → b.base ≡ a.base → b.story ≡ a.story → Moves me a b
+  moves_same a b base story = record {
+    alone = alone_same a b base story;
+    flight = λ t. ap (λ (s : State). s.flight t) (state_same a b base story);
+    lighter = subst (λ n. n ≤ weight a) (sym same) (omega arith);
+  }
+    where
+      same : weight b ≡ weight a
+      same = λ i. 2 * ((base i).budget - length (state_after (base i) (story i)).log) + length (state_after (base i) (story i)).pending
 
 pub state_stepped : (a b : CoreData) (worker : ℕ) (action : Action) (spare : ℕ) → b ≡ stepped a worker action spare → state_of b ≡ acted (state_of a) worker action
 state_stepped a b worker action spare is = ap (λ (c : CoreData). state_of c) is ∙ state_push a.base a.story (record { worker = worker; action = action })
@@ -102,17 +107,18 @@ longer_by a b more base story =
     let g = grown a.base a.story more in
     record { more = g.entries; log = ap (λ (s : State). s.log) (λ i. state_after (base i) (story i)) ∙ g.log }
 
-pub longer : (a b : CoreData) → GoesAlone a b → Longer a b
-longer a b g = longer_by a b g.more g.base g.story
+module _ {me : ℕ} where
+  pub longer : (a b : CoreData) → GoesAlone me a b → Longer a b
+  longer a b g = longer_by a b g.more g.base g.story
 
 pub longer_has : (a b : CoreData) → Longer a b → (e : EntryData) → Contains (log_of a) e → Contains (log_of b) e
 longer_has a b l e c = subst (λ xs. Contains xs e) (sym l.log) (Contains-append_left (log_of a) l.more e c)
 
--- a publication by worker 0
-module _ (old new : CoreData) (ticket : ℕ) (d : Deduction) where
-  passes_moves : (kept : Option Deduction) → Passes old 0 ticket d new kept → Moves old new
+-- a publication by the worker
+module _ (me : ℕ) (old new : CoreData) (ticket : ℕ) (d : Deduction) where
+  passes_moves : (kept : Option Deduction) → Passes old me ticket d new kept → Moves me old new
   passes_moves None is =
-      let s = state_stepped old new 0 (passes ticket d) (old.spare - 1) is in
+      let s = state_stepped old new me (passes ticket d) (old.spare - 1) is in
       record {
         alone = alone_step old new (passes ticket d) (old.spare - 1) is;
         flight = λ t. ap (λ (x : State). x.flight t) s;
@@ -121,10 +127,10 @@ module _ (old new : CoreData) (ticket : ℕ) (d : Deduction) where
       }
   passes_moves (Some k) is = moves_same old new (ap (λ (c : CoreData). c.base) is) (ap (λ (c : CoreData). c.story) is)
 
-  pub publish_moves : (answer : Published) → Publishes old 0 ticket d answer new → Moves old new
+  pub publish_moves : (answer : Published) → Publishes old me ticket d answer new → Moves me old new
   publish_moves (Known place) h = moves_same old new (ap (λ (c : CoreData). c.base) h.1) (ap (λ (c : CoreData). c.story) h.1)
   publish_moves (Added place) h =
-      let s = state_stepped old new 0 (adds ticket d) (old.spare - 1) h.3 in
+      let s = state_stepped old new me (adds ticket d) (old.spare - 1) h.3 in
       record {
         alone = alone_step old new (adds ticket d) (old.spare - 1) h.3;
         flight = λ t. ap (λ (x : State). x.flight t) s;
@@ -138,44 +144,46 @@ module _ (old new : CoreData) (ticket : ℕ) (d : Deduction) where
       lighter_with budget log e pending w room = omega (arith, room, length-append log (e ∷ []), length-append pending (w ∷ []))
   publish_moves NoRoom h = passes_moves (state_of old).kept h.2
 
-  pub publish_ids : (answer : Published) → Publishes old 0 ticket d answer new → new.ids ≡ old.ids
+  pub publish_ids : (answer : Published) → Publishes old me ticket d answer new → new.ids ≡ old.ids
   publish_ids (Known place) h = ap (λ (c : CoreData). c.ids) h.1
   publish_ids (Added place) h = ap (λ (c : CoreData). c.ids) h.3
   publish_ids NoRoom h = go (state_of old).kept h.2
     where
-      go : (kept : Option Deduction) → Passes old 0 ticket d new kept → new.ids ≡ old.ids
+      go : (kept : Option Deduction) → Passes old me ticket d new kept → new.ids ≡ old.ids
       go None is = ap (λ (c : CoreData). c.ids) is
       go (Some k) is = ap (λ (c : CoreData). c.ids) is
 
   -- then the entry is there, or there was no room
-  pub known_there : (place : ℕ) → Publishes old 0 ticket d (Known place) new → Contains (log_of new) d.entry
+  pub known_there : (place : ℕ) → Publishes old me ticket d (Known place) new → Contains (log_of new) d.entry
   known_there place h = subst (λ (c : CoreData). Contains (log_of c) d.entry) (sym h.1) (member_at (log_of old) place d.entry h.0)
 
-  pub added_there : (place : ℕ) → Publishes old 0 ticket d (Added place) new → Contains (log_of new) d.entry
+  pub added_there : (place : ℕ) → Publishes old me ticket d (Added place) new → Contains (log_of new) d.entry
   added_there place h =
-      let s = state_stepped old new 0 (adds ticket d) (old.spare - 1) h.3 in
+      let s = state_stepped old new me (adds ticket d) (old.spare - 1) h.3 in
       subst (λ (x : State). Contains x.log d.entry) (sym s) (Contains-push (log_of old) d.entry)
 
-  pub no_room_kept : Publishes old 0 ticket d NoRoom new → IsSome (state_of new).kept
+  pub no_room_kept : Publishes old me ticket d NoRoom new → IsSome (state_of new).kept
   no_room_kept h = go (state_of old).kept refl h.2
     where
-      go : (kept : Option Deduction) → (state_of old).kept ≡ kept → Passes old 0 ticket d new kept → IsSome (state_of new).kept
-      go None e is = subst (λ (x : State). IsSome x.kept) (sym (state_stepped old new 0 (passes ticket d) (old.spare - 1) is)) refl
+      go : (kept : Option Deduction) → (state_of old).kept ≡ kept → Passes old me ticket d new kept → IsSome (state_of new).kept
+      go None e is = subst (λ (x : State). IsSome x.kept) (sym (state_stepped old new me (passes ticket d) (old.spare - 1) is)) refl
       go (Some k) e is = subst (λ (c : CoreData). IsSome (state_of c).kept) (sym is) (subst (λ o. IsSome o) (sym e) refl)
 
 -- deductions keep their meaning
-pub ready_still : (a b : CoreData) (d : DeducedData) → GoesAlone a b → b.ids ≡ a.ids → IsReady a d → IsReady b d
-ready_still a b d goes ids ready =
-    let l = longer a b goes in
-    record {
-      row = subst (λ (i : InternerData). IsRow i d.row) (sym ids) ready.row;
-      follows = subst (λ (i : InternerData). FollowsBy b.base.problem (log_of b) d.support (entry_of i d.row)) (sym ids)
-          (subst (λ (base : Base). FollowsBy base.problem (log_of b) d.support (entry_of a.ids d.row)) (sym goes.base)
-          (subst (λ xs. FollowsBy a.base.problem xs d.support (entry_of a.ids d.row)) (sym l.log) (by_append a.base.problem (log_of a) l.more d.support (entry_of a.ids d.row) ready.follows)));
-    }
+module _ {me : ℕ} where
+  pub ready_still : (a b : CoreData) (d : DeducedData) → GoesAlone me a b → b.ids ≡ a.ids → IsReady a d → IsReady b d
+  ready_still a b d goes ids ready =
+      let l = longer a b goes in
+      record {
+        row = subst (λ (i : InternerData). IsRow i d.row) (sym ids) ready.row;
+        follows = subst (λ (i : InternerData). FollowsBy b.base.problem (log_of b) d.support (entry_of i d.row)) (sym ids)
+            (subst (λ (base : Base). FollowsBy base.problem (log_of b) d.support (entry_of a.ids d.row)) (sym goes.base)
+            (subst (λ xs. FollowsBy a.base.problem xs d.support (entry_of a.ids d.row)) (sym l.log) (by_append a.base.problem (log_of a) l.more d.support (entry_of a.ids d.row) ready.follows)));
+      }
 
-pub there_still : (a b : CoreData) (d : DeducedData) → GoesAlone a b → b.ids ≡ a.ids → IsThere a d → IsThere b d
-there_still a b d goes ids there = subst (λ (i : InternerData). Contains (log_of b) (entry_of i d.row)) (sym ids) (longer_has a b (longer a b goes) (entry_of a.ids d.row) there)
+module _ {me : ℕ} where
+  pub there_still : (a b : CoreData) (d : DeducedData) → GoesAlone me a b → b.ids ≡ a.ids → IsThere a d → IsThere b d
+  there_still a b d goes ids there = subst (λ (i : InternerData). Contains (log_of b) (entry_of i d.row)) (sym ids) (longer_has a b (longer a b goes) (entry_of a.ids d.row) there)
 
 -- what is closed once all is there
 module _ (p : ProblemData) (ids : InternerData) (L : List EntryData) (found : List DeducedData) (there : All (λ (d : DeducedData). Contains L (entry_of ids d.row)) found) where
@@ -226,29 +234,38 @@ shorter w (v ∷ vs) c = elim (cases_Bool (is_work w v)) [
     both : (a b : Work) → a ≡ b → is_work a b ≡ false → ⊥
     both a b is other = false≢true (sym other ∙ ap (λ x. is_work a x) (sym is) ∙ is_work_itself a)
 
-pub published_there : (old new : CoreData) (ticket : ℕ) (d : Deduction) (answer : Published) → (answer ≡ NoRoom → ⊥) → Publishes old 0 ticket d answer new → Contains (log_of new) d.entry
-published_there old new ticket d (Known place) room h = known_there old new ticket d place h
-published_there old new ticket d (Added place) room h = added_there old new ticket d place h
-published_there old new ticket d NoRoom room h = absurd (room refl)
+module _ (me : ℕ) where
+  pub published_there : (old new : CoreData) (ticket : ℕ) (d : Deduction) (answer : Published) → (answer ≡ NoRoom → ⊥) → Publishes old me ticket d answer new → Contains (log_of new) d.entry
+  published_there old new ticket d (Known place) room h = known_there me old new ticket d place h
+  published_there old new ticket d (Added place) room h = added_there me old new ticket d place h
+  published_there old new ticket d NoRoom room h = absurd (room refl)
 
--- any steps
-pub record GoesOnFrom (old new : CoreData) : Type 0 where
+-- works were given back
+pub record GoesBackFrom (old new : CoreData) : Type 0 where
   pub base : new.base ≡ old.base
   pub more : Story
   pub story : new.story ≡ old.story ++ more
+  pub gives : All GivesBack more
 
-pub goes_on_none : (a : CoreData) → GoesOnFrom a a
-goes_on_none a = let g = alone_same a a refl refl in record { base = refl; more = g.more; story = g.story }
+pub goes_back_none : (a : CoreData) → GoesBackFrom a a
+goes_back_none a = record { base = refl; more = []; story = sym (append_none a.story); gives = All-nil GivesBack }
+  where
+    append_none : (xs : List CoreStep) → xs ++ [] ≡ xs
+    append_none [] = refl
+    append_none (x ∷ xs) = ap (λ ys. x ∷ ys) (append_none xs)
 
-pub goes_on_step : (a b c : CoreData) (worker : ℕ) (action : Action) (spare : ℕ) → GoesOnFrom a b → c ≡ stepped b worker action spare → GoesOnFrom a c
-goes_on_step a b c worker action spare g is = record {
-  base = ap (λ (x : CoreData). x.base) is ∙ g.base;
-  more = g.more ++ (record { worker = worker; action = action }) ∷ [];
-  story = ap (λ (x : CoreData). x.story) is ∙ ap (λ xs. xs ++ (record { worker = worker; action = action }) ∷ []) g.story ∙ append_assoc a.story g.more ((record { worker = worker; action = action }) ∷ []);
-}
+pub goes_back_step : (a b c : CoreData) (worker ticket : ℕ) (spare : ℕ) → GoesBackFrom a b → c ≡ stepped b worker (gives_back ticket) spare → GoesBackFrom a c
+goes_back_step a b c worker ticket spare g is =
+    let step : CoreStep = record { worker = worker; action = gives_back ticket } in
+    record {
+      base = ap (λ (x : CoreData). x.base) is ∙ g.base;
+      more = g.more ++ step ∷ [];
+      story = ap (λ (x : CoreData). x.story) is ∙ ap (λ xs. xs ++ step ∷ []) g.story ∙ append_assoc a.story g.more (step ∷ []);
+      gives = All-append GivesBack g.more (step ∷ []) g.gives (All-cons GivesBack step [] (ticket, refl) (All-nil GivesBack));
+    }
 
-pub goes_on_same : (a b c : CoreData) → GoesOnFrom a b → c ≡ b → GoesOnFrom a c
-goes_on_same a b c g same = subst (λ (x : CoreData). GoesOnFrom a x) (sym same) g
+pub goes_back_same : (a b c : CoreData) → GoesBackFrom a b → c ≡ b → GoesBackFrom a c
+goes_back_same a b c g same = subst (λ (x : CoreData). GoesBackFrom a x) (sym same) g
 
 -- a ticket is free once its work is given back
 pub given_free : (a b : CoreData) (worker ticket : ℕ) (spare : ℕ) → b ≡ stepped a worker (gives_back ticket) spare → (state_of b).flight ticket ≡ None
@@ -261,35 +278,35 @@ given_other a b worker ticket spare is other none = elim (cases_eq other ticket)
 ]
 
 -- a turn: a work is taken, something is published, and the work is closed or given back
-module _ (a b c d : CoreData) (work : Work) (ticket k l : ℕ) (free : NothingFlies a) (can : CanTake a.base (state_of a) work ticket) (took : b ≡ stepped a 0 (takes work ticket) k) (moves : Moves b c) where
+module _ {me : ℕ} (a b c d : CoreData) (work : Work) (ticket k l : ℕ) (free : NothingFlies a) (can : CanTake a.base (state_of a) work ticket) (took : b ≡ stepped a me (takes work ticket) k) (moves : Moves me b c) where
   taken_flight : (t : ℕ) → (t ≡ ticket → ⊥) → (state_of c).flight t ≡ None
-  taken_flight t ne = moves.flight t ∙ ap (λ (s : State). s.flight t) (state_stepped a b 0 (takes work ticket) k took) ∙ put_other ticket t (Some (record { worker = 0; work = work })) (state_of a).flight ne ∙ free t
+  taken_flight t ne = moves.flight t ∙ ap (λ (s : State). s.flight t) (state_stepped a b me (takes work ticket) k took) ∙ put_other ticket t (Some (record { worker = me; work = work })) (state_of a).flight ne ∙ free t
 
-  pub holds_taken : (state_of b).flight ticket ≡ Some (record { worker = 0; work = work })
-  holds_taken = ap (λ (s : State). s.flight ticket) (state_stepped a b 0 (takes work ticket) k took) ∙ put_here ticket (Some (record { worker = 0; work = work })) (state_of a).flight
+  pub holds_taken : (state_of b).flight ticket ≡ Some (record { worker = me; work = work })
+  holds_taken = ap (λ (s : State). s.flight ticket) (state_stepped a b me (takes work ticket) k took) ∙ put_here ticket (Some (record { worker = me; work = work })) (state_of a).flight
 
-  pub holds_then : (state_of c).flight ticket ≡ Some (record { worker = 0; work = work })
+  pub holds_then : (state_of c).flight ticket ≡ Some (record { worker = me; work = work })
   holds_then = moves.flight ticket ∙ holds_taken
 
-  pub turn_goes : (action : Action) → d ≡ stepped c 0 action l → GoesAlone a d
+  pub turn_goes : (action : Action) → d ≡ stepped c me action l → GoesAlone me a d
   turn_goes action is = alone_trans a c d (alone_trans a b c (alone_step a b (takes work ticket) k took) moves.alone) (alone_step c d action l is)
 
-  pub turn_flight_finished : d ≡ stepped c 0 (finishes ticket) l → NothingFlies d
+  pub turn_flight_finished : d ≡ stepped c me (finishes ticket) l → NothingFlies d
   turn_flight_finished is t = elim (cases_eq t ticket) [
-    | inl same ↦ ap (λ (s : State). s.flight t) (state_stepped c d 0 (finishes ticket) l is) ∙ ap (λ n. put ticket None (state_of c).flight n) same ∙ put_here ticket None (state_of c).flight
-    | inr ne ↦ ap (λ (s : State). s.flight t) (state_stepped c d 0 (finishes ticket) l is) ∙ put_other ticket t None (state_of c).flight ne ∙ taken_flight t ne
+    | inl same ↦ ap (λ (s : State). s.flight t) (state_stepped c d me (finishes ticket) l is) ∙ ap (λ n. put ticket None (state_of c).flight n) same ∙ put_here ticket None (state_of c).flight
+    | inr ne ↦ ap (λ (s : State). s.flight t) (state_stepped c d me (finishes ticket) l is) ∙ put_other ticket t None (state_of c).flight ne ∙ taken_flight t ne
   ]
 
-  pub turn_flight_given : d ≡ stepped c 0 (gives_back ticket) l → NothingFlies d
+  pub turn_flight_given : d ≡ stepped c me (gives_back ticket) l → NothingFlies d
   turn_flight_given is t = elim (cases_eq t ticket) [
-    | inl same ↦ ap (λ n. (state_of d).flight n) same ∙ given_free c d 0 ticket l is
-    | inr ne ↦ given_other c d 0 ticket l is t (taken_flight t ne)
+    | inl same ↦ ap (λ n. (state_of d).flight n) same ∙ given_free c d me ticket l is
+    | inr ne ↦ given_other c d me ticket l is t (taken_flight t ne)
   ]
 
-  pub turn_lighter : d ≡ stepped c 0 (finishes ticket) l → weight d < weight a
+  pub turn_lighter : d ≡ stepped c me (finishes ticket) l → weight d < weight a
   turn_lighter is =
       let first : weight b < weight a = taken_lighter in
-      let last : weight d ≡ weight c = (λ i. weight_of (((ap (λ (x : CoreData). x.base) is) i)) ((state_stepped c d 0 (finishes ticket) l is) i)) in
+      let last : weight d ≡ weight c = (λ i. weight_of (((ap (λ (x : CoreData). x.base) is) i)) ((state_stepped c d me (finishes ticket) l is) i)) in
       omega (arith, first, last, moves.lighter)
     where
       weight_of : Base → State → ℕ
@@ -300,7 +317,7 @@ module _ (a b c d : CoreData) (work : Work) (ticket k l : ℕ) (free : NothingFl
 
       taken_lighter : weight b < weight a
       taken_lighter =
-          let s = state_stepped a b 0 (takes work ticket) k took in
+          let s = state_stepped a b me (takes work ticket) k took in
           let base : b.base.budget ≡ a.base.budget = ap (λ (x : CoreData). x.base.budget) took in
           let log : length (log_of b) ≡ length (log_of a) = ap (λ (x : State). length x.log) s in
           let pending : length (state_of b).pending ≡ length (without work (state_of a).pending) = ap (λ (x : State). length x.pending) s in
@@ -331,18 +348,21 @@ over_answer c legal never some =
     past_of (Some d) e h = (d, (holds_after c.base c.story legal).sound.kept d e)
 
 -- in a loop that publishes
-pub moves_reserved : (a b c : CoreData) (spare : ℕ) → Moves a b → c ≡ record { base = b.base; ids = b.ids; story = b.story; spare = spare } → Moves a c
-moves_reserved a b c spare moves is = moves_trans a b c moves (moves_same b c (ap (λ (x : CoreData). x.base) is) (ap (λ (x : CoreData). x.story) is))
+module _ {me : ℕ} where
+  pub moves_reserved : (a b c : CoreData) (spare : ℕ) → Moves me a b → c ≡ record { base = b.base; ids = b.ids; story = b.story; spare = spare } → Moves me a c
+  moves_reserved a b c spare moves is = moves_trans a b c moves (moves_same b c (ap (λ (x : CoreData). x.base) is) (ap (λ (x : CoreData). x.story) is))
 
 pub next_ready : (a : CoreData) (found ys rest : List DeducedData) (x : DeducedData) → All (IsReady a) found → ys ++ x ∷ rest ≡ found → IsReady a x
 next_ready a found ys rest x ready whole = All-contains (IsReady a) found x ready (subst (λ xs. Contains xs x) whole (Contains-append_right ys (x ∷ rest) x (here x rest)))
 
-pub next_there : (b c : CoreData) (ticket : ℕ) (d : DeducedData) (answer : Published) → (answer ≡ NoRoom → ⊥) → Publishes b 0 ticket (deduction_of b.ids d) answer c → IsThere c d
-next_there b c ticket d answer room h =
-    subst (λ (ids : InternerData). Contains (log_of c) (entry_of ids d.row)) (sym (publish_ids b c ticket (deduction_of b.ids d) answer h)) (published_there b c ticket (deduction_of b.ids d) answer room h)
+module _ (me : ℕ) where
+  pub next_there : (b c : CoreData) (ticket : ℕ) (d : DeducedData) (answer : Published) → (answer ≡ NoRoom → ⊥) → Publishes b me ticket (deduction_of b.ids d) answer c → IsThere c d
+  next_there b c ticket d answer room h =
+      subst (λ (ids : InternerData). Contains (log_of c) (entry_of ids d.row)) (sym (publish_ids me b c ticket (deduction_of b.ids d) answer h)) (published_there me b c ticket (deduction_of b.ids d) answer room h)
 
-pub all_there : (b c : CoreData) (xs : List DeducedData) → GoesAlone b c → c.ids ≡ b.ids → All (IsThere b) xs → All (IsThere c) xs
-all_there b c xs goes ids = All-weaker (IsThere b) (IsThere c) (λ d. there_still b c d goes ids) xs
+module _ {me : ℕ} where
+  pub all_there : (b c : CoreData) (xs : List DeducedData) → GoesAlone me b c → c.ids ≡ b.ids → All (IsThere b) xs → All (IsThere c) xs
+  all_there b c xs goes ids = All-weaker (IsThere b) (IsThere c) (λ d. there_still b c d goes ids) xs
 
 pub all_yielded : (P : DeducedData → Type 0) (ys rest found : List DeducedData) → length rest ≡ 0 → ys ++ rest ≡ found → All P ys → All P found
 all_yielded P ys [] found none whole all = subst (λ xs. All P xs) (sym (none_more ys) ∙ whole) all
@@ -401,56 +421,63 @@ none_unless None h = refl
 none_unless (Some x) h = absurd (h x refl)
 
 -- in a loop over dependents
-pub moves_asked : (a b c : CoreData) → Moves a b → c ≡ record { base = b.base; ids = c.ids; story = b.story; spare = b.spare } → Moves a c
-moves_asked a b c moves is = moves_trans a b c moves (moves_same b c (ap (λ (x : CoreData). x.base) is) (ap (λ (x : CoreData). x.story) is))
+module _ {me : ℕ} where
+  pub moves_asked : (a b c : CoreData) → Moves me a b → c ≡ record { base = b.base; ids = c.ids; story = b.story; spare = b.spare } → Moves me a c
+  moves_asked a b c moves is = moves_trans a b c moves (moves_same b c (ap (λ (x : CoreData). x.base) is) (ap (λ (x : CoreData). x.story) is))
 
-pub has_more : (p : ProblemData) (from : List EntryData) (place d : ℕ) (b e : CoreData) → GoesAlone b e → HasAll p from place d (log_of b) → HasAll p from place d (log_of e)
-has_more p from place d b e goes h = λ s x at follows among. longer_has b e (longer b e goes) x (h s x at follows among)
+module _ {me : ℕ} where
+  pub has_more : (p : ProblemData) (from : List EntryData) (place d : ℕ) (b e : CoreData) → GoesAlone me b e → HasAll p from place d (log_of b) → HasAll p from place d (log_of e)
+  has_more p from place d b e goes h = λ s x at follows among. longer_has b e (longer b e goes) x (h s x at follows among)
 
-pub has_new : (a b m e : CoreData) (place d : ℕ) (found : List DeducedData) → place < length (log_of a) → GoesAlone a b → e.ids ≡ m.ids
-    → AreConclusions b.base.problem m.ids (take (place + 1) (log_of b)) d (Uses place) found → All (IsThere e) found → HasAll a.base.problem (log_of a) place d (log_of e)
-has_new a b m e place d found within goes ids are there =
-    let l = longer a b goes in
-    let front : take (place + 1) (log_of b) ≡ take (place + 1) (log_of a) = ap (λ xs. take (place + 1) xs) l.log ∙ take-append-le (place + 1) (log_of a) l.more (omega arith) in
-    has_all a.base.problem m.ids (log_of a) (log_of e) place d found
-    (subst (λ (i : InternerData). All (λ (x : DeducedData). Contains (log_of e) (entry_of i x.row)) found) ids there)
-    (subst (λ (base : Base). AreConclusions base.problem m.ids (take (place + 1) (log_of a)) d (Uses place) found) goes.base
-    (subst (λ xs. AreConclusions b.base.problem m.ids xs d (Uses place) found) front are))
+module _ {me : ℕ} where
+  pub has_new : (a b m e : CoreData) (place d : ℕ) (found : List DeducedData) → place < length (log_of a) → GoesAlone me a b → e.ids ≡ m.ids
+      → AreConclusions b.base.problem m.ids (take (place + 1) (log_of b)) d (Uses place) found → All (IsThere e) found → HasAll a.base.problem (log_of a) place d (log_of e)
+  has_new a b m e place d found within goes ids are there =
+      let l = longer a b goes in
+      let front : take (place + 1) (log_of b) ≡ take (place + 1) (log_of a) = ap (λ xs. take (place + 1) xs) l.log ∙ take-append-le (place + 1) (log_of a) l.more (omega arith) in
+      has_all a.base.problem m.ids (log_of a) (log_of e) place d found
+      (subst (λ (i : InternerData). All (λ (x : DeducedData). Contains (log_of e) (entry_of i x.row)) found) ids there)
+      (subst (λ (base : Base). AreConclusions base.problem m.ids (take (place + 1) (log_of a)) d (Uses place) found) goes.base
+      (subst (λ xs. AreConclusions b.base.problem m.ids xs d (Uses place) found) front are))
 
-pub closed_at_end : (a e : CoreData) (place : ℕ) (at : EntryData) (lists : List (List ℕ)) (items : List ℕ) (index : ℕ) → place < length (log_of a) → GoesAlone a e → slice_get (log_of a) place ≡ Some at
-    → HasDependents a.base.problem.points a.base.problem.flow.pairs lists → slice_get lists at.point ≡ Some items → length items ≤ index
-    → ((k : ℕ) → k < index → HasAll a.base.problem (log_of a) place (get_or items k 0) (log_of e)) → IsClosedPlace e.base.problem (log_of e) place
-closed_at_end a e place at lists items index within goes here dependents listed done all =
-    let l = longer a e goes in
-    subst (λ (base : Base). IsClosedPlace base.problem (log_of e) place) (sym goes.base)
-    (place_closed a.base.problem (log_of a) l.more (log_of e) place within l.log at lists items here dependents (sym (ap (λ o. unwrap_or o []) listed)) (λ k lt. all k (omega (arith, lt))))
+module _ {me : ℕ} where
+  pub closed_at_end : (a e : CoreData) (place : ℕ) (at : EntryData) (lists : List (List ℕ)) (items : List ℕ) (index : ℕ) → place < length (log_of a) → GoesAlone me a e → slice_get (log_of a) place ≡ Some at
+      → HasDependents a.base.problem.points a.base.problem.flow.pairs lists → slice_get lists at.point ≡ Some items → length items ≤ index
+      → ((k : ℕ) → k < index → HasAll a.base.problem (log_of a) place (get_or items k 0) (log_of e)) → IsClosedPlace e.base.problem (log_of e) place
+  closed_at_end a e place at lists items index within goes here dependents listed done all =
+      let l = longer a e goes in
+      subst (λ (base : Base). IsClosedPlace base.problem (log_of e) place) (sym goes.base)
+      (place_closed a.base.problem (log_of a) l.more (log_of e) place within l.log at lists items here dependents (sym (ap (λ o. unwrap_or o []) listed)) (λ k lt. all k (omega (arith, lt))))
 
-pub in_log_still : (a b : CoreData) (place : ℕ) → GoesAlone a b → place < length (log_of a) → place < length (log_of b)
-in_log_still a b place goes within = let l = longer a b goes in omega (arith, within, ap (λ xs. length xs) l.log, length-append (log_of a) l.more)
+module _ {me : ℕ} where
+  pub in_log_still : (a b : CoreData) (place : ℕ) → GoesAlone me a b → place < length (log_of a) → place < length (log_of b)
+  in_log_still a b place goes within = let l = longer a b goes in omega (arith, within, ap (λ xs. length xs) l.log, length-append (log_of a) l.more)
 
 -- a work that is taken is one
 pub taken_work : (c : CoreData) (work : Work) → IsLegal c.base c.story → Contains (state_of c).pending work → IsWork c.base.problem (log_of c) work
 taken_work c work legal pending = (holds_after c.base c.story legal).sound.real work (inl pending)
 
-pub work_taken : (a b : CoreData) (work : Work) (ticket spare : ℕ) → IsWork a.base.problem (log_of a) work → b ≡ stepped a 0 (takes work ticket) spare → IsWork b.base.problem (log_of b) work
-work_taken a b work ticket spare is_work is =
-    subst (λ (base : Base). IsWork base.problem (log_of b) work) (sym (ap (λ (c : CoreData). c.base) is))
-    (subst (λ xs. IsWork a.base.problem xs work) (sym (ap (λ (s : State). s.log) (state_stepped a b 0 (takes work ticket) spare is))) is_work)
+module _ (me : ℕ) where
+  pub work_taken : (a b : CoreData) (work : Work) (ticket spare : ℕ) → IsWork a.base.problem (log_of a) work → b ≡ stepped a me (takes work ticket) spare → IsWork b.base.problem (log_of b) work
+  work_taken a b work ticket spare is_work is =
+      subst (λ (base : Base). IsWork base.problem (log_of b) work) (sym (ap (λ (c : CoreData). c.base) is))
+      (subst (λ xs. IsWork a.base.problem xs work) (sym (ap (λ (s : State). s.log) (state_stepped a b me (takes work ticket) spare is))) is_work)
 
 -- no work was given out
-pub not_taken : (a b : CoreData) (answer : Taken) → ((work : Work) (ticket : ℕ) → answer ≡ Item work ticket → ⊥) → NothingFlies a → Takes a 0 answer b → (b ≡ a) × Ends b
-not_taken a b (Found place) other none h = (h.1, subst (λ (c : CoreData). Ends c) (sym h.1) (λ kept on. absurd (on h.0.first (h.0.start.entry, (h.0.start.is_start, member_at (log_of a) place h.0.start.entry h.0.start.at)))))
-not_taken a b Over other none h = (h.2, subst (λ (c : CoreData). Ends c) (sym h.2) (λ kept on. absurd (some_none (state_of a).kept h.1 kept)))
-  where
-    some_none : (o : Option Deduction) → IsSome o → o ≡ None → ⊥
-    some_none None s e = false≢true s
-    some_none (Some x) s e = cc
-not_taken a b (Item work ticket) other none h = absurd (other work ticket refl)
-not_taken a b Idle other none h = absurd (some_none (h.1.flown) (sym h.1.flight ∙ none h.1.ticket))
-  where
-    some_none : (x : Flight) → Some x ≡ None → ⊥
-    some_none x e = cc
-not_taken a b Quiet other none h = (h.2, subst (λ (c : CoreData). Ends c) (sym h.2) (λ kept on. h.1))
+module _ (me : ℕ) where
+  pub not_taken : (a b : CoreData) (answer : Taken) → ((work : Work) (ticket : ℕ) → answer ≡ Item work ticket → ⊥) → NothingFlies a → Takes a me answer b → (b ≡ a) × Ends b
+  not_taken a b (Found place) other none h = (h.1, subst (λ (c : CoreData). Ends c) (sym h.1) (λ kept on. absurd (on h.0.first (h.0.start.entry, (h.0.start.is_start, member_at (log_of a) place h.0.start.entry h.0.start.at)))))
+  not_taken a b Over other none h = (h.2, subst (λ (c : CoreData). Ends c) (sym h.2) (λ kept on. absurd (some_none (state_of a).kept h.1 kept)))
+    where
+      some_none : (o : Option Deduction) → IsSome o → o ≡ None → ⊥
+      some_none None s e = false≢true s
+      some_none (Some x) s e = cc
+  not_taken a b (Item work ticket) other none h = absurd (other work ticket refl)
+  not_taken a b Idle other none h = absurd (some_none (h.1.flown) (sym h.1.flight ∙ none h.1.ticket))
+    where
+      some_none : (x : Flight) → Some x ≡ None → ⊥
+      some_none x e = cc
+  not_taken a b Quiet other none h = (h.2, subst (λ (c : CoreData). Ends c) (sym h.2) (λ kept on. h.1))
 
 pub seed_closed_after : (a m e : CoreData) (point : ℕ) (found : List DeducedData) → m ≡ record { base = a.base; ids = m.ids; story = a.story; spare = a.spare } → e.base ≡ m.base → e.ids ≡ m.ids
     → AreConclusions a.base.problem m.ids [] point AnySupport found → All (IsThere e) found → IsClosedSeed e.base.problem (log_of e) point
@@ -460,22 +487,31 @@ seed_closed_after a m e point found is base ids are there =
     (seed_closed a.base.problem m.ids (log_of e) found (subst (λ (i : InternerData). All (λ (x : DeducedData). Contains (log_of e) (entry_of i x.row)) found) ids there) point are)
 
 -- from nothing on
-pub alone_whole : (base : Base) (a b : CoreData) → a ≡ record { base = base; ids = record { types = []; sets = []; envs = [] }; story = []; spare = 0 } → GoesAlone a b → IsAlone base b
-alone_whole base a b is goes = record {
-  same = goes.base ∙ ap (λ (c : CoreData). c.base) is;
-  alone = subst (λ (story : Story). All (λ (s : CoreStep). s.worker ≡ 0) story) (sym (goes.story ∙ ap (λ (c : CoreData). c.story ++ goes.more) is)) goes.alone;
-}
+abbrev pub IsNew : Base → CoreData → Type 0
+IsNew base a = a ≡ record { base = base; ids = record { types = []; sets = []; envs = [] }; story = []; spare = 0 }
 
-pub holds_new : (a b : CoreData) (work : Work) (ticket spare : ℕ) → b ≡ stepped a 0 (takes work ticket) spare → (state_of b).flight ticket ≡ Some (record { worker = 0; work = work })
-holds_new a b work ticket spare is = ap (λ (s : State). s.flight ticket) (state_stepped a b 0 (takes work ticket) spare is) ∙ put_here ticket (Some (record { worker = 0; work = work })) (state_of a).flight
+module _ {me : ℕ} where
+  pub by_one : (base : Base) (a b : CoreData) → IsNew base a → GoesAlone me a b → (b.base ≡ base) × AreOfWorker me b.story
+  by_one base a b is goes = (
+    goes.base ∙ ap (λ (c : CoreData). c.base) is,
+    subst (λ (story : Story). All (λ (s : CoreStep). s.worker ≡ me) story) (sym (goes.story ∙ ap (λ (c : CoreData). c.story ++ goes.more) is)) goes.alone,
+  )
+
+pub alone_whole : (base : Base) (a b : CoreData) → IsNew base a → GoesAlone 0 a b → IsAlone base b
+alone_whole base a b is goes = let h = by_one base a b is goes in record { same = h.0; alone = h.1 }
+
+module _ {me : ℕ} where
+  pub holds_new : (a b : CoreData) (work : Work) (ticket spare : ℕ) → b ≡ stepped a me (takes work ticket) spare → (state_of b).flight ticket ≡ Some (record { worker = me; work = work })
+  holds_new a b work ticket spare is = ap (λ (s : State). s.flight ticket) (state_stepped a b me (takes work ticket) spare is) ∙ put_here ticket (Some (record { worker = me; work = work })) (state_of a).flight
 
 pub nothing_flies : (a b : CoreData) → b.base ≡ a.base → b.story ≡ a.story → NothingFlies a → NothingFlies b
 nothing_flies a b base story none t = ap (λ (s : State). s.flight t) (state_same a b base story) ∙ none t
 
 -- past the budget no work is given out
-pub kept_ends : (a b : CoreData) (ticket spare : ℕ) → IsSome (state_of a).kept → b ≡ stepped a 0 (gives_back ticket) spare → Ends b
-kept_ends a b ticket spare some is none on = absurd (some_none (state_of a).kept some (sym (ap (λ (s : State). s.kept) (state_stepped a b 0 (gives_back ticket) spare is)) ∙ none))
-  where
-    some_none : (o : Option Deduction) → IsSome o → o ≡ None → ⊥
-    some_none None s e = false≢true s
-    some_none (Some x) s e = cc
+module _ (me : ℕ) where
+  pub kept_ends : (a b : CoreData) (ticket spare : ℕ) → IsSome (state_of a).kept → b ≡ stepped a me (gives_back ticket) spare → Ends b
+  kept_ends a b ticket spare some is none on = absurd (some_none (state_of a).kept some (sym (ap (λ (s : State). s.kept) (state_stepped a b me (gives_back ticket) spare is)) ∙ none))
+    where
+      some_none : (o : Option Deduction) → IsSome o → o ≡ None → ⊥
+      some_none None s e = false≢true s
+      some_none (Some x) s e = cc

@@ -1,6 +1,6 @@
 -- What one worker does alone.
 --     weight          how many works can still be done: it falls with each work that is done
---     GoesAlone       worker 0 did some steps
+--     GoesAlone       this worker alone did some steps
 --     Ends            nothing is left to do, or no work is given out any more
 use Rattle.std.specs.Prelude.{◌≡◌, ℕ, ◌+◌, ◌-◌, ◌*◌, ◌++◌, length, None, Contains}
 use Rattle.hs_table.specs.Follows.{FollowsBy}
@@ -15,11 +15,11 @@ use Rattle.hs_core.specs.Answers.{AreOfWorker}
 abbrev pub weight : CoreData → ℕ
 weight c = 2 * (c.base.budget - length (log_of c)) + length (state_of c).pending
 
-pub record GoesAlone (old new : CoreData) : Type 0 where
+pub record GoesAlone (worker : ℕ) (old new : CoreData) : Type 0 where
   pub base : new.base ≡ old.base
   pub more : Story
   pub story : new.story ≡ old.story ++ more
-  pub alone : AreOfWorker 0 more
+  pub alone : AreOfWorker worker more
 
 abbrev pub SameFlight : CoreData → CoreData → Type 0
 SameFlight old new = (ticket : ℕ) → (state_of new).flight ticket ≡ (state_of old).flight ticket

@@ -1,12 +1,13 @@
 -- What saturation answers.
 --     IsDrained                  of a core that was drained
+--     GivesBack, Drains          what draining adds to a story: works are given back, and then worker 0 does some steps
 --     IsDone                     of a new core
 --     IsVerdict                  what the core of a least answer says of the automaton
-use Rattle.std.specs.Prelude.{◌≡◌, ◌↔◌}
+use Rattle.std.specs.Prelude.{◌≡◌, ◌↔◌, ℕ, ◌++◌, All}
 use Rattle.hs_scheme.specs.Problem.{ProblemData}
 use Rattle.hs_scheme.specs.Run.{Accepts}
 use Rattle.hs_table.specs.Tables.{HasStart}
-use Rattle.hs_history.specs.Story.{Base}
+use Rattle.hs_history.specs.Story.{Base, gives_back, CoreStep, Story}
 use Rattle.hs_core.specs.declared.answers.Drained.{Drained}
 use Rattle.hs_core.specs.declared.answers.Drained.TheVariants.{Quiet, Over as PastBudget, Found}
 use Rattle.hs_core.specs.declared.answers.Done.{Done}
@@ -18,6 +19,17 @@ abbrev pub IsDrained : CoreData → Drained → Type 0
 IsDrained c Quiet = IsLeastAnswer c
 IsDrained c PastBudget = IsOverAnswer c
 IsDrained c (Found place) = IsFound c place
+
+-- a worker gives back the work under a ticket, which is its own in a legal story
+abbrev pub GivesBack : CoreStep → Type 0
+GivesBack step = (ticket : ℕ) × (step.action ≡ gives_back ticket)
+
+pub record Drains (old new : Story) : Type 0 where
+  pub given_back : Story
+  pub own : Story
+  pub story : new ≡ old ++ (given_back ++ own)
+  pub gives : All GivesBack given_back
+  pub alone : AreOfWorker 0 own
 
 -- a core for this, in which worker 0 did everything
 pub record IsAlone (base : Base) (c : CoreData) : Type 0 where

@@ -7,6 +7,7 @@ ghost use Rattle.hs_core.specs.Saturation.{IsDone, IsVerdict};
 
 use crate::answers::{Done, Drained};
 use crate::draining::{answer, work_alone};
+use crate::gate::Open;
 use crate::state::Core;
 use hs_flow::Dependents;
 use hs_naming::least_tables_decide;
@@ -36,7 +37,7 @@ pub fn saturate_alone<'p>(
     is_sorted_problem(problem);
     least_tables_decide();
     let mut core = Core::new(alloc, problem, budget, first)?;
-    work_alone(alloc, &mut core, dependents)?;
+    work_alone(alloc, &mut core, dependents, 0, &Open)?;
     match answer(&core) {
         Drained::Quiet => Ok(Done::Least(core)),
         Drained::Over => Ok(Done::Over(core)),

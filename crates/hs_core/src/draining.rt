@@ -7,9 +7,10 @@ ghost use Rattle.hs_history.specs.CoreStep.{Holds, IsClosedWork, IsClosedPlace};
 ghost use Rattle.hs_history.specs.History.{IsWork};
 ghost use Rattle.hs_core.specs.Core.{state_of, log_of};
 ghost use Rattle.hs_core.specs.Draining.{weight, GoesAlone, SameFlight, NothingFlies, IsReady, IsThere, Ends};
-ghost use Rattle.hs_core.specs.Saturation.{IsDrained};
+ghost use Rattle.hs_core.specs.Saturation.{IsDrained, GivesBack, Drains};
 
 use crate::answers::{Drained, Published, Taken};
+use crate::gate::{Gate, Open};
 use crate::state::Core;
 use hs_flow::Dependents;
 use hs_history::Work;
@@ -20,7 +21,7 @@ use std::alloc::Global;
 /// Gives back every ticket in flight, in the name of its worker.
 fn give_back_all(core: &mut Core)
     ensures base { core.new.base ≡ core.old.base }
-    ensures story { (more : Story) × (core.new.story ≡ core.old.story ++ more) }
+    ensures story { (more : Story) × (core.new.story ≡ core.old.story ++ more) × All GivesBack more }
     ensures flight { NothingFlies core.new }
 {
     for ticket in 0..core.tickets_bound() {
@@ -30,12 +31,17 @@ fn give_back_all(core: &mut Core)
     }
 }
 
-/// Publishes what was found under the ticket, which worker 0 holds. Answers whether the budget had
+/// Publishes what was found under the ticket, which the worker holds. Answers whether the budget had
 /// room for all of it.
-fn publish_all(core: &mut Core, ticket: u32, found: Vec<Deduced>) -> Result<bool, OutOfMemory>
-    requires holds { Holds (state_of core.old) 0 ticket }
+fn publish_all(
+    core: &mut Core,
+    worker: u32,
+    ticket: u32,
+    found: Vec<Deduced>,
+) -> Result<bool, OutOfMemory>
+    requires holds { Holds (state_of core.old) worker ticket }
     requires ready { All (IsReady core.old) found.items }
-    ensures goes { GoesAlone core.old core.new }
+    ensures goes { GoesAlone worker core.old core.new }
     ensures flight { SameFlight core.old core.new }
     ensures weight { weight core.new ≤ weight core.old }
     ensures ids { core.new.ids ≡ core.old.ids }
@@ -44,26 +50,27 @@ fn publish_all(core: &mut Core, ticket: u32, found: Vec<Deduced>) -> Result<bool
 {
     for deduced in found {
         core.reserve(1)?;
-        if let Published::Over = core.publish(0, ticket, deduced) {
+        if let Published::Over = core.publish(worker, ticket, deduced) {
             return Ok(false);
         }
     }
     Ok(true)
 }
 
-/// Publishes what follows by the place, which worker 0 has taken under the ticket. Answers whether
+/// Publishes what follows by the place, which the worker has taken under the ticket. Answers whether
 /// the budget had room for all of it.
 fn conclude_place(
     alloc: Global,
     core: &mut Core,
     dependents: &Dependents,
+    worker: u32,
     place: u32,
     ticket: u32,
 ) -> Result<bool, OutOfMemory>
-    requires holds { Holds (state_of core.old) 0 ticket }
+    requires holds { Holds (state_of core.old) worker ticket }
     requires place { place < length (log_of core.old) }
     requires dependents { HasDependents core.old.base.problem.points core.old.base.problem.flow.pairs dependents.now }
-    ensures goes { GoesAlone core.old core.new }
+    ensures goes { GoesAlone worker core.old core.new }
     ensures flight { SameFlight core.old core.new }
     ensures weight { weight core.new ≤ weight core.old }
     ensures closed { IfOk result (λ all. MatchBool all
@@ -73,26 +80,27 @@ fn conclude_place(
     let point = core.replica().row(place).point;
     for dependent in dependents.list(point) {
         let found = core.at_place(alloc, *dependent, place)?;
-        if !publish_all(core, ticket, found)? {
+        if !publish_all(core, worker, ticket, found)? {
             return Ok(false);
         }
     }
     Ok(true)
 }
 
-/// Publishes what follows by the work, which worker 0 has taken under the ticket. Answers whether the
-/// budget had room for all of it.
+/// Publishes what follows by the work, which the worker has taken under the ticket. Answers whether
+/// the budget had room for all of it.
 fn conclude(
     alloc: Global,
     core: &mut Core,
     dependents: &Dependents,
+    worker: u32,
     work: Work,
     ticket: u32,
 ) -> Result<bool, OutOfMemory>
-    requires holds { Holds (state_of core.old) 0 ticket }
+    requires holds { Holds (state_of core.old) worker ticket }
     requires work { IsWork core.old.base.problem (log_of core.old) work }
     requires dependents { HasDependents core.old.base.problem.points core.old.base.problem.flow.pairs dependents.now }
-    ensures goes { GoesAlone core.old core.new }
+    ensures goes { GoesAlone worker core.old core.new }
     ensures flight { SameFlight core.old core.new }
     ensures weight { weight core.new ≤ weight core.old }
     ensures closed { IfOk result (λ all. MatchBool all
@@ -101,55 +109,67 @@ fn conclude(
     match work {
         Work::Seed(point) => {
             let found = core.at_seed(alloc, point)?;
-            publish_all(core, ticket, found)
+            publish_all(core, worker, ticket, found)
         }
-        Work::Place(place) => conclude_place(alloc, core, dependents, place, ticket),
+        Work::Place(place) => conclude_place(alloc, core, dependents, worker, place, ticket),
     }
 }
 
-/// Takes a work as worker 0 and does it. Answers whether there was one and the budget had room for
-/// what follows by it.
-fn turn(alloc: Global, core: &mut Core, dependents: &Dependents) -> Result<bool, OutOfMemory>
+/// Takes a work as this worker, passes the gate and does the work. Answers whether there was one and
+/// the budget had room for what follows by it.
+fn turn<G: Gate>(
+    alloc: Global,
+    core: &mut Core,
+    dependents: &Dependents,
+    worker: u32,
+    gate: &G,
+) -> Result<bool, OutOfMemory>
     requires flight { NothingFlies core.old }
     requires dependents { HasDependents core.old.base.problem.points core.old.base.problem.flow.pairs dependents.now }
-    ensures goes { GoesAlone core.old core.new }
+    ensures goes { GoesAlone worker core.old core.new }
     ensures flight { NothingFlies core.new }
     ensures more { IfOk result (λ more. MatchBool more (weight core.new < weight core.old) (Ends core.new)) }
 {
     core.reserve(1)?;
     core.is_core();
-    let Taken::Item { work, ticket } = core.take(0) else {
+    let Taken::Item { work, ticket } = core.take(worker) else {
         return Ok(false);
     };
-    match conclude(alloc, core, dependents, work, ticket) {
+    gate.before(worker, work);
+    match conclude(alloc, core, dependents, worker, work, ticket) {
         Ok(true) => {
-            core.finish(0, ticket);
+            core.finish(worker, ticket);
             Ok(true)
         }
         Ok(false) => {
-            core.give_back(0, ticket);
+            core.give_back(worker, ticket);
             Ok(false)
         }
         Err(refused) => {
-            core.give_back(0, ticket);
+            core.give_back(worker, ticket);
             Err(refused)
         }
     }
 }
 
-/// Does the works that are pending, as worker 0, until nothing is left or no work is given out.
-pub(crate) fn work_alone(
+/// Does the works that are pending, as this worker, until nothing is left or `take` gives out none.
+/// The worker passes the gate before each work that it does. Nothing is in flight, and the dependents
+/// are those of the core's problem. After a refusal of memory the story has gone on, and nothing is in
+/// flight.
+pub fn work_alone<G: Gate>(
     alloc: Global,
     core: &mut Core,
     dependents: &Dependents,
+    worker: u32,
+    gate: &G,
 ) -> Result<(), OutOfMemory>
     requires flight { NothingFlies core.old }
     requires dependents { HasDependents core.old.base.problem.points core.old.base.problem.flow.pairs dependents.now }
-    ensures goes { GoesAlone core.old core.new }
+    ensures goes { GoesAlone worker core.old core.new }
     ensures flight { NothingFlies core.new }
     ensures ends { OnOk result (Ends core.new) }
 {
-    while turn(alloc, core, dependents)? {}
+    while turn(alloc, core, dependents, worker, gate)? {}
     Ok(())
 }
 
@@ -170,7 +190,7 @@ pub(crate) fn answer(core: &Core) -> Drained
 
 /// Gives back every ticket in flight, in the name of its worker, and then does the works that are
 /// pending, as worker 0, until nothing is left or `take` gives out none. The dependents are those of
-/// the core's problem. After a refusal of memory the story has gone on, and nothing is in flight.
+/// the core's problem. After a refusal of memory the story has gone on so, and nothing is in flight.
 pub fn drain(
     alloc: Global,
     core: &mut Core,
@@ -179,10 +199,10 @@ pub fn drain(
     requires { HasDependents core.old.base.problem.points core.old.base.problem.flow.pairs dependents.now }
     ensures drained { IfOk result (IsDrained core.new) }
     ensures base { core.new.base ≡ core.old.base }
-    ensures story { (more : Story) × (core.new.story ≡ core.old.story ++ more) }
+    ensures story { Drains core.old.story core.new.story }
     ensures flight { NothingFlies core.new }
 {
     give_back_all(core);
-    work_alone(alloc, core, dependents)?;
+    work_alone(alloc, core, dependents, 0, &Open)?;
     Ok(answer(core))
 }

@@ -12,6 +12,7 @@ mod answers;
 mod backing;
 mod concluding;
 mod draining;
+mod gate;
 mod start;
 mod state;
 mod steps;
@@ -19,7 +20,8 @@ mod tickets;
 
 pub use alone::saturate_alone;
 pub use answers::{Done, Drained, Published, Taken};
-pub use draining::drain;
+pub use draining::{drain, work_alone};
+pub use gate::{Gate, Open};
 pub use hs_history::{Event, Flight, Step, Work};
 pub use hs_rules::{Deduced, Replica};
 pub use state::Core;

@@ -166,11 +166,18 @@ impl<'p> Core<'p> {
     }
 
     /// Whether nothing is pending, in flight or kept: then the log is the least table. This and the
-    /// next take no memory, and constant time.
+    /// next two take no memory, and constant time.
     pub fn quiet(&self) -> bool
         ensures { IsTrue result ↔ IsAtRest (state_of self.now) }
     {
         self.pending.is_empty() && self.tickets.count() == 0 && self.past.is_none()
+    }
+
+    /// How many works are pending.
+    pub fn pending(&self) -> usize
+        ensures { result ≡ length (state_of self.now).pending }
+    {
+        self.pending.len()
     }
 
     /// Where `first` is set and the log has the start entry, its place. `take` then answers `Found`.

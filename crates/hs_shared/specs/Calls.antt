@@ -3,14 +3,11 @@
 --     seat_after          the seat after a call
 --     Does does           the call does this to the core that it finds
 --     Looks               it changes nothing in it
---     FinishesAndTakes    a work is closed, and the next one taken
 --     GrowsOnce           a story grows by one step of this worker, or not at all
 use Rattle.std.specs.Prelude.{◌≡◌, ℕ, false, List, [], ◌∷◌, ◌++◌, Some, ◌⊎◌}
 use mathlib.Core.List.{IsPrefix}
-use Rattle.hs_history.specs.Story.{Action, finishes, CoreStep, Story}
-use Rattle.hs_core.specs.declared.answers.Taken.{Taken}
-use Rattle.hs_core.specs.Core.{CoreData, IsCore, stepped}
-use Rattle.hs_core.specs.Answers.{Takes}
+use Rattle.hs_history.specs.Story.{Action, CoreStep, Story}
+use Rattle.hs_core.specs.Core.{CoreData, IsCore}
 use Rattle.hs_turn.specs.Story.{told_by}
 use Rattle.hs_shared.specs.Seats.{SeatData, worker_of, HasSeenOwn}
 
@@ -44,11 +41,6 @@ pub record Looks (old new : SeatData) : Type 0 where
   pub finds : Finds old found
   pub seat : new ≡ seat_after old found.story old.known.own
   pub own : HasSeenOwn new
-
--- the answer is that of taking, once the work is closed and there is room for a further event
-pub record FinishesAndTakes (worker ticket : ℕ) (taken : Taken) (found left : CoreData) : Type 0 where
-  pub spare : ℕ
-  pub takes_next : Takes (stepped found worker (finishes ticket) spare) worker taken left
 
 abbrev pub GrowsOnce : ℕ → Story → Story → Type 0
 GrowsOnce worker old new = (new ≡ old) ⊎ ((action : Action) × (new ≡ old ++ (record { worker = worker; action = action }) ∷ []))

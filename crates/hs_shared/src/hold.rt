@@ -1,14 +1,15 @@
 //! What is done while the turn is held.
 
-ghost use Rattle.std.specs.Prelude.{◌≡◌, ◌<◌, ◌^◌, ◌++◌, ℕ, List, true, length, IfOk, OnOk, OnErr, Some, take, ◌+◌};
+ghost use Rattle.std.specs.Prelude.{◌≡◌, ◌<◌, ◌^◌, ℕ, true, length, IfOk, OnOk, OnErr, take, ◌+◌};
 ghost use mathlib.Core.List.{IsPrefix};
 ghost use Rattle.hs_table.specs.Follows.{FollowsBy};
 ghost use Rattle.hs_types.specs.Interned.{IsRow, entry_of, Grows};
-ghost use Rattle.hs_history.specs.Story.{CoreStep};
 ghost use Rattle.hs_history.specs.CoreStep.{Holds};
 ghost use Rattle.hs_core.specs.Core.{CoreData, IsCore, state_of, log_of, deduction_of};
 ghost use Rattle.hs_core.specs.Answers.{Takes, Publishes};
-ghost use Rattle.hs_shared.specs.Calls.{seat_after, GrowsOnce};
+ghost use Rattle.hs_shared.specs.Seats.{HasSeenOwn};
+ghost use Rattle.hs_shared.specs.Calls.{GrowsOnce};
+ghost use Rattle.hs_shared.specs.Holding.{HasTold};
 
 use crate::held::Held;
 use hs_core::{Core, Deduced, Published, Replica, Taken};
@@ -25,26 +26,23 @@ pub(crate) fn count(core: &Core) -> usize
     core.journal().len()
 }
 
-/// Tells of the step by which the story has grown since it had so many steps, where it has, and
-/// leaves.
-pub(crate) fn leave<'p>(guard: Guard<'_, Held<'p>>, seat: &mut Seat<Held<'p>>, before: usize)
-    requires turn { seat.old.turn ≡ guard.turn.now }
+/// Tells of the step by which the story has grown since it had so many steps, where it has.
+pub(crate) fn tell<'p>(guard: &mut Guard<'_, Held<'p>>, seat: &mut Seat<Held<'p>>, before: usize)
+    requires turn { seat.old.turn ≡ guard.old.turn.now }
     requires holds { seat.old.known.holds ≡ true }
-    requires base { seat.old.known.base ≡ Some guard.state.core.base }
+    requires own { HasSeenOwn seat.old }
     requires before { before ≡ length seat.old.known.seen }
-    requires once { GrowsOnce seat.old.known.number seat.old.known.seen guard.state.core.story }
-    ensures seat { (steps : List CoreStep) × (guard.entry.state.core.story ≡ seat.old.known.seen ++ steps)
-        × (seat.new ≡ seat_after seat.old guard.entry.state.core.story (seat.old.known.own ++ steps)) }
-    ensures once { GrowsOnce seat.old.known.number seat.old.known.seen guard.entry.state.core.story }
-    ensures core { IsCore guard.entry.state.core }
+    requires once { GrowsOnce seat.old.known.number seat.old.known.seen guard.old.state.core.story }
+    ensures guard { guard.new ≡ guard.old }
+    ensures seat { HasTold seat.old guard.old.state.core.story seat.new }
+    ensures own { HasSeenOwn seat.new }
+    ensures core { IsCore guard.old.state.core }
 {
-    let mut guard = guard;
-    if count(&guard.state.core) != before {
-        guard.tell(seat);
-        guard.leave(seat);
-    } else {
-        guard.leave(seat);
+    let now = count(&guard.state.core);
+    if now == before {
+        return;
     }
+    guard.tell(seat);
 }
 
 /// Makes room for one event, and takes a work.
@@ -103,23 +101,4 @@ pub(crate) fn copy_log(from: &Replica, to: &mut Replica) -> Result<(), OutOfMemo
         copy_entry(from, to, place)?;
     }
     Ok(())
-}
-
-/// Adds to the replica what it lacks of the log, makes room for one event, and takes a work. After a
-/// refusal of memory nothing is taken.
-pub(crate) fn take_caught_up(
-    core: &mut Core,
-    worker: u32,
-    replica: &mut Replica,
-) -> Result<Taken, OutOfMemory>
-    requires { IsPrefix replica.old.log (log_of core.old) }
-    ensures ok { IfOk result (λ taken. (spare : ℕ) × Takes (record core.old { spare = spare }) worker taken core.new) }
-    ensures err { OnErr result (core.new ≡ core.old) }
-    ensures log { OnOk result (replica.new.log ≡ log_of core.old) }
-    ensures begins { IsPrefix replica.new.log (log_of core.old) }
-    ensures more { IsPrefix replica.old.log replica.new.log }
-    ensures kept { (replica.new.spare ≡ replica.old.spare) × (replica.new.indexed ≡ replica.old.indexed) × Grows replica.old.ids replica.new.ids }
-{
-    copy_log(core.replica(), replica)?;
-    take_work(core, worker)
 }

@@ -11,13 +11,14 @@ ghost use Rattle.hs_core.specs.Answers.{Takes, Publishes};
 ghost use Rattle.hs_turn.specs.Story.{told_by};
 ghost use Rattle.hs_turn.specs.Views.{first_seat, having_split, split_off, having_joined};
 ghost use Rattle.hs_shared.specs.Seats.{worker_of, IsSeatOf, Sees, HasSeenOwn};
-ghost use Rattle.hs_shared.specs.Calls.{Finds, Does, Looks, FinishesAndTakes};
+ghost use Rattle.hs_shared.specs.Calls.{Finds, Does, Looks};
+ghost use Rattle.hs_shared.specs.Holding.{holding, IsHolding};
 
 use crate::held::{CoreBase, Held, Told};
-use crate::hold::{copy_log, count, leave, publish_deduction, take_caught_up, take_work};
+use crate::holding::Hold;
 use hs_core::{Core, Deduced, Published, Replica, Taken};
 use hs_scheme::OutOfMemory;
-use hs_turn::{Guard, Rested, Seat, Turn};
+use hs_turn::{Rested, Seat, Turn};
 use std::alloc::Global;
 use std::marker::Model;
 use std::sync::Wait;
@@ -27,8 +28,9 @@ use std::sync::Wait;
 pub type RestedSeat = Rested<CoreBase, Told>;
 
 /// A core behind a turn. Each call of a seat finds the core as it is then, does at most one step as
-/// the worker of the seat's number (`finish_and_take_next` two), and leaves it to the others. The calls that take a runtime may
-/// wait for others; they end by themselves, however long that lasts.
+/// the worker of the seat's number, and leaves it to the others; who has more to do at once holds it
+/// (`enter`). The calls that take a runtime may wait for others; they end by themselves, however long
+/// that lasts.
 ///
 /// Contracts see which table it is. Of a seat they see that table, and what the seat knows: the base
 /// of the core, the part of the story that it has seen, and its own steps. What holds of that part
@@ -62,19 +64,17 @@ impl<'p> SharedTable<'p> {
         }
     }
 
-    /// Waits until no other call is under way, and holds the core. Answers how many steps it has gone
-    /// through, too.
-    fn enter<R: Wait>(&self, rt: &R, seat: &mut Seat<Held<'p>>) -> (Guard<'_, Held<'p>>, usize)
+    /// Waits until no other call is under way, and holds the core until the seat leaves.
+    pub fn enter<R: Wait>(&self, rt: &R, seat: &mut Seat<Held<'p>>) -> Hold<'_, 'p>
         requires { IsSeatOf self.now seat.old }
-        ensures turn { result.0.turn.now ≡ self.now }
-        ensures finds { Finds seat.old result.0.state.core }
-        ensures before { result.1 ≡ length result.0.state.core.story }
-        ensures short { result.1 < 2 ^ 63 }
-        ensures seat { seat.new ≡ record seat.old { known = record seat.old.known { holds = true; seen = result.0.state.core.story } } }
+        ensures turn { result.turn ≡ self.now }
+        ensures finds { Finds seat.old result.core }
+        ensures seat { seat.new ≡ holding seat.old result.core.story }
+        ensures holds { IsHolding seat.new result }
     {
         let guard = self.turn.enter(rt, seat);
-        let before = count(&guard.state.core);
-        (guard, before)
+        guard.state.core.is_core();
+        Hold { guard }
     }
 
     /// Takes a pending work for the seat, where there is one. The answer is what `Core::take` answers
@@ -85,10 +85,9 @@ impl<'p> SharedTable<'p> {
             Does (λ found left. Takes found seat.old.known.number taken left) seat.old seat.new) }
         ensures err { OnErr result (Looks seat.old seat.new) }
     {
-        let worker = seat.number();
-        let (mut guard, before) = self.enter(rt, seat);
-        let taken = take_work(&mut guard.state.core, worker);
-        leave(guard, seat, before);
+        let mut hold = self.enter(rt, seat);
+        let taken = hold.take(seat);
+        hold.leave(seat);
         taken
     }
 
@@ -117,10 +116,9 @@ impl<'p> SharedTable<'p> {
             Does (λ found left. Publishes found seat.old.known.number ticket (deduction_of replica.now.ids deduced.now) published left) seat.old seat.new) }
         ensures err { OnErr result (Looks seat.old seat.new) }
     {
-        let worker = seat.number();
-        let (mut guard, before) = self.enter(rt, seat);
-        let published = publish_deduction(&mut guard.state.core, worker, ticket, replica, deduced);
-        leave(guard, seat, before);
+        let mut hold = self.enter(rt, seat);
+        let published = hold.publish(seat, ticket, replica, deduced);
+        hold.leave(seat);
         published
     }
 
@@ -133,10 +131,9 @@ impl<'p> SharedTable<'p> {
         requires closed { Sees seat.old (λ base state. CanFinish base state seat.old.known.number ticket) }
         ensures { Does (λ found left. left ≡ stepped found seat.old.known.number (finishes ticket) found.spare) seat.old seat.new }
     {
-        let worker = seat.number();
-        let (mut guard, before) = self.enter(rt, seat);
-        guard.state.core.finish(worker, ticket);
-        leave(guard, seat, before);
+        let mut hold = self.enter(rt, seat);
+        hold.finish(seat, ticket);
+        hold.leave(seat);
     }
 
     /// Leaves the work under a ticket to others. The seat took the ticket and has neither finished its
@@ -147,10 +144,9 @@ impl<'p> SharedTable<'p> {
         requires ticket { Sees seat.old (λ base state. Holds state seat.old.known.number ticket) }
         ensures { Does (λ found left. left ≡ stepped found seat.old.known.number (gives_back ticket) found.spare) seat.old seat.new }
     {
-        let worker = seat.number();
-        let (mut guard, before) = self.enter(rt, seat);
-        guard.state.core.give_back(worker, ticket);
-        leave(guard, seat, before);
+        let mut hold = self.enter(rt, seat);
+        hold.give_back(seat, ticket);
+        hold.leave(seat);
     }
 
     /// Adds to the replica what its log lacks of the log found. Its log begins the log that the seat
@@ -170,68 +166,10 @@ impl<'p> SharedTable<'p> {
         ensures more { IsPrefix replica.old.log replica.new.log }
         ensures kept { (replica.new.spare ≡ replica.old.spare) × (replica.new.indexed ≡ replica.old.indexed) × Grows replica.old.ids replica.new.ids }
     {
-        let (guard, before) = self.enter(rt, seat);
-        let caught_up = copy_log(guard.state.core.replica(), replica);
-        leave(guard, seat, before);
+        let hold = self.enter(rt, seat);
+        let caught_up = hold.catch_up(replica);
+        hold.leave(seat);
         caught_up
-    }
-
-    /// Adds to the replica what its log lacks of the log found, as `catch_up` does, and takes a pending
-    /// work, as `take` does, while no other call is under way. After a refusal of memory nothing is
-    /// taken.
-    pub fn take_next<R: Wait>(
-        &self,
-        rt: &R,
-        seat: &mut Seat<Held<'p>>,
-        replica: &mut Replica,
-    ) -> Result<Taken, OutOfMemory>
-        requires seat { IsSeatOf self.now seat.old }
-        requires replica { Sees seat.old (λ base state. IsPrefix replica.old.log state.log) }
-        ensures ok { IfOk result (λ taken.
-            Does (λ found left. Takes found seat.old.known.number taken left) seat.old seat.new) }
-        ensures err { OnErr result (Looks seat.old seat.new) }
-        ensures log { OnOk result (Sees seat.new (λ base state. replica.new.log ≡ state.log)) }
-        ensures begins { Sees seat.new (λ base state. IsPrefix replica.new.log state.log) }
-        ensures more { IsPrefix replica.old.log replica.new.log }
-        ensures kept { (replica.new.spare ≡ replica.old.spare) × (replica.new.indexed ≡ replica.old.indexed) × Grows replica.old.ids replica.new.ids }
-    {
-        let worker = seat.number();
-        let (mut guard, before) = self.enter(rt, seat);
-        let taken = take_caught_up(&mut guard.state.core, worker, replica);
-        leave(guard, seat, before);
-        taken
-    }
-
-    /// Closes the work under a ticket, as `finish` does, and then does what `take_next` does, all while
-    /// no other call is under way. After a refusal of memory the work is closed, and nothing is taken.
-    pub fn finish_and_take_next<R: Wait>(
-        &self,
-        rt: &R,
-        seat: &mut Seat<Held<'p>>,
-        ticket: u32,
-        replica: &mut Replica,
-    ) -> Result<Taken, OutOfMemory>
-        requires seat { IsSeatOf self.now seat.old }
-        requires own { HasSeenOwn seat.old }
-        requires closed { Sees seat.old (λ base state. CanFinish base state seat.old.known.number ticket) }
-        requires replica { Sees seat.old (λ base state. IsPrefix replica.old.log state.log) }
-        ensures ok { IfOk result (λ taken.
-            Does (λ found left. FinishesAndTakes seat.old.known.number ticket taken found left) seat.old seat.new) }
-        ensures err { OnErr result (
-            Does (λ found left. left ≡ stepped found seat.old.known.number (finishes ticket) found.spare) seat.old seat.new) }
-        ensures log { OnOk result (Sees seat.new (λ base state. replica.new.log ≡ state.log)) }
-        ensures begins { Sees seat.new (λ base state. IsPrefix replica.new.log state.log) }
-        ensures more { IsPrefix replica.old.log replica.new.log }
-        ensures kept { (replica.new.spare ≡ replica.old.spare) × (replica.new.indexed ≡ replica.old.indexed) × Grows replica.old.ids replica.new.ids }
-    {
-        let worker = seat.number();
-        let (mut guard, _) = self.enter(rt, seat);
-        guard.state.core.finish(worker, ticket);
-        guard.tell(seat);
-        let between = count(&guard.state.core);
-        let taken = take_caught_up(&mut guard.state.core, worker, replica);
-        leave(guard, seat, between);
-        taken
     }
 
     /// A new seat. It has seen what seat 0 has seen, and has no steps of its own; its number is one

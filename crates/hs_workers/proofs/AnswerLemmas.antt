@@ -1,16 +1,19 @@
 -- What is answered of the core that the workers leave.
-use Rattle.std.proofs.Common.{◌≡◌, ◌↔◌, sym, ◌∙◌, ap, subst, ℕ, List, ◌++◌, length, take, drop, arith}
+use Rattle.std.proofs.Common.{◌≡◌, ◌↔◌, sym, ◌∙◌, ap, subst, ℕ, List, [], ◌++◌, length, take, drop, All, arith}
 use Rattle.std.proofs.lemmas.List.{take_all, drop_all, append-nil}
+use Rattle.std.proofs.lemmas.List.Elements.{All-weaker}
 use Rattle.hs_scheme.specs.Problem.{ProblemData}
 use Rattle.hs_scheme.specs.Run.{Accepts}
 use Rattle.hs_table.specs.Tables.{IsLeastTable, HasStart}
-use Rattle.hs_history.specs.Story.{Base}
+use Rattle.hs_history.specs.Story.{Base, CoreStep, Story}
+use Rattle.hs_history.specs.History.{state_after}
 use Rattle.hs_core.specs.declared.answers.Done.{Done}
 use Rattle.hs_core.specs.declared.answers.Done.TheVariants.{Least, Over, First}
 use Rattle.hs_core.specs.Core.{CoreData, log_of}
 use Rattle.hs_core.specs.Answers.{IsLeastAnswer, IsOverAnswer, IsFirstAnswer}
 use Rattle.hs_core.specs.Saturation.{IsVerdict}
-use Rattle.hs_workers.specs.Answers.{IsShared, IsSharedDone, IsAnswered}
+use Rattle.hs_core.specs.Draining.{GoesAlone, NothingFlies}
+use Rattle.hs_workers.specs.Answers.{IsOfWorkers, IsShared, IsSharedDone, IsAnswered}
 
 -- a list that is written over as a whole
 pub written : {X : Type 0} (new items : List X) (len : ℕ) → length new ≡ length items → len ≡ length items → take len (new ++ drop (length new) items) ≡ new
@@ -32,3 +35,12 @@ verdict_of p c same decides (Least d) h =
     (decides (subst (λ q. IsLeastTable q (log_of c)) same h.1.least))
 verdict_of p c same decides (Over d) h = tt
 verdict_of p c same decides (First d) h = tt
+
+-- one worker did everything
+pub by_one : (a b : CoreData) → a.story ≡ [] → GoesAlone 1 a b → All (IsOfWorkers 1) b.story
+by_one a b none goes =
+    All-weaker (λ (s : CoreStep). s.worker ≡ 1) (IsOfWorkers 1) (λ s is. (omega (arith, is), omega (arith, is))) b.story
+    (subst (λ (story : Story). All (λ (s : CoreStep). s.worker ≡ 1) story) (sym (goes.story ∙ ap (λ (xs : Story). xs ++ goes.more) none)) goes.alone)
+
+pub nothing_flies : (a : CoreData) → a.story ≡ [] → NothingFlies a
+nothing_flies a none t = ap (λ (xs : Story). (state_after a.base xs).flight t) none

@@ -1,6 +1,7 @@
 -- What is formed point by point.
-use Rattle.std.proofs.Common.{◌≡◌, refl, sym, ◌∙◌, ap, subst, ℕ, ◌+◌, ◌<◌, ◌≤◌, List, [], ◌∷◌, ◌++◌, length, take, slice_get, get_or, unwrap_or, Some, All, Result, Ok, Err, arith, Contains, inl, inr, append_assoc}
+use Rattle.std.proofs.Common.{◌≡◌, refl, sym, ◌∙◌, ap, subst, ℕ, ◌+◌, ◌<◌, ◌≤◌, List, [], ◌∷◌, ◌++◌, length, take, slice_get, get_or, unwrap_or, Some, None, Option, All, Result, Ok, Err, arith, Contains, inl, inr, append_assoc}
 use Rattle.std.specs.Result.{IfOk}
+use Rattle.std.specs.Option.{IfSome}
 use Rattle.std.proofs.lemmas.Bool.{cases_lt}
 use Rattle.std.proofs.lemmas.List.{take_all}
 use Rattle.std.proofs.lemmas.List.Elements.{All-nil, All-head, All-tail, All-append, All-push, All-map, All-contains, All-weaker, Contains-get_or, Contains-append_left, Contains-append_right, Contains-push}
@@ -17,6 +18,9 @@ use Rattle.hs_types.proofs.Numbers.{row_within, row_stays}
 use Rattle.hs_rules.specs.Conclusions.{DeducedData, IsDeduced, AnySupport, Uses, AreConclusions}
 use Rattle.hs_history.specs.declared.step.Work.TheVariants.{Seed, Place}
 use Rattle.hs_core.proofs.Moving.{place_closed}
+use Rattle.hs_history.specs.declared.step.Work.{Work}
+use Rattle.hs_workers.specs.declared.job.Job.{Job}
+use Rattle.hs_workers.specs.Jobs.{IsFormed}
 use Rattle.hs_workers.specs.Forming.{entries_of, IsKnown, KeepsNew, Demands, AreAllAt, HasAll, AreFormed}
 
 abbrev RowsOf : InternerData → List DeducedData → Type 0
@@ -177,3 +181,17 @@ point_listed p log place at lists shape has here' =
 pub ok_more : {X E : Type 0} (P Q : X → Type 0) (r : Result X E) → ((x : X) → P x → Q x) → IfOk r P → IfOk r Q
 ok_more P Q (Ok x) f h = f x h
 ok_more P Q (Err e) f h = h
+
+-- what was formed is so in an interner that has grown
+pub formed_grown : (p : ProblemData) (I J : InternerData) (log : List EntryData) (work : Work) (found : List DeducedData) → Grows I J → AreFormed p I log work found → AreFormed p J log work found
+formed_grown p I J log work found g are = record {
+  deduced = deduced_grown I J g p log found are.deduced;
+  closes = λ more has. are.closes more (λ k d lt. subst (λ e. Contains (log ++ more) e) (row_stays I J g (get_or found k d).row (are.deduced k d lt).row) (has k d lt));
+}
+
+pub some_more : {X : Type 0} {P Q : X → Type 0} (o : Option X) → ((x : X) → P x → Q x) → IfSome o P → IfSome o Q
+some_more None f h = tt
+some_more (Some x) f h = f x h
+
+pub job_grown : (p : ProblemData) (I J : InternerData) (log : List EntryData) (j : Job) → Grows I J → IsFormed p I log j → IsFormed p J log j
+job_grown p I J log j g h = some_more j.found (λ v are. formed_grown p I J log j.work v.items g are) h

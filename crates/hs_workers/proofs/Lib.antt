@@ -1,6 +1,7 @@
 pub mod FormingLemmas
 pub mod WorkingLemmas
 pub mod SeatLemmas
-pub mod BusyLemmas
+pub mod JobLemmas
+pub mod HoldLemmas
 pub mod FirstLemmas
 pub mod AnswerLemmas

@@ -1,4 +1,4 @@
 pub mod Forming
+pub mod Jobs
 pub mod Working
 pub mod Answers
-pub mod Next

@@ -1,29 +1,25 @@
--- What a worker knows between the calls of its seat.
+-- What a worker knows between two holds of the table, and while it holds it.
 --     IsSeated            its seat is one of the table's, and what it has seen is a history
 --     IsUpon              the table's problem is this one
 --     Begins              a replica's log begins the log that the seat has seen
---     HoldsAt, IsWorkAt   the seat holds the work under the ticket; it is a work of the log seen
---     Moves               the seat has seen more, and is the same seat
---     KeepsWorks          it holds what it held
---     HasWhole            a replica's log is the log that the seat has seen
---     HasAllAt            the log seen has each entry that was found
---     IsFree, IsBusy      a worker without a work, and with one
---     ClosesAt            the log seen has all that follows by the work
+--     Goes                the seat has done steps in one hold
+--     IsFree              a worker with a replica that begins what it has seen
+--     IsLoaded            it carries works
 --     IsFirst             seat 0, which has told of nothing
 --     RestsSeated         a seat rests there
-use Rattle.std.specs.Prelude.{◌≡◌, ℕ, List, [], ◌∷◌, Some}
+use Rattle.std.specs.Prelude.{◌≡◌, ℕ, List, [], ◌∷◌, Some, All}
 use mathlib.Core.List.{IsPrefix}
 use Rattle.atomic_table.specs.Seated.{TableId}
 use Rattle.hs_scheme.specs.Problem.{ProblemData}
 use Rattle.hs_table.specs.Entries.{EntryData}
 use Rattle.hs_types.specs.Interned.{InternerData}
-use Rattle.hs_rules.specs.Conclusions.{DeducedData}
-use Rattle.hs_history.specs.declared.step.Work.{Work}
 use Rattle.hs_history.specs.Story.{Base}
-use Rattle.hs_history.specs.CoreStep.{IsClosedWork}
-use Rattle.hs_history.specs.History.{IsLegal, IsWork}
+use Rattle.hs_history.specs.History.{IsLegal}
+use Rattle.hs_core.specs.Core.{log_of}
 use Rattle.hs_shared.specs.Seats.{SeatData, IsSeatOf, Sees, HasSeenOwn}
-use Rattle.hs_workers.specs.Forming.{HasAll}
+use Rattle.hs_shared.specs.Holding.{HoldData, IsHolding}
+use Rattle.hs_workers.specs.declared.job.Job.{Job}
+use Rattle.hs_workers.specs.Jobs.{keys, Carries, IsFormed}
 
 pub record IsSeated (table : TableId) (s : SeatData) : Type 0 where
   pub seat : IsSeatOf table s
@@ -38,26 +34,13 @@ IsUpon p s = Sees s (λ base state. base.problem ≡ p)
 abbrev pub Begins : List EntryData → SeatData → Type 0
 Begins log s = Sees s (λ base state. IsPrefix log state.log)
 
-abbrev pub HoldsAt : SeatData → ℕ → Work → Type 0
-HoldsAt s ticket work = Sees s (λ base state. state.flight ticket ≡ Some (record { worker = s.known.number; work = work }))
-
-abbrev pub IsWorkAt : SeatData → Work → Type 0
-IsWorkAt s work = Sees s (λ base state. IsWork base.problem state.log work)
-
-pub record Moves (old new : SeatData) : Type 0 where
+-- steps of the seat in one hold: it holds the table still, which has the same base and a log that has grown
+pub record Goes (old new : SeatData) (before after : HoldData) : Type 0 where
+  pub holds : IsHolding new after
   pub number : new.known.number ≡ old.known.number
-  pub base : new.known.base ≡ old.known.base
-  pub sees : IsPrefix old.known.seen new.known.seen
-
-pub record KeepsWorks (old new : SeatData) : Type 0 where
-  pub each : (ticket : ℕ) (work : Work) → HoldsAt old ticket work → HoldsAt new ticket work
-
--- a replica's log is the log that the seat has seen
-abbrev pub HasWhole : SeatData → List EntryData → Type 0
-HasWhole s log = Sees s (λ base state. log ≡ state.log)
-
-abbrev pub HasAllAt : InternerData → List DeducedData → SeatData → Type 0
-HasAllAt ids found s = Sees s (λ base state. HasAll ids found state.log)
+  pub turn : after.turn ≡ before.turn
+  pub base : after.core.base ≡ before.core.base
+  pub log : IsPrefix (log_of before.core) (log_of after.core)
 
 -- a worker that holds no work: its seat is the table's, upon this problem, and its replica's log begins what it has seen
 pub record IsFree (table : TableId) (p : ProblemData) (s : SeatData) (log : List EntryData) : Type 0 where
@@ -65,15 +48,11 @@ pub record IsFree (table : TableId) (p : ProblemData) (s : SeatData) (log : List
   pub upon : IsUpon p s
   pub begins : Begins log s
 
--- a worker that holds a work under a ticket
-pub record IsBusy (table : TableId) (p : ProblemData) (s : SeatData) (log : List EntryData) (ticket : ℕ) (work : Work) : Type 0 where
+-- a worker that carries these works, for which perhaps something was formed
+pub record IsLoaded (table : TableId) (p : ProblemData) (s : SeatData) (ids : InternerData) (log : List EntryData) (jobs : List Job) : Type 0 where
   pub free : IsFree table p s log
-  pub holds : HoldsAt s ticket work
-  pub is_work : IsWorkAt s work
-
--- the log seen has all that follows by the work
-pub record ClosesAt (s : SeatData) (work : Work) : Type 0 where
-  pub sees : Sees s (λ base state. IsClosedWork base.problem state.log work)
+  pub carries : Sees s (λ base state. Carries s.known.number state.flight (keys jobs))
+  pub formed : All (IsFormed p ids log) jobs
 
 -- seat 0, which has split off and joined so many seats
 pub record IsFirst (table : TableId) (splits joins : ℕ) (s : SeatData) : Type 0 where

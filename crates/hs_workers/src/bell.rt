@@ -2,9 +2,8 @@
 //!
 //! Nothing is proved of it, and no contract speaks of it: a worker that is never woken would wait for
 //! ever, and one that is woken for nothing takes again. By argument, none waits for ever: who waits was
-//! counted before it looked for a work for the last time. Whoever leaves works to others after that
-//! look sees the count when it rings, and whoever takes as many works as it added leaves none. The
-//! last worker that holds a work ends in its turn, and rings.
+//! counted before it looked for a work for the last time. Whoever leaves works pending after that look
+//! sees the count when it tells of them. The last worker that holds a work ends in its turn, and rings.
 
 use std::hint::spin_loop;
 use std::sync::Wait;
@@ -21,14 +20,22 @@ pub(crate) struct Bell {
     rings: AtomicU64,
     /// How many workers have found nothing to take.
     waiting: AtomicU64,
+    /// How many workers there are.
+    workers: usize,
 }
 
 impl Bell {
-    pub(crate) fn new() -> Bell {
+    pub(crate) fn new(workers: usize) -> Bell {
         Bell {
             rings: AtomicU64::new(0),
             waiting: AtomicU64::new(0),
+            workers,
         }
+    }
+
+    /// How many workers there are.
+    pub(crate) fn workers(&self) -> usize {
+        self.workers
     }
 
     /// Wakes all who wait.
@@ -36,6 +43,13 @@ impl Bell {
         if self.waiting.load(SeqCst) != 0 {
             self.rings.fetch_add(1, SeqCst);
             self.rings.wake_all();
+        }
+    }
+
+    /// So many works are pending: wakes all who wait, where there are any.
+    pub(crate) fn tell(&self, pending: usize) {
+        if pending != 0 {
+            self.ring();
         }
     }
 

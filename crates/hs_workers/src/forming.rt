@@ -74,6 +74,7 @@ fn form_seed(
 ) -> Result<Vec<Deduced>, OutOfMemory>
     requires { point < length problem.now.points.points }
     ensures log { replica.new.log ≡ replica.old.log }
+    ensures grows { Grows replica.old.ids replica.new.ids }
     ensures found { IfOk result (λ found. AreFormed problem.now replica.new.ids replica.new.log (Work.Seed point) found.items) }
 {
     let formed = seed_conclusions(alloc, problem, replica, point)?;
@@ -94,6 +95,7 @@ fn form_place(
     requires shape { All (InShape problem.now) replica.old.log }
     requires dependents { HasDependents problem.now.points problem.now.flow.pairs dependents.now }
     ensures log { replica.new.log ≡ replica.old.log }
+    ensures grows { Grows replica.old.ids replica.new.ids }
     ensures found { IfOk result (λ found. AreFormed problem.now replica.new.ids replica.new.log (Work.Place place) found.items) }
 {
     let points = dependents.list(replica.row(place).point);
@@ -112,6 +114,7 @@ pub(crate) fn form(
     requires shape { All (InShape problem.now) replica.old.log }
     requires dependents { HasDependents problem.now.points problem.now.flow.pairs dependents.now }
     ensures log { replica.new.log ≡ replica.old.log }
+    ensures grows { Grows replica.old.ids replica.new.ids }
     ensures found { IfOk result (λ found. AreFormed problem.now replica.new.ids replica.new.log work found.items) }
 {
     match work {

@@ -1,17 +1,17 @@
 //! Workers that share a table: saturation by up to sixteen threads.
 //!
-//! Each worker takes a work from the table (`hs_shared`), forms what follows by it on its own replica
-//! of the log, publishes what its replica lacks, and finishes. The definitions stand in `specs/`:
-//! `Forming`, `Working` and `Answers`.
+//! Each worker takes some works from the table (`hs_shared`), forms what follows by them on its own
+//! replica of the log, and then, under one hold of the table, publishes what its replica lacked,
+//! finishes the works, catches up and takes further ones. One worker alone works on the core itself.
+//! The definitions stand in `specs/`: `Forming`, `Jobs`, `Working` and `Answers`.
 #![tactic(auto)]
 
 mod bell;
 mod forming;
-mod gate;
-mod knowing;
+mod handing;
+mod job;
 mod saturating;
 mod worker;
 
-pub use gate::{Gate, Open};
-pub use hs_core::{Core, Done, Work};
+pub use hs_core::{Core, Done, Gate, Open, Work};
 pub use saturating::saturate;

@@ -10,14 +10,13 @@ ghost use Rattle.hs_workers.specs.Working.{IsFirst, HasSeenNothing, IsBased, Res
 ghost use Rattle.hs_workers.specs.Answers.{IsOfWorkers, IsSharedDone, IsEnd, IsAnswered};
 
 use crate::bell::Bell;
-use crate::gate::Gate;
-use crate::knowing::know;
 use crate::worker::run_worker;
-use hs_core::{Core, Done};
+use hs_core::{Core, Done, Gate, work_alone};
 use hs_flow::Dependents;
 use hs_naming::least_tables_decide;
 use hs_scheme::{OutOfMemory, Problem};
 use hs_shared::{Held, RestedSeat, Seat, SharedTable};
+use hs_verdict::is_sorted_problem;
 use std::alloc::Global;
 use std::sync::Wait;
 use std::thread::{Threads, for_each_mut};
@@ -61,9 +60,9 @@ fn work_each<'p, R: Threads + Wait + Sync, G: Gate + Sync>(
     requires seats { All (RestsSeated table.now problem.now) seats.old }
     ensures { All (RestsIn table.now) seats.new }
 {
-    let bell = Bell::new();
-    let bell = &bell;
     let count = seats.len();
+    let bell = Bell::new(count);
+    let bell = &bell;
     for_each_mut(
         rt,
         seats,
@@ -182,15 +181,61 @@ fn work_together<'p, R: Threads + Wait + Sync, G: Gate + Sync>(
     Ok(table.into_core(first))
 }
 
-/// The least table of the problem, formed by so many workers, 1 to 16, in threads of their own; or,
-/// where `first` is set and the table has the start entry, a part of it with that entry. The workers
-/// are numbered from 1, and nobody else does anything. The budget is 1 to 1,000,000, and the
-/// dependents are those of the problem.
+/// The core that one worker leaves, whose number is 1: it does works on the core itself, in the
+/// caller's thread, until no work is left or none is given out any more.
+fn work_by_one<'p, G: Gate>(
+    alloc: Global,
+    core: Core<'p>,
+    dependents: &Dependents,
+    gate: &G,
+) -> Core<'p>
+    requires story { core.story ≡ [] }
+    requires dependents { HasDependents core.base.problem.points core.base.problem.flow.pairs dependents.now }
+    ensures base { result.base ≡ core.entry.base }
+    ensures workers { All (IsOfWorkers 1) result.story }
+{
+    let mut core = core;
+    // After a refusal of memory works are left in it.
+    let _ended = work_alone(alloc, &mut core, dependents, 1, gate);
+    core
+}
+
+/// The core that so many workers leave, from one in which nothing has happened. Nobody else does
+/// anything.
+fn work<'p, R: Threads + Wait + Sync, G: Gate + Sync>(
+    rt: &R,
+    alloc: Global,
+    problem: &Problem,
+    dependents: &Dependents,
+    workers: u32,
+    core: Core<'p>,
+    gate: &G,
+) -> Result<Core<'p>, OutOfMemory>
+    requires some { 1 ≤ workers }
+    requires few { workers ≤ 16 }
+    requires dependents { HasDependents problem.now.points problem.now.flow.pairs dependents.now }
+    requires problem { core.base.problem ≡ problem.now }
+    requires story { core.story ≡ [] }
+    ensures base { IfOk result (λ left. left.base ≡ core.entry.base) }
+    ensures workers { IfOk result (λ left. All (IsOfWorkers workers) left.story) }
+{
+    if workers == 1 {
+        return Ok(work_by_one(alloc, core, dependents, gate));
+    }
+    let (table, seat) = share(alloc, core)?;
+    work_together(rt, alloc, problem, dependents, workers, table, seat, gate)
+}
+
+/// The least table of the problem, formed by so many workers, 1 to 16; or, where `first` is set and
+/// the table has the start entry, a part of it with that entry. The workers are numbered from 1, and
+/// nobody else does anything. The budget is 1 to 1,000,000, and the dependents are those of the
+/// problem.
 ///
 /// A worker for which memory is refused leaves its work to the others. Where works are left because
 /// all of them ended so, the answer is want of memory.
 ///
-/// Each worker keeps a replica of the log, which takes as much memory as the log itself.
+/// One worker works in the caller's thread, on the core itself. Of more workers each has a thread of
+/// its own and keeps a replica of the log, which takes as much memory as the log itself.
 ///
 /// After Broadbent and Kobayashi, "Saturation-based model checking of higher-order recursion schemes"
 /// (CSL 2013).
@@ -212,10 +257,9 @@ pub fn saturate<'p, R: Threads + Wait + Sync, G: Gate + Sync>(
     ensures done { IfOk result (IsSharedDone (record { problem = problem.now; budget = budget; first = first }) workers) }
     ensures verdict { IfOk result (λ done. HasClosedFlow problem.now → IsVerdict problem.now done) }
 {
-    know(problem);
+    is_sorted_problem(problem);
     least_tables_decide();
     let core = Core::new(alloc, problem, budget, first)?;
-    let (table, seat) = share(alloc, core)?;
-    let core = work_together(rt, alloc, problem, dependents, workers, table, seat, gate)?;
+    let core = work(rt, alloc, problem, dependents, workers, core, gate)?;
     answer(core)
 }

@@ -13,7 +13,7 @@ returns-in_err-count-clause-fault c =
     let flow = both_kinds p
     (none_lacking c.in_ok-pair.field-0 (HoldsAll p Flow) (λ (pair : Pair). IsOfKind Flow pair × Lacks p pair) c.in_default.not-Some c.in_ok-pair.ensures)
     (none_lacking c.in_ok-pair-2.field-0 (HoldsAll p Heads) (λ (pair : Pair). IsOfKind Heads pair × Lacks p pair) c.in_default-2.not-Some c.in_ok-pair-2.ensures) in
-    let fault = gap_whole p c.in_ok-index.index c.args.table.now c.in_err-count.field-0.0 c.in_ok-index.ensures c.know.ensures.automaton flow c.in_err-count.ensures.missing in
+    let fault = gap_whole p c.in_ok-index.index c.args.table.now c.in_err-count.field-0.0 c.in_ok-index.ensures c.is_sorted_problem.ensures.automaton flow c.in_err-count.ensures.missing in
     let e = err_from_is_err_and c.from_residual-in_err-count.result c.from_residual-in_err-count.ensures.1 in
     rw (e.1, e.2) fault
 
@@ -47,5 +47,5 @@ returns-clause-accepted c =
     let flow = both_kinds p
     (none_lacking c.in_ok-pair.field-0 (HoldsAll p Flow) (λ (pair : Pair). IsOfKind Flow pair × Lacks p pair) c.in_default.not-Some c.in_ok-pair.ensures)
     (none_lacking c.in_ok-pair-2.field-0 (HoldsAll p Heads) (λ (pair : Pair). IsOfKind Heads pair × Lacks p pair) c.in_default-2.not-Some c.in_ok-pair-2.ensures) in
-    accepts_without_start p c.know.ensures flow c.args.table.now (closed_whole p c.in_ok-index.index c.args.table.now c.in_ok-index.ensures c.in_ok-count.ensures.closed)
+    accepts_without_start p c.is_sorted_problem.ensures flow c.args.table.now (closed_whole p c.in_ok-index.index c.args.table.now c.in_ok-index.ensures c.in_ok-count.ensures.closed)
     (λ start. let f : true ≡ false = sym (c.has_start.ensures.1 start) ∙ c.if-has_start.false in absurd (cc))

@@ -44,7 +44,7 @@ loop-dependent-preserved c =
     let b = c.loop-dependent.core in
     let m = c.at_place.new.self in
     let e = c.publish_all.new.core in
-    let published : Moves m e = record { alone = c.in_ok-publish_all.ensures.goes; flight = c.in_ok-publish_all.ensures.flight; lighter = c.in_ok-publish_all.ensures.weight } in
+    let published : Moves c.args.worker m e = record { alone = c.in_ok-publish_all.ensures.goes; flight = c.in_ok-publish_all.ensures.flight; lighter = c.in_ok-publish_all.ensures.weight } in
     let asked = moves_asked b b m (moves_same b b refl refl) c.in_ok-found.ensures.kept in
     let later = moves_trans b m e asked published in
     let items = c.list-dependent-items.result.now in

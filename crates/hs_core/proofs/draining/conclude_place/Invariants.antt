@@ -6,6 +6,6 @@ use Rattle.hs_core.proofs.draining.conclude_place.Given as goal
 
 abbrev pub invariant-loop-dependent : goal.invariant-loop-dependent
 invariant-loop-dependent l = record {
-  moves : Moves l.fn.core l.core;
+  moves : Moves l.worker l.fn.core l.core;
   all : (k : ℕ) → k < l.dependent-index → HasAll l.fn.core.base.problem (log_of l.fn.core) l.place (get_or l.dependent-items k 0) (log_of l.core);
 }

@@ -1,8 +1,7 @@
 use Rattle.std.proofs.Common.{◌≡◌, sym, ap, subst, ◌∙◌, None, arith, inl, inr}
 use Rattle.std.proofs.lemmas.Bool.{cases_lt}
-use Rattle.hs_history.specs.Story.{gives_back}
 use Rattle.hs_core.specs.Core.{CoreData, state_of}
-use Rattle.hs_core.proofs.Moving.{goes_on_step, goes_on_none, goes_on_same, given_free, given_other, none_unless}
+use Rattle.hs_core.proofs.Moving.{goes_back_step, goes_back_none, goes_back_same, given_free, given_other, none_unless}
 use Rattle.hs_core.proofs.draining.give_back_all.Goals as goal
 use Rattle.hs_core.proofs.draining.give_back_all.Goals.{in-Some, in_default}
 
@@ -11,7 +10,7 @@ give_back-requires c = (c.in-Some.flight.work, sym c.flight.ensures ∙ c.in-Som
 
 pub loop-ticket-init : goal.loop-ticket-init
 loop-ticket-init c = record {
-  goes = goes_on_none c.args.core.now;
+  goes = goes_back_none c.args.core.now;
   free = λ t lt. absurd (omega arith);
   beyond = c.tickets_bound-ticket-end.ensures;
 }
@@ -25,7 +24,7 @@ loop-ticket-preserved c =
       | in-Some w ↦
           let is = w.core-is ∙ w.give_back.ensures in
           record {
-            goes = goes_on_step c.args.core.now a b w.in-Some.flight.worker (gives_back n) a.spare c.loop-ticket.invariant.goes is;
+            goes = goes_back_step c.args.core.now a b w.in-Some.flight.worker n a.spare c.loop-ticket.invariant.goes is;
             free = λ t lt. elim (cases_lt t n) [
               | inl below ↦ given_other a b w.in-Some.flight.worker n a.spare is t (c.loop-ticket.invariant.free t below)
               | inr above ↦ let same : n ≡ t = omega arith in subst (λ m. (state_of b).flight m ≡ None) same (given_free a b w.in-Some.flight.worker n a.spare is)
@@ -33,7 +32,7 @@ loop-ticket-preserved c =
             beyond = λ t le. given_other a b w.in-Some.flight.worker n a.spare is t (c.loop-ticket.invariant.beyond t le);
           }
       | in_default w ↦ record {
-        goes = goes_on_same c.args.core.now a b c.loop-ticket.invariant.goes w.core-is;
+        goes = goes_back_same c.args.core.now a b c.loop-ticket.invariant.goes w.core-is;
         free = λ t lt. elim (cases_lt t n) [
           | inl below ↦ ap (λ (x : CoreData). (state_of x).flight t) w.core-is ∙ c.loop-ticket.invariant.free t below
           | inr above ↦
@@ -48,7 +47,7 @@ pub returns-clause-base : goal.returns-clause-base
 returns-clause-base c = c.loop-ticket.invariant.goes.base
 
 pub returns-clause-story : goal.returns-clause-story
-returns-clause-story c = (c.loop-ticket.invariant.goes.more, c.loop-ticket.invariant.goes.story)
+returns-clause-story c = (c.loop-ticket.invariant.goes.more, c.loop-ticket.invariant.goes.story, c.loop-ticket.invariant.goes.gives)
 
 pub returns-clause-flight : goal.returns-clause-flight
 returns-clause-flight c = λ t. elim (cases_lt t c.loop-ticket.ticket) [

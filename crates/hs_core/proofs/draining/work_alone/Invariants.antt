@@ -1,12 +1,12 @@
--- worker 0 alone did what was done, and each turn leaves less to do
+-- the worker alone did what was done, and each turn leaves less to do
 use Rattle.hs_core.specs.Draining.{weight, GoesAlone, NothingFlies}
 use Rattle.hs_core.proofs.draining.work_alone.Given as goal
 
 abbrev pub invariant-loop : goal.invariant-loop
-invariant-loop l = record {
-  goes : GoesAlone l.fn.core l.core;
+invariant-loop g l = record {
+  goes : GoesAlone l.worker l.fn.core l.core;
   flight : NothingFlies l.core;
 }
 
 abbrev pub decreases-loop : goal.decreases-loop
-decreases-loop l = weight l.core
+decreases-loop g l = weight l.core

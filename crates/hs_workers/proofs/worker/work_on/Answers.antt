@@ -1,7 +1,9 @@
-use Rattle.std.proofs.Common.{sym, subst}
+use Rattle.std.proofs.Common.{ap}
 use Rattle.hs_replica.specs.Replica.{ReplicaData}
-use Rattle.hs_workers.specs.Working.{IsFree}
+use Rattle.hs_workers.proofs.HoldLemmas.{loaded_none}
 use Rattle.hs_workers.proofs.worker.work_on.Goals as goal
 
-pub begin-next-requires : goal.begin-next-requires
-begin-next-requires g c = record { free = subst (λ (r : ReplicaData). IsFree c.args.table.now c.args.problem.now c.args.seat.now r.log) (sym c.new-replica.ensures) c.requires.free }
+pub loop-init : goal.loop-init
+loop-init g c =
+    loaded_none c.args.table.now c.args.problem.now c.args.seat.now c.new-replica.result.ids c.new-replica.result.log c.new-jobs.result.items c.requires.free
+    (ap (λ (r : ReplicaData). r.log) c.new-replica.ensures) c.new-jobs.ensures.items

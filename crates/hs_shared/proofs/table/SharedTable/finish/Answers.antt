@@ -1,27 +1,22 @@
-use Rattle.std.proofs.Common.{◌≡◌, refl, sym, ap, ◌∙◌, subst}
+use Rattle.std.proofs.Common.{◌≡◌, refl, sym, subst}
 use Rattle.hs_history.specs.Story.{finishes}
 use Rattle.hs_history.specs.CoreStep.{CanFinish}
 use Rattle.hs_core.specs.Core.{state_of, stepped}
+use Rattle.hs_shared.specs.Seats.{SeatData}
 use Rattle.hs_shared.proofs.Seen.{may_finish}
-use Rattle.hs_shared.proofs.Leaving.{does_by, once_held, once_stepped}
+use Rattle.hs_shared.proofs.Leaving.{does_by}
 use Rattle.hs_shared.proofs.table.SharedTable.finish.Goals as goal
 
-pub finish-requires : goal.finish-requires
-finish-requires g c =
-    let core = c.enter-guard.result.0.state.core in
-    subst (λ n. CanFinish core.base (state_of core) n c.args.ticket) (sym c.number-worker.ensures) (may_finish c.args.seat.now core c.enter-guard.ensures.finds c.args.ticket c.requires.own c.requires.closed)
-
-pub leave-requires-clause-once : goal.leave-requires-clause-once
-leave-requires-clause-once g c =
-    let core = c.enter-guard.result.0.state.core in
-    once_held c.args.seat.now c.enter-guard.new.seat core c.number-worker.result c.finish.new.self.story c.enter-guard.ensures.seat c.number-worker.ensures
-    (once_stepped core c.finish.new.self c.number-worker.result (finishes c.args.ticket) core.spare c.finish.ensures)
+pub finish-requires-clause-closed : goal.finish-requires-clause-closed
+finish-requires-clause-closed g c =
+    let core = c.enter-hold.result.core in
+    subst (λ (s : SeatData). CanFinish core.base (state_of core) s.known.number c.args.ticket) (sym c.enter-hold.ensures.seat) (may_finish c.args.seat.now core c.enter-hold.ensures.finds c.args.ticket c.requires.own c.requires.closed)
 
 pub returns : goal.returns
 returns g c =
-    let core = c.enter-guard.result.0.state.core in
-    let new = c.finish.new.self in
+    let core = c.enter-hold.result.core in
+    let left = c.finish.new.self.core in
     let n = c.args.seat.now.known.number in
-    does_by c.args.seat.now c.enter-guard.new.seat c.leave.new.seat core new c.enter-guard.ensures.seat c.enter-guard.ensures.finds c.leave.ensures.seat c.leave.ensures.once c.leave.ensures.core
-    (λ found left. left ≡ stepped found n (finishes c.args.ticket) found.spare) core c.enter-guard.ensures.finds.is_core refl refl
-    (c.finish.ensures ∙ ap (λ w. stepped core w (finishes c.args.ticket) core.spare) c.number-worker.ensures)
+    does_by c.args.seat.now c.enter-hold.new.seat c.finish.new.seat c.leave.new.seat core left c.enter-hold.ensures.seat c.enter-hold.ensures.finds c.finish.ensures.told c.finish.ensures.holds.own c.finish.ensures.holds.is_core c.leave.ensures
+    (λ found after. after ≡ stepped found n (finishes c.args.ticket) found.spare) core c.enter-hold.ensures.finds.is_core refl refl
+    (subst (λ (s : SeatData). left ≡ stepped core s.known.number (finishes c.args.ticket) core.spare) c.enter-hold.ensures.seat c.finish.ensures.core)

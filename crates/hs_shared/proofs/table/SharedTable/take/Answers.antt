@@ -1,36 +1,28 @@
-use Rattle.std.proofs.Common.{refl, ap, subst, inl}
+use Rattle.std.proofs.Common.{refl, ap, subst}
 use Rattle.hs_core.specs.Core.{CoreData}
 use Rattle.hs_core.specs.Answers.{Takes}
-use Rattle.hs_shared.proofs.Leaving.{ok_mapped, err_mapped, either_way, does_by, looks_by, once_held, once_taken}
+use Rattle.hs_shared.specs.Seats.{SeatData}
+use Rattle.hs_shared.proofs.Leaving.{ok_mapped, err_mapped, does_by, looks_by}
 use Rattle.hs_shared.proofs.table.SharedTable.take.Goals as goal
-
-pub leave-requires-clause-once : goal.leave-requires-clause-once
-leave-requires-clause-once g c =
-    let core = c.enter-guard.result.0.state.core in
-    let worker = c.number-worker.result in
-    let new = c.take_work-taken.new.core in
-    once_held c.args.seat.now c.enter-guard.new.seat core worker new.story c.enter-guard.ensures.seat c.number-worker.ensures
-    (either_way c.take_work-taken.result
-    (λ taken h. once_taken (record core { spare = h.0 }) new worker taken h.1)
-    (λ h. inl (ap (λ (x : CoreData). x.story) h))
-    c.take_work-taken.ensures.ok c.take_work-taken.ensures.err)
 
 pub returns-clause-ok : goal.returns-clause-ok
 returns-clause-ok g c =
-    let core = c.enter-guard.result.0.state.core in
-    let new = c.take_work-taken.new.core in
+    let core = c.enter-hold.result.core in
+    let left = c.take-taken.new.self.core in
     let n = c.args.seat.now.known.number in
-    let is = c.enter-guard.ensures.finds.is_core in
-    ok_mapped c.take_work-taken.result
+    let is = c.enter-hold.ensures.finds.is_core in
+    ok_mapped c.take-taken.result
     (λ taken h.
-    does_by c.args.seat.now c.enter-guard.new.seat c.leave.new.seat core new c.enter-guard.ensures.seat c.enter-guard.ensures.finds c.leave.ensures.seat c.leave.ensures.once c.leave.ensures.core
-    (λ found left. Takes found n taken left) (record core { spare = h.0 })
+    does_by c.args.seat.now c.enter-hold.new.seat c.take-taken.new.seat c.leave.new.seat core left c.enter-hold.ensures.seat c.enter-hold.ensures.finds c.take-taken.ensures.told c.take-taken.ensures.holds.own c.take-taken.ensures.holds.is_core c.leave.ensures
+    (λ found after. Takes found n taken after) (record core { spare = h.0 })
     (record { legal = is.legal; least_budget = is.least_budget; greatest_budget = is.greatest_budget; ids = is.ids }) refl refl
-    (subst (λ w. Takes (record core { spare = h.0 }) w taken new) c.number-worker.ensures h.1))
-    c.take_work-taken.ensures.ok
+    (subst (λ (s : SeatData). Takes (record core { spare = h.0 }) s.known.number taken left) c.enter-hold.ensures.seat h.1))
+    c.take-taken.ensures.ok
 
 pub returns-clause-err : goal.returns-clause-err
 returns-clause-err g c =
-    err_mapped c.take_work-taken.result
-    (λ h. looks_by c.args.seat.now c.enter-guard.new.seat c.leave.new.seat c.enter-guard.result.0.state.core c.take_work-taken.new.core c.enter-guard.ensures.seat c.enter-guard.ensures.finds c.leave.ensures.seat (ap (λ (x : CoreData). x.story) h))
-    c.take_work-taken.ensures.err
+    let core = c.enter-hold.result.core in
+    let left = c.take-taken.new.self.core in
+    err_mapped c.take-taken.result
+    (λ h. looks_by c.args.seat.now c.enter-hold.new.seat c.take-taken.new.seat c.leave.new.seat core left c.enter-hold.ensures.seat c.enter-hold.ensures.finds c.take-taken.ensures.told c.take-taken.ensures.holds.own c.take-taken.ensures.holds.is_core c.leave.ensures (ap (λ (x : CoreData). x.story) h))
+    c.take-taken.ensures.err

@@ -1,11 +1,10 @@
 //! What a worker passes on its way.
 
-use hs_core::Work;
+use hs_history::Work;
 
 /// What each worker passes before it forms what follows by a work.
 pub trait Gate {
-    /// The worker, whose number is counted from 1, has taken the work and is about to do it. It holds
-    /// nothing for which others wait.
+    /// The worker has taken the work and is about to do it. It holds nothing for which others wait.
     fn before(&self, worker: u32, work: Work);
 }
 

@@ -1,0 +1,152 @@
+//! A shared table while a seat holds it.
+
+ghost use Rattle.std.specs.Prelude.{◌≡◌, ℕ, IfOk, OnOk, OnErr, length};
+ghost use mathlib.Core.List.{IsPrefix};
+ghost use Rattle.hs_table.specs.Follows.{FollowsBy};
+ghost use Rattle.hs_types.specs.Interned.{IsRow, entry_of, Grows};
+ghost use Rattle.hs_history.specs.Story.{finishes, gives_back};
+ghost use Rattle.hs_history.specs.CoreStep.{Holds, CanFinish};
+ghost use Rattle.hs_core.specs.Core.{CoreData, IsCore, state_of, log_of, deduction_of, stepped};
+ghost use Rattle.hs_core.specs.Answers.{Takes, Publishes};
+ghost use Rattle.hs_shared.specs.Holding.{having_left, HasTold, IsHolding};
+
+use crate::held::Held;
+use crate::hold::{copy_log, count, publish_deduction, take_work, tell};
+use hs_core::{Deduced, Published, Replica, Taken};
+use hs_scheme::OutOfMemory;
+use hs_turn::{Guard, Seat};
+use std::marker::Model;
+
+/// The core of a shared table while a seat holds it: no other call of the table goes on until the
+/// seat leaves. It has no `Drop`: it ends in `leave`. Each call takes the seat that entered, and each
+/// step is that of the worker of the seat's number.
+///
+/// Contracts see which table it is, and the core.
+pub struct Hold<'a, 'p> {
+    pub(crate) guard: Guard<'a, Held<'p>>,
+}
+
+impl<'a, 'p> Model for Hold<'a, 'p> {
+    ghost use Rattle.std.specs.Coded.{codes};
+    ghost use Rattle.hs_core.specs.Core.{coded_core};
+    ghost use Rattle.hs_shared.specs.Holding.{HoldData};
+
+    ghost Value = { HoldData };
+
+    ghost coded = { Prim.hlevel (codes, coded_core) };
+
+    ghost view = { λ a. record { turn = a.guard.turn.now; core = a.guard.state.core } };
+}
+
+impl<'a, 'p> Hold<'a, 'p> {
+    /// How many works are pending. Takes no memory, and constant time.
+    pub fn pending(&self) -> usize
+        ensures { result ≡ length (state_of self.now.core).pending }
+    {
+        self.guard.state.core.pending()
+    }
+
+    /// Takes a pending work for the seat, where there is one, as `Core::take` does. After a refusal of
+    /// memory nothing has happened.
+    pub fn take(&mut self, seat: &mut Seat<Held<'p>>) -> Result<Taken, OutOfMemory>
+        requires { IsHolding seat.old self.old }
+        ensures ok { IfOk result (λ taken. (spare : ℕ) × Takes (record self.old.core { spare = spare }) seat.old.known.number taken self.new.core) }
+        ensures err { OnErr result (self.new.core ≡ self.old.core) }
+        ensures turn { self.new.turn ≡ self.old.turn }
+        ensures told { HasTold seat.old self.new.core.story seat.new }
+        ensures holds { IsHolding seat.new self.new }
+    {
+        let worker = seat.number();
+        let before = count(&self.guard.state.core);
+        let taken = take_work(&mut self.guard.state.core, worker);
+        tell(&mut self.guard, seat, before);
+        taken
+    }
+
+    /// Publishes a deduction under a ticket, in the numbers of the replica's interner, as
+    /// `Core::publish` does. The seat has the ticket, and the deduction follows from the core's log.
+    /// After a refusal of memory nothing has happened.
+    pub fn publish(
+        &mut self,
+        seat: &mut Seat<Held<'p>>,
+        ticket: u32,
+        replica: &Replica,
+        deduced: &Deduced,
+    ) -> Result<Published, OutOfMemory>
+        requires holds { IsHolding seat.old self.old }
+        requires ticket { Holds (state_of self.old.core) seat.old.known.number ticket }
+        requires row { IsRow replica.now.ids deduced.now.row }
+        requires follows { FollowsBy self.old.core.base.problem (log_of self.old.core) deduced.now.support (entry_of replica.now.ids deduced.now.row) }
+        ensures ok { IfOk result (λ published. (found : CoreData) × IsCore found × (found.base ≡ self.old.core.base) × (found.story ≡ self.old.core.story)
+            × Publishes found seat.old.known.number ticket (deduction_of replica.now.ids deduced.now) published self.new.core) }
+        ensures err { OnErr result ((self.new.core.base ≡ self.old.core.base) × (self.new.core.story ≡ self.old.core.story)) }
+        ensures turn { self.new.turn ≡ self.old.turn }
+        ensures told { HasTold seat.old self.new.core.story seat.new }
+        ensures holds { IsHolding seat.new self.new }
+    {
+        let worker = seat.number();
+        let before = count(&self.guard.state.core);
+        let published = publish_deduction(
+            &mut self.guard.state.core,
+            worker,
+            ticket,
+            replica,
+            deduced,
+        );
+        tell(&mut self.guard, seat, before);
+        published
+    }
+
+    /// Closes the work under a ticket, which the seat has. The log has all that follows by the work.
+    /// Takes no memory.
+    pub fn finish(&mut self, seat: &mut Seat<Held<'p>>, ticket: u32)
+        requires holds { IsHolding seat.old self.old }
+        requires closed { CanFinish self.old.core.base (state_of self.old.core) seat.old.known.number ticket }
+        ensures core { self.new.core ≡ stepped self.old.core seat.old.known.number (finishes ticket) self.old.core.spare }
+        ensures turn { self.new.turn ≡ self.old.turn }
+        ensures told { HasTold seat.old self.new.core.story seat.new }
+        ensures holds { IsHolding seat.new self.new }
+    {
+        let worker = seat.number();
+        let before = count(&self.guard.state.core);
+        self.guard.state.core.finish(worker, ticket);
+        tell(&mut self.guard, seat, before);
+    }
+
+    /// Leaves the work under a ticket, which the seat has, to others. Takes no memory.
+    pub fn give_back(&mut self, seat: &mut Seat<Held<'p>>, ticket: u32)
+        requires holds { IsHolding seat.old self.old }
+        requires ticket { Holds (state_of self.old.core) seat.old.known.number ticket }
+        ensures core { self.new.core ≡ stepped self.old.core seat.old.known.number (gives_back ticket) self.old.core.spare }
+        ensures turn { self.new.turn ≡ self.old.turn }
+        ensures told { HasTold seat.old self.new.core.story seat.new }
+        ensures holds { IsHolding seat.new self.new }
+    {
+        let worker = seat.number();
+        let before = count(&self.guard.state.core);
+        self.guard.state.core.give_back(worker, ticket);
+        tell(&mut self.guard, seat, before);
+    }
+
+    /// Adds to the replica what its log, which begins the core's log, lacks of that. After a refusal of
+    /// memory it has a part of it. Time and memory are those of one `Replica::append` for each entry
+    /// that is added.
+    pub fn catch_up(&self, replica: &mut Replica) -> Result<(), OutOfMemory>
+        requires { IsPrefix replica.old.log (log_of self.now.core) }
+        ensures ok { OnOk result (replica.new.log ≡ log_of self.now.core) }
+        ensures begins { IsPrefix replica.new.log (log_of self.now.core) }
+        ensures more { IsPrefix replica.old.log replica.new.log }
+        ensures kept { (replica.new.spare ≡ replica.old.spare) × (replica.new.indexed ≡ replica.old.indexed) × Grows replica.old.ids replica.new.ids }
+    {
+        copy_log(self.guard.state.core.replica(), replica)
+    }
+
+    /// Lets the others go on.
+    pub fn leave(self, seat: &mut Seat<Held<'p>>)
+        requires { IsHolding seat.old self }
+        ensures { seat.new ≡ having_left seat.old }
+    {
+        let Hold { guard } = self;
+        guard.leave(seat);
+    }
+}

@@ -1,0 +1,26 @@
+use Rattle.std.proofs.Common.{sym, subst, Option, Vec, Global}
+use Rattle.std.specs.Option.{IfSome}
+use Rattle.hs_rules.specs.declared.deduced.Deduced.{Deduced}
+use Rattle.hs_history.specs.Story.{Base}
+use Rattle.hs_history.specs.CoreStep.{IsClosedWork}
+use Rattle.hs_core.specs.Core.{log_of}
+use Rattle.hs_workers.specs.Forming.{HasAll, AreFormed}
+use Rattle.hs_workers.proofs.WorkingLemmas.{formed_closed}
+use Rattle.hs_workers.proofs.HoldLemmas.{prefix_trans}
+use Rattle.hs_workers.proofs.handing.publish_job.Goals as goal
+
+pub returns-in-Ok-clause-closed : goal.returns-in-Ok-clause-closed
+returns-in-Ok-clause-closed c = λ yes.
+    let old = c.args.hold.now.core in
+    let new = c.publish_all.new.hold.core in
+    let goes = c.publish_all.ensures.goes in
+    let p = old.base.problem in
+    let ids = c.args.replica.now.ids in
+    let log = c.args.replica.now.log in
+    let work = c.args.job.now.work in
+    let found = c.in-Some.found.items in
+    let formed : AreFormed p ids log work found =
+    subst (λ (o : Option (Vec Deduced Global)). IfSome o (λ v. AreFormed p ids log work v.items)) c.in-Some.is c.requires.formed in
+    let has : HasAll ids found (log_of new) = subst (λ xs. HasAll ids xs (log_of new)) c.as_slice.ensures.value (c.in-Ok.ensures.all yes) in
+    subst (λ (b : Base). IsClosedWork b.problem (log_of new) work) (sym goes.base)
+    (formed_closed p ids log (log_of new) work found (prefix_trans log (log_of old) (log_of new) c.requires.begins goes.log) formed has)

@@ -1,0 +1,14 @@
+-- those so far are formed
+use Rattle.std.proofs.Common.{◌≡◌, ◌++◌, ◌+◌, ◌≤◌, length, All}
+use Rattle.std.specs.Vec.{vec_len, vec_capacity}
+use Rattle.hs_workers.specs.Jobs.{keys, IsFormed}
+use Rattle.hs_workers.proofs.job.form_each.Given as goal
+
+abbrev pub invariant-loop-job : goal.invariant-loop-job
+invariant-loop-job g l = record {
+  log : l.replica.log ≡ l.fn.replica.log;
+  keys : keys l.jobs.items ≡ keys l.yielded;
+  formed : All (IsFormed l.problem l.replica.ids l.replica.log) l.jobs.items;
+  whole : l.yielded ++ l.job-iterator.rest.items ≡ l.fn.jobs.items;
+  room : vec_len l.jobs + length l.job-iterator.rest.items ≤ vec_capacity l.jobs;
+}

@@ -1,0 +1,249 @@
+//! What a worker does while it holds the table.
+
+ghost use Rattle.std.specs.Prelude.{◌≡◌, ℕ, None, IfOk, IsTrue, All, Contains};
+ghost use mathlib.Core.List.{IsPrefix};
+ghost use Rattle.hs_types.specs.Interned.{entry_of};
+ghost use Rattle.hs_rules.specs.Conclusions.{IsDeduced};
+ghost use Rattle.hs_history.specs.CoreStep.{Holds, put, IsClosedWork};
+ghost use Rattle.hs_history.specs.History.{IsWork};
+ghost use Rattle.hs_core.specs.Core.{state_of, log_of};
+ghost use Rattle.hs_core.specs.Draining.{SameFlight};
+ghost use Rattle.hs_shared.specs.Holding.{IsHolding};
+ghost use Rattle.hs_workers.specs.Forming.{HasAll};
+ghost use Rattle.hs_workers.specs.Jobs.{key, keys, Carries, IsUnformed, IsFormed};
+ghost use Rattle.hs_workers.specs.Working.{Goes};
+
+use crate::job::Job;
+use hs_core::{Published, Taken};
+use hs_rules::{Deduced, Replica};
+use hs_scheme::OutOfMemory;
+use hs_shared::{Held, Hold, Seat};
+use std::alloc::Global;
+use std::mem::replace;
+
+/// A worker takes at most so many works at once.
+const MOST: usize = 64;
+
+/// What a worker does next.
+#[derive(Clone, Copy)]
+pub(crate) enum Next {
+    /// It does the works that it has taken.
+    Serve,
+    /// Nothing is pending, but others hold works: it takes again once the bell has rung.
+    Wait,
+    /// It ends.
+    End,
+}
+
+/// Publishes a deduction under the ticket. Answers whether the budget had room for it.
+fn publish_one<'p>(
+    hold: &mut Hold<'_, 'p>,
+    seat: &mut Seat<Held<'p>>,
+    ticket: u32,
+    replica: &Replica,
+    deduced: &Deduced,
+) -> Result<bool, OutOfMemory>
+    requires holds { IsHolding seat.old hold.old }
+    requires ticket { Holds (state_of hold.old.core) seat.old.known.number ticket }
+    requires begins { IsPrefix replica.now.log (log_of hold.old.core) }
+    requires deduced { IsDeduced hold.old.core.base.problem replica.now.ids replica.now.log deduced.now }
+    ensures goes { Goes seat.old seat.new hold.old hold.new }
+    ensures flight { SameFlight hold.old.core hold.new.core }
+    ensures there { IfOk result (λ room. IsTrue room →
+        Contains (log_of hold.new.core) (entry_of replica.now.ids deduced.now.row)) }
+{
+    let published = hold.publish(seat, ticket, replica, deduced)?;
+    if let Published::Over = published {
+        return Ok(false);
+    }
+    Ok(true)
+}
+
+/// Publishes what was found under the ticket. Answers whether the budget had room for all of it.
+fn publish_all<'p>(
+    hold: &mut Hold<'_, 'p>,
+    seat: &mut Seat<Held<'p>>,
+    ticket: u32,
+    replica: &Replica,
+    found: &[Deduced],
+) -> Result<bool, OutOfMemory>
+    requires holds { IsHolding seat.old hold.old }
+    requires ticket { Holds (state_of hold.old.core) seat.old.known.number ticket }
+    requires begins { IsPrefix replica.now.log (log_of hold.old.core) }
+    requires found { All (IsDeduced hold.old.core.base.problem replica.now.ids replica.now.log) found.now }
+    ensures goes { Goes seat.old seat.new hold.old hold.new }
+    ensures flight { SameFlight hold.old.core hold.new.core }
+    ensures all { IfOk result (λ all. IsTrue all → HasAll replica.now.ids found.now (log_of hold.new.core)) }
+{
+    for deduced in found {
+        if !publish_one(hold, seat, ticket, replica, deduced)? {
+            return Ok(false);
+        }
+    }
+    Ok(true)
+}
+
+/// Publishes what was formed for the work, where `going` is set. Answers whether that is all that
+/// follows by it.
+fn publish_job<'p>(
+    hold: &mut Hold<'_, 'p>,
+    seat: &mut Seat<Held<'p>>,
+    replica: &Replica,
+    job: &Job,
+    going: bool,
+) -> bool
+    requires holds { IsHolding seat.old hold.old }
+    requires ticket { Holds (state_of hold.old.core) seat.old.known.number job.now.ticket }
+    requires begins { IsPrefix replica.now.log (log_of hold.old.core) }
+    requires formed { IsFormed hold.old.core.base.problem replica.now.ids replica.now.log job.now }
+    ensures goes { Goes seat.old seat.new hold.old hold.new }
+    ensures flight { SameFlight hold.old.core hold.new.core }
+    ensures closed { IsTrue result → IsClosedWork hold.new.core.base.problem (log_of hold.new.core) job.now.work }
+{
+    if !going {
+        return false;
+    }
+    let Some(found) = &job.found else {
+        return false;
+    };
+    match publish_all(hold, seat, job.ticket, replica, found.as_slice()) {
+        Ok(all) => all,
+        Err(_) => false,
+    }
+}
+
+/// Publishes what was formed for the work and closes it, where `going` is set; or gives it back.
+/// Answers whether it is closed.
+fn settle<'p>(
+    hold: &mut Hold<'_, 'p>,
+    seat: &mut Seat<Held<'p>>,
+    replica: &Replica,
+    job: &Job,
+    going: bool,
+) -> bool
+    requires holds { IsHolding seat.old hold.old }
+    requires flies { (state_of hold.old.core).flight job.now.ticket ≡ Some (record { worker = seat.old.known.number; work = job.now.work }) }
+    requires begins { IsPrefix replica.now.log (log_of hold.old.core) }
+    requires formed { IsFormed hold.old.core.base.problem replica.now.ids replica.now.log job.now }
+    ensures goes { Goes seat.old seat.new hold.old hold.new }
+    ensures flight { (ticket : ℕ) → (state_of hold.new.core).flight ticket ≡ put job.now.ticket None (state_of hold.old.core).flight ticket }
+{
+    if publish_job(hold, seat, replica, job, going) {
+        hold.finish(seat, job.ticket);
+        return true;
+    }
+    hold.give_back(seat, job.ticket);
+    false
+}
+
+/// Publishes what was formed for the works and closes them, as long as there are memory and room; the
+/// others it gives back. Answers whether all are closed.
+fn hand_in<'p>(
+    hold: &mut Hold<'_, 'p>,
+    seat: &mut Seat<Held<'p>>,
+    replica: &Replica,
+    jobs: Vec<Job>,
+) -> bool
+    requires holds { IsHolding seat.old hold.old }
+    requires carries { Carries seat.old.known.number (state_of hold.old.core).flight (keys jobs.items) }
+    requires begins { IsPrefix replica.now.log (log_of hold.old.core) }
+    requires formed { All (IsFormed hold.old.core.base.problem replica.now.ids replica.now.log) jobs.items }
+    ensures goes { Goes seat.old seat.new hold.old hold.new }
+{
+    let mut going = true;
+    for job in jobs {
+        going = settle(hold, seat, replica, &job, going);
+    }
+    going
+}
+
+/// Takes a work, where there is one.
+fn take_one<'p>(
+    hold: &mut Hold<'_, 'p>,
+    seat: &mut Seat<Held<'p>>,
+    jobs: &mut Vec<Job>,
+) -> Result<Taken, OutOfMemory>
+    requires holds { IsHolding seat.old hold.old }
+    requires carries { Carries seat.old.known.number (state_of hold.old.core).flight (keys jobs.old.items) }
+    requires unformed { All IsUnformed jobs.old.items }
+    ensures goes { Goes seat.old seat.new hold.old hold.new }
+    ensures log { log_of hold.new.core ≡ log_of hold.old.core }
+    ensures carries { Carries seat.new.known.number (state_of hold.new.core).flight (keys jobs.new.items) }
+    ensures unformed { All IsUnformed jobs.new.items }
+{
+    jobs.reserve(1)?;
+    let taken = hold.take(seat)?;
+    if let Taken::Item { work, ticket } = taken {
+        jobs.push_reserved(Job {
+            work,
+            ticket,
+            found: None,
+        });
+    }
+    Ok(taken)
+}
+
+/// Takes as many works as that, where there are so many.
+fn take_some<'p>(
+    hold: &mut Hold<'_, 'p>,
+    seat: &mut Seat<Held<'p>>,
+    jobs: &mut Vec<Job>,
+    share: usize,
+) -> Next
+    requires holds { IsHolding seat.old hold.old }
+    requires carries { Carries seat.old.known.number (state_of hold.old.core).flight (keys jobs.old.items) }
+    requires unformed { All IsUnformed jobs.old.items }
+    ensures goes { Goes seat.old seat.new hold.old hold.new }
+    ensures log { log_of hold.new.core ≡ log_of hold.old.core }
+    ensures carries { Carries seat.new.known.number (state_of hold.new.core).flight (keys jobs.new.items) }
+    ensures unformed { All IsUnformed jobs.new.items }
+{
+    for _ in 0..share {
+        match take_one(hold, seat, jobs) {
+            Ok(Taken::Item { .. }) => {}
+            Ok(Taken::Idle) => return Next::Wait,
+            Ok(_) => return Next::End,
+            Err(_) => return Next::End,
+        }
+    }
+    Next::Serve
+}
+
+/// How many works a worker takes at once: a half of its share of the pending works, so that all
+/// workers have something to do, but at least one.
+fn share_of(pending: usize, workers: usize) -> usize {
+    let share = pending / 2 / workers.max(1);
+    if share < MOST { share + 1 } else { MOST }
+}
+
+/// Hands in the works that are done, makes the replica the log, and takes further works. Answers what
+/// the worker does next, which ends where it hasn't closed all works or memory is refused.
+pub(crate) fn turn<'p>(
+    alloc: Global,
+    hold: &mut Hold<'_, 'p>,
+    seat: &mut Seat<Held<'p>>,
+    replica: &mut Replica,
+    jobs: &mut Vec<Job>,
+    workers: usize,
+) -> Next
+    requires holds { IsHolding seat.old hold.old }
+    requires carries { Carries seat.old.known.number (state_of hold.old.core).flight (keys jobs.old.items) }
+    requires begins { IsPrefix replica.old.log (log_of hold.old.core) }
+    requires formed { All (IsFormed hold.old.core.base.problem replica.old.ids replica.old.log) jobs.old.items }
+    ensures goes { Goes seat.old seat.new hold.old hold.new }
+    ensures begins { IsPrefix replica.new.log (log_of hold.new.core) }
+    ensures carries { Carries seat.new.known.number (state_of hold.new.core).flight (keys jobs.new.items) }
+    ensures unformed { All IsUnformed jobs.new.items }
+    ensures works { All (λ j. IsWork hold.new.core.base.problem replica.new.log j.work) jobs.new.items }
+{
+    let done = replace(jobs, Vec::new(alloc));
+    if !hand_in(hold, seat, replica, done) {
+        return Next::End;
+    }
+    let Ok(()) = hold.catch_up(replica) else {
+        return Next::End;
+    };
+    let share = share_of(hold.pending(), workers);
+    let next = take_some(hold, seat, jobs, share);
+    if jobs.is_empty() { next } else { Next::Serve }
+}
