@@ -11,6 +11,7 @@ OTHER         a command, as "/path/program word", that is run on the same file, 
               file's name as its last word; the table has its time, its memory and the ratio of ours to it
 PROGRAM       which of our programs is run, in the place of the one that the family has
 RUNS          how often each is run (5)
+WORKERS       with how many workers horsat runs (1)
 INSTRUCTIONS  if it is set, instructions are counted by valgrind in the place of times, in one run of each
 """
 
@@ -26,6 +27,7 @@ MEBIBYTE = 1 << 20
 OTHER = shlex.split(os.environ.get("OTHER", ""))
 PROGRAM = os.environ.get("PROGRAM")
 RUNS = int(os.environ.get("RUNS", "5"))
+WORKERS = os.environ.get("WORKERS", "1")
 INSTRUCTIONS = bool(os.environ.get("INSTRUCTIONS"))
 
 
@@ -216,7 +218,7 @@ def program(name):
 
 def words_of(name, path):
     """Our program with its words. Only horsat has some; the others read standard input."""
-    return [program(name), "--entries", "1000000", path] if name == "horsat" else [program(name)]
+    return [program(name), "--workers", WORKERS, "--entries", "1000000", path] if name == "horsat" else [program(name)]
 
 
 def program_of(family):
