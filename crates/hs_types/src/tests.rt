@@ -5,45 +5,51 @@ ghost use Rattle.hs_types.specs.Interned.{Grows};
 
 use crate::{EnvId, Interner, SetId, TyId, View};
 use hs_scheme::OutOfMemory;
-use std::alloc::Global;
 use std::cmp::Ordering;
+use std::mem::forget;
+use std::process::Abort;
 use std::test::Fail;
-
-/// The set of two states.
-#[derive(Drop)]
-struct Pair {
-    interner: Interner,
-    set: SetId,
-}
 
 /// The set of these states, which get their numbers in this order, and which are given to the set
 /// in reverse, the first twice.
-fn set_of_two(alloc: Global, first: u32, second: u32) -> Result<Pair, OutOfMemory>
-    ensures { IfOk result (λ p. p.set < length p.interner.sets) }
+fn set_of_two(interner: &mut Interner, first: u32, second: u32) -> Result<SetId, OutOfMemory>
+    ensures { IfOk result (λ set. set < length interner.new.sets) }
 {
-    let mut interner = Interner::new(alloc);
     let a = interner.base(first)?;
     let b = interner.base(second)?;
     let set = interner.set(&[b, a, a])?;
-    Ok(Pair { interner, set })
+    Ok(set)
+}
+
+/// Looks at that set.
+fn see_set(
+    rt: &impl Abort,
+    interner: &mut Interner,
+    first: u32,
+    second: u32,
+) -> Result<(), OutOfMemory> {
+    let set = set_of_two(interner, first, second)?;
+    let members = interner.members(set);
+    assert_eq!(rt; members.len(), 2);
+    assert_eq!(rt; interner.view(members[0]), View::State(0));
+    assert_eq!(rt; interner.view(members[1]), View::State(1));
+    Ok(())
 }
 
 #[test]
 fn sets_are_in_order_and_without_repeats(rt: HostRuntime) -> Result<(), Fail> {
     for (first, second) in [(0, 1), (1, 0)] {
-        let Pair { interner, set } = set_of_two(rt.alloc(), first, second)?;
-        let members = interner.members(set);
-        assert_eq!(rt; members.len(), 2);
-        assert_eq!(rt; interner.view(members[0]), View::State(0));
-        assert_eq!(rt; interner.view(members[1]), View::State(1));
+        let mut interner = Interner::new(rt.alloc());
+        let seen = see_set(&rt, &mut interner, first, second);
+        forget(interner);
+        seen?;
     }
     Ok(())
 }
 
 /// Three types.
-#[derive(Drop)]
+#[derive(Clone, Copy)]
 struct Three {
-    interner: Interner,
     first: TyId,
     second: TyId,
     third: TyId,
@@ -62,63 +68,71 @@ fn arrow_of(interner: &mut Interner, ids: &[TyId], rest: TyId) -> Result<TyId, O
 }
 
 /// Arrows in order, which get their numbers in reverse.
-fn three_arrows(alloc: Global) -> Result<Three, OutOfMemory>
-    ensures first { IfOk result (λ t. t.first < length t.interner.types) }
-    ensures second { IfOk result (λ t. t.second < length t.interner.types) }
-    ensures third { IfOk result (λ t. t.third < length t.interner.types) }
+fn three_arrows(interner: &mut Interner) -> Result<Three, OutOfMemory>
+    ensures first { IfOk result (λ t. t.first < length interner.new.types) }
+    ensures second { IfOk result (λ t. t.second < length interner.new.types) }
+    ensures third { IfOk result (λ t. t.third < length interner.new.types) }
 {
-    let mut interner = Interner::new(alloc);
     let b = interner.base(1)?;
     let a = interner.base(0)?;
-    let third = arrow_of(&mut interner, &[a], b)?;
-    let second = arrow_of(&mut interner, &[a, b], a)?;
-    let first = arrow_of(&mut interner, &[], a)?;
+    let third = arrow_of(interner, &[a], b)?;
+    let second = arrow_of(interner, &[a, b], a)?;
+    let first = arrow_of(interner, &[], a)?;
     Ok(Three {
-        interner,
         first,
         second,
         third,
     })
 }
 
-#[test]
-fn arrows_are_ordered_by_result_and_then_by_set(rt: HostRuntime) -> Result<(), Fail> {
-    let t = three_arrows(rt.alloc())?;
-    assert_eq!(rt; t.interner.compare(t.first, t.second), Ordering::Less);
-    assert_eq!(rt; t.interner.compare(t.second, t.third), Ordering::Less);
-    assert_eq!(rt; t.interner.compare(t.third, t.first), Ordering::Greater);
+/// Looks at their order.
+fn see_order(rt: &impl Abort, interner: &mut Interner) -> Result<(), OutOfMemory> {
+    let t = three_arrows(interner)?;
+    assert_eq!(rt; interner.compare(t.first, t.second), Ordering::Less);
+    assert_eq!(rt; interner.compare(t.second, t.third), Ordering::Less);
+    assert_eq!(rt; interner.compare(t.third, t.first), Ordering::Greater);
     Ok(())
 }
 
-/// An environment.
-#[derive(Drop)]
-struct Union {
-    interner: Interner,
-    env: EnvId,
+#[test]
+fn arrows_are_ordered_by_result_and_then_by_set(rt: HostRuntime) -> Result<(), Fail> {
+    let mut interner = Interner::new(rt.alloc());
+    let seen = see_order(&rt, &mut interner);
+    forget(interner);
+    seen?;
+    Ok(())
 }
 
 /// The union of environments of two sets, of which the first has a state.
-fn union_of_two(alloc: Global) -> Result<Union, OutOfMemory>
-    ensures { IfOk result (λ made. made.env < length made.interner.envs) }
+fn union_of_two(interner: &mut Interner) -> Result<EnvId, OutOfMemory>
+    ensures { IfOk result (λ env. env < length interner.new.envs) }
 {
-    let mut interner = Interner::new(alloc);
     let b = interner.base(1)?;
     let first = interner.single_env(2, 0, b)?;
     let a = interner.base(0)?;
     let second = interner.single_env(2, 0, a)?;
     let env = interner.union_envs(first, second)?;
-    Ok(Union { interner, env })
+    Ok(env)
+}
+
+/// Looks at that union.
+fn see_union(rt: &impl Abort, interner: &mut Interner) -> Result<(), OutOfMemory> {
+    let env = union_of_two(interner)?;
+    let sets = interner.sets(env);
+    assert_eq!(rt; sets.len(), 2);
+    let members = interner.members(sets[0]);
+    assert_eq!(rt; members.len(), 2);
+    assert_eq!(rt; interner.view(members[0]), View::State(0));
+    assert_eq!(rt; interner.view(members[1]), View::State(1));
+    assert_eq!(rt; interner.members(sets[1]).len(), 0);
+    Ok(())
 }
 
 #[test]
 fn unions_are_made_set_by_set(rt: HostRuntime) -> Result<(), Fail> {
-    let made = union_of_two(rt.alloc())?;
-    let sets = made.interner.sets(made.env);
-    assert_eq!(rt; sets.len(), 2);
-    let members = made.interner.members(sets[0]);
-    assert_eq!(rt; members.len(), 2);
-    assert_eq!(rt; made.interner.view(members[0]), View::State(0));
-    assert_eq!(rt; made.interner.view(members[1]), View::State(1));
-    assert_eq!(rt; made.interner.members(sets[1]).len(), 0);
+    let mut interner = Interner::new(rt.alloc());
+    let seen = see_union(&rt, &mut interner);
+    forget(interner);
+    seen?;
     Ok(())
 }
