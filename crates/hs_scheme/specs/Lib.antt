@@ -22,6 +22,8 @@ pub mod Lengthening
 pub mod Sorted
 pub mod TreeTerms
 pub mod SameTree
+pub mod Same
+pub mod Copying
 pub mod Problem
 pub mod SortingExamples
 pub mod StepsExamples

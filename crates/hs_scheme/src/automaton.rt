@@ -4,6 +4,7 @@ ghost use Rattle.std.specs.Prelude.{◌≡◌, ◌↔◌, ℕ, Contains, IfOk, o
 ghost use Rattle.hs_scheme.specs.Automaton.{AutomatonData, IsAutomaton, next};
 ghost use Rattle.hs_scheme.specs.Transitions.{IsPlaceOf, Reads};
 
+use crate::copying::copied;
 use crate::memory::OutOfMemory;
 use crate::transitions::{ByChild, ByTerminal, by_child, by_terminal, places_at, states_at};
 use std::alloc::Global;
@@ -152,10 +153,11 @@ impl Automaton {
     pub fn copy(&self, alloc: Global) -> Result<Automaton, OutOfMemory>
         ensures { IfOk result (λ copy. copy ≡ self.now) }
     {
-        let mut transitions = Vec::with_capacity(alloc, self.transitions.len())?;
-        for transition in &self.transitions {
-            transitions.push(transition.copy(alloc)?)?;
-        }
+        let transitions = copied(
+            alloc,
+            self.transitions(),
+            |transition| transition.copy(alloc),
+        )?;
         Automaton::of(alloc, self.states, transitions)
     }
 }

@@ -1,6 +1,7 @@
 //! Equality of what a problem is made of, part by part. Nothing here takes memory.
 
 ghost use Rattle.std.specs.Prelude.{◌≡◌, ◌↔◌, IsTrue, map};
+ghost use Rattle.hs_scheme.specs.Same.{DecidesEquality};
 
 use crate::automaton::{Automaton, Transition};
 use crate::flow::FlowTable;
@@ -61,28 +62,17 @@ fn is_same_name(a: &Name, b: &Name) -> bool
     a.bytes() == b.bytes()
 }
 
-fn are_same_rules(a: &[Rule], b: &[Rule]) -> bool
+/// Whether the lists are equal, item by item.
+fn are_same<T, F: Fn(&T, &T) -> bool>(a: &[T], b: &[T], is_same: F) -> bool
+    requires callable { F.IsAlwaysCallable is_same }
+    requires decides { DecidesEquality F.Fn is_same }
     ensures { IsTrue result ↔ (a.now ≡ b.now) }
 {
     if a.len() != b.len() {
         return false;
     }
-    for (place, rule) in a.iter().enumerate() {
-        if !is_same_rule(rule, &b[place]) {
-            return false;
-        }
-    }
-    true
-}
-
-fn are_same_transitions(a: &[Transition], b: &[Transition]) -> bool
-    ensures { IsTrue result ↔ (a.now ≡ b.now) }
-{
-    if a.len() != b.len() {
-        return false;
-    }
-    for (place, transition) in a.iter().enumerate() {
-        if !is_same_transition(transition, &b[place]) {
+    for (place, item) in a.iter().enumerate() {
+        if !is_same(item, &b[place]) {
             return false;
         }
     }
@@ -92,29 +82,7 @@ fn are_same_transitions(a: &[Transition], b: &[Transition]) -> bool
 fn are_same_names(a: &[Name], b: &[Name]) -> bool
     ensures { IsTrue result ↔ (a.now ≡ b.now) }
 {
-    if a.len() != b.len() {
-        return false;
-    }
-    for (place, name) in a.iter().enumerate() {
-        if !is_same_name(name, &b[place]) {
-            return false;
-        }
-    }
-    true
-}
-
-fn are_same_sorts(a: &[Sort], b: &[Sort]) -> bool
-    ensures { IsTrue result ↔ (a.now ≡ b.now) }
-{
-    if a.len() != b.len() {
-        return false;
-    }
-    for (place, sort) in a.iter().enumerate() {
-        if !is_same_sort(sort, &b[place]) {
-            return false;
-        }
-    }
-    true
+    are_same(a, b, is_same_name)
 }
 
 fn are_same_name_lists(a: &[Vec<Name>], b: &[Vec<Name>]) -> bool
@@ -143,14 +111,14 @@ fn are_all_names_same(a: &Names, b: &Names) -> bool
 fn is_same_scheme(a: &Scheme, b: &Scheme) -> bool
     ensures { IsTrue result ↔ (a.now ≡ b.now) }
 {
-    are_same_rules(a.rules.as_slice(), b.rules.as_slice())
+    are_same(a.rules.as_slice(), b.rules.as_slice(), is_same_rule)
         && a.ranks.as_slice() == b.ranks.as_slice()
 }
 
 fn is_same_automaton(a: &Automaton, b: &Automaton) -> bool
     ensures { IsTrue result ↔ (a.now ≡ b.now) }
 {
-    a.states() == b.states() && are_same_transitions(a.transitions(), b.transitions())
+    a.states() == b.states() && are_same(a.transitions(), b.transitions(), is_same_transition)
 }
 
 /// Whether the sorted schemes are equal.
@@ -160,7 +128,7 @@ pub(crate) fn is_same_sorted(a: &Sorted, b: &Sorted) -> bool
     is_same_scheme(&a.scheme, &b.scheme)
         && is_same_automaton(&a.automaton, &b.automaton)
         && are_all_names_same(&a.names, &b.names)
-        && are_same_sorts(a.sorts.as_slice(), b.sorts.as_slice())
+        && are_same(a.sorts.as_slice(), b.sorts.as_slice(), is_same_sort)
 }
 
 /// Whether the flow tables are equal.

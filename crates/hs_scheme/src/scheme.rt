@@ -3,6 +3,7 @@
 ghost use Rattle.std.specs.Prelude.{◌≡◌, IfOk};
 
 use crate::automaton::Automaton;
+use crate::copying::copied;
 use crate::memory::OutOfMemory;
 use crate::name::Name;
 use crate::term::Rule;
@@ -39,10 +40,7 @@ impl Scheme {
     pub fn copy(&self, alloc: Global) -> Result<Scheme, OutOfMemory>
         ensures { IfOk result (λ copy. copy ≡ self.now) }
     {
-        let mut rules = Vec::with_capacity(alloc, self.rules.len())?;
-        for rule in &self.rules {
-            rules.push(rule.copy(alloc)?)?;
-        }
+        let rules = copied(alloc, self.rules.as_slice(), |rule| rule.copy(alloc))?;
         let ranks = self.ranks.to_vec(alloc)?;
         Ok(Scheme { rules, ranks })
     }
@@ -75,14 +73,10 @@ impl Model for Names {
 }
 
 /// Equal names, in the same order.
-fn copied(alloc: Global, names: &[Name]) -> Result<Vec<Name>, OutOfMemory>
+fn copied_names(alloc: Global, names: &[Name]) -> Result<Vec<Name>, OutOfMemory>
     ensures { IfOk result (λ copies. copies.items ≡ names.now) }
 {
-    let mut copies = Vec::with_capacity(alloc, names.len())?;
-    for name in names {
-        copies.push(name.copy(alloc)?)?;
-    }
-    Ok(copies)
+    copied(alloc, names, |name| name.copy(alloc))
 }
 
 impl Names {
@@ -92,13 +86,13 @@ impl Names {
     {
         let mut params = Vec::with_capacity(alloc, self.params.len())?;
         for names in &self.params {
-            params.push(copied(alloc, names.as_slice())?)?;
+            params.push(copied_names(alloc, names.as_slice())?)?;
         }
         Ok(Names {
-            rules: copied(alloc, self.rules.as_slice())?,
+            rules: copied_names(alloc, self.rules.as_slice())?,
             params,
-            terminals: copied(alloc, self.terminals.as_slice())?,
-            states: copied(alloc, self.states.as_slice())?,
+            terminals: copied_names(alloc, self.terminals.as_slice())?,
+            states: copied_names(alloc, self.states.as_slice())?,
         })
     }
 }

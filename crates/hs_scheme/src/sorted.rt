@@ -3,6 +3,7 @@
 ghost use Rattle.std.specs.Prelude.{◌≡◌, IfOk};
 
 use crate::automaton::Automaton;
+use crate::copying::copied;
 use crate::memory::OutOfMemory;
 use crate::scheme::{Names, Scheme};
 use crate::sort::Sort;
@@ -42,10 +43,7 @@ impl Sorted {
     pub fn copy(&self, alloc: Global) -> Result<Sorted, OutOfMemory>
         ensures { IfOk result (λ copy. copy ≡ self.now) }
     {
-        let mut sorts = Vec::with_capacity(alloc, self.sorts.len())?;
-        for sort in &self.sorts {
-            sorts.push(sort.copy(alloc)?)?;
-        }
+        let sorts = copied(alloc, self.sorts.as_slice(), |sort| sort.copy(alloc))?;
         Ok(Sorted {
             scheme: self.scheme.copy(alloc)?,
             automaton: self.automaton.copy(alloc)?,

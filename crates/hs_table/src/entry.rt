@@ -6,7 +6,7 @@ ghost use Rattle.hs_table.specs.Types.{type_cmp};
 ghost use Rattle.hs_table.specs.Entries.{env_cmp, entry_cmp};
 
 use crate::ty::Ty;
-use hs_scheme::OutOfMemory;
+use hs_scheme::{OutOfMemory, copied};
 use std::alloc::Global;
 use std::cmp::Ordering;
 use std::marker::Model;
@@ -34,10 +34,7 @@ impl TypeSet {
     pub fn copy(&self, alloc: Global) -> Result<TypeSet, OutOfMemory>
         ensures { IfOk result (λ copy. copy ≡ self.now) }
     {
-        let mut types = Vec::with_capacity(alloc, self.types.len())?;
-        for member in &self.types {
-            types.push(member.copy(alloc)?)?;
-        }
+        let types = copied(alloc, self.types.as_slice(), |member| member.copy(alloc))?;
         Ok(TypeSet { types })
     }
 
@@ -100,10 +97,7 @@ impl Entry {
     pub fn copy(&self, alloc: Global) -> Result<Entry, OutOfMemory>
         ensures { IfOk result (λ copy. copy ≡ self.now) }
     {
-        let mut env = Vec::with_capacity(alloc, self.env.len())?;
-        for set in &self.env {
-            env.push(set.copy(alloc)?)?;
-        }
+        let env = copied(alloc, self.env.as_slice(), |set| set.copy(alloc))?;
         Ok(Entry {
             point: self.point,
             env,

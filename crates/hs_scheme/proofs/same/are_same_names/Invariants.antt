@@ -1,6 +1,0 @@
--- the lists are equal so far
-use Rattle.std.proofs.Common.{◌≡◌, take}
-use Rattle.hs_scheme.proofs.same.are_same_names.Given as goal
-
-abbrev pub invariant-loop-place : goal.invariant-loop-place
-invariant-loop-place l = take l.place l.a ≡ take l.place l.b
