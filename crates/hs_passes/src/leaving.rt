@@ -9,7 +9,7 @@ ghost use Rattle.hs_passes.specs.Selection.{chosen};
 ghost use Rattle.hs_passes.specs.Unused.{without_unused};
 
 use crate::keeping::{is_kept, place_of, stays_behind};
-use crate::selecting::{copied, is_sorted};
+use crate::selecting::is_sorted;
 use hs_scheme::{Head, Name, Names, OutOfMemory, Parameters, Rule, Scheme, Sort, Sorted, Term};
 use std::alloc::Global;
 
@@ -160,10 +160,10 @@ fn all_names_left(
     requires { length names.now.params ≤ 20000 }
     ensures { IfOk result (λ n. n ≡ definition.all_names_left (kept parameters.now flags.now) names.now) }
 {
-    let rules = copied(alloc, names.rules.as_slice())?;
+    let rules = Name::copy_all(alloc, names.rules.as_slice())?;
     let params = params_left(alloc, parameters, flags, names.params.as_slice())?;
-    let terminals = copied(alloc, names.terminals.as_slice())?;
-    let states = copied(alloc, names.states.as_slice())?;
+    let terminals = Name::copy_all(alloc, names.terminals.as_slice())?;
+    let states = Name::copy_all(alloc, names.states.as_slice())?;
     Ok(Names {
         rules,
         params,

@@ -91,17 +91,6 @@ fn chosen_names(alloc: Global, names: &[Name], keep: &[bool]) -> Result<Vec<Name
     Ok(out)
 }
 
-/// The names, copied.
-pub fn copied(alloc: Global, names: &[Name]) -> Result<Vec<Name>, OutOfMemory>
-    ensures { IfOk result (λ copies. copies.items ≡ names.now) }
-{
-    let mut copies = Vec::with_capacity(alloc, names.len())?;
-    for name in names {
-        copies.push(name.copy(alloc)?)?;
-    }
-    Ok(copies)
-}
-
 /// The names of the parameters of the rules that stay.
 fn chosen_params(
     alloc: Global,
@@ -114,7 +103,7 @@ fn chosen_params(
     let mut out = Vec::new(alloc);
     for (i, names) in params.iter().enumerate() {
         if keep[i] {
-            out.push(copied(alloc, names.as_slice())?)?;
+            out.push(Name::copy_all(alloc, names.as_slice())?)?;
         }
     }
     Ok(out)
@@ -158,8 +147,8 @@ fn names_left(alloc: Global, names: &Names, keep: &[bool]) -> Result<Names, OutO
 {
     let rules = chosen_names(alloc, names.rules.as_slice(), keep)?;
     let params = chosen_params(alloc, names.params.as_slice(), keep)?;
-    let terminals = copied(alloc, names.terminals.as_slice())?;
-    let states = copied(alloc, names.states.as_slice())?;
+    let terminals = Name::copy_all(alloc, names.terminals.as_slice())?;
+    let states = Name::copy_all(alloc, names.states.as_slice())?;
     Ok(Names {
         rules,
         params,

@@ -2,6 +2,7 @@
 
 ghost use Rattle.std.specs.Prelude.{◌≡◌, IfOk};
 
+use crate::copying::copied;
 use crate::memory::OutOfMemory;
 use std::alloc::Global;
 use std::marker::Model;
@@ -41,5 +42,12 @@ impl Name {
         ensures { IfOk result (λ copy. copy ≡ self.now) }
     {
         Name::of(alloc, self.bytes.as_slice())
+    }
+
+    /// Names equal to these, in their order, in time and memory in proportion to their lengths.
+    pub fn copy_all(alloc: Global, names: &[Name]) -> Result<Vec<Name>, OutOfMemory>
+        ensures { IfOk result (λ copies. copies.items ≡ names.now) }
+    {
+        copied(alloc, names, |name| name.copy(alloc))
     }
 }

@@ -72,13 +72,6 @@ impl Model for Names {
     } };
 }
 
-/// Equal names, in the same order.
-fn copied_names(alloc: Global, names: &[Name]) -> Result<Vec<Name>, OutOfMemory>
-    ensures { IfOk result (λ copies. copies.items ≡ names.now) }
-{
-    copied(alloc, names, |name| name.copy(alloc))
-}
-
 impl Names {
     /// Equal names, in time and memory in proportion to their bytes.
     pub fn copy(&self, alloc: Global) -> Result<Names, OutOfMemory>
@@ -86,13 +79,13 @@ impl Names {
     {
         let mut params = Vec::with_capacity(alloc, self.params.len())?;
         for names in &self.params {
-            params.push(copied_names(alloc, names.as_slice())?)?;
+            params.push(Name::copy_all(alloc, names.as_slice())?)?;
         }
         Ok(Names {
-            rules: copied_names(alloc, self.rules.as_slice())?,
+            rules: Name::copy_all(alloc, self.rules.as_slice())?,
             params,
-            terminals: copied_names(alloc, self.terminals.as_slice())?,
-            states: copied_names(alloc, self.states.as_slice())?,
+            terminals: Name::copy_all(alloc, self.terminals.as_slice())?,
+            states: Name::copy_all(alloc, self.states.as_slice())?,
         })
     }
 }
