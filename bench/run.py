@@ -2,14 +2,15 @@
 """Writes families of files, runs a proved program on them, and prints a table of times.
 
 A benchmark proves nothing and is no part of the gate. Build the programs first, with
-(cd crates/horsat && rt run </dev/null), and so flow_pairs.
+(cd crates/horsat && rt run </dev/null), and so flow_pairs and core_cost.
 Usage: bench/run.py [FAMILY ..]
 
 The time is that of the processor, in whatever thread and in the system: the least of the runs counts.
 In the environment:
 OTHER         a command, as "/path/program word", that is run on the same file, alternately with ours, with the
               file's name as its last word; the table has its time, its memory and the ratio of ours to it
-PROGRAM       which of our programs is run, in the place of the one that the family has
+PROGRAM       which of our programs is run, with its words, in the place of the one that the family has; or
+              several, as "core_cost, core_cost core", which are run in turn and have a row each
 RUNS          how often each is run (5)
 WORKERS       with how many workers horsat runs (1)
 INSTRUCTIONS  if it is set, instructions are counted by valgrind in the place of times, in one run of each
@@ -25,7 +26,7 @@ import tempfile
 TOP = os.path.dirname(os.path.dirname(os.path.abspath(__file__)))
 MEBIBYTE = 1 << 20
 OTHER = shlex.split(os.environ.get("OTHER", ""))
-PROGRAM = os.environ.get("PROGRAM")
+PROGRAMS = [shlex.split(words) for words in os.environ.get("PROGRAM", "").split(",") if words.strip()]
 RUNS = int(os.environ.get("RUNS", "5"))
 WORKERS = os.environ.get("WORKERS", "1")
 INSTRUCTIONS = bool(os.environ.get("INSTRUCTIONS"))
@@ -216,13 +217,20 @@ def program(name):
     return os.path.join(TOP, "crates", name, "out", name)
 
 
-def words_of(name, path):
-    """Our program with its words. Only horsat has some; the others read standard input."""
-    return [program(name), "--workers", WORKERS, "--entries", "1000000", path] if name == "horsat" else [program(name)]
+def words_of(words, path):
+    """Our program with its words. Only horsat is told the file's name; the others read standard input."""
+    name, *others = words
+    own = ["--workers", WORKERS, "--entries", "1000000", *others, path] if name == "horsat" else others
+    return [program(name), *own]
 
 
-def program_of(family):
-    return PROGRAM or FAMILIES[family][3]
+def programs_of(family):
+    """Our programs that are run on the family, each with its words."""
+    return PROGRAMS or [[FAMILIES[family][3]]]
+
+
+def are_built(programs):
+    return all(os.access(program(words[0]), os.X_OK) for words in programs)
 
 
 def write(make, size, path):
@@ -254,37 +262,45 @@ def counted(words, path):
     return int(found.group(1)) / 1e6 if found else 0.0, 0.0, status, "\n".join(told).strip()
 
 
-def measured(name, path):
-    """The least of the runs of ours, and of the other program's, which are run in turn."""
-    ours, others = [], []
+def measured(commands, path):
+    """The least of the runs of each command. They are run in turn."""
     measure = counted if INSTRUCTIONS else run
+    runs = [[] for _ in commands]
     for _ in range(1 if INSTRUCTIONS else RUNS):
-        ours.append(measure(words_of(name, path), path))
-        if OTHER:
-            others.append(measure([*OTHER, path], path))
-    least = min(ours)
-    return (least[0], min(row[1] for row in ours), *least[2:]), others
+        for words, rows in zip(commands, runs):
+            rows.append(measure(words, path))
+    return [(min(rows)[0], min(row[1] for row in rows), *min(rows)[2:]) for rows in runs]
 
 
 def ratio(ours, other):
     return f"{ours / other:.2f}" if other else ""
 
 
-def row_of(family, size, path, before):
-    """The row of one size, and its time."""
-    _, _, unit, _ = FAMILIES[family]
-    (seconds, memory, status, answer), others = measured(program_of(family), path)
-    growth = f"{seconds / before:.2f}" if before else ""
-    cells = f"{family:<12} {size:>9} {unit:<11} {os.path.getsize(path) / MEBIBYTE:>8.2f} {seconds:>9.3f} {growth:>6} {memory:>8.0f} "
-    if others:
-        other, beside = min(row[0] for row in others), min(row[1] for row in others)
-        cells += f"{other:>9.3f} {ratio(seconds, other):>6} {beside:>8.0f} {ratio(memory, beside):>6} "
-    return f"{cells} {status} {', '.join(answer.splitlines()[:2])}", seconds
+def row_of(family, size, path, name, ours, before, other):
+    """The row of one of our programs at one size. The name of what was run stands before the answer."""
+    seconds, memory, status, answer = ours
+    cells = f"{family:<12} {size:>9} {FAMILIES[family][2]:<11} {os.path.getsize(path) / MEBIBYTE:>8.2f} "
+    cells += f"{seconds:>9.3f} {ratio(seconds, before):>6} {memory:>8.0f} "
+    if other:
+        theirs, beside, *_ = other
+        cells += f"{theirs:>9.3f} {ratio(seconds, theirs):>6} {beside:>8.0f} {ratio(memory, beside):>6} "
+    return f"{cells} {name}{status} {', '.join(answer.splitlines()[:2])}"
+
+
+def rows_of(family, size, path, before):
+    """A row for each of our programs at one size, and their times."""
+    programs = programs_of(family)
+    commands = [words_of(words, path) for words in programs] + ([[*OTHER, path]] if OTHER else [])
+    found = measured(commands, path)
+    ours, other = found[: len(programs)], found[len(programs)] if OTHER else None
+    names = [" ".join(words) + ": " if len(programs) > 1 else "" for words in programs]
+    rows = [row_of(family, size, path, *row, other) for row in zip(names, ours, before)]
+    return rows, [one[0] for one in ours]
 
 
 def main():
     chosen = sys.argv[1:] or list(FAMILIES)
-    if not all(family in FAMILIES and os.access(program(program_of(family)), os.X_OK) for family in chosen):
+    if not all(family in FAMILIES and are_built(programs_of(family)) for family in chosen):
         sys.exit(__doc__)
     unit = "10^6 ins" if INSTRUCTIONS else "seconds"
     heads = f"{'family':<12} {'size':>9} {'':<11} {'file MiB':>8} {unit:>9} {'growth':>6} {'peak MiB':>8} "
@@ -293,11 +309,11 @@ def main():
         path = os.path.join(folder, "file.hrs")
         for family in chosen:
             make, sizes, _, _ = FAMILIES[family]
-            before = None
+            before = [None] * len(programs_of(family))
             for size in sizes:
                 write(make, size, path)
-                row, before = row_of(family, size, path, before)
-                print(row, flush=True)
+                rows, before = rows_of(family, size, path, before)
+                print("\n".join(rows), flush=True)
 
 
 if __name__ == "__main__":

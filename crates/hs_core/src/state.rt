@@ -27,9 +27,9 @@ use std::marker::Model;
 /// number of events for which there is room. All else is a function of these: the state that the
 /// story leads to.
 ///
-/// Beside what the replica needs, an entry costs a support of some 50 bytes with 8 for each chosen
-/// argument, and some four events of 24 bytes; a work is one of these events more where it is given
-/// back.
+/// Beside what the replica needs, an entry costs a support of some 50 bytes, with 8 more for each
+/// chosen argument where there are more than two, and some four events of 24 bytes; a work is one of
+/// these events more where it is given back.
 #[derive(Drop)]
 pub struct Core<'p> {
     pub(crate) problem: &'p Problem,

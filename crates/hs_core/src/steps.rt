@@ -89,7 +89,7 @@ impl<'p> Core<'p> {
         self.start = self.start_with(deduced.row);
         self.replica.add(deduced.row);
         let Deduced { row: _, head, args } = deduced;
-        self.supports.push_reserved(Backing { head, args });
+        self.supports.push_reserved(Backing::of(head, args));
         self.pending.push_back_reserved(Work::Place(place));
         self.journal.push_reserved(Step {
             worker,

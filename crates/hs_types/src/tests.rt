@@ -1,10 +1,13 @@
-//! Sets and arrows in two orders of arrival, and a union.
+//! Sets and arrows in two orders of arrival, what is made again, an entry that comes from another
+//! interner, and a union.
 
 ghost use Rattle.std.specs.Prelude.{◌<◌, All, IfOk, length};
-ghost use Rattle.hs_types.specs.Interned.{Grows};
+ghost use Rattle.hs_types.specs.Interned.{Grows, IsRow};
 
-use crate::{EnvId, Interner, SetId, TyId, View};
+use crate::{EnvId, Interner, Row, SetId, TyId, View};
 use hs_scheme::OutOfMemory;
+use hs_table::{Entry, Shape};
+use std::alloc::Global;
 use std::cmp::Ordering;
 use std::mem::forget;
 use std::process::Abort;
@@ -98,6 +101,76 @@ fn see_order(rt: &impl Abort, interner: &mut Interner) -> Result<(), OutOfMemory
 fn arrows_are_ordered_by_result_and_then_by_set(rt: HostRuntime) -> Result<(), Fail> {
     let mut interner = Interner::new(rt.alloc());
     let seen = see_order(&rt, &mut interner);
+    forget(interner);
+    seen?;
+    Ok(())
+}
+
+/// Makes the first of the three arrows twice, with another one in between.
+fn see_again(rt: &impl Abort, interner: &mut Interner) -> Result<(), OutOfMemory> {
+    let a = interner.base(0)?;
+    let first = arrow_of(interner, &[], a)?;
+    let other = arrow_of(interner, &[a], a)?;
+    let again = arrow_of(interner, &[], a)?;
+    assert_eq!(rt; again, first);
+    assert_ne!(rt; other, first);
+    Ok(())
+}
+
+#[test]
+fn what_is_made_again_has_its_number(rt: HostRuntime) -> Result<(), Fail> {
+    let mut interner = Interner::new(rt.alloc());
+    let seen = see_again(&rt, &mut interner);
+    forget(interner);
+    seen?;
+    Ok(())
+}
+
+/// The row of the entry at point 0 without sets whose type is state 0.
+fn plain_row(interner: &mut Interner) -> Result<Row, OutOfMemory>
+    ensures { IfOk result (IsRow interner.new) }
+{
+    let ty = interner.base(0)?;
+    let env = interner.env(&[])?;
+    Ok(Row { point: 0, env, ty })
+}
+
+/// The entry of that row, made in the first interner, by way of the other one, in which another type
+/// has the number of its type.
+fn imported(
+    alloc: Global,
+    from: &mut Interner,
+    interner: &mut Interner,
+) -> Result<Entry, OutOfMemory> {
+    let row = plain_row(from)?;
+    let _other = interner.base(1)?;
+    let own = interner.import(from, row)?;
+    interner.tree(alloc, own)
+}
+
+/// Whether it is that entry.
+fn is_plain(entry: &Entry) -> bool {
+    entry.point == 0 && entry.env.is_empty() && matches!(&entry.ty.shape, Shape::State(0))
+}
+
+/// Looks at the imported entry.
+fn see_imported(
+    rt: &impl Abort,
+    alloc: Global,
+    from: &mut Interner,
+    interner: &mut Interner,
+) -> Result<(), OutOfMemory> {
+    let entry = imported(alloc, from, interner)?;
+    assert!(rt; is_plain(&entry));
+    Ok(())
+}
+
+#[test]
+fn an_entry_goes_from_one_interner_to_another(rt: HostRuntime) -> Result<(), Fail> {
+    let mut from = Interner::new(rt.alloc());
+    let mut interner = Interner::new(rt.alloc());
+    let seen = see_imported(&rt, rt.alloc(), &mut from, &mut interner);
+    forget(from);
     forget(interner);
     seen?;
     Ok(())

@@ -1,4 +1,5 @@
 use Rattle.std.proofs.Common.{sym, ap, subst, ◌∙◌, ◌∷◌, ◌++◌, [], ◌-◌, ◌≤◌, arith}
+use Rattle.hs_table.specs.Follows.{Support}
 use Rattle.hs_history.specs.declared.step.Work.TheVariants.{Place}
 use Rattle.hs_history.specs.declared.step.Event.TheVariants.{Added}
 use Rattle.hs_history.specs.Story.{adds}
@@ -36,7 +37,7 @@ goes c =
     (λ i. record {
       ids = (c.add.ensures i).ids;
       log = (ap (λ (r : ReplicaData). r.log) c.add.ensures ∙ ap (λ (x : DeducedData). f.log ++ entry_of f.ids x.row ∷ []) c.deduced.view_is) i;
-      supports = (c.push_reserved.ensures.items ∙ ap (λ (x : DeducedData). f.supports ++ x.support ∷ []) c.deduced.view_is) i;
+      supports = (c.push_reserved.ensures.items ∙ (ap (λ (s : Support). f.supports ++ s ∷ []) c.of.ensures ∙ ap (λ (x : DeducedData). f.supports ++ x.support ∷ []) c.deduced.view_is)) i;
       pending = (c.push_back_reserved.ensures.items ∙ ap (λ n. f.pending ++ Place n ∷ []) c.len-place.ensures.len) i;
       flight = f.flight;
       past = f.past;

@@ -17,4 +17,4 @@ returns c =
     ap (λ xs. slice_get xs c.args.place) shown.supports
     ∙ at_from a.supports.items c.args.place c.index-backing.result.now within (sym c.index-backing.ensures)
     ∙ ap (λ (s : Support). Some s) (sym c.backing.view_is)
-    ∙ (λ i. Some (record { head = c.backing.inside.head; args = sym c.as_slice.ensures.value i }))
+    ∙ (λ i. Some (record { head = c.backing.inside.head; args = sym c.as_slice.ensures i }))

@@ -1,0 +1,27 @@
+-- A list that is gone through from its front.
+use Rattle.std.proofs.Common.{◌≡◌, ◌∙◌, ap, subst, ℕ, zero, suc, ◌+◌, ◌<◌, ◌≤◌, List, [], ◌∷◌, length, get_or, All, arith, inl, inr}
+use Rattle.std.proofs.lemmas.Bool.{cases_lt}
+
+pub any_default : {X : Type 0} (xs : List X) (n : ℕ) (a b : X) → n < length xs → get_or xs n a ≡ get_or xs n b
+any_default [] n a b lt = absurd (omega arith)
+any_default (x ∷ xs) zero a b lt = λ i. x
+any_default (x ∷ xs) (suc n) a b lt = any_default xs n a b (omega arith)
+
+-- so it is for the first n of them
+abbrev pub SoFar : {X : Type 0} → (X → Type 0) → List X → ℕ → Type 0
+SoFar {X} P xs n = (k : ℕ) (d : X) → k < n → P (get_or xs k d)
+
+module _ {X : Type 0} (P : X → Type 0) (xs : List X) where
+  pub none_yet : SoFar P xs 0
+  none_yet k d lt = absurd (omega arith)
+
+  pub one_more : (n : ℕ) (x : X) → n < length xs → x ≡ get_or xs n x → SoFar P xs n → P x → SoFar P xs (n + 1)
+  one_more n x below is before h k d lt = elim (cases_lt k n) [
+    | inl less ↦ before k d less
+    | inr more ↦
+        let same : n ≡ k = omega arith in
+        subst P (is ∙ any_default xs n x d below ∙ ap (λ i. get_or xs i d) same) h
+  ]
+
+  pub all_of_them : (n : ℕ) → length xs ≤ n → SoFar P xs n → All P xs
+  all_of_them n le before k d lt = before k d (omega (arith, le, lt))
