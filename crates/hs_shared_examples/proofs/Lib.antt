@@ -1,0 +1,4 @@
+pub mod StepLemmas
+pub mod FollowingLemmas
+pub mod CallLemmas
+pub mod HoldLemmas

@@ -1,0 +1,13 @@
+//! Tests of the shared table: workers at three seats, call by call, and the calls of a hold.
+#![tactic(auto)]
+
+#[cfg(test)]
+mod forming;
+#[cfg(test)]
+mod holder;
+#[cfg(test)]
+mod making;
+#[cfg(test)]
+mod scripts;
+#[cfg(test)]
+mod worker;

@@ -1,0 +1,42 @@
+//! Problems of small files.
+
+ghost use Rattle.hs_scheme.specs.Automaton.{IsAutomaton};
+
+use hs_flow::analyse;
+use hs_reader::read_file;
+use hs_resolve::resolve;
+use hs_scheme::{Points, Problem, Sorted};
+use hs_sorts::infer;
+use std::alloc::Global;
+use std::test::Fail;
+
+/// What the automaton of each problem keeps. Does nothing.
+pub(crate) fn know(problem: &Problem)
+    ensures { IsAutomaton problem.now.sorted.automaton }
+{
+    problem.sorted.automaton.is_automaton();
+}
+
+/// The scheme of a file of at most 1,000 bytes.
+fn sorted_of(alloc: Global, text: &[u8]) -> Result<Sorted, Fail> {
+    if text.len() > 1_000 {
+        return Err("a longer text")?;
+    }
+    let raw = read_file(alloc, text)?;
+    let unsorted = resolve(alloc, &raw)?;
+    Ok(infer(alloc, unsorted)?)
+}
+
+/// The problem of a scheme with at most 100 pairs in its flow.
+fn of_sorted(alloc: Global, sorted: Sorted) -> Result<Problem, Fail> {
+    let points = Points::of(alloc, &sorted.scheme)?;
+    let flow = analyse(alloc, &sorted.scheme, &points, 100)?;
+    Ok(Problem::new(sorted, points, flow))
+}
+
+/// The problem of a file with these rules and transitions.
+pub(crate) fn problem_of(alloc: Global, rules: &str, transitions: &str) -> Result<Problem, Fail> {
+    let text = format!(in alloc; "%BEGING\n{rules}\n%ENDG\n%BEGINA\n{transitions}\n%ENDA\n")?;
+    let sorted = sorted_of(alloc, text.as_bytes())?;
+    of_sorted(alloc, sorted)
+}
