@@ -1,55 +1,17 @@
-//! Answers on the least tables of small files, which `hs_table_examples` compares with worked ones, and
+//! Answers on the least tables of small files, which `hs_workers_examples` compares with worked ones, and
 //! on the same with one entry less, more or changed, and over flows with a pair less.
 
-ghost use Rattle.std.specs.Prelude.{◌≡◌, IfOk};
-ghost use Rattle.hs_scheme.specs.Flow.{IsAscending, flow_cmp, head_cmp};
-ghost use Rattle.hs_scheme.specs.Problem.{IsProblem};
-
+use crate::making::{
+    changed, elsewhere, entry_of, problem_of, table_of, without, without_head, without_pair,
+};
 use hs_checker::{CheckFault, check};
-use hs_flow::analyse;
-use hs_reader::read_file;
-use hs_resolve::resolve;
-use hs_scheme::{FlowPair, FlowTable, HeadPair, OutOfMemory, Points, Problem, Sorted};
-use hs_sorts::infer;
-use hs_table::{Entry, Shape, Ty, TypeSet};
-use hs_table_plain::{leads_within, least_table};
+use hs_scheme::{FlowPair, HeadPair, OutOfMemory, Problem};
+use hs_table::Entry;
 use std::alloc::Global;
 use std::cmp::Ordering;
+use std::mem::forget;
+use std::process::Abort;
 use std::test::Fail;
-
-/// The scheme of the text of a file.
-fn sorted_of(alloc: Global, text: &str) -> Result<Sorted, Fail> {
-    if text.len() > 1_000 {
-        return Err("a longer text")?;
-    }
-    let raw = read_file(alloc, text.as_bytes())?;
-    let unsorted = resolve(alloc, &raw)?;
-    Ok(infer(alloc, unsorted)?)
-}
-
-/// The problem of a scheme.
-fn of_sorted(alloc: Global, sorted: Sorted) -> Result<Problem, Fail> {
-    let points = Points::of(alloc, &sorted.scheme)?;
-    let flow = analyse(alloc, &sorted.scheme, &points, 100)?;
-    Ok(Problem::new(sorted, points, flow))
-}
-
-/// The problem of a file with these rules and transitions.
-fn problem_of(alloc: Global, rules: &str, transitions: &str) -> Result<Problem, Fail> {
-    let text = format!(in alloc; "%BEGING\n{rules}\n%ENDG\n%BEGINA\n{transitions}\n%ENDA\n")?;
-    of_sorted(alloc, sorted_of(alloc, text.as_str())?)
-}
-
-/// The least table, by its plain definition.
-fn table_of(alloc: Global, problem: &Problem) -> Result<Vec<Entry>, Fail> {
-    if !leads_within(problem) {
-        return Err("a state out of range")?;
-    }
-    match least_table(alloc, problem, 100)? {
-        None => Err("a longer table")?,
-        Some(table) => Ok(table),
-    }
-}
 
 /// What the checker answers where nothing is missing.
 #[derive(Clone, Copy, Debug, PartialEq, Eq)]
@@ -96,137 +58,6 @@ fn lacks_head(alloc: Global, problem: &Problem, table: &[Entry], pair: HeadPair)
     }
 }
 
-/// The table without the entry at this place.
-fn without(alloc: Global, table: &[Entry], left_out: usize) -> Result<Vec<Entry>, OutOfMemory> {
-    let mut rest = Vec::new(alloc);
-    for (place, entry) in table.iter().enumerate() {
-        if place != left_out {
-            rest.push(entry.copy(alloc)?)?;
-        }
-    }
-    Ok(rest)
-}
-
-/// The table with a state out of range as the type of the entry at this place.
-fn changed(alloc: Global, table: &[Entry], place: usize) -> Result<Vec<Entry>, OutOfMemory> {
-    let mut other = without(alloc, table, place)?;
-    if let Some(entry) = table.get(place) {
-        let mut entry = entry.copy(alloc)?;
-        entry.ty = state(9);
-        other.push(entry)?;
-    }
-    Ok(other)
-}
-
-/// The type that is a state.
-fn state(q: u32) -> Ty {
-    Ty {
-        shape: Shape::State(q),
-    }
-}
-
-/// A set with this state, or an empty one.
-fn set_of(alloc: Global, asked: Option<u32>) -> Result<TypeSet, OutOfMemory> {
-    let mut types = Vec::new(alloc);
-    if let Some(q) = asked {
-        types.push(state(q))?;
-    }
-    Ok(TypeSet { types })
-}
-
-/// The entry at this point with a state as its type, where each parameter is asked for at most one
-/// state.
-fn entry_of(alloc: Global, point: u32, env: &[Option<u32>], q: u32) -> Result<Entry, OutOfMemory> {
-    let mut sets = Vec::new(alloc);
-    for asked in env {
-        sets.push(set_of(alloc, *asked)?)?;
-    }
-    Ok(Entry {
-        point,
-        env: sets,
-        ty: state(q),
-    })
-}
-
-/// The entries of the table at other points.
-fn elsewhere(alloc: Global, table: &[Entry], point: u32) -> Result<Vec<Entry>, OutOfMemory> {
-    let mut rest = Vec::new(alloc);
-    for entry in table {
-        if entry.point != point {
-            rest.push(entry.copy(alloc)?)?;
-        }
-    }
-    Ok(rest)
-}
-
-/// A copy of the flow pairs.
-fn flow_pairs(alloc: Global, flow: &FlowTable) -> Result<Vec<FlowPair>, OutOfMemory>
-    ensures same { IfOk result (λ pairs. pairs.items ≡ flow.now.pairs) }
-    ensures ascending { IfOk result (λ pairs. IsAscending flow_cmp pairs.items) }
-{
-    Ok(flow.pairs.iter().copied().collect(alloc)?)
-}
-
-/// A copy of the head pairs.
-fn head_pairs(alloc: Global, flow: &FlowTable) -> Result<Vec<HeadPair>, OutOfMemory>
-    ensures same { IfOk result (λ pairs. pairs.items ≡ flow.now.heads) }
-    ensures ascending { IfOk result (λ pairs. IsAscending head_cmp pairs.items) }
-{
-    Ok(flow.heads.iter().copied().collect(alloc)?)
-}
-
-/// The flow without the flow pair at this place.
-fn fewer_pairs(alloc: Global, problem: &Problem, place: usize) -> Result<FlowTable, Fail>
-    ensures { IfOk result (λ flow.
-        IsProblem (record { sorted = problem.now.sorted; points = problem.now.points; flow = flow })) }
-{
-    let flow = &problem.flow;
-    let points = &problem.points;
-    let mut pairs = flow_pairs(alloc, flow)?;
-    if place >= pairs.len() {
-        return Err("no such pair")?;
-    }
-    pairs.remove(place);
-    let heads = head_pairs(alloc, flow)?;
-    Ok(FlowTable::of(alloc, points.params(), pairs, heads)?)
-}
-
-/// The flow without the head pair at this place.
-fn fewer_heads(alloc: Global, problem: &Problem, place: usize) -> Result<FlowTable, Fail>
-    ensures { IfOk result (λ flow.
-        IsProblem (record { sorted = problem.now.sorted; points = problem.now.points; flow = flow })) }
-{
-    let flow = &problem.flow;
-    let points = &problem.points;
-    let mut heads = head_pairs(alloc, flow)?;
-    if place >= heads.len() {
-        return Err("no such pair")?;
-    }
-    heads.remove(place);
-    let pairs = flow_pairs(alloc, flow)?;
-    Ok(FlowTable::of(alloc, points.params(), pairs, heads)?)
-}
-
-/// The problem over another flow.
-fn over(problem: Problem, flow: FlowTable) -> Problem
-    requires { IsProblem (record { sorted = problem.sorted; points = problem.points; flow = flow }) }
-{
-    let Problem { sorted, points, .. } = problem;
-    Problem::new(sorted, points, flow)
-}
-
-/// The problem over the flow without the flow pair at this place.
-fn without_pair(alloc: Global, problem: Problem, place: usize) -> Result<Problem, Fail> {
-    let flow = fewer_pairs(alloc, &problem, place)?;
-    Ok(over(problem, flow))
-}
-
-/// The problem over the flow without the head pair at this place.
-fn without_head(alloc: Global, problem: Problem, place: usize) -> Result<Problem, Fail> {
-    let flow = fewer_heads(alloc, &problem, place)?;
-    Ok(over(problem, flow))
-}
-
 /// Whether each entry is missing where it is left out.
 fn each_left_out(alloc: Global, problem: &Problem, table: &[Entry]) -> Result<bool, OutOfMemory> {
     for (place, entry) in table.iter().enumerate() {
@@ -249,25 +80,41 @@ fn each_changed(alloc: Global, problem: &Problem, table: &[Entry]) -> Result<boo
     Ok(true)
 }
 
-/// The answer on the least table of a file.
+/// The answer on the least table.
+fn answer_on_least(alloc: Global, problem: &Problem) -> Result<Answer, Fail> {
+    let table = table_of(alloc, problem)?;
+    let answer = answer_for(alloc, problem, table.as_slice());
+    forget(table);
+    Ok(answer)
+}
+
+/// The same of a file.
 fn least_answer(alloc: Global, rules: &str, transitions: &str) -> Result<Answer, Fail> {
     let problem = problem_of(alloc, rules, transitions)?;
-    let table = table_of(alloc, &problem)?;
-    Ok(answer_for(alloc, &problem, table.as_slice()))
+    let answer = answer_on_least(alloc, &problem);
+    forget(problem);
+    answer
 }
 
-/// Whether each entry of the least table of a file is missing where it is left out.
-fn each_left_out_is_missed(alloc: Global, rules: &str, transitions: &str) -> Result<bool, Fail> {
-    let problem = problem_of(alloc, rules, transitions)?;
-    let table = table_of(alloc, &problem)?;
-    Ok(each_left_out(alloc, &problem, table.as_slice())?)
+/// Whether each entry of the least table is missing where it is left out, and where it is changed.
+fn each_entry_is_missed(alloc: Global, problem: &Problem) -> Result<(bool, bool), Fail> {
+    let table = table_of(alloc, problem)?;
+    let left_out = each_left_out(alloc, problem, table.as_slice());
+    let changed = each_changed(alloc, problem, table.as_slice());
+    forget(table);
+    Ok((left_out?, changed?))
 }
 
-/// Whether each entry of the least table of a file is missing where it is changed.
-fn each_changed_is_missed(alloc: Global, rules: &str, transitions: &str) -> Result<bool, Fail> {
+/// The same of a file.
+fn each_entry_of_a_file_is_missed(
+    alloc: Global,
+    rules: &str,
+    transitions: &str,
+) -> Result<(bool, bool), Fail> {
     let problem = problem_of(alloc, rules, transitions)?;
-    let table = table_of(alloc, &problem)?;
-    Ok(each_changed(alloc, &problem, table.as_slice())?)
+    let missed = each_entry_is_missed(alloc, &problem);
+    forget(problem);
+    missed
 }
 
 /// Whether the flow pair at this place is demanded where it is left out.
@@ -328,32 +175,45 @@ fn are_heads_demanded(
     Ok(true)
 }
 
-/// Whether each flow pair of a file is demanded where it is left out.
-fn each_pair_is_demanded(alloc: Global, rules: &str, transitions: &str) -> Result<bool, Fail> {
-    let problem = problem_of(alloc, rules, transitions)?;
-    let table = table_of(alloc, &problem)?;
-    let pairs = flow_pairs(alloc, &problem.flow)?;
-    are_pairs_demanded(
-        alloc,
-        rules,
-        transitions,
-        table.as_slice(),
-        pairs.as_slice(),
-    )
+/// Whether each flow pair and each head pair of the file, whose problem this is, is demanded where it is
+/// left out.
+fn are_demanded_over(
+    alloc: Global,
+    rules: &str,
+    transitions: &str,
+    problem: &Problem,
+    table: &[Entry],
+) -> Result<(bool, bool), Fail> {
+    let pairs = problem.flow.pairs.as_slice();
+    let flow = are_pairs_demanded(alloc, rules, transitions, table, pairs)?;
+    let heads = problem.flow.heads.as_slice();
+    let head = are_heads_demanded(alloc, rules, transitions, table, heads)?;
+    Ok((flow, head))
 }
 
-/// Whether each head pair of a file is demanded where it is left out.
-fn each_head_is_demanded(alloc: Global, rules: &str, transitions: &str) -> Result<bool, Fail> {
+/// The same over the least table.
+fn are_all_demanded(
+    alloc: Global,
+    rules: &str,
+    transitions: &str,
+    problem: &Problem,
+) -> Result<(bool, bool), Fail> {
+    let table = table_of(alloc, problem)?;
+    let demanded = are_demanded_over(alloc, rules, transitions, problem, table.as_slice());
+    forget(table);
+    demanded
+}
+
+/// The same of a file.
+fn each_pair_is_demanded(
+    alloc: Global,
+    rules: &str,
+    transitions: &str,
+) -> Result<(bool, bool), Fail> {
     let problem = problem_of(alloc, rules, transitions)?;
-    let table = table_of(alloc, &problem)?;
-    let pairs = head_pairs(alloc, &problem.flow)?;
-    are_heads_demanded(
-        alloc,
-        rules,
-        transitions,
-        table.as_slice(),
-        pairs.as_slice(),
-    )
+    let demanded = are_all_demanded(alloc, rules, transitions, &problem);
+    forget(problem);
+    demanded
 }
 
 /// The answer for the table with an entry more.
@@ -424,43 +284,24 @@ fn answers_on_least_tables(rt: HostRuntime) -> Result<(), Fail> {
     Ok(())
 }
 
-/// Each entry of a least table follows from the others, so it alone is missing where it is left out.
+/// Each entry of a least table follows from the others, so it alone is missing where it is left out. One
+/// with a state out of range as its type doesn't count, so the entry in whose place it stands is missing.
 #[test]
-fn an_entry_less_is_missing(rt: HostRuntime) -> Result<(), Fail> {
+fn an_entry_less_or_changed_is_missing(rt: HostRuntime) -> Result<(), Fail> {
     for (rules, transitions, _) in WORKED {
-        let is_missed = each_left_out_is_missed(rt.alloc(), rules, transitions)?;
-        assert!(rt; is_missed, "{rules}");
+        let missed = each_entry_of_a_file_is_missed(rt.alloc(), rules, transitions)?;
+        assert_eq!(rt; missed, (true, true), "{rules}");
     }
     Ok(())
 }
 
-/// An entry with a state out of range as its type doesn't count, so the one in whose place it stands
-/// is missing.
+/// Each flow pair and each head pair of a least flow is demanded by the others, so it alone is missing
+/// where it is left out.
 #[test]
-fn an_entry_changed_is_missing(rt: HostRuntime) -> Result<(), Fail> {
+fn a_pair_less_is_demanded(rt: HostRuntime) -> Result<(), Fail> {
     for (rules, transitions, _) in WORKED {
-        let is_missed = each_changed_is_missed(rt.alloc(), rules, transitions)?;
-        assert!(rt; is_missed, "{rules}");
-    }
-    Ok(())
-}
-
-/// Each pair of a least flow is demanded by the others, so it alone is missing where it is left out.
-#[test]
-fn a_flow_pair_less_is_demanded(rt: HostRuntime) -> Result<(), Fail> {
-    for (rules, transitions, _) in WORKED {
-        let is_demanded = each_pair_is_demanded(rt.alloc(), rules, transitions)?;
-        assert!(rt; is_demanded, "{rules}");
-    }
-    Ok(())
-}
-
-/// So is each head pair.
-#[test]
-fn a_head_pair_less_is_demanded(rt: HostRuntime) -> Result<(), Fail> {
-    for (rules, transitions, _) in WORKED {
-        let is_demanded = each_head_is_demanded(rt.alloc(), rules, transitions)?;
-        assert!(rt; is_demanded, "{rules}");
+        let demanded = each_pair_is_demanded(rt.alloc(), rules, transitions)?;
+        assert_eq!(rt; demanded, (true, true), "{rules}");
     }
     Ok(())
 }
@@ -496,18 +337,20 @@ fn is_missed_with(
 }
 
 /// Another environment or another type makes another entry.
-#[test]
-fn an_environment_or_a_type_changed_is_missing(rt: HostRuntime) -> Result<(), Fail> {
+fn see_changes(
+    rt: &impl Abort,
+    alloc: Global,
+    problem: &Problem,
+    table: &[Entry],
+) -> Result<(), OutOfMemory> {
     let rows: [(Row, Row); 4] = [
         ((0, &[], 1), (0, &[], 0)),
         ((2, &[None], 1), (2, &[Some(1)], 1)),
         ((4, &[None], 1), (4, &[Some(1)], 1)),
         ((5, &[None], 1), (5, &[Some(0)], 1)),
     ];
-    let problem = problem_of(rt.alloc(), BRANCHING, BRANCHING_ACCEPTED)?;
-    let table = table_of(rt.alloc(), &problem)?;
     for (missing, beside) in rows {
-        let is_missed = is_missed_beside(rt.alloc(), &problem, table.as_slice(), missing, beside)?;
+        let is_missed = is_missed_beside(alloc, problem, table, missing, beside)?;
         assert!(rt; is_missed, "{}", missing.0);
     }
     Ok(())
@@ -525,8 +368,12 @@ fn answer_beside(
 }
 
 /// Repeats and entries out of shape change nothing, and from the start entry nothing follows.
-#[test]
-fn an_entry_more(rt: HostRuntime) -> Result<(), Fail> {
+fn see_entries_more(
+    rt: &impl Abort,
+    alloc: Global,
+    problem: &Problem,
+    table: &[Entry],
+) -> Result<(), OutOfMemory> {
     let rows: [(Row, Answer); 8] = [
         ((0, &[], 1), Answer::Instances(4)),
         ((8, &[], 0), Answer::Instances(4)),
@@ -537,40 +384,60 @@ fn an_entry_more(rt: HostRuntime) -> Result<(), Fail> {
         ((3, &[Some(1)], 1), Answer::Instances(4)),
         ((0, &[], 0), Answer::Start),
     ];
-    let problem = problem_of(rt.alloc(), BRANCHING, BRANCHING_ACCEPTED)?;
-    let table = table_of(rt.alloc(), &problem)?;
     for (row, expected) in rows {
-        let answer = answer_beside(rt.alloc(), &problem, table.as_slice(), row)?;
+        let answer = answer_beside(alloc, problem, table, row)?;
         assert_eq!(rt; answer, expected, "{}", row.0);
     }
     Ok(())
 }
 
 /// From a further type of point 5 an entry of point 4 follows.
-#[test]
-fn a_type_more_asks_for_more(rt: HostRuntime) -> Result<(), Fail> {
-    let alloc = rt.alloc();
-    let problem = problem_of(alloc, BRANCHING, BRANCHING_ACCEPTED)?;
-    let table = table_of(alloc, &problem)?;
+fn see_a_type_more(
+    rt: &impl Abort,
+    alloc: Global,
+    problem: &Problem,
+    table: &[Entry],
+) -> Result<(), OutOfMemory> {
     let missing: Row = (4, &[Some(0)], 0);
     let more: Row = (5, &[Some(0)], 0);
-    let is_missed = is_missed_with(alloc, &problem, table.as_slice(), missing, more)?;
-    assert!(rt; is_missed);
+    assert!(rt; is_missed_with(alloc, problem, table, missing, more)?);
     Ok(())
 }
 
-/// The worked flow without its pair of the parameter x with point 6.
+/// Looks at the least table of the branching scheme that is accepted.
+fn see_branching(rt: &impl Abort, alloc: Global, problem: &Problem) -> Result<(), Fail> {
+    let table = table_of(alloc, problem)?;
+    let changes = see_changes(rt, alloc, problem, table.as_slice());
+    let more = see_entries_more(rt, alloc, problem, table.as_slice());
+    let types = see_a_type_more(rt, alloc, problem, table.as_slice());
+    forget(table);
+    changes?;
+    more?;
+    types?;
+    Ok(())
+}
+
+#[test]
+fn entries_of_the_branching_scheme_changed_and_more(rt: HostRuntime) -> Result<(), Fail> {
+    let problem = problem_of(rt.alloc(), BRANCHING, BRANCHING_ACCEPTED)?;
+    let seen = see_branching(&rt, rt.alloc(), &problem);
+    forget(problem);
+    seen
+}
+
+/// The worked flow without its pair of the parameter x with point 6. The entries that are missing, since
+/// the table is empty, come behind.
 #[test]
 fn a_worked_flow_with_a_pair_less(rt: HostRuntime) -> Result<(), Fail> {
     let alloc = rt.alloc();
     let problem = problem_of(alloc, BRANCHING, BRANCHING_ACCEPTED)?;
-    let table = table_of(alloc, &problem)?;
     let pair = FlowPair {
         rule: 1,
         param: 0,
         point: 6,
     };
-    let is_demanded = is_pair_demanded(alloc, problem, table.as_slice(), 1, pair)?;
-    assert!(rt; is_demanded);
+    let open = without_pair(alloc, problem, 1)?;
+    assert!(rt; lacks_pair(alloc, &open, &[], pair));
+    forget(open);
     Ok(())
 }

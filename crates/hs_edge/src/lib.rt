@@ -26,6 +26,3 @@ pub use record::{Reading, Writing};
 pub use sink::Sink;
 pub use source::Source;
 pub use whole::{read_all, write_all};
-
-#[cfg(test)]
-mod tests;

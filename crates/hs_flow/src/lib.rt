@@ -13,6 +13,3 @@ mod users;
 pub use analysis::analyse;
 pub use dependents::Dependents;
 pub use fault::FlowFault;
-
-#[cfg(test)]
-mod tests;

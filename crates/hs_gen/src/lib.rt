@@ -4,6 +4,3 @@
 mod cycle;
 
 pub use cycle::{MAX_CYCLE, cycle_file, cycle_files_are_short};
-
-#[cfg(test)]
-mod tests;

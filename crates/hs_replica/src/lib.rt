@@ -12,6 +12,3 @@ mod replica;
 
 pub use lookups::each_entry_has_a_first;
 pub use replica::Replica;
-
-#[cfg(test)]
-mod tests;

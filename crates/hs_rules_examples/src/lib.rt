@@ -1,5 +1,6 @@
-//! Tests of what follows from logs: the indexed programs beside the plain one, on worked examples
-//! and on many small schemes.
+//! Tests of types, entries and what follows from logs: the order of types and of entries, the look-ups of
+//! a log, the plain program, and the indexed programs beside it, on worked examples and on many small
+//! schemes.
 #![tactic(auto)]
 
 #[cfg(test)]
@@ -8,5 +9,11 @@ mod comparing;
 mod growing;
 #[cfg(test)]
 mod making;
+#[cfg(test)]
+mod ordering;
+#[cfg(test)]
+mod places;
+#[cfg(test)]
+mod plain;
 #[cfg(test)]
 mod tests;

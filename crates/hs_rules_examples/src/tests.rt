@@ -14,6 +14,7 @@ use hs_scheme::{OutOfMemory, Problem};
 use hs_table::HeadBy;
 use hs_types::View;
 use std::alloc::Global;
+use std::mem::forget;
 use std::test::Fail;
 
 #[test]
@@ -51,7 +52,9 @@ fn worked_tables_agree_entry_by_entry(rt: HostRuntime) -> Result<(), Fail> {
 /// The problem of a scheme of three rules.
 fn made(alloc: Global, start: &str, body: &str, transitions: &str) -> Result<Problem, Fail> {
     let rules = format!(in alloc; "S -> {start}. F f x -> {body}. G f x -> f (f x).")?;
-    problem_of(alloc, rules.as_str(), transitions)
+    let problem = problem_of(alloc, rules.as_str(), transitions);
+    forget(rules);
+    problem
 }
 
 #[test]

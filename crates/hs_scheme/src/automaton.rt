@@ -161,6 +161,3 @@ impl Automaton {
         Automaton::of(alloc, self.states, transitions)
     }
 }
-
-#[cfg(test)]
-mod tests;

@@ -134,6 +134,3 @@ impl FlowTable {
         &self.pairs[from..to]
     }
 }
-
-#[cfg(test)]
-mod tests;

@@ -23,8 +23,6 @@ mod scheme;
 mod sort;
 mod sorted;
 mod term;
-#[cfg(test)]
-mod tests;
 mod transitions;
 
 pub use automaton::{Automaton, Transition};

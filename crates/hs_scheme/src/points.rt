@@ -248,6 +248,3 @@ impl Points {
         &self.params
     }
 }
-
-#[cfg(test)]
-mod tests;

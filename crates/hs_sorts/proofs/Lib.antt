@@ -17,4 +17,3 @@ pub mod Inferring
 pub mod FullRules
 pub mod Assembling
 pub mod Excluding
-pub mod Samples

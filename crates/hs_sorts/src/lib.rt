@@ -21,6 +21,3 @@ mod weights;
 pub use fault::SortFault;
 pub use inference::infer;
 pub use laws::one_fault;
-
-#[cfg(test)]
-mod tests;

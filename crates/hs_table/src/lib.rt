@@ -15,6 +15,3 @@ mod ty;
 pub use entry::{Entry, TypeSet};
 pub use support::HeadBy;
 pub use ty::{Shape, Ty};
-
-#[cfg(test)]
-mod tests;

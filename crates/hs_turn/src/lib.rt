@@ -18,6 +18,3 @@ pub use rested::Rested;
 pub use seat::Seat;
 pub use storied::Storied;
 pub use turn::{Turn, TurnRule};
-
-#[cfg(test)]
-mod tests;

@@ -5,8 +5,6 @@ mod command;
 mod fault;
 mod number;
 mod options;
-#[cfg(test)]
-mod tests;
 
 pub use command::read_words;
 pub use fault::WordsFault;

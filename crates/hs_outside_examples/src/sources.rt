@@ -1,0 +1,151 @@
+//! Sources in memory, and one without an end, read to the end or up to a limit.
+
+use hs_edge::{Failed, MemSource, ReadAll, Reading, Source, read_all};
+use std::alloc::Global;
+use std::marker::Model;
+use std::mem::{forget, size_of};
+use std::process::Abort;
+use std::test::Fail;
+
+/// The letters a to f, in pieces of at most four, from a source whose calls of these numbers fail.
+fn letters(alloc: Global, failing: &[u64]) -> Result<MemSource, Fail> {
+    Ok(MemSource::new(alloc, "f", b"abcdef", 4, failing)?)
+}
+
+/// Looks at a source whose first and fourth call fail, up to the first piece.
+fn see_calls(rt: &impl Abort, source: &mut MemSource) {
+    let mut buf = [b'-'; 8];
+    assert_eq!(rt; source.read(&mut buf), Ok(0), "nothing is begun");
+    assert_eq!(rt; source.start("g"), Err(Failed), "another name");
+    assert_eq!(rt; source.start("f"), Ok(()));
+    assert_eq!(rt; source.read(&mut buf), Err(Failed), "the fourth call");
+    assert_eq!(rt; buf.as_slice(), b"--------".as_slice());
+    assert_eq!(rt; source.read(&mut buf), Ok(4));
+    assert_eq!(rt; buf.as_slice(), b"abcd----".as_slice());
+}
+
+/// Looks at the rest of it, and at its beginning once more.
+fn see_rest(rt: &impl Abort, source: &mut MemSource) {
+    let mut buf = [b'-'; 8];
+    assert_eq!(rt; source.read(&mut buf[..1]), Ok(1));
+    assert_eq!(rt; source.read(&mut buf), Ok(1));
+    assert_eq!(rt; buf.as_slice(), b"f-------".as_slice());
+    assert_eq!(rt; source.read(&mut buf), Ok(0));
+    assert_eq!(rt; source.start("f"), Ok(()));
+    assert_eq!(rt; source.read(&mut buf), Ok(4), "anew");
+}
+
+#[test]
+fn a_source_in_memory_fails_at_its_calls_alone(rt: HostRuntime) -> Result<(), Fail> {
+    let mut source = letters(rt.alloc(), &[1, 4])?;
+    see_calls(&rt, &mut source);
+    see_rest(&rt, &mut source);
+    forget(source);
+    Ok(())
+}
+
+/// What is read of these bytes, in pieces of at most `step`.
+fn read_of(alloc: Global, bytes: &[u8], step: usize, limit: usize) -> Result<Vec<u8>, ReadAll> {
+    if step == 0 {
+        return Err(ReadAll::ReadFault);
+    }
+    let Ok(mut source) = MemSource::new(alloc, "f", bytes, step, &[]) else {
+        return Err(ReadAll::OutOfMemory);
+    };
+    let _ = source.start("f");
+    let read = read_all(alloc, &mut source, limit);
+    forget(source);
+    read
+}
+
+#[test]
+fn all_is_read_within_the_limit(rt: HostRuntime) -> Result<(), Fail> {
+    let alloc = rt.alloc();
+    let bytes = vec![in alloc; b'x'; 20_000]?;
+    for step in [1, 4096, 100_000] {
+        let read = read_of(alloc, &bytes, step, 20_000);
+        assert!(rt;
+            read.is_ok_and(|read| read.as_slice() == bytes.as_slice()),
+            "in steps of {step}"
+        );
+        let refused = read_of(alloc, &bytes, step, 19_999);
+        assert_eq!(rt; refused.err(), Some(ReadAll::TooLong), "in steps of {step}");
+    }
+    Ok(())
+}
+
+/// Reads up to a fault, and then the rest.
+fn see_fault(rt: &impl Abort, alloc: Global, source: &mut MemSource) -> Result<(), Fail> {
+    source.start("f")?;
+    let refused = read_all(alloc, source, 1_000);
+    assert_eq!(rt; refused.err(), Some(ReadAll::ReadFault));
+    let rest = read_all(alloc, source, 1_000)?;
+    assert_eq!(rt; rest.as_slice(), b"ef".as_slice());
+    Ok(())
+}
+
+#[test]
+fn after_a_read_fault_the_rest_can_be_read(rt: HostRuntime) -> Result<(), Fail> {
+    let mut source = letters(rt.alloc(), &[3])?;
+    let seen = see_fault(&rt, rt.alloc(), &mut source);
+    forget(source);
+    seen
+}
+
+/// Gives as many bytes as it is asked for, for ever, once it is started.
+#[derive(Drop)]
+struct Endless {
+    begun: bool,
+    reading: Reading,
+}
+
+impl Model for Endless {
+    ghost use Rattle.std.specs.Prelude.{◌≡◌, is_some};
+    ghost use Rattle.hs_edge.specs.Reading.{Reading};
+
+    ghost Value = { Reading };
+
+    ghost view = { λ s. s.reading };
+
+    ghost invariant = { λ s. s.begun ≡ is_some s.reading.begun };
+}
+
+impl Source for Endless {
+    ghost use Rattle.std.specs.Prelude.{◌-◌, ◌^◌, None};
+
+    ghost file = { λ _ _. None };
+
+    ghost left = { λ _. None };
+
+    ghost reading = { λ reading. reading };
+
+    ghost faults = { λ _ _. 2 ^ 64 - 1 };
+
+    fn start(&mut self, name: &str) -> Result<(), Failed> {
+        self.begun = true;
+        self.reading.note_start(name);
+        Ok(())
+    }
+
+    fn read(&mut self, buf: &mut [u8]) -> Result<usize, Failed> {
+        let count = if self.begun { buf.len() } else { 0 };
+        self.reading.note_read(buf, count);
+        Ok(count)
+    }
+}
+
+#[test]
+fn a_source_without_an_end_is_too_long(rt: HostRuntime) {
+    let mut source = Endless {
+        begun: false,
+        reading: Reading::new(),
+    };
+    assert_eq!(rt; source.start("f"), Ok(()));
+    let refused = read_all(rt.alloc(), &mut source, 100);
+    assert_eq!(rt; refused.err(), Some(ReadAll::TooLong));
+}
+
+#[test]
+fn the_record_takes_no_memory(rt: HostRuntime) {
+    assert_eq!(rt; size_of::<Reading>(), 0);
+}

@@ -1,0 +1,13 @@
+//! Tests of schemes on small files: cuts, points, sorts and flow, each worked out by hand.
+#![tactic(auto)]
+
+#[cfg(test)]
+mod cutting;
+#[cfg(test)]
+mod flowing;
+#[cfg(test)]
+mod making;
+#[cfg(test)]
+mod pointing;
+#[cfg(test)]
+mod sorting;

@@ -1,0 +1,175 @@
+//! What inference answers: sizes of sorts, lengthened rules, and the first fault.
+
+use crate::making::{push_name, sorted_of, unsorted_of};
+use hs_scheme::{OutOfMemory, Sort, Sorted};
+use hs_sorts::{SortFault, infer};
+use std::alloc::Global;
+use std::mem::forget;
+use std::test::Fail;
+
+/// The transitions of the files: c, a and d have no, one and two children.
+const TRANSITIONS: &str = "q0 c -> . q0 a -> q0. q0 d -> q0 q0.";
+
+/// The rules, ranks and sorts, as they are printed.
+fn printed(alloc: Global, sorted: &Sorted) -> Result<String, OutOfMemory> {
+    Ok(format!(in alloc; "{:?} {:?}", sorted.scheme, sorted.sorts)?)
+}
+
+/// The scheme of a file as it is printed, or the fault.
+fn inferred(alloc: Global, rules: &str) -> Result<String, Fail> {
+    let unsorted = unsorted_of(alloc, rules, TRANSITIONS)?;
+    match infer(alloc, unsorted) {
+        Ok(sorted) => {
+            let text = printed(alloc, &sorted);
+            forget(sorted);
+            Ok(text?)
+        }
+        Err(fault) => Ok(format!(in alloc; "{fault}")?),
+    }
+}
+
+#[test]
+fn schemes_without_a_sorting(rt: HostRuntime) -> Result<(), Fail> {
+    let rows = [
+        ("S -> F F. F x -> c.", "rule 0 counted from 0: ill-sorted"),
+        ("S -> a.", "rule 0 counted from 0: ill-sorted"),
+        ("S -> G. G x -> c.", "rule 0 counted from 0: ill-sorted"),
+        (
+            "S -> c. A x -> x B. B x -> x C. C x -> x D. D x -> x E. E x -> x A.",
+            "rule 5 counted from 0: ill-sorted",
+        ),
+        (
+            "S -> e (b F). F x -> x.",
+            "terminal 1 counted from 0: not first order",
+        ),
+    ];
+    for (rules, expected) in rows {
+        assert_eq!(rt; inferred(rt.alloc(), rules)?.as_str(), expected, "{rules}");
+    }
+    Ok(())
+}
+
+/// The size of a sort, by its definition. Recurses as deep as the sort.
+fn size(sort: &Sort) -> u32 {
+    let mut total = 1_u32;
+    for arg in &sort.args {
+        total = total.saturating_add(1).saturating_add(size(arg));
+    }
+    total
+}
+
+/// The sizes of the sorts, each behind a blank.
+fn sizes_text(alloc: Global, sorted: &Sorted) -> Result<String, OutOfMemory> {
+    let mut out = String::new(alloc);
+    for sort in &sorted.sorts {
+        let size = size(sort);
+        write!(out, " {size}")?;
+    }
+    Ok(out)
+}
+
+/// Those of a file with these rules.
+fn sizes(alloc: Global, rules: &str) -> Result<String, Fail> {
+    let sorted = sorted_of(alloc, rules, TRANSITIONS)?;
+    let text = sizes_text(alloc, &sorted);
+    forget(sorted);
+    Ok(text?)
+}
+
+/// The rules `S -> c.`, `T0 x -> x.` and `Ti f -> f T(i-1).` for i up to `last`.
+fn chain(alloc: Global, last: u32) -> Result<String, OutOfMemory> {
+    let mut rules = String::new(alloc);
+    rules.push_str("S -> c. T0 x -> x.")?;
+    for before in 0..last {
+        let number = before.saturating_add(1);
+        write!(rules, " T{number} f -> f T{before}.")?;
+    }
+    Ok(rules)
+}
+
+#[test]
+fn sorts_have_their_least_sizes(rt: HostRuntime) -> Result<(), Fail> {
+    let alloc = rt.alloc();
+    assert_eq!(rt; sizes(alloc, "S -> G b. G x -> c.")?.as_str(), " 1 3");
+    let rules = chain(alloc, 249)?;
+    let text = sizes(alloc, rules.as_str())?;
+    assert!(rt; text.starts_with(" 1 3 7 11 15"));
+    assert!(rt; text.ends_with(" 991 995 999"));
+    Ok(())
+}
+
+/// The names of the parameters, each behind a blank, and a full stop behind those of a rule.
+fn names_text(alloc: Global, sorted: &Sorted) -> Result<String, OutOfMemory> {
+    let mut out = String::new(alloc);
+    for names in &sorted.names.params {
+        for number in 0..names.len() {
+            out.push_str(" ")?;
+            push_name(&mut out, names.as_slice(), number)?;
+        }
+        out.push_str(".")?;
+    }
+    Ok(out)
+}
+
+/// Those of a file with these rules.
+fn parameters(alloc: Global, rules: &str) -> Result<String, Fail> {
+    let sorted = sorted_of(alloc, rules, TRANSITIONS)?;
+    let text = names_text(alloc, &sorted);
+    forget(sorted);
+    Ok(text?)
+}
+
+#[test]
+fn short_rules_become_the_full_ones(rt: HostRuntime) -> Result<(), Fail> {
+    let alloc = rt.alloc();
+    let rows = [
+        ("S -> F c. F -> a.", "S -> F c. F x -> a x.", ". ~1."),
+        (
+            "S -> Ap a c. Ap f -> f.",
+            "S -> Ap a c. Ap f x -> f x.",
+            ". f ~1.",
+        ),
+        (
+            "S -> F c c. F -> G. G -> H. H -> d.",
+            "S -> F c c. F x y -> G x y. G x y -> H x y. H x y -> d x y.",
+            ". ~1 ~2. ~1 ~2. ~1 ~2.",
+        ),
+    ];
+    for (short, full, names) in rows {
+        let expected = inferred(alloc, full)?;
+        assert_eq!(rt;
+            inferred(alloc, short)?.as_str(),
+            expected.as_str(),
+            "{short}"
+        );
+        assert_eq!(rt; parameters(alloc, short)?.as_str(), names, "{short}");
+    }
+    Ok(())
+}
+
+#[test]
+fn faults_are_printed(rt: HostRuntime) -> Result<(), Fail> {
+    let rows = [
+        (
+            SortFault::IllSorted { rule: 0 },
+            "rule 0 counted from 0: ill-sorted",
+        ),
+        (
+            SortFault::TerminalNotFirstOrder { terminal: 7 },
+            "terminal 7 counted from 0: not first order",
+        ),
+        (
+            SortFault::SortTooLarge { rule: 20 },
+            "rule 20 counted from 0: sort too large",
+        ),
+        (
+            SortFault::RuleTooLong { rule: 3 },
+            "rule 3 counted from 0: too long",
+        ),
+        (SortFault::OutOfMemory, "out of memory"),
+    ];
+    for (fault, expected) in rows {
+        assert_eq!(rt; format!(in rt.alloc(); "{fault}")?.as_str(), expected);
+    }
+    Ok(())
+}

@@ -1,0 +1,7 @@
+//! Tests of the turn: what seats find that add to its story, in one thread and in several.
+#![tactic(auto)]
+
+#[cfg(test)]
+mod recording;
+#[cfg(test)]
+mod resting;
