@@ -1,10 +1,10 @@
 -- A base is noted, and then its users pass on what they do.
-use Rattle.std.proofs.Common.{◌≡◌, refl, sym, ◌∙◌, ap, subst, ◌≤◌, ◌⊎◌, ◌↔◌, List, ℕ, length, Bool, true, false, inl, inr, Contains}
+use Rattle.std.proofs.Common.{◌≡◌, refl, sym, ◌∙◌, ap, subst, ◌≤◌, ◌⊎◌, ◌↔◌, List, ℕ, Option, length, Bool, true, false, inl, inr, Contains}
 use Rattle.std.proofs.lemmas.List.Elements.{Contains-append_left}
 use Rattle.hs_scheme.specs.declared.flow.Pair.{Pair}
 use Rattle.hs_scheme.specs.Points.{PointsData, points_of}
 use Rattle.hs_flow.specs.declared.bases.Base.{Base}
-use Rattle.hs_flow.specs.Bases.{BasesData, HasBase, TellsNew}
+use Rattle.hs_flow.specs.Bases.{BasesData, HasBase, IsNumber, TellsNew}
 use Rattle.hs_flow.specs.Users.{UserMap}
 use Rattle.hs_flow.specs.Passing.{PassedFor, MayBecome}
 use Rattle.hs_flow.specs.Pairs.{PairsData, Has, IsAddable, ArePairs, IsReady, FindsOnly, Extends}
@@ -77,3 +77,11 @@ module _ (points : PointsData) (users : UserMap) (a old : PairsData) (view : a �
 
   pub noted_still : (new : PairsData) → FindsOnly (PassedFor a.rules base) (with_bases a bases) new → Has new base
   noted_still new finds = subst (λ (x : PairsData). Has x base) (sym finds.is) noted_has
+
+-- a parameter's number stays what it is
+pub number_at : (points : PointsData) (users : UserMap) (a old now : PairsData) → a ≡ old → ArePairs points users a → (params : List ℕ) → params ≡ points.params → Extends old now
+    → (rule x : ℕ) (n : Option ℕ) → IsNumber params rule x n → IsNumber (points_of now.rules).params rule x n
+number_at points users a old now view are params params_are e rule x n =
+    subst (λ (ns : List ℕ). IsNumber ns rule x n)
+    (params_are ∙ (ap (λ (ps : PointsData). ps.params) are.points_are
+    ∙ (ap (λ (z : PairsData). (points_of z.rules).params) view ∙ sym (ap (λ (z : PairsData). (points_of z.rules).params) e.is))))

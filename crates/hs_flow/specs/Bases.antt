@@ -2,8 +2,9 @@
 --     BasesData                    what contracts see of the set: flags by number, and the bases for which there are none
 --     HasFlag rows k j             in the list k the flag j is set
 --     HasBase counts bases b       the set has the base
+--     IsNumber counts rule x n     a parameter's number, and none where it is no parameter
 --     TellsNew P added             whether something was added tells whether P didn't hold
-use Rattle.std.specs.Prelude.{◌≡◌, refl, ◌<◌, ℕ, length, List, Bool, true, false, ◌⊎◌, slice_get, Some, Contains}
+use Rattle.std.specs.Prelude.{◌≡◌, refl, ◌<◌, ℕ, length, List, Bool, true, false, ◌⊎◌, slice_get, Some, Option, SomeIff, Contains}
 use Rattle.std.specs.Coded.{Coded, code_by, coded×, coded_ℕ, coded_bool, coded_list}
 use Rattle.hs_scheme.specs.Parameters.{IsParameter, parameter_of}
 use Rattle.hs_flow.specs.declared.bases.Base.{Base}
@@ -38,6 +39,9 @@ IsOutside counts rows b = IsParameter counts b.rule b.param → IsParameter coun
 
 abbrev pub HasBase : List ℕ → BasesData → Base → Type 0
 HasBase counts bases b = InRows counts bases.rows b ⊎ (IsOutside counts bases.rows b × Contains bases.others b)
+
+abbrev pub IsNumber : List ℕ → ℕ → ℕ → Option ℕ → Type 0
+IsNumber counts rule x n = SomeIff n (IsParameter counts rule x) (parameter_of counts rule x)
 
 abbrev pub TellsNew : Type 0 → Bool → Type 0
 TellsNew P true = P → ⊥

@@ -1,6 +1,7 @@
 //! The flow analysis.
 
-ghost use Rattle.std.specs.Prelude.{◌≡◌, ◌+◌, ◌≤◌, ◌<◌, List, Some, length, slice_get, All, IfOk, IfSome, IfNone, OnOk, IsErrOf};
+ghost use Rattle.std.specs.Prelude.{◌≡◌, ◌+◌, ◌≤◌, ◌<◌, List, Some, length};
+ghost use Rattle.std.specs.Prelude.{slice_get, All, IfOk, IfSome, IfNone, OnOk, IsErrOf};
 ghost use Rattle.hs_scheme.specs.declared.flow.Pair.{Pair as AnyPair};
 ghost use Rattle.hs_scheme.specs.declared.flow.Pair.TheVariants.{OfFlow, OfHead};
 ghost use Rattle.hs_scheme.specs.Points.{points_of};
@@ -190,10 +191,13 @@ pub fn analyse(
     requires { points.now ≡ points_of scheme.now.rules }
     ensures flow { IfOk result (λ table. IsFlow scheme.now.rules table.pairs table.heads) }
     ensures ascending { IfOk result IsFlowTable }
-    ensures pairs { IfOk result (λ table. All (FlowWithin scheme.now.rules (length points.now.points)) table.pairs) }
-    ensures heads { IfOk result (λ table. All (HeadWithin scheme.now.rules (length points.now.points)) table.heads) }
+    ensures pairs { IfOk result (λ table.
+        All (FlowWithin scheme.now.rules (length points.now.points)) table.pairs) }
+    ensures heads { IfOk result (λ table.
+        All (HeadWithin scheme.now.rules (length points.now.points)) table.heads) }
     ensures within { IfOk result (λ table. length table.pairs + length table.heads ≤ max) }
-    ensures limit { IsErrOf result FlowLimit → (order : List AnyPair) × (IsSupported scheme.now.rules order × (max < length order)) }
+    ensures limit { IsErrOf result FlowLimit →
+        (order : List AnyPair) × (IsSupported scheme.now.rules order × (max < length order)) }
 {
     let users = Users::of(alloc, points)?;
     let rules = scheme.rules.as_slice();

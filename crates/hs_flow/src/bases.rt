@@ -1,8 +1,8 @@
 //! What parameters may become.
 
-ghost use Rattle.std.specs.Prelude.{◌≡◌, ◌↔◌, ◌⊎◌, Contains, IfOk, OnOk, OnErr};
+ghost use Rattle.std.specs.Prelude.{◌≡◌, ◌↔◌, ◌⊎◌, ℕ, List, Contains, IfOk, OnOk, OnErr, IsTrue};
 ghost use Rattle.hs_flow.specs.declared.bases.Base.{Base as AnyBase};
-ghost use Rattle.hs_flow.specs.Bases.{HasBase, TellsNew};
+ghost use Rattle.hs_flow.specs.Bases.{HasBase, IsNumber, TellsNew};
 
 use crate::lists::Lists;
 use hs_scheme::{OutOfMemory, Parameters};
@@ -44,7 +44,8 @@ impl Model for Bases {
 
 /// Adds a base to the set, and answers whether it is new.
 fn add_other(others: &mut IndexSet<Base>, base: Base) -> Result<bool, OutOfMemory>
-    ensures bases { OnOk result ((b : AnyBase) → Contains others.new.keys b ↔ (Contains others.old.keys b ⊎ (b ≡ base))) }
+    ensures bases { OnOk result ((b : AnyBase) →
+        Contains others.new.keys b ↔ (Contains others.old.keys b ⊎ (b ≡ base))) }
     ensures new { IfOk result (TellsNew (Contains others.old.keys base)) }
     ensures same { OnErr result (others.new.keys ≡ others.old.keys) }
 {
@@ -68,9 +69,25 @@ impl Bases {
         })
     }
 
+    /// Whether a base is there, by the number of its parameter and its own. `false` doesn't tell that
+    /// it isn't. Takes no memory.
+    pub(crate) fn is_flagged(&self, number: Option<u32>, flag: Option<u32>) -> bool
+        ensures { IsTrue result → (counts : List ℕ) (b : AnyBase) → IsNumber counts b.rule b.param number
+            → IsNumber counts b.base b.given flag → HasBase counts self.now b }
+    {
+        let Some(number) = number else {
+            return false;
+        };
+        let Some(flag) = flag else {
+            return false;
+        };
+        self.rows.has_flag(number as usize, flag as usize)
+    }
+
     /// Adds a base, and answers whether it is new. Constant time on average.
     pub(crate) fn insert(&mut self, params: &Parameters, base: Base) -> Result<bool, OutOfMemory>
-        ensures bases { OnOk result ((b : AnyBase) → HasBase params.now self.new b ↔ (HasBase params.now self.old b ⊎ (b ≡ base))) }
+        ensures bases { OnOk result ((b : AnyBase) →
+            HasBase params.now self.new b ↔ (HasBase params.now self.old b ⊎ (b ≡ base))) }
         ensures new { IfOk result (TellsNew (HasBase params.now self.old base)) }
         ensures same { OnErr result (self.new ≡ self.old) }
     {

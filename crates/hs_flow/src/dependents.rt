@@ -76,7 +76,8 @@ fn add_to_head(
     requires lists { length lists.old ≡ length points.now.points }
     requires flow { All (λ (f : FlowPair). f.point < length points.now.points) flow.now.pairs }
     requires head { NonterminalWithin (length points.now.bodies) head }
-    ensures { OnOk result (AddsTo (HeadReads points.now.bodies flow.now.pairs rule head) point lists.old lists.new) }
+    ensures { OnOk result
+        (AddsTo (HeadReads points.now.bodies flow.now.pairs rule head) point lists.old lists.new) }
 {
     match head {
         Head::Var(param) => add_to_flow(lists, flow.flow_of(rule, param), point),
@@ -95,7 +96,8 @@ fn add_point(
     requires lists { length lists.old ≡ length points.now.points }
     requires flow { All (λ (f : FlowPair). f.point < length points.now.points) flow.now.pairs }
     requires point { point < length points.now.points }
-    ensures { OnOk result (AddsTo (λ p. IsDependent points.now flow.now.pairs p point) point lists.old lists.new) }
+    ensures { OnOk result
+        (AddsTo (λ p. IsDependent points.now flow.now.pairs p point) point lists.old lists.new) }
 {
     add_to_arguments(lists, points.args_of(point), point)?;
     let rule = points.rule_of(point);

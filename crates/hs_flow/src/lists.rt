@@ -1,6 +1,7 @@
 //! Lists by number.
 
-ghost use Rattle.std.specs.Prelude.{◌≡◌, ◌<◌, ◌↔◌, ◌⊎◌, [], ℕ, Some, true, length, slice_get, IfOk, OnOk, OnErr};
+ghost use Rattle.std.specs.Prelude.{◌≡◌, ◌<◌, ◌↔◌, ◌⊎◌, [], ℕ, Some};
+ghost use Rattle.std.specs.Prelude.{true, length, slice_get, IfOk, OnOk, OnErr, IsTrue};
 ghost use Rattle.hs_flow.specs.Lists.{list_of, IsPushed};
 ghost use Rattle.hs_flow.specs.Bases.{HasFlag, TellsNew};
 
@@ -81,7 +82,27 @@ fn set_in(row: &mut Vec<bool>, flag: usize, width: usize) -> Result<bool, OutOfM
     Ok(true)
 }
 
+/// Whether the flag is there and set.
+fn is_set(row: &[bool], flag: usize) -> bool
+    ensures { IsTrue result → slice_get row.now flag ≡ Some true }
+{
+    match row.get(flag) {
+        Some(set) => *set,
+        None => false,
+    }
+}
+
 impl Lists<bool> {
+    /// Whether a flag is set in the list of this number: `false` where there is no such flag.
+    pub(crate) fn has_flag(&self, number: usize, flag: usize) -> bool
+        ensures { IsTrue result → HasFlag self.now number flag }
+    {
+        if number >= self.rows.len() {
+            return false;
+        }
+        is_set(self.rows[number].as_slice(), flag)
+    }
+
     /// Sets a flag in the list of this number, which is made as long as `width` if need be, and
     /// answers whether it wasn't set.
     pub(crate) fn set_flag(
@@ -93,7 +114,8 @@ impl Lists<bool> {
         requires number { number < length self.old }
         requires flag { flag < width }
         ensures len { length self.new ≡ length self.old }
-        ensures flags { OnOk result ((k j : ℕ) → HasFlag self.new k j ↔ (HasFlag self.old k j ⊎ ((k ≡ number) × (j ≡ flag)))) }
+        ensures flags { OnOk result ((k j : ℕ) →
+            HasFlag self.new k j ↔ (HasFlag self.old k j ⊎ ((k ≡ number) × (j ≡ flag)))) }
         ensures new { IfOk result (TellsNew (HasFlag self.old number flag)) }
         ensures same { OnErr result (self.new ≡ self.old) }
     {

@@ -1,6 +1,7 @@
 //! The pairs that are found.
 
-ghost use Rattle.std.specs.Prelude.{◌≡◌, ◌≤◌, ◌<◌, [], ℕ, Some, All, length, slice_get, Contains, OnOk, IfOk, IsFalse};
+ghost use Rattle.std.specs.Prelude.{◌≡◌, ◌≤◌, ◌<◌, [], ℕ, Some, All};
+ghost use Rattle.std.specs.Prelude.{length, slice_get, Contains, OnOk, IfOk, IsFalse};
 ghost use Rattle.hs_scheme.specs.declared.flow.FlowPair.{FlowPair as AnyFlowPair};
 ghost use Rattle.hs_scheme.specs.declared.flow.HeadPair.{HeadPair as AnyHeadPair};
 ghost use Rattle.hs_scheme.specs.declared.flow.Pair.{Pair as AnyPair};
@@ -41,7 +42,8 @@ impl<'a> Model for Pairs<'a> {
 
     ghost view = { λ a. record { rules = a.rules.now; max = a.max; found = a.found.items; bases = a.bases } };
 
-    ghost invariant = { λ a. ArePairs a.points.now a.users.now (record { rules = a.rules.now; max = a.max; found = a.found.items; bases = a.bases }) };
+    ghost invariant = { λ a. ArePairs a.points.now a.users.now
+        (record { rules = a.rules.now; max = a.max; found = a.found.items; bases = a.bases }) };
 }
 
 impl<'a> Pairs<'a> {
@@ -105,7 +107,8 @@ impl<'a> Pairs<'a> {
         requires within { length self.old.found ≤ self.old.max }
         requires addable { (q : AnyPair) → PassedBy self.old.rules base given point q → IsAddable self.old q }
         ensures finds { FindsOnly (PassedBy self.old.rules base given point) self.old self.new }
-        ensures all { OnOk result ((q : AnyPair) → PassedBy self.old.rules base given point q → Contains self.new.found q) }
+        ensures all { OnOk result ((q : AnyPair) →
+            PassedBy self.old.rules base given point q → Contains self.new.found q) }
         ensures limit { TellsLimit result self.new }
     {
         let rules = self.rules;
@@ -142,7 +145,8 @@ impl<'a> Pairs<'a> {
     pub(crate) fn start(&mut self) -> Result<(), FlowFault>
         requires { self.old.found ≡ [] }
         ensures finds { FindsOnly (PassedAtFirst self.old.rules) self.old self.new }
-        ensures all { OnOk result ((q : AnyPair) → PassedAtFirst self.old.rules q → Contains self.new.found q) }
+        ensures all { OnOk result ((q : AnyPair) →
+            PassedAtFirst self.old.rules q → Contains self.new.found q) }
         ensures limit { TellsLimit result self.new }
     {
         let points = self.points;
@@ -159,7 +163,8 @@ impl<'a> Pairs<'a> {
         requires within { length self.old.found ≤ self.old.max }
         requires addable { (q : AnyPair) → PassedFor self.old.rules base q → IsAddable self.old q }
         ensures finds { FindsOnly (PassedFor self.old.rules base) self.old self.new }
-        ensures all { OnOk result ((q : AnyPair) → PassedFor self.old.rules base q → Contains self.new.found q) }
+        ensures all { OnOk result ((q : AnyPair) →
+            PassedFor self.old.rules base q → Contains self.new.found q) }
         ensures limit { TellsLimit result self.new }
     {
         let users = self.users;
@@ -186,7 +191,8 @@ impl<'a> Pairs<'a> {
         self.pass_all(base)
     }
 
-    /// Passes on what the parameter of this flow pair may become by these head pairs of its point.
+    /// Passes on what the parameter of this flow pair may become by these head pairs of its point. Most
+    /// of that is known, and so costs one look at a flag.
     pub(crate) fn spread_flow(
         &mut self,
         flow: FlowPair,
@@ -201,13 +207,19 @@ impl<'a> Pairs<'a> {
             Has self.new (record { rule = flow.rule; param = flow.param; base = h.rule; given = h.given })) }
         ensures limit { TellsLimit result self.new }
     {
+        let points = self.points;
+        let params = points.params();
+        let number = params.number(flow.rule, flow.param);
         for head in heads {
-            self.pass_once(Base {
-                rule: flow.rule,
-                param: flow.param,
-                base: head.rule,
-                given: head.given,
-            })?;
+            let flag = params.number(head.rule, head.given);
+            if !self.bases.is_flagged(number, flag) {
+                self.pass_once(Base {
+                    rule: flow.rule,
+                    param: flow.param,
+                    base: head.rule,
+                    given: head.given,
+                })?;
+            }
         }
         Ok(())
     }
@@ -227,13 +239,19 @@ impl<'a> Pairs<'a> {
             Has self.new (record { rule = f.rule; param = f.param; base = head.rule; given = head.given })) }
         ensures limit { TellsLimit result self.new }
     {
+        let points = self.points;
+        let params = points.params();
+        let flag = params.number(head.rule, head.given);
         for flow in flows {
-            self.pass_once(Base {
-                rule: flow.rule,
-                param: flow.param,
-                base: head.rule,
-                given: head.given,
-            })?;
+            let number = params.number(flow.rule, flow.param);
+            if !self.bases.is_flagged(number, flag) {
+                self.pass_once(Base {
+                    rule: flow.rule,
+                    param: flow.param,
+                    base: head.rule,
+                    given: head.given,
+                })?;
+            }
         }
         Ok(())
     }

@@ -1,6 +1,7 @@
 //! The pairs found, in tables.
 
-ghost use Rattle.std.specs.Prelude.{◌≡◌, ◌≢◌, ◌↔◌, ◌+◌, ◌++◌, ◌∷◌, [], ℕ, length, sum, Contains, IfOk, OnOk, AllPairs};
+ghost use Rattle.std.specs.Prelude.{◌≡◌, ◌≢◌, ◌↔◌, ◌+◌, ◌++◌, ◌∷◌, []};
+ghost use Rattle.std.specs.Prelude.{ℕ, length, sum, Contains, IfOk, OnOk, AllPairs};
 ghost use Rattle.std.specs.List.Sorted.{IsPermutation};
 ghost use Rattle.hs_scheme.specs.declared.flow.FlowPair.{FlowPair as AnyFlowPair};
 ghost use Rattle.hs_scheme.specs.declared.flow.Pair.{Pair as AnyPair};
@@ -19,7 +20,8 @@ fn add_pair(lists: &mut Lists<FlowPair>, params: &Parameters, pair: Pair) -> Res
     requires len { length lists.old ≡ sum params.now }
     requires parameter { (f : AnyFlowPair) → pair ≡ OfFlow f → IsParameter params.now f.rule f.param }
     ensures len { OnOk result (length lists.new ≡ length lists.old) }
-    ensures lists { OnOk result ((k : ℕ) → list_of lists.new k ≡ list_of lists.old k ++ of_number params.now k (flows_in (pair ∷ []))) }
+    ensures lists { OnOk result ((k : ℕ) →
+        list_of lists.new k ≡ list_of lists.old k ++ of_number params.now k (flows_in (pair ∷ []))) }
 {
     match pair {
         Pair::OfFlow(flow) => {
@@ -39,7 +41,8 @@ fn by_parameter(
 ) -> Result<Lists<FlowPair>, OutOfMemory>
     requires { (f : AnyFlowPair) → Contains found.now (OfFlow f) → IsParameter params.now f.rule f.param }
     ensures len { IfOk result (λ lists. length lists ≡ sum params.now) }
-    ensures lists { IfOk result (λ lists. (k : ℕ) → list_of lists k ≡ of_number params.now k (flows_in found.now)) }
+    ensures lists { IfOk result (λ lists.
+        (k : ℕ) → list_of lists k ≡ of_number params.now k (flows_in found.now)) }
 {
     let mut lists = Lists::empty(alloc, params.count() as usize)?;
     for pair in found {
@@ -48,11 +51,16 @@ fn by_parameter(
     Ok(lists)
 }
 
-/// Adds these pairs at the end, in ascending order.
-fn add_sorted(alloc: Global, pairs: &mut Vec<FlowPair>, row: &[FlowPair]) -> Result<(), OutOfMemory>
+/// Adds these pairs at the end, in ascending order. `sorted` is room to sort them in.
+fn add_sorted(
+    pairs: &mut Vec<FlowPair>,
+    sorted: &mut Vec<FlowPair>,
+    row: &[FlowPair],
+) -> Result<(), OutOfMemory>
     ensures { OnOk result (HasSorted row.now pairs.old.items pairs.new.items) }
 {
-    let mut sorted = row.to_vec(alloc)?;
+    sorted.clear();
+    sorted.extend_from_slice(row)?;
     sorted.sort_unstable();
     pairs.extend_from_slice(sorted.as_slice())?;
     Ok(())
@@ -65,14 +73,16 @@ fn ascending(
     found: &[Pair],
 ) -> Result<Vec<FlowPair>, OutOfMemory>
     requires once { AllPairs (λ a b. a ≢ b) found.now }
-    requires parameters { (f : AnyFlowPair) → Contains found.now (OfFlow f) → IsParameter params.now f.rule f.param }
+    requires parameters { (f : AnyFlowPair) →
+        Contains found.now (OfFlow f) → IsParameter params.now f.rule f.param }
     ensures permutation { IfOk result (λ pairs. IsPermutation (flows_in found.now) pairs.items) }
     ensures ascending { IfOk result (λ pairs. IsAscending flow_cmp pairs.items) }
 {
     let lists = by_parameter(alloc, params, found)?;
     let mut pairs = Vec::new(alloc);
+    let mut sorted = Vec::new(alloc);
     for number in 0..lists.len() {
-        add_sorted(alloc, &mut pairs, lists.list(number))?;
+        add_sorted(&mut pairs, &mut sorted, lists.list(number))?;
     }
     Ok(pairs)
 }
@@ -97,8 +107,10 @@ pub(crate) fn table(
     found: &[Pair],
 ) -> Result<FlowTable, OutOfMemory>
     requires once { AllPairs (λ a b. a ≢ b) found.now }
-    requires parameters { (f : AnyFlowPair) → Contains found.now (OfFlow f) → IsParameter params.now f.rule f.param }
-    ensures same { IfOk result (λ table. (q : AnyPair) → Contains found.now q ↔ Contains (pairs_of table.pairs table.heads) q) }
+    requires parameters { (f : AnyFlowPair) →
+        Contains found.now (OfFlow f) → IsParameter params.now f.rule f.param }
+    ensures same { IfOk result (λ table.
+        (q : AnyPair) → Contains found.now q ↔ Contains (pairs_of table.pairs table.heads) q) }
     ensures ascending { IfOk result IsFlowTable }
     ensures len { IfOk result (λ table. length table.pairs + length table.heads ≡ length found.now) }
 {

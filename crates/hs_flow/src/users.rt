@@ -1,6 +1,7 @@
 //! For each parameter, the points with that parameter at their head.
 
-ghost use Rattle.std.specs.Prelude.{◌≡◌, ◌++◌, ◌∷◌, ◌&&◌, [], ℕ, length, sum, OnOk, IfOk, if◌then◌else◌, nat_eq};
+ghost use Rattle.std.specs.Prelude.{◌≡◌, ◌++◌, ◌∷◌, ◌&&◌, [], ℕ};
+ghost use Rattle.std.specs.Prelude.{length, sum, OnOk, IfOk, if◌then◌else◌, nat_eq};
 ghost use Rattle.hs_scheme.specs.Parameters.{IsParameter};
 ghost use Rattle.hs_flow.specs.Users.{users_of, IsUserMap};
 
@@ -21,7 +22,9 @@ impl Users {
         requires param { IsParameter self.old.params rule param }
         requires lists { length self.old.lists ≡ sum self.old.params }
         ensures added { OnOk result ((r x : ℕ) →
-            users_of self.new r x ≡ (if nat_eq rule r && nat_eq param x then users_of self.old r x ++ point ∷ [] else users_of self.old r x)) }
+            users_of self.new r x ≡
+            (if nat_eq rule r && nat_eq param x
+            then users_of self.old r x ++ point ∷ [] else users_of self.old r x)) }
         ensures params { self.new.params ≡ self.old.params }
         ensures lists { OnOk result (length self.new.lists ≡ length self.old.lists) }
     {

@@ -110,10 +110,11 @@ impl Model for Points {
         (record { points = points_in a.rows.args.items a.rows.points.items; bodies = a.bodies.items; params = a.params }) };
 }
 
-/// Adds the points of a term of this rule, itself an argument or none. Recurses as deep as the term.
+/// Adds the points of a term of this rule, itself an argument or none. `pending` has the arguments of
+/// the terms around it, and keeps them. Recurses as deep as the term.
 fn add_term(
-    alloc: Global,
     rows: &mut Rows,
+    pending: &mut Vec<u32>,
     rule: u32,
     argument: Option<Argument>,
     term: &Term,
@@ -125,6 +126,7 @@ fn add_term(
         ≡ points_in rows.old.args.items rows.old.points.items ++ term_points rule (length rows.old.points.items) term.now) }
     ensures places { OnOk result (places_in rows.new.points.items
         ≡ places_in rows.old.points.items ++ term_places argument (length rows.old.points.items) term.now) }
+    ensures pending { OnOk result (pending.new.items ≡ pending.old.items) }
     ensures ranges { OnOk result (All (Fits rows.new.args.items) rows.new.points.items) }
     ensures few { OnOk result (length rows.new.points.items ≤ 500000) }
     ensures args { OnOk result (length rows.new.args.items + length rows.old.points.items + 1 ≤ length rows.new.points.items + length rows.old.args.items) }
@@ -141,18 +143,23 @@ fn add_term(
         from: 0,
         to: 0,
     })?;
-    let mut args = Vec::with_capacity(alloc, term.args.len())?;
+    if term.args.is_empty() {
+        return Ok(());
+    }
+    let start = pending.len();
     for (place, arg) in term.args.iter().enumerate() {
-        args.push(rows.points.len() as u32)?;
+        pending.push(rows.points.len() as u32)?;
         let argument = Argument {
             point: number as u32,
             place: place as u32,
         };
-        add_term(alloc, rows, rule, Some(argument), arg)?;
+        add_term(rows, pending, rule, Some(argument), arg)?;
     }
+    let own = &pending[start..];
     let from = rows.args.len() as u32;
-    rows.args.extend_from_slice(args.as_slice())?;
+    rows.args.extend_from_slice(own)?;
     let to = rows.args.len() as u32;
+    pending.truncate(start);
     let row = &mut rows.points[number];
     row.from = from;
     row.to = to;
@@ -172,10 +179,11 @@ impl Points {
             points: Vec::new(alloc),
             args: Vec::new(alloc),
         };
+        let mut pending = Vec::new(alloc);
         let mut bodies = Vec::with_capacity(alloc, scheme.rules.len())?;
         for (number, rule) in scheme.rules.iter().enumerate() {
             bodies.push(rows.points.len() as u32)?;
-            add_term(alloc, &mut rows, number as u32, None, &rule.body)?;
+            add_term(&mut rows, &mut pending, number as u32, None, &rule.body)?;
         }
         Ok(Points {
             rows,

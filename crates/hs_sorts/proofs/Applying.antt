@@ -1,87 +1,87 @@
 -- What a function that takes an argument adds to a store, and what the arguments of a term add.
-use Rattle.std.proofs.Common.{◌≡◌, refl, sym, ◌∙◌, ap, subst, ℕ, zero, suc, ◌+◌, ◌^◌, ◌<◌, ◌≤◌, List, [], ◌∷◌, ◌++◌, length, slice_get, Some, Bool, arith, length-append}
-use Rattle.hs_scheme.specs.Sorting.{SortTree, arrow}
-use Rattle.hs_sorts.specs.declared.store.Shape.TheVariants.{Open, Arrow}
+use Rattle.std.proofs.Common.{◌≡◌, refl, sym, ◌∙◌, ap, subst, ℕ, ◌+◌, ◌^◌, ◌<◌, ◌≤◌, List, [], ◌∷◌, ◌++◌, length, slice_get, Some, arith, length-append, length-set}
+use Rattle.std.proofs.lemmas.Option.{same_Some, slice_get_within}
+use Rattle.hs_scheme.specs.Tree.{node}
+use Rattle.hs_scheme.specs.Sorting.{SortTree, o, arrow}
+use Rattle.hs_sorts.specs.declared.store.Shape.TheVariants.{Open, Base, Arrow}
 use Rattle.hs_sorts.specs.declared.store.Node.{Node}
 use Rattle.hs_sorts.specs.declared.store.Node.TheVariants.{Root}
-use Rattle.hs_sorts.specs.Nodes.{Valuation, Respects, FitsNode, IsStore, IsRootOf, Equates, IsEquation}
+use Rattle.hs_sorts.specs.Nodes.{Valuation, Respects, FitsNode, IsStore, IsRootOf, Equates, with_arrow}
 use Rattle.hs_sorts.specs.Constraints.{Agree, Adds, Refutes, Takes}
-use Rattle.hs_sorts.proofs.Lists.{get_right}
+use Rattle.hs_sorts.proofs.Lists.{get_left, get_set_same}
 use Rattle.hs_sorts.proofs.Joining.{arrow_parts}
-use Rattle.hs_sorts.proofs.NodeLemmas.{over, over_agrees, over_later, respects_more, respects_fewer, store_more, one_place}
+use Rattle.hs_sorts.proofs.NodeLemmas.{over, over_agrees, over_later, respects_more, respects_fewer, respects_set, respects_unset, one_place}
 
--- a sort for the first of two new nodes, and one for the second
-abbrev two : SortTree → SortTree → Valuation
-two k l zero = k
-two k l (suc j) = l
+-- no arrow is o
+no_arrow : (a b : SortTree) → o ≡ arrow a b → ⊥
+no_arrow a (node u ks) h = cc
 
-module _ (old : List Node) (function argument : ℕ) (is : IsStore old) (few : length old < 2 ^ 32) (below : function < length old) (within : argument < length old) where
-  -- the node of what is left, and then the arrow
+-- a function of which nothing is known
+module _ (old mid : List Node) (function argument root : ℕ) (found : IsRootOf old mid function root Open) (is : IsStore mid) (within : argument < length mid) where
+  -- the node of what is left
   abbrev with_rest : List Node
-  with_rest = old ++ Root Open ∷ []
+  with_rest = mid ++ Root Open ∷ []
 
-  abbrev with_arrow : List Node
-  with_arrow = with_rest ++ Root (Arrow argument (length old)) ∷ []
+  abbrev top : Node
+  top = Root (Arrow argument (length mid))
 
-  one_more : length with_rest ≡ length old + 1
-  one_more = length-append old (Root Open ∷ [])
+  one_more : length with_rest ≡ length mid + 1
+  one_more = length-append mid (Root Open ∷ [])
+
+  in_mid : root < length mid
+  in_mid = slice_get_within mid root (Root Open) found.at
+
+  in_wide : root < length with_rest
+  in_wide = omega (arith, in_mid, one_more)
+
+  was_open : slice_get with_rest root ≡ Some (Root Open)
+  was_open = get_left mid (Root Open ∷ []) root (Root Open) found.at
 
   module _ (v : Valuation) (k : SortTree) (was : Respects v old) (takes : Takes function argument v k) where
     abbrev later : Valuation
-    later = over (length old) v (two k (arrow (v argument) k))
+    later = over (length mid) v (λ _. k)
 
-    at_rest : later (length old) ≡ k
-    at_rest = ap later (omega arith) ∙ over_later (length old) 0 v (two k (arrow (v argument) k))
+    at_rest : later (length mid) ≡ k
+    at_rest = ap later (omega arith) ∙ over_later (length mid) 0 v (λ _. k)
 
-    at_arrow : later (length with_rest) ≡ arrow (v argument) k
-    at_arrow = ap later one_more ∙ over_later (length old) 1 v (two k (arrow (v argument) k))
-
-    agrees : Agree (length old) v later
-    agrees = over_agrees (length old) v (two k (arrow (v argument) k))
+    agrees : Agree (length mid) v later
+    agrees = over_agrees (length mid) v (λ _. k)
 
     respects_rest : Respects later with_rest
-    respects_rest = respects_more old (Root Open ∷ []) v later is agrees was (λ j n h.
-        subst (λ (m : Node). FitsNode later (later (length old + j)) m) (one_place (Root Open) n j h).1 tt)
+    respects_rest = respects_more mid (Root Open ∷ []) v later is agrees (found.same.onward v was) (λ j n h.
+        subst (λ (m : Node). FitsNode later (later (length mid + j)) m) (one_place (Root Open) n j h).1 tt)
 
-    respects_arrow : Respects later with_arrow
-    respects_arrow = respects_more with_rest (Root (Arrow argument (length old)) ∷ []) later later (store_more old Open few is tt) (record { at = λ i h. refl }) respects_rest
-        (λ j n h.
-        let e = one_place (Root (Arrow argument (length old))) n j h in
-        subst (λ (m : Node). FitsNode later (later (length with_rest + j)) m) e.1
-        (ap later (omega (arith, e.0)) ∙ (at_arrow ∙ (λ i. arrow (sym (agrees.at argument within) i) (sym at_rest i)))))
+    fit : later root ≡ arrow (later argument) (later (length mid))
+    fit = agrees.at root in_mid ∙ (sym (found.equal v was) ∙ (takes ∙ (λ i. arrow (sym (agrees.at argument within) i) (sym at_rest i))))
 
-    equal : later function ≡ later (length with_rest)
-    equal = agrees.at function below ∙ (takes ∙ sym at_arrow)
-
-  pub applied : (new : List Node) → Equates function (length with_rest) with_arrow new → length with_rest < 2 ^ 32 → Adds old new (length old) (Takes function argument)
-  applied new e low = record {
-    longer = omega (arith, e.as_long, one_more, length-append with_rest (Root (Arrow argument (length old)) ∷ []));
-    few = omega (arith, e.as_long, length-append with_rest (Root (Arrow argument (length old)) ∷ []));
-    within = omega (arith, e.as_long, one_more, length-append with_rest (Root (Arrow argument (length old)) ∷ []));
+  pub open_applied : length mid < 2 ^ 32 → Adds old (with_arrow mid root argument) (length mid) (Takes function argument)
+  open_applied few = record {
+    longer = omega (arith, found.same.as_long, length-set with_rest root top, one_more);
+    few = omega (arith, few, length-set with_rest root top, one_more);
+    within = omega (arith, length-set with_rest root top, one_more);
     sound = λ v r.
-        let b = e.back v r in
-        let fit : v (length with_rest) ≡ arrow (v argument) (v (length old)) = b.0.fits (length with_rest) (Root (Arrow argument (length old)))
-        (subst (λ (j : ℕ). slice_get with_arrow j ≡ Some (Root (Arrow argument (length old)))) (omega arith)
-        (get_right with_rest (Root (Arrow argument (length old)) ∷ []) 0)) in
-        (respects_fewer old (Root Open ∷ []) v (respects_fewer with_rest (Root (Arrow argument (length old)) ∷ []) v b.0), b.1 ∙ fit);
+        let unset : Respects v with_rest = respects_unset with_rest root top v in_wide r (λ x h. subst (λ (n : Node). FitsNode v (v root) n) (same_Some (Root Open) x (sym was_open ∙ h)) tt) in
+        let before : Respects v old = found.same.back v (respects_fewer mid (Root Open ∷ []) v unset) in
+        (before, found.equal v before ∙ r.fits root top (get_set_same with_rest root top in_wide));
     complete = λ v k r t. record {
       valuation = later v k r t;
-      agrees = agrees v k r t;
-      respects = e.onward (later v k r t) (respects_arrow v k r t) (equal v k r t);
+      agrees = record { at = λ i h. (agrees v k r t).at i (omega (arith, found.same.as_long)) };
+      respects = respects_set with_rest root top (later v k r t) in_wide (respects_rest v k r t) (fit v k r t);
       gives = at_rest v k r t;
     };
   }
 
-  pub not_applied : ((v : Valuation) → Respects v with_arrow → v function ≡ v (length with_rest) → ⊥) → Refutes old (Takes function argument)
-  not_applied never v k r t = never (later v k r t) (respects_arrow v k r t) (equal v k r t)
+-- the same, as the call gives it
+pub open_given : (old mid new : List Node) (function argument root rest : ℕ) → IsRootOf old mid function root Open → IsStore mid → argument < length mid → length mid < 2 ^ 32 → rest ≡ length mid
+    → new ≡ with_arrow mid root argument → Adds old new rest (Takes function argument)
+open_given old mid new function argument root rest found is within few at widened =
+    subst (λ (j : ℕ). Adds old new j (Takes function argument)) (sym at)
+    (subst (λ (xs : List Node). Adds old xs (length mid) (Takes function argument)) (sym widened) (open_applied old mid function argument root found is within few))
 
--- the equation in the words of the first store
-pub same_equation : (old mid wide new : List Node) (function argument rest top : ℕ) (answer : Bool) → rest ≡ length old → mid ≡ old ++ Root Open ∷ [] → top ≡ length mid → wide ≡ mid ++ Root (Arrow argument rest) ∷ []
-    → IsEquation function top wide new answer
-    → IsEquation function (length (old ++ Root Open ∷ [])) ((old ++ Root Open ∷ []) ++ Root (Arrow argument (length old)) ∷ []) new answer
-same_equation old mid wide new function argument rest top answer first opened second widened e =
-    subst (λ (j : ℕ). IsEquation function j ((old ++ Root Open ∷ []) ++ Root (Arrow argument (length old)) ∷ []) new answer) (second ∙ ap length opened)
-    (subst (λ (xs : List Node). IsEquation function top xs new answer) (widened ∙ (λ i. opened i ++ Root (Arrow argument (first i)) ∷ [])) e)
+-- o takes no argument
+pub base_not_applied : (old mid : List Node) (function argument root : ℕ) → IsRootOf old mid function root Base → Refutes old (Takes function argument)
+base_not_applied old mid function argument root found v k r t =
+    no_arrow (v argument) k (sym ((found.same.onward v r).fits root (Root Base) found.at) ∙ (sym (found.equal v r) ∙ t))
 
 -- a function that is known to take an argument
 module _ (old mid : List Node) (function argument root expected rest : ℕ) (found : IsRootOf old mid function root (Arrow expected rest)) where

@@ -1,5 +1,5 @@
 -- What it does to a store that two of its nodes are made one.
-use Rattle.std.proofs.Common.{◌≡◌, ◌≢◌, sym, ◌∙◌, ap, subst, ℕ, ◌+◌, ◌<◌, List, [], ◌∷◌, ◌++◌, length, set, slice_get, min, max, Some, inl, inr, arith, length-append, length-set, All}
+use Rattle.std.proofs.Common.{◌≡◌, ◌≢◌, sym, ◌∙◌, ap, subst, ℕ, ◌+◌, ◌<◌, List, [], ◌∷◌, ◌++◌, length, set, slice_get, min, max, Some, Bool, true, false, inl, inr, arith, length-append, length-set, All}
 use Rattle.std.proofs.lemmas.Option.{same_Some, slice_get_within}
 use Rattle.std.proofs.lemmas.List.Elements.{All-push, All-nil, All-cons, All-head, All-tail}
 use Rattle.std.proofs.lemmas.Bool.{cases_lt}
@@ -9,7 +9,7 @@ use Rattle.hs_sorts.specs.declared.store.Shape.{Shape}
 use Rattle.hs_sorts.specs.declared.store.Shape.TheVariants.{Arrow}
 use Rattle.hs_sorts.specs.declared.store.Node.{Node}
 use Rattle.hs_sorts.specs.declared.store.Node.TheVariants.{Root, Link}
-use Rattle.hs_sorts.specs.Nodes.{Valuation, Fits, FitsNode, Respects, ShapeInRange, IsRootOf, root_count, linked, AreOne, PairsInRange, Merges, Joins}
+use Rattle.hs_sorts.specs.Nodes.{Valuation, Fits, FitsNode, Respects, ShapeInRange, IsRootOf, root_count, linked, AreOne, PairsInRange, Merges, Joins, Equates, IsEquation}
 use Rattle.hs_sorts.proofs.Lists.{get_set_same, get_set_other}
 use Rattle.hs_sorts.proofs.NodeLemmas.{respects_set, respects_unset, roots_set}
 
@@ -126,6 +126,23 @@ module _ (old mid now : List Node) (a b root_a root_b : ℕ) (left right : Shape
 
   at_a : slice_get now root_a ≡ Some (Root left)
   at_a = find_b.same.kept root_a left find_a.at
+
+  -- they are one already
+  pub one_root : root_a ≡ root_b → Equates a b old now
+  one_root same = record {
+    as_long = find_b.same.as_long ∙ find_a.same.as_long;
+    onward = λ v r e. both_onward v r;
+    back = λ v r. let was = both_back v r in (was, same_node v was (ap v same));
+  }
+
+  -- they are made one where their roots are
+  pub equates_roots : (new : List Node) (answer : Bool) → IsEquation root_a root_b now new answer → IsEquation a b old new answer
+  equates_roots new true e = record {
+    as_long = e.as_long ∙ (find_b.same.as_long ∙ find_a.same.as_long);
+    onward = λ v r h. e.onward v (both_onward v r) (same_value v r h);
+    back = λ v r. let k = e.back v r in let was = both_back v k.0 in (was, same_node v was k.1);
+  }
+  equates_roots new false e = λ v r h. e v (both_onward v r) (same_value v r h)
 
   pub not_joined : ((v : Valuation) (s : SortTree) → Fits v s left → Fits v s right → ⊥) → (v : Valuation) → Respects v old → v a ≡ v b → ⊥
   not_joined clash v r e =

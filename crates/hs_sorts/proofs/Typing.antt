@@ -1,5 +1,6 @@
 -- The sort of a term, argument by argument, as nodes are added for it.
-use Rattle.std.proofs.Common.{◌≡◌, refl, sym, ◌∙◌, ap, subst, ℕ, zero, suc, ◌+◌, ◌<◌, ◌≤◌, List, [], ◌∷◌, ◌++◌, length, take, get_or, arith}
+use Rattle.std.proofs.Common.{◌≡◌, refl, sym, ◌∙◌, ap, subst, ℕ, zero, suc, ◌+◌, ◌^◌, ◌<◌, ◌≤◌, List, [], ◌∷◌, ◌++◌, length, take, get_or, Bool, true, nat_eq, arith}
+use Rattle.std.proofs.lemmas.Bool.{eqb-true}
 use Rattle.std.proofs.lemmas.List.{take_more, take_all}
 use Rattle.hs_scheme.specs.declared.term.Head.{Head}
 use Rattle.hs_scheme.specs.Tree.{Tree, Trees, node, none, more, forest, height, heights}
@@ -129,6 +130,24 @@ module _ (at : Head → ℕ) (term : Tree Head) (head : Head) (ts : List (Tree H
   pub refutes_term : (old : List Node) → Refutes old (λ v k. Applied (λ h. v (at h)) (forest ts) (v top) k) → Refutes old (Has at term)
   refutes_term old a =
       subst (λ (t : Tree Head). Refutes old (Has at t)) whole (subst (λ (j : ℕ). Refutes old (λ v k. Applied (λ h. v (at h)) (forest ts) (v j) k)) is a)
+
+-- a list whose length is said to be 0
+pub no_items : {A : Type 0} (xs : List A) (len : ℕ) (empty : Bool) → len ≡ length xs → empty ≡ nat_eq len 0 → empty ≡ true → xs ≡ []
+no_items [] len empty long is h = refl
+no_items (x ∷ xs) len empty long is h = absurd (omega (arith, long, eqb-true len 0 (sym is ∙ h)))
+
+-- a term without arguments has its head's node, and nothing is added
+pub leaf_node : (at : Head → ℕ) (store : List Node) (t : Tree Head) (head : Head) (us : List (Tree Head)) (top : ℕ) → length store ≤ 2 ^ 32 → node head (forest us) ≡ t → us ≡ [] → top ≡ at head
+    → NodesBelow at (length store) t → Adds store store top (Has at t)
+leaf_node at store t head us top few whole none_there is below =
+    let parts = parts_below at t head us top whole is (length store) below in
+    adds_term at t head us top whole is store store top (subst (λ (vs : List (Tree Head)). Adds store store top (λ v k. Applied (λ h. v (at h)) (forest vs) (v top) k)) (sym none_there) (record {
+      longer = omega arith;
+      few = few;
+      within = parts.0;
+      sound = λ v r. (r, refl);
+      complete = λ v k r p. record { valuation = v; agrees = record { at = λ i h. refl }; respects = r; gives = p };
+    }))
 
 pub height_at : (i : ℕ) (ts : List (Tree Head)) (d : Tree Head) → i < length ts → height (get_or ts i d) + 1 ≤ heights (forest ts)
 height_at i [] d h = absurd (omega arith)

@@ -3,7 +3,7 @@
 --     Respects           so is the sort that v gives to each node
 --     IsStore            links and arrows lead to nodes, links to smaller numbers
 --     IsFlat             no link leads to a link
-use Rattle.std.specs.Prelude.{◌≡◌, ◌≢◌, ℕ, ◌+◌, ◌*◌, ◌^◌, ◌<◌, ◌≤◌, List, All, length, slice_get, slice_set, sum_by, Option, Some, None, Bool, true, false}
+use Rattle.std.specs.Prelude.{◌≡◌, ◌≢◌, ℕ, ◌+◌, ◌*◌, ◌^◌, ◌<◌, ◌≤◌, List, [], ◌∷◌, ◌++◌, All, length, slice_get, slice_set, sum_by, Option, Some, None, Bool, true, false}
 use Rattle.hs_scheme.specs.Sorting.{SortTree, o, arrow}
 use Rattle.hs_sorts.specs.declared.store.Shape.{Shape}
 use Rattle.hs_sorts.specs.declared.store.Shape.TheVariants.{Open, Base, Arrow}
@@ -82,6 +82,10 @@ pub record AreRoots (nodes : List Node) (a b : ℕ) : Type 0 where
 -- the first node gets this shape, and the second a link to it
 abbrev pub linked : List Node → ℕ → ℕ → Shape → List Node
 linked nodes a b shape = slice_set (slice_set nodes a (Root shape)) b (Link a)
+
+-- the open root becomes the arrow from this argument to a new open node
+abbrev pub with_arrow : List Node → ℕ → ℕ → List Node
+with_arrow nodes root argument = slice_set (nodes ++ Root Open ∷ []) root (Root (Arrow argument (length nodes)))
 
 -- two nodes have one sort
 abbrev pub AreOne : Valuation → List (ℕ × ℕ) → Type 0

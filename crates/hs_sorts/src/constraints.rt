@@ -2,7 +2,8 @@
 
 ghost use Rattle.std.specs.Prelude.{◌≡◌, ◌+◌, ◌<◌, ◌≤◌, ◌^◌, length, IfOk};
 ghost use Rattle.std.specs.Prelude.{slice_index};
-ghost use Rattle.hs_sorts.specs.Constraints.{node_of, NodesBelow, IsNodeFor, Takes, Has, IsClaim, IsBase, Leaves, IsRanked, IsRankedIf, HasBody};
+ghost use Rattle.hs_sorts.specs.Constraints.{node_of, NodesBelow, IsNodeFor, Takes, Has};
+ghost use Rattle.hs_sorts.specs.Constraints.{IsClaim, IsBase, Leaves, IsRanked, IsRankedIf, HasBody};
 
 use crate::layout::Layout;
 use crate::store::{Shape, Store};
@@ -21,7 +22,7 @@ pub fn apply(
     requires few { length store.old ≤ 2 ^ 32 }
     ensures { IfOk result (λ rest. IsNodeFor store.old store.new (Takes function argument) rest) }
 {
-    let (_root, shape) = store.find(function);
+    let (root, shape) = store.find(function);
     match shape {
         Shape::Arrow(expected, rest) => {
             if !store.equate(alloc, expected, argument)? {
@@ -29,27 +30,12 @@ pub fn apply(
             }
             Ok(Some(rest))
         }
-        _ => make_arrow(alloc, store, function, argument),
+        Shape::Open => {
+            let rest = store.make_arrow(root, argument)?;
+            Ok(Some(rest))
+        }
+        Shape::Base => Ok(None),
     }
-}
-
-/// The same where it isn't known whether the function takes an argument.
-fn make_arrow(
-    alloc: Global,
-    store: &mut Store,
-    function: u32,
-    argument: u32,
-) -> Result<Option<u32>, OutOfMemory>
-    requires function { function < length store.old }
-    requires argument { argument < length store.old }
-    ensures { IfOk result (λ rest. IsNodeFor store.old store.new (Takes function argument) rest) }
-{
-    let rest = store.add(Shape::Open)?;
-    let arrow = store.add(Shape::Arrow(argument, rest))?;
-    if !store.equate(alloc, function, arrow)? {
-        return Ok(None);
-    }
-    Ok(Some(rest))
 }
 
 /// The node of a term's sort in the body of this rule, or `None` where it has none. Recurses as
@@ -62,14 +48,21 @@ pub fn term_sort(
     term: &Term,
 ) -> Result<Option<u32>, OutOfMemory>
     requires rule { rule < length layout.now.firsts.items }
-    requires nodes { NodesBelow (node_of layout.now.rules layout.now.firsts.items rule) (length store.old) term.now }
+    requires nodes { NodesBelow (node_of layout.now.rules layout.now.firsts.items rule)
+        (length store.old) term.now }
     requires few { length store.old ≤ 2 ^ 32 }
-    ensures { IfOk result (λ sort. IsNodeFor store.old store.new (Has (node_of layout.now.rules layout.now.firsts.items rule) term.now) sort) }
+    ensures { IfOk result (λ sort. IsNodeFor store.old store.new
+        (Has (node_of layout.now.rules layout.now.firsts.items rule) term.now) sort) }
 {
     let mut sort = layout.node_of(rule, term.head);
     for arg in &term.args {
-        let Some(argument) = term_sort(alloc, store, layout, rule, arg)? else {
-            return Ok(None);
+        let argument = if arg.args.is_empty() {
+            layout.node_of(rule, arg.head)
+        } else {
+            let Some(node) = term_sort(alloc, store, layout, rule, arg)? else {
+                return Ok(None);
+            };
+            node
         };
         let Some(rest) = apply(alloc, store, sort, argument)? else {
             return Ok(None);
@@ -153,10 +146,12 @@ pub fn make_body(
     requires number { number < length layout.now.firsts.items }
     requires nonterminal { number < length store.old }
     requires parameters { slice_index layout.now.firsts.items number + rule.now.params ≤ length store.old }
-    requires nodes { NodesBelow (node_of layout.now.rules layout.now.firsts.items number) (length store.old) rule.now.body }
+    requires nodes { NodesBelow (node_of layout.now.rules layout.now.firsts.items number)
+        (length store.old) rule.now.body }
     requires few { length store.old ≤ 2 ^ 32 }
     ensures { IfOk result (λ yes. IsClaim store.old store.new
-        (HasBody (node_of layout.now.rules layout.now.firsts.items number) number (slice_index layout.now.firsts.items number) rule.now) yes) }
+        (HasBody (node_of layout.now.rules layout.now.firsts.items number) number
+        (slice_index layout.now.firsts.items number) rule.now) yes) }
 {
     let first = layout.firsts[number];
     let Some(rest) = rest_behind(alloc, store, number as u32, first, rule.params)? else {

@@ -1,8 +1,11 @@
 //! Unknown sorts as shared nodes, and unification over them.
 
-ghost use Rattle.std.specs.Prelude.{◌≡◌, ◌+◌, ◌++◌, ◌∷◌, [], ◌<◌, ◌≤◌, ◌^◌, IfOk, length, replicate, slice_get, Some, min, max};
+ghost use Rattle.std.specs.Prelude.{◌≡◌, ◌+◌, ◌++◌, ◌∷◌, [], ◌<◌, ◌≤◌, ◌^◌};
+ghost use Rattle.std.specs.Prelude.{IfOk, length, replicate, slice_get, Some, min, max};
+ghost use Rattle.hs_sorts.specs.declared.store.Shape.TheVariants.{Open};
 ghost use Rattle.hs_sorts.specs.declared.store.Node.TheVariants.{Root, Link};
-ghost use Rattle.hs_sorts.specs.Nodes.{IsStore, ShapeInRange, IsSameStore, FlatBelow, IsFlat, AreRoots, linked, IsRootOf, IsMerge, IsJoin, IsEquation};
+ghost use Rattle.hs_sorts.specs.Nodes.{IsStore, ShapeInRange, IsSameStore, FlatBelow, IsFlat, AreRoots};
+ghost use Rattle.hs_sorts.specs.Nodes.{linked, with_arrow, IsRootOf, IsMerge, IsJoin, IsEquation};
 
 use hs_scheme::OutOfMemory;
 use std::alloc::Global;
@@ -64,7 +67,8 @@ impl Store {
     /// Adds a node, and gives its number. More than 2^32 nodes are want of memory.
     pub fn add(&mut self, shape: Shape) -> Result<u32, OutOfMemory>
         requires { ShapeInRange (length self.old) shape }
-        ensures added { IfOk result (λ node. (node ≡ length self.old) × (self.new ≡ self.old ++ Root shape ∷ [])) }
+        ensures added { IfOk result (λ node.
+            (node ≡ length self.old) × (self.new ≡ self.old ++ Root shape ∷ [])) }
         ensures before { IfOk result (λ _. IsStore self.old) }
         ensures few { IfOk result (λ _. length self.old < 2 ^ 32) }
     {
@@ -78,7 +82,8 @@ impl Store {
     /// Adds nodes of the same shape, and gives the number of the first.
     pub fn add_all(&mut self, count: u32, shape: Shape) -> Result<u32, OutOfMemory>
         requires { ShapeInRange (length self.old) shape }
-        ensures added { IfOk result (λ first. (first ≡ length self.old) × (self.new ≡ self.old ++ replicate count (Root shape))) }
+        ensures added { IfOk result (λ first.
+            (first ≡ length self.old) × (self.new ≡ self.old ++ replicate count (Root shape))) }
         ensures before { IfOk result (λ _. IsStore self.old) }
         ensures few { IfOk result (λ _. length self.new ≤ 2 ^ 32) }
     {
@@ -89,6 +94,20 @@ impl Store {
             self.add(shape)?;
         }
         Ok(first)
+    }
+
+    /// Makes an open root the arrow from this argument to a new open node, whose number it gives.
+    pub fn make_arrow(&mut self, root: u32, argument: u32) -> Result<u32, OutOfMemory>
+        requires root { slice_get self.old root ≡ Some (Root Open) }
+        requires argument { argument < length self.old }
+        ensures arrow { IfOk result (λ rest.
+            (rest ≡ length self.old) × (self.new ≡ with_arrow self.old root argument)) }
+        ensures before { IfOk result (λ _. IsStore self.old) }
+        ensures few { IfOk result (λ _. length self.old < 2 ^ 32) }
+    {
+        let rest = self.add(Shape::Open)?;
+        self.nodes[root as usize] = Node::Root(Shape::Arrow(argument, rest));
+        Ok(rest)
     }
 
     /// Turns the link from `at` to `up` to where the link from `up` leads, if there is one.
@@ -167,6 +186,20 @@ impl Store {
     /// Makes two nodes one, and whatever nodes then have to be one. `false` where no sorts respect
     /// that. Almost linear in the number of nodes that become one.
     pub fn equate(&mut self, alloc: Global, a: u32, b: u32) -> Result<bool, OutOfMemory>
+        requires a { a < length self.old }
+        requires b { b < length self.old }
+        ensures { IfOk result (λ yes. IsEquation a b self.old self.new yes) }
+    {
+        let (first, _) = self.find(a);
+        let (second, _) = self.find(b);
+        if first == second {
+            return Ok(true);
+        }
+        self.unify(alloc, first, second)
+    }
+
+    /// The same where it isn't known that they are one.
+    fn unify(&mut self, alloc: Global, a: u32, b: u32) -> Result<bool, OutOfMemory>
         requires a { a < length self.old }
         requires b { b < length self.old }
         ensures { IfOk result (λ yes. IsEquation a b self.old self.new yes) }

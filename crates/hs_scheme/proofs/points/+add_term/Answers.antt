@@ -1,13 +1,14 @@
-use Rattle.std.proofs.Common.{◌≡◌, sym, ◌∙◌, ap, subst, ℕ, ◌+◌, ◌≤◌, ◌<◌, List, [], ◌∷◌, ◌++◌, length, length-append, take, arith}
+use Rattle.std.proofs.Common.{◌≡◌, refl, sym, ◌∙◌, ap, subst, ℕ, ◌+◌, ◌≤◌, ◌<◌, List, [], ◌∷◌, ◌++◌, length, length-append, append_assoc, get_or, take, arith}
 use Rattle.std.proofs.lemmas.Result.{err_from_is_err_and}
-use Rattle.std.proofs.lemmas.List.{take_all, length_push, length-map, length-take-le, length-set}
+use Rattle.std.proofs.lemmas.List.{take_all, length_push, length-map, length-set}
+use Rattle.std.specs.List.{slice_range}
 use Rattle.hs_scheme.specs.declared.term.Head.{Head}
 use Rattle.hs_scheme.specs.declared.points.Row.{Row}
 use Rattle.hs_scheme.specs.Tree.{Tree, node, forest}
 use Rattle.hs_scheme.specs.Points.{PointData, size, sizes, numbers, term_points, terms_points}
 use Rattle.hs_scheme.specs.Rows.{point_of, points_in, places_in, terms_places}
 use Rattle.hs_scheme.proofs.PointLemmas.{row_more, row_length, numbers_more, row_many, point_at, term_done}
-use Rattle.hs_scheme.proofs.RowLemmas.{places_more, first_pushed, place_pushed, ranged_points, ranged_places, term_placed, length-numbers}
+use Rattle.hs_scheme.proofs.RowLemmas.{places_more, first_pushed, place_pushed, ranged_points, ranged_places, term_placed, length-numbers, last_range}
 use Rattle.hs_scheme.proofs.points.+add_term.Goals as goal
 
 at_least_one : (t : Tree Head) → 1 ≤ size t
@@ -27,6 +28,22 @@ stands : (rule : ℕ) (args : List ℕ) (rows new : List Row) (later_args : List
     → {n : ℕ} → n ≡ length rows → n < length later
 stands rule args rows new later_args later row added e f long =
     omega (arith, longer rows new row e, as_many args new, as_many later_args later, ap length f, length-append (points_in args new) added)
+
+-- one more argument is pending
+pending_more : (rule n i : ℕ) (before so_far : List PointData) (us : List (Tree Head)) (u : Tree Head) → i < length us → u ≡ get_or us i u → length before ≡ n
+    → so_far ≡ before ++ terms_points rule n (forest (take i us)) → (old pending new : List ℕ) → pending ≡ old ++ numbers n (forest (take i us)) → new ≡ pending ++ length so_far ∷ []
+    → new ≡ old ++ numbers n (forest (take (i + 1) us))
+pending_more rule n i before so_far us u lt is long row old pending new was e =
+    e ∙ (ap (λ (xs : List ℕ). xs ++ length so_far ∷ []) was
+    ∙ (append_assoc old (numbers n (forest (take i us))) (length so_far ∷ [])
+    ∙ ap (λ (xs : List ℕ). old ++ xs) (numbers_more rule n i before so_far us u lt is long row (numbers n (forest (take i us))) (numbers n (forest (take i us)) ++ length so_far ∷ []) refl refl)))
+
+-- the own arguments of the term, of which the loop took all
+own_arguments : (n i : ℕ) (us : List (Tree Head)) (old pending seen : List ℕ) (start : ℕ) → length us ≤ i → pending ≡ old ++ numbers n (forest (take i us)) → start ≡ length old → seen ≡ pending
+    → slice_range seen start (length seen) ≡ numbers n (forest us)
+own_arguments n i us old pending seen start all is at same =
+    let whole : seen ≡ old ++ numbers n (forest us) = same ∙ (is ∙ ap (λ (vs : List (Tree Head)). old ++ numbers n (forest vs)) (take_all i us all)) in
+    (λ j. slice_range (whole j) start (length (whole j))) ∙ last_range old (numbers n (forest us)) start (length (old ++ numbers n (forest us))) at (length-append old (numbers n (forest us)))
 
 pub returns-then-len-ge-MAX_POINTS-clause-many : goal.returns-then-len-ge-MAX_POINTS-clause-many
 returns-then-len-ge-MAX_POINTS-clause-many t c = λ h. omega (arith, at_least_one c.args.term.now)
@@ -58,26 +75,25 @@ loop-place-preserved t c =
           (points_in c.add_term.new.rows.args.items c.add_term.new.rows.points.items) (c.in_ok-add_term.ensures.added ∙ ap (λ n. points ++ term_points c.args.rule n c.arg-item.result) (sym count));
       places = places_more c.len-number.result (c.len-number.result + 1) c.loop-place.place (length rows) (places_in c.push.new.self.items) (places_in rows) us c.arg-item.result c.loop-place-test.true c.arg-item.is so_long
           c.loop-place.invariant.places (places_in c.add_term.new.rows.points.items) c.in_ok-add_term.ensures.places;
-      args = numbers_more c.args.rule (c.len-number.result + 1) c.loop-place.place (points_in args c.push.new.self.items) points us c.arg-item.result c.loop-place-test.true c.arg-item.is long c.loop-place.invariant.points
-          c.loop-place.args.items c.push-in-loop-place.new.self.items c.loop-place.invariant.args (c.in_ok-push-2.ensures.items ∙ ap (λ n. c.loop-place.args.items ++ n ∷ []) (omega (arith, count)));
+      args = pending_more c.args.rule (c.len-number.result + 1) c.loop-place.place (points_in args c.push.new.self.items) points us c.arg-item.result c.loop-place-test.true c.arg-item.is long c.loop-place.invariant.points
+          c.args.pending.now.items c.loop-place.pending.items c.add_term.new.pending.items c.loop-place.invariant.args
+          (c.in_ok-add_term.ensures.pending ∙ (c.in_ok-push-2.ensures.items ∙ ap (λ n. c.loop-place.pending.items ++ n ∷ []) (omega (arith, count))));
       ranges = c.in_ok-add_term.ensures.ranges;
       few = c.in_ok-add_term.ensures.few;
       room = omega (arith, c.in_ok-add_term.ensures.args, c.loop-place.invariant.room);
     }
 
--- as many arguments as the loop took terms
-taken : (n i : ℕ) (us : List (Tree Head)) (args : List ℕ) → i ≤ length us → args ≡ numbers n (forest (take i us)) → length args ≡ i
-taken n i us args le is = ap length is ∙ (length-numbers n (take i us) ∙ length-take-le i us le)
-
 pub overflow_cast-to : goal.overflow_cast-to
 overflow_cast-to t c =
-    let grown : c.extend_from_slice.new.self.items ≡ c.loop-place.rows.args.items ++ c.loop-place.args.items =
-    c.in_ok-extend_from_slice.ensures.items ∙ ap (λ (xs : List ℕ). c.loop-place.rows.args.items ++ xs) c.as_slice.ensures.value in
+    let us = c.deref-arg-items.result.now in
+    let grown : c.extend_from_slice.new.self.items ≡ c.loop-place.rows.args.items ++ numbers (c.len-number.result + 1) (forest us) =
+    c.in_ok-extend_from_slice.ensures.items ∙ ap (λ (xs : List ℕ). c.loop-place.rows.args.items ++ xs)
+    (own_arguments (c.len-number.result + 1) c.loop-place.place us c.args.pending.now.items c.loop-place.pending.items c.deref.result.now c.len-start.result c.loop-place-test.false c.loop-place.invariant.args (omega arith) c.deref.ensures.value) in
     let more : length c.push.new.self.items ≡ length c.args.rows.now.points.items + 1 = longer c.args.rows.now.points.items c.push.new.self.items _ c.in_ok-push.ensures.items in
     omega (
       arith,
-      taken (c.len-number.result + 1) c.loop-place.place c.deref-arg-items.result.now c.loop-place.args.items (omega arith) c.loop-place.invariant.args,
-      length-append c.loop-place.rows.args.items c.loop-place.args.items,
+      length-numbers (c.len-number.result + 1) us,
+      length-append c.loop-place.rows.args.items (numbers (c.len-number.result + 1) (forest us)),
       ap length grown,
       c.loop-place.invariant.room,
     )
@@ -95,28 +111,28 @@ returns-clause-added t c =
     let long : length old ≡ c.len-number.result = as_many args c.args.rows.now.points.items ∙ omega arith in
     let row : p ≡ q ++ terms_points c.args.rule (c.len-number.result + 1) (forest us) =
     c.loop-place.invariant.points ∙ ap (λ vs. q ++ terms_points c.args.rule (c.len-number.result + 1) (forest vs)) (take_all c.loop-place.place us c.loop-place-test.false) in
-    let numbered : c.loop-place.args.items ≡ numbers (c.len-number.result + 1) (forest us) =
-    c.loop-place.invariant.args ∙ ap (λ vs. numbers (c.len-number.result + 1) (forest vs)) (take_all c.loop-place.place us c.loop-place-test.false) in
-    let grown : c.extend_from_slice.new.self.items ≡ c.loop-place.rows.args.items ++ c.loop-place.args.items =
-    c.in_ok-extend_from_slice.ensures.items ∙ ap (λ (xs : List ℕ). c.loop-place.rows.args.items ++ xs) c.as_slice.ensures.value in
+    let grown : c.extend_from_slice.new.self.items ≡ c.loop-place.rows.args.items ++ numbers (c.len-number.result + 1) (forest us) =
+    c.in_ok-extend_from_slice.ensures.items ∙ ap (λ (xs : List ℕ). c.loop-place.rows.args.items ++ xs)
+    (own_arguments (c.len-number.result + 1) c.loop-place.place us c.args.pending.now.items c.loop-place.pending.items c.deref.result.now c.len-start.result c.loop-place-test.false c.loop-place.invariant.args (omega arith) c.deref.ensures.value) in
     let within : c.len-number.result < length rows = stands c.args.rule c.args.rows.now.args.items c.args.rows.now.points.items c.push.new.self.items c.loop-place.rows.args.items rows _ _ c.in_ok-push.ensures.items c.loop-place.invariant.points (omega arith) in
-    ranged_points c.loop-place.rows.args.items c.extend_from_slice.new.self.items c.loop-place.args.items rows c.len-number.result c.index_mut-row.result.now within c.index_mut-row.ensures.value
+    ranged_points c.loop-place.rows.args.items c.extend_from_slice.new.self.items (numbers (c.len-number.result + 1) (forest us)) rows c.len-number.result c.index_mut-row.result.now within c.index_mut-row.ensures.value
     c.loop-place.invariant.ranges grown c.len-from.result c.len-to.result (omega arith)
-    (omega (arith, length-append c.loop-place.rows.args.items c.loop-place.args.items, ap length grown)) first
+    (omega (arith, length-append c.loop-place.rows.args.items (numbers (c.len-number.result + 1) (forest us)), ap length grown)) first
     (point_at c.len-number.result old q p _ first _ long pushed row)
-    ∙ (term_done c.args.rule c.len-number.result old q p first (record { rule = c.args.rule; head = c.term.inside.head; args = c.loop-place.args.items }) c.term.inside.head us c.args.term.now long
-    (ap (λ vs. node c.term.inside.head (forest vs)) c.deref-arg-items.ensures.value ∙ c.term.view_is) pushed row (ap (λ (xs : List ℕ). record { rule = c.args.rule; head = c.term.inside.head; args = xs }) numbered)
+    ∙ (term_done c.args.rule c.len-number.result old q p first (record { rule = c.args.rule; head = c.term.inside.head; args = numbers (c.len-number.result + 1) (forest us) }) c.term.inside.head us c.args.term.now long
+    (ap (λ vs. node c.term.inside.head (forest vs)) c.deref-arg-items.ensures.value ∙ c.term.view_is) pushed row refl
     ∙ ap (λ n. old ++ term_points c.args.rule n c.args.term.now) (as_many args c.args.rows.now.points.items))
 
 pub returns-clause-places : goal.returns-clause-places
 returns-clause-places t c =
     let us = c.deref-arg-items.result.now in
     let rows = c.loop-place.rows.points.items in
-    let grown : c.extend_from_slice.new.self.items ≡ c.loop-place.rows.args.items ++ c.loop-place.args.items =
-    c.in_ok-extend_from_slice.ensures.items ∙ ap (λ (xs : List ℕ). c.loop-place.rows.args.items ++ xs) c.as_slice.ensures.value in
+    let grown : c.extend_from_slice.new.self.items ≡ c.loop-place.rows.args.items ++ numbers (c.len-number.result + 1) (forest us) =
+    c.in_ok-extend_from_slice.ensures.items ∙ ap (λ (xs : List ℕ). c.loop-place.rows.args.items ++ xs)
+    (own_arguments (c.len-number.result + 1) c.loop-place.place us c.args.pending.now.items c.loop-place.pending.items c.deref.result.now c.len-start.result c.loop-place-test.false c.loop-place.invariant.args (omega arith) c.deref.ensures.value) in
     let within : c.len-number.result < length rows = stands c.args.rule c.args.rows.now.args.items c.args.rows.now.points.items c.push.new.self.items c.loop-place.rows.args.items rows _ _ c.in_ok-push.ensures.items c.loop-place.invariant.points (omega arith) in
-    ranged_places c.loop-place.rows.args.items c.extend_from_slice.new.self.items c.loop-place.args.items rows c.len-number.result c.index_mut-row.result.now within c.index_mut-row.ensures.value
-    c.loop-place.invariant.ranges grown c.len-from.result c.len-to.result (omega arith) (omega (arith, length-append c.loop-place.rows.args.items c.loop-place.args.items, ap length grown))
+    ranged_places c.loop-place.rows.args.items c.extend_from_slice.new.self.items (numbers (c.len-number.result + 1) (forest us)) rows c.len-number.result c.index_mut-row.result.now within c.index_mut-row.ensures.value
+    c.loop-place.invariant.ranges grown c.len-from.result c.len-to.result (omega arith) (omega (arith, length-append c.loop-place.rows.args.items (numbers (c.len-number.result + 1) (forest us)), ap length grown))
     ∙ term_placed c.args.argument c.len-number.result (places_in c.args.rows.now.points.items) (places_in c.push.new.self.items) (places_in rows) c.term.inside.head us c.args.term.now
     (length c.args.rows.now.points.items) (omega arith) (ap (λ vs. node c.term.inside.head (forest vs)) c.deref-arg-items.ensures.value ∙ c.term.view_is)
     (place_pushed c.args.rows.now.points.items c.push.new.self.items _ c.in_ok-push.ensures.items)
@@ -124,14 +140,16 @@ returns-clause-places t c =
 
 pub returns-clause-args : goal.returns-clause-args
 returns-clause-args t c =
-    let grown : c.extend_from_slice.new.self.items ≡ c.loop-place.rows.args.items ++ c.loop-place.args.items =
-    c.in_ok-extend_from_slice.ensures.items ∙ ap (λ (xs : List ℕ). c.loop-place.rows.args.items ++ xs) c.as_slice.ensures.value in
+    let us = c.deref-arg-items.result.now in
+    let grown : c.extend_from_slice.new.self.items ≡ c.loop-place.rows.args.items ++ numbers (c.len-number.result + 1) (forest us) =
+    c.in_ok-extend_from_slice.ensures.items ∙ ap (λ (xs : List ℕ). c.loop-place.rows.args.items ++ xs)
+    (own_arguments (c.len-number.result + 1) c.loop-place.place us c.args.pending.now.items c.loop-place.pending.items c.deref.result.now c.len-start.result c.loop-place-test.false c.loop-place.invariant.args (omega arith) c.deref.ensures.value) in
     let more : length c.push.new.self.items ≡ length c.args.rows.now.points.items + 1 = longer c.args.rows.now.points.items c.push.new.self.items _ c.in_ok-push.ensures.items in
     omega (
       arith,
       length-set {A = Row},
-      taken (c.len-number.result + 1) c.loop-place.place c.deref-arg-items.result.now c.loop-place.args.items (omega arith) c.loop-place.invariant.args,
-      length-append c.loop-place.rows.args.items c.loop-place.args.items,
+      length-numbers (c.len-number.result + 1) us,
+      length-append c.loop-place.rows.args.items (numbers (c.len-number.result + 1) (forest us)),
       ap length grown,
       c.loop-place.invariant.room,
     )

@@ -9,7 +9,7 @@ abbrev pub invariant-loop-place : goal.invariant-loop-place
 invariant-loop-place l = record {
   points : points_in l.rows.args.items l.rows.points.items ≡ points_in l.initial.rows.args.items l.initial.rows.points.items ++ terms_points l.rule (l.number + 1) (forest (take l.place l.arg-items));
   places : places_in l.rows.points.items ≡ places_in l.initial.rows.points.items ++ terms_places l.number 0 (l.number + 1) (forest (take l.place l.arg-items));
-  args : l.args.items ≡ numbers (l.number + 1) (forest (take l.place l.arg-items));
+  args : l.pending.items ≡ l.initial.pending.items ++ numbers (l.number + 1) (forest (take l.place l.arg-items));
   ranges : All (Fits l.rows.args.items) l.rows.points.items;
   few : length l.rows.points.items ≤ 500000;
   room : length l.rows.args.items + l.place + length l.initial.rows.points.items ≤ length l.rows.points.items + length l.initial.rows.args.items;

@@ -1,10 +1,15 @@
-use Rattle.std.proofs.Common.{subst, Bool}
-use Rattle.hs_sorts.specs.Nodes.{IsJoin}
-use Rattle.hs_sorts.proofs.Joining.{pending_less}
+use Rattle.std.proofs.lemmas.Result.{IfOk-weaker}
+use Rattle.hs_sorts.specs.Nodes.{IsEquation}
+use Rattle.hs_sorts.proofs.Joining.{one_root, equates_roots}
 use Rattle.hs_sorts.proofs.store.Store.equate.Goals as goal
 
-pub loop-a-preserved : goal.loop-a-preserved
-loop-a-preserved c =
-    pending_less c.args.self.now c.loop-a.self c.join-in-Some.new.self c.args.a c.args.b c.in-Some.a c.in-Some.b c.loop-a.pairs.items c.pop.new.self.items c.join-in-Some.new.pairs.items
-    c.in-Some.ensures.items c.loop-a.invariant
-    (subst (λ (b : Bool). IsJoin c.in-Some.a c.in-Some.b c.loop-a.self c.join-in-Some.new.self c.pop.new.self.items c.join-in-Some.new.pairs.items b) c.if-not-branch-2.false c.in_ok-join-2.ensures)
+pub returns-then-first-second : goal.returns-then-first-second
+returns-then-first-second c =
+    one_root c.args.self.now c.find-first.new.self c.find-second.new.self c.args.a c.args.b c.find-first.result.0 c.find-second.result.0 c.find-first.result.1 c.find-second.result.1 c.find-first.ensures c.find-second.ensures
+    c.if-first-second.true
+
+pub returns : goal.returns
+returns c =
+    IfOk-weaker c.unify.result (IsEquation c.find-first.result.0 c.find-second.result.0 c.find-second.new.self c.unify.new.self) (IsEquation c.args.a c.args.b c.args.self.now c.unify.new.self) (λ answer e.
+    equates_roots c.args.self.now c.find-first.new.self c.find-second.new.self c.args.a c.args.b c.find-first.result.0 c.find-second.result.0 c.find-first.result.1 c.find-second.result.1 c.find-first.ensures c.find-second.ensures
+    c.unify.new.self answer e) c.unify.ensures

@@ -2,7 +2,7 @@
 use Rattle.std.proofs.Common.{◌+◌, ◌*◌, length}
 use Rattle.hs_sorts.specs.Nodes.{root_count}
 use Rattle.hs_sorts.proofs.Joining.{Pending}
-use Rattle.hs_sorts.proofs.store.Store.equate.Given as goal
+use Rattle.hs_sorts.proofs.store.Store.unify.Given as goal
 
 abbrev pub invariant-loop-a : goal.invariant-loop-a
 invariant-loop-a l = Pending l.fn.self l.self l.fn.a l.fn.b l.pairs.items
