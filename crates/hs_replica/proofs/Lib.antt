@@ -5,3 +5,4 @@ pub mod TypeLemmas
 pub mod RowLemmas
 pub mod KeptLemmas
 pub mod Firsts
+pub mod ExtendLemmas

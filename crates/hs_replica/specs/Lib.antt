@@ -1,3 +1,4 @@
 pub mod Places
 pub mod Replica
 pub mod Index
+pub mod Extending

@@ -30,9 +30,6 @@ none_by n (x ∷ more) none =
     All-cons (λ (x : CoreStep). x.worker ≢ n) x more (λ same. false≢true (sym front.0 ∙ eq-eqb x.worker n same)) (none_by n more front.1)
 
 module _ (s : SeatData) (core : CoreData) (f : Finds s core) where
-  seen_state : State
-  seen_state = state_after core.base s.known.seen
-
   -- what the seat sees, upon the base of the core
   pub sees : (P : Base → State → Type 0) → Sees s P → P core.base (state_after core.base s.known.seen)
   sees P h = let Q : _ = λ o. IfSome o (λ base. P base (state_after base s.known.seen)) in subst Q f.base h

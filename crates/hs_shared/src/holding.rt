@@ -4,6 +4,7 @@ ghost use Rattle.std.specs.Prelude.{◌≡◌, ℕ, IfOk, OnOk, OnErr, length};
 ghost use mathlib.Core.List.{IsPrefix};
 ghost use Rattle.hs_table.specs.Follows.{FollowsBy};
 ghost use Rattle.hs_types.specs.Interned.{IsRow, entry_of, Grows};
+ghost use Rattle.hs_replica.specs.Extending.{CanExtend, extended};
 ghost use Rattle.hs_history.specs.Story.{finishes, gives_back};
 ghost use Rattle.hs_history.specs.CoreStep.{Holds, CanFinish};
 ghost use Rattle.hs_core.specs.Core.{CoreData, IsCore, state_of, log_of, deduction_of, stepped};
@@ -15,6 +16,7 @@ use crate::hold::{copy_log, count, publish_deduction, take_work, tell};
 use hs_core::{Deduced, Published, Replica, Taken};
 use hs_scheme::OutOfMemory;
 use hs_turn::{Guard, Seat};
+use hs_types::{Found, Row};
 use std::marker::Model;
 
 /// The core of a shared table while a seat holds it: no other call of the table goes on until the
@@ -139,6 +141,24 @@ impl<'a, 'p> Hold<'a, 'p> {
         ensures kept { (replica.new.spare ≡ replica.old.spare) × (replica.new.indexed ≡ replica.old.indexed) × Grows replica.old.ids replica.new.ids }
     {
         copy_log(self.guard.state.core.replica(), replica)
+    }
+
+    /// The rows, in the replica's interner, of the entries that the replica lacks, whose log begins the
+    /// core's log. There is then room for them in the replica, and whoever has left adds them by
+    /// `Replica::extend`. After a refusal of memory the replica's log is as before.
+    pub fn read_new(
+        &self,
+        replica: &mut Replica,
+        found: &mut Found,
+    ) -> Result<Vec<Row>, OutOfMemory>
+        requires { IsPrefix replica.old.log (log_of self.now.core) }
+        ensures fits { IfOk result (λ rows. CanExtend replica.new rows.items) }
+        ensures whole { IfOk result (λ rows. extended replica.new rows.items ≡ log_of self.now.core) }
+        ensures log { replica.new.log ≡ replica.old.log }
+        ensures indexed { replica.new.indexed ≡ replica.old.indexed }
+        ensures grows { Grows replica.old.ids replica.new.ids }
+    {
+        replica.read_new(found, self.guard.state.core.replica())
     }
 
     /// Lets the others go on.

@@ -8,4 +8,5 @@ pub mod MakeLemmas
 pub mod SearchLemmas
 pub mod UnionLemmas
 pub mod JoinLemmas
+pub mod RowLemmas
 pub mod TestLemmas

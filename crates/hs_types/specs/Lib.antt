@@ -1,3 +1,4 @@
 pub mod Interned
+pub mod Found
 pub mod Nodes
 pub mod Unions

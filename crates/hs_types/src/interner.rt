@@ -6,6 +6,7 @@ ghost use Rattle.hs_table.specs.Types.{TypeTree, state, arrow, type_cmp};
 ghost use Rattle.hs_types.specs.Unions.{IsSetUnion, IsEnvUnion};
 ghost use Rattle.hs_types.specs.Interned.{type_of_id, set_of_id, env_of_id, IsRow, entry_of, IsView, IsInterner, Grows, IsSetOf, IsUnion, IsUnionEnv};
 
+use crate::found::Found;
 use crate::guesses::Guesses;
 use crate::ids::{EnvId, Row, SetId, TyId, View};
 use crate::nodes::Nodes;
@@ -174,6 +175,25 @@ impl Interner {
             env,
             ty,
         })
+    }
+
+    /// The rows that stand here for the entries that these rows of the other interner stand for. Walks
+    /// each type and each environment once, and then finds it by its number.
+    pub fn import_rows(
+        &mut self,
+        found: &mut Found,
+        from: &Interner,
+        rows: &[Row],
+    ) -> Result<Vec<Row>, OutOfMemory>
+        requires { All (IsRow from.now) rows.now }
+        ensures rows { IfOk result (λ own. All (IsRow self.new) own.items) }
+        ensures entries { IfOk result (λ own. map (entry_of self.new) own.items ≡ map (entry_of from.now) rows.now) }
+        ensures grows { Grows self.old self.new }
+    {
+        let own = self
+            .nodes
+            .import_rows(self.alloc, &mut self.guesses, found, &from.nodes, rows)?;
+        Ok(own)
     }
 
     /// What the type is. Constant time, and takes no memory.

@@ -7,6 +7,7 @@
 #![tactic(auto)]
 
 mod compare;
+mod found;
 mod guesses;
 mod ids;
 mod import;
@@ -14,10 +15,12 @@ mod interner;
 mod make;
 mod merge;
 mod nodes;
+mod rows;
 #[cfg(test)]
 mod tests;
 mod tree;
 mod unions;
 
+pub use found::Found;
 pub use ids::{EnvId, Row, SetId, TyId, View};
 pub use interner::Interner;

@@ -9,9 +9,9 @@ use Rattle.hs_scheme.specs.declared.flow.FlowPair.{FlowPair}
 use Rattle.hs_scheme.specs.Points.{PointsData}
 use Rattle.hs_scheme.specs.Problem.{ProblemData}
 use Rattle.hs_flow.specs.Dependents.{HasDependents, list_of}
-use Rattle.hs_table.specs.Entries.{EntryData, InShape}
+use Rattle.hs_table.specs.Entries.{EntryData}
 use Rattle.hs_table.specs.Follows.{FollowsBy}
-use Rattle.hs_table_laws.proofs.Places.{here, member_at, within_from}
+use Rattle.hs_table_laws.proofs.Places.{here, within_from}
 use Rattle.hs_table_laws.proofs.Growing.{by_append, by_take}
 use Rattle.hs_types.specs.Interned.{InternerData, IsRow, entry_of, Grows}
 use Rattle.hs_types.proofs.Numbers.{row_within, row_stays}
@@ -59,13 +59,6 @@ module _ (ids : InternerData) (log : List EntryData) where
   known_new : (found : List DeducedData) (d : DeducedData) → IsKnown ids log (found ++ d ∷ []) (entry_of ids d.row)
   known_new found d = inr (subst (λ es. Contains es (entry_of ids d.row)) (sym (entries_append ids found (d ∷ []))) (Contains-append_right (entries_of ids found) (entry_of ids d.row ∷ []) (entry_of ids d.row) (here (entry_of ids d.row) [])))
 
-  pub keeps_none : (old : List DeducedData) → KeepsNew ids log [] old old
-  keeps_none old = record { more = []; is = sym (append_none old); among = All-nil (λ (d : DeducedData). Contains [] d); each = All-nil (λ (d : DeducedData). IsKnown ids log old (entry_of ids d.row)) }
-    where
-      append_none : (xs : List DeducedData) → xs ++ [] ≡ xs
-      append_none [] = refl
-      append_none (x ∷ xs) = ap (λ ys. x ∷ ys) (append_none xs)
-
   module _ (ys old new : List DeducedData) (k : KeepsNew ids log ys old new) (d : DeducedData) where
     still_among : All (λ (x : DeducedData). Contains (ys ++ d ∷ []) x) k.more
     still_among = All-weaker (λ (x : DeducedData). Contains ys x) (λ (x : DeducedData). Contains (ys ++ d ∷ []) x) (λ x c. Contains-append_left ys (d ∷ []) x c) k.more k.among
@@ -97,9 +90,6 @@ all_through ys [] whole none is = sym (append_none ys) ∙ is
     append_none (x ∷ xs) = ap (λ zs. x ∷ zs) (append_none xs)
 all_through ys (x ∷ rest) whole none is = absurd (omega arith)
 
-pub kept_all : (ids : InternerData) (log : List EntryData) (ys rest formed old new : List DeducedData) → length rest ≡ 0 → ys ++ rest ≡ formed → KeepsNew ids log ys old new → KeepsNew ids log formed old new
-kept_all ids log ys rest formed old new none is k = subst (λ xs. KeepsNew ids log xs old new) (all_through ys rest formed none is) k
-
 -- what was formed is found or in the log
 among_known : (ids : InternerData) (log : List EntryData) (formed old new : List DeducedData) → KeepsNew ids log formed old new → (e : EntryData) → Contains (entries_of ids formed) e → IsKnown ids log new e
 among_known ids log formed old new k e c =
@@ -121,9 +111,6 @@ deduced_within p ids log n found le h = All-weaker (IsDeduced p ids (take n log)
 pub record SoFar (p : ProblemData) (ids : InternerData) (log : List EntryData) (points : List ℕ) (n place : ℕ) (found : List DeducedData) : Type 0 where
   pub deduced : All (IsDeduced p ids log) found
   pub all : (k : ℕ) → k < n → (e : EntryData) → Demands p log place (get_or points k 0) e → IsKnown ids log found e
-
-pub none_so_far : (p : ProblemData) (ids : InternerData) (log : List EntryData) (points : List ℕ) (place : ℕ) → SoFar p ids log points 0 place []
-none_so_far p ids log points place = record { deduced = All-nil (IsDeduced p ids log); all = λ k lt. absurd (omega arith) }
 
 pub point_more : (p : ProblemData) (I J : InternerData) (log : List EntryData) (points : List ℕ) (n place : ℕ) (formed old new : List DeducedData) → Grows I J → place < length log
     → AreConclusions p J (take (place + 1) log) (get_or points n 0) (Uses place) formed → KeepsNew J log formed old new → SoFar p I log points n place old → SoFar p J log points (n + 1) place new
@@ -171,11 +158,6 @@ dependents_within points flows lists p items has listed = λ k d lt.
     let among = subst (λ xs. Contains xs (get_or items k d)) (sym (ap (λ o. unwrap_or o []) listed)) (Contains-get_or items k d lt) in
     let depends = (has.exact p (get_or items k d)).0 among in
     within_from points.points (get_or items k d) depends.of depends.at
-
-pub point_listed : (p : ProblemData) (log : List EntryData) (place : ℕ) (at : EntryData) (lists : List (List ℕ)) → All (InShape p) log → HasDependents p.points p.flow.pairs lists → slice_get log place ≡ Some at → at.point < length lists
-point_listed p log place at lists shape has here' =
-    let is = All-contains (InShape p) log at shape (member_at log place at here') in
-    omega (arith, within_from p.points.points at.point is.of is.at, has.each)
 
 -- an answer that says more
 pub ok_more : {X E : Type 0} (P Q : X → Type 0) (r : Result X E) → ((x : X) → P x → Q x) → IfOk r P → IfOk r Q

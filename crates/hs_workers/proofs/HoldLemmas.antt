@@ -10,7 +10,9 @@ use Rattle.hs_table.specs.Entries.{EntryData, InShape}
 use Rattle.hs_table.specs.Follows.{FollowsBy}
 use Rattle.hs_table_laws.proofs.Growing.{by_append}
 use Rattle.hs_table_laws.proofs.Places.{some_same, member_at}
-use Rattle.hs_types.specs.Interned.{InternerData, entry_of}
+use Rattle.hs_types.specs.Interned.{InternerData, RowData, entry_of}
+use Rattle.hs_replica.specs.Replica.{ReplicaData}
+use Rattle.hs_replica.specs.Extending.{extended}
 use Rattle.hs_rules.specs.Conclusions.{DeducedData, IsDeduced}
 use Rattle.hs_history.specs.declared.step.Work.{Work}
 use Rattle.hs_history.specs.Story.{Base, Deduction, takes, adds, passes, finishes, gives_back, Story}
@@ -65,9 +67,6 @@ pub still_holds : (old new : SeatData) (before after : HoldData) → Goes old ne
 still_holds old new before after g f ticket h = subst (λ n. Holds (state_of after.core) n ticket) (sym g.number) (h.0, f ticket ∙ h.1)
 
 -- a call that leaves the core as it was
-pub same_log : (a b : CoreData) → b.base ≡ a.base → b.story ≡ a.story → log_of b ≡ log_of a
-same_log a b base story = ap (λ (s : State). s.log) (state_same a b base story)
-
 pub same_flight : (a b : CoreData) → b.base ≡ a.base → b.story ≡ a.story → SameFlight a b
 same_flight a b base story t = ap (λ (s : State). s.flight t) (state_same a b base story)
 
@@ -108,13 +107,6 @@ module _ (core new : CoreData) (spare worker : ℕ) where
   taken_log (Item work ticket) h = ap (λ (s : State). s.log) (state_stepped (record core { spare = spare }) new worker (takes work ticket) (spare - 1) h.1)
   taken_log Idle h = ap (λ (c : CoreData). log_of c) h.2
   taken_log Quiet h = ap (λ (c : CoreData). log_of c) h.2
-
-  pub taken_none : (answer : Taken) → ((work : Work) (ticket : ℕ) → answer ≡ Item work ticket → ⊥) → Takes_ answer → SameFlight core new
-  taken_none (Found place) other h t = ap (λ (c : CoreData). (state_of c).flight t) h.1
-  taken_none Over other h t = ap (λ (c : CoreData). (state_of c).flight t) h.2
-  taken_none (Item work ticket) other h t = absurd (other work ticket refl)
-  taken_none Idle other h t = ap (λ (c : CoreData). (state_of c).flight t) h.2
-  taken_none Quiet other h t = ap (λ (c : CoreData). (state_of c).flight t) h.2
 
   pub taken_flight : (work : Work) (ticket : ℕ) → Takes_ (Item work ticket) → (t : ℕ) → (state_of new).flight t ≡ put ticket (Some (record { worker = worker; work = work })) (state_of core).flight t
   taken_flight work ticket h t = ap (λ (s : State). s.flight t) (state_stepped (record core { spare = spare }) new worker (takes work ticket) (spare - 1) h.1)
@@ -203,3 +195,9 @@ loaded_none table p s ids log jobs f empty none = record {
   carries = subst (λ (js : List Job). Sees s (λ base state. Carries s.known.number state.flight (keys js))) (sym none) (see s f.seated.base (λ base state. Carries s.known.number state.flight []) f.seated.knows tt);
   formed = subst (λ (js : List Job). All (IsFormed p ids log) js) (sym none) (All-nil (IsFormed p ids log));
 }
+
+-- ---- rows that were read
+
+-- without any the log is as it was
+pub begins_none : (r : ReplicaData) (rows : List RowData) (log whole : List EntryData) → r.log ≡ log → rows ≡ [] → IsPrefix log whole → IsPrefix (extended r rows) whole
+begins_none r rows log whole same none p = subst (λ (xs : List EntryData). IsPrefix xs whole) (sym (ap (λ (rs : List RowData). extended r rs) none ∙ append-nil r.log ∙ same)) p

@@ -1,6 +1,6 @@
 -- What a seat has seen, and a replica of it.
-use Rattle.std.proofs.Common.{sym, ◌∙◌, ap, subst, ◌<◌, List, ◌++◌, length, take, get_or, All, arith, Contains, append_assoc, length-append}
-use Rattle.std.proofs.lemmas.List.Elements.{Contains-get_or, Contains-append_left, All-weaker}
+use Rattle.std.proofs.Common.{sym, subst, List, take, get_or, All, Contains}
+use Rattle.std.proofs.lemmas.List.Elements.{Contains-get_or, Contains-append_left}
 use mathlib.Core.List.{IsPrefix}
 use Rattle.hs_scheme.specs.Problem.{ProblemData}
 use Rattle.hs_scheme.specs.Automaton.{IsAutomaton}
@@ -9,31 +9,21 @@ use Rattle.hs_table.specs.Tables.{IsSupportedTable}
 use Rattle.hs_table_laws.proofs.Places.{place_of}
 use Rattle.hs_table_laws.proofs.Least.{supports_support}
 use Rattle.hs_table_laws.proofs.Shapes.{follows_shape}
-use Rattle.hs_types.specs.Interned.{InternerData, entry_of}
+use Rattle.hs_types.specs.Interned.{InternerData}
 use Rattle.hs_rules.specs.Conclusions.{DeducedData}
 use Rattle.hs_history.specs.declared.step.Work.{Work}
-use Rattle.hs_history.specs.declared.step.Work.TheVariants.{Seed, Place}
 use Rattle.hs_history.specs.Story.{Base, Story}
 use Rattle.hs_history.specs.CoreStep.{IsClosedWork}
-use Rattle.hs_history.specs.History.{state_after, IsLegal, IsWork}
-use Rattle.hs_history.proofs.Histories.{grown, holds_after}
+use Rattle.hs_history.specs.History.{state_after, IsLegal}
+use Rattle.hs_history.proofs.Histories.{holds_after}
 use Rattle.hs_workers.specs.Forming.{HasAll, AreFormed}
 
 abbrev pub log_after : Base → Story → List EntryData
 log_after base story = (state_after base story).log
 
--- a log that is a beginning is one still
-pub log_begins : (base : Base) (log : List EntryData) (a b : Story) → IsPrefix log (log_after base a) → IsPrefix a b → IsPrefix log (log_after base b)
-log_begins base log a b p q =
-    let g = grown base a q.0 in
-    (p.0 ++ g.entries, sym (append_assoc log p.0 g.entries) ∙ ap (λ xs. xs ++ g.entries) p.1 ∙ sym g.log ∙ ap (λ story. log_after base story) q.1)
-
 -- what is in a beginning is there
 pub in_whole : (log whole : List EntryData) (e : EntryData) → IsPrefix log whole → Contains log e → Contains whole e
 in_whole log whole e p c = subst (λ xs. Contains xs e) p.1 (Contains-append_left log p.0 e c)
-
-pub has_still : (ids : InternerData) (found : List DeducedData) (log whole : List EntryData) → IsPrefix log whole → HasAll ids found log → HasAll ids found whole
-has_still ids found log whole p has = All-weaker (λ (d : DeducedData). Contains log (entry_of ids d.row)) (λ (d : DeducedData). Contains whole (entry_of ids d.row)) (λ d c. in_whole log whole (entry_of ids d.row) p c) found has
 
 -- entries are in shape
 pub shapes : (base : Base) (story : Story) (log : List EntryData) → IsAutomaton base.problem.sorted.automaton → IsLegal base story → IsPrefix log (log_after base story) → All (InShape base.problem) log
@@ -47,11 +37,6 @@ shapes base story log automaton legal p =
 
     table_shape : (p : ProblemData) (T : List EntryData) → IsAutomaton p.sorted.automaton → IsSupportedTable p T → (e : EntryData) → Contains T e → InShape p e
     table_shape p T automaton table e c = let at = place_of T e c in follows_shape p (take at.0 T) automaton.to e (table.follows at.0 e at.1)
-
--- a work stays one
-pub work_still : (p : ProblemData) (log whole : List EntryData) (work : Work) → IsPrefix log whole → IsWork p log work → IsWork p whole work
-work_still p log whole (Seed point) q h = h
-work_still p log whole (Place i) q h = subst (λ xs. i < length xs) q.1 (omega (arith, h, length-append log q.0))
 
 -- what was formed is there: the work is closed
 pub formed_closed : (p : ProblemData) (ids : InternerData) (log whole : List EntryData) (work : Work) (found : List DeducedData) → IsPrefix log whole → AreFormed p ids log work found → HasAll ids found whole → IsClosedWork p whole work

@@ -1,9 +1,10 @@
 //! What a worker does while it holds the table.
 
-ghost use Rattle.std.specs.Prelude.{◌≡◌, ℕ, None, IfOk, IsTrue, All, Contains};
+ghost use Rattle.std.specs.Prelude.{◌≡◌, ℕ, [], None, IfOk, IsTrue, All, Contains};
 ghost use mathlib.Core.List.{IsPrefix};
 ghost use Rattle.hs_types.specs.Interned.{entry_of};
 ghost use Rattle.hs_rules.specs.Conclusions.{IsDeduced};
+ghost use Rattle.hs_replica.specs.Extending.{CanExtend, extended};
 ghost use Rattle.hs_history.specs.CoreStep.{Holds, put, IsClosedWork};
 ghost use Rattle.hs_history.specs.History.{IsWork};
 ghost use Rattle.hs_core.specs.Core.{state_of, log_of};
@@ -18,11 +19,12 @@ use hs_core::{Published, Taken};
 use hs_rules::{Deduced, Replica};
 use hs_scheme::OutOfMemory;
 use hs_shared::{Held, Hold, Seat};
+use hs_types::{Found, Row};
 use std::alloc::Global;
 use std::mem::replace;
 
 /// A worker takes at most so many works at once.
-const MOST: usize = 64;
+const MOST: usize = 256;
 
 /// What a worker does next.
 #[derive(Clone, Copy)]
@@ -209,20 +211,23 @@ fn take_some<'p>(
     Next::Serve
 }
 
-/// How many works a worker takes at once: a half of its share of the pending works, so that all
-/// workers have something to do, but at least one.
+/// How many works a worker takes at once: its share of the pending works, so that all workers have
+/// something to do, but at least one.
 fn share_of(pending: usize, workers: usize) -> usize {
-    let share = pending / 2 / workers.max(1);
-    if share < MOST { share + 1 } else { MOST }
+    let share = pending / workers.max(1);
+    share.max(1).min(MOST)
 }
 
-/// Hands in the works that are done, makes the replica the log, and takes further works. Answers what
-/// the worker does next, which ends where it hasn't closed all works or memory is refused.
+/// Hands in the works that are done, reads the rows of the entries that the replica lacks, and takes
+/// further works. Answers what the worker does next, which ends where it hasn't closed all works or
+/// memory is refused.
 pub(crate) fn turn<'p>(
     alloc: Global,
     hold: &mut Hold<'_, 'p>,
     seat: &mut Seat<Held<'p>>,
     replica: &mut Replica,
+    found: &mut Found,
+    rows: &mut Vec<Row>,
     jobs: &mut Vec<Job>,
     workers: usize,
 ) -> Next
@@ -230,19 +235,23 @@ pub(crate) fn turn<'p>(
     requires carries { Carries seat.old.known.number (state_of hold.old.core).flight (keys jobs.old.items) }
     requires begins { IsPrefix replica.old.log (log_of hold.old.core) }
     requires formed { All (IsFormed hold.old.core.base.problem replica.old.ids replica.old.log) jobs.old.items }
+    requires none { rows.old.items ≡ [] }
     ensures goes { Goes seat.old seat.new hold.old hold.new }
-    ensures begins { IsPrefix replica.new.log (log_of hold.new.core) }
+    ensures fits { CanExtend replica.new rows.new.items }
+    ensures begins { IsPrefix (extended replica.new rows.new.items) (log_of hold.new.core) }
     ensures carries { Carries seat.new.known.number (state_of hold.new.core).flight (keys jobs.new.items) }
     ensures unformed { All IsUnformed jobs.new.items }
-    ensures works { All (λ j. IsWork hold.new.core.base.problem replica.new.log j.work) jobs.new.items }
+    ensures works { All (λ j. IsWork hold.new.core.base.problem (extended replica.new rows.new.items) j.work) jobs.new.items }
 {
     let done = replace(jobs, Vec::new(alloc));
+    let _entries = replica.len();
     if !hand_in(hold, seat, replica, done) {
         return Next::End;
     }
-    let Ok(()) = hold.catch_up(replica) else {
+    let Ok(read) = hold.read_new(replica, found) else {
         return Next::End;
     };
+    *rows = read;
     let share = share_of(hold.pending(), workers);
     let next = take_some(hold, seat, jobs, share);
     if jobs.is_empty() { next } else { Next::Serve }

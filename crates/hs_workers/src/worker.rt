@@ -16,12 +16,14 @@ use hs_flow::Dependents;
 use hs_rules::Replica;
 use hs_scheme::Problem;
 use hs_shared::{Held, Rested, RestedSeat, Seat, SharedTable};
+use hs_types::Found;
 use hs_verdict::is_sorted_problem;
 use std::alloc::Global;
 use std::mem::replace;
 use std::sync::Wait;
 
-/// Hands in the works that are done and takes further ones, under one hold of the table.
+/// Hands in the works that are done and takes further ones, under one hold of the table, and then makes
+/// the replica the log that was found.
 fn exchange<'p, R: Wait>(
     rt: &R,
     alloc: Global,
@@ -30,6 +32,7 @@ fn exchange<'p, R: Wait>(
     bell: &Bell,
     seat: &mut Seat<Held<'p>>,
     replica: &mut Replica,
+    found: &mut Found,
     jobs: &mut Vec<Job>,
 ) -> Next
     requires loaded { IsLoaded table.now problem.now seat.old replica.old.ids replica.old.log jobs.old.items }
@@ -37,11 +40,22 @@ fn exchange<'p, R: Wait>(
     ensures unformed { All IsUnformed jobs.new.items }
     ensures works { All (λ j. IsWork problem.now replica.new.log j.work) jobs.new.items }
 {
+    let mut rows = Vec::new(alloc);
     let mut hold = table.enter(rt, seat);
-    let next = turn(alloc, &mut hold, seat, replica, jobs, bell.workers());
+    let next = turn(
+        alloc,
+        &mut hold,
+        seat,
+        replica,
+        found,
+        &mut rows,
+        jobs,
+        bell.workers(),
+    );
     let pending = hold.pending();
     hold.leave(seat);
     bell.tell(pending);
+    replica.extend(rows.as_slice());
     next
 }
 
@@ -91,6 +105,7 @@ fn work_on<'p, R: Wait, G: Gate>(
     ensures { IsSeatOf table.now seat.new }
 {
     let mut replica = Replica::new(alloc);
+    let mut found = Found::new(alloc);
     let mut jobs = Vec::new(alloc);
     let mut heard = None;
     for _ in rt.forever() {
@@ -102,6 +117,7 @@ fn work_on<'p, R: Wait, G: Gate>(
             bell,
             seat,
             &mut replica,
+            &mut found,
             &mut jobs,
         ) {
             Next::Serve => {

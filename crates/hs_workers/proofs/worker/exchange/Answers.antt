@@ -1,7 +1,11 @@
-use Rattle.std.proofs.Common.{sym, ◌∙◌, ap, subst, All}
+use Rattle.std.proofs.Common.{sym, ◌∙◌, ap, subst, List, All}
+use mathlib.Core.List.{IsPrefix}
+use Rattle.hs_table.specs.Entries.{EntryData}
+use Rattle.hs_replica.specs.Replica.{ReplicaData}
+use Rattle.hs_replica.specs.Extending.{extended}
 use Rattle.hs_history.specs.Story.{Base}
 use Rattle.hs_history.specs.History.{IsWork}
-use Rattle.hs_core.specs.Core.{state_of}
+use Rattle.hs_core.specs.Core.{state_of, log_of}
 use Rattle.hs_shared.specs.Seats.{SeatData}
 use Rattle.hs_workers.specs.declared.job.Job.{Job}
 use Rattle.hs_workers.specs.Jobs.{keys, Carries, IsFormed}
@@ -36,17 +40,20 @@ pub returns-clause-loaded : goal.returns-clause-loaded
 returns-clause-loaded g c =
     let now = c.turn-next.ensures in
     let hold = c.turn-next.new.hold in
-    let ids = c.turn-next.new.replica.ids in
-    let log = c.turn-next.new.replica.log in
+    let ids = c.extend.new.self.ids in
+    let log = c.extend.new.self.log in
     let jobs = c.turn-next.new.jobs.items in
     let upon = ap (λ (b : Base). b.problem) now.goes.base
     ∙ found_problem c.args.table.now c.args.problem.now c.args.seat.now c.enter-hold.result.core c.enter-hold.ensures.finds c.args.replica.now.log c.requires.loaded.free in
+    let begins = subst (λ (xs : List EntryData). IsPrefix xs (log_of hold.core)) (sym (ap (λ (r : ReplicaData). r.log) c.extend.ensures ∙ ap (extended c.turn-next.new.replica) c.as_slice.ensures.value)) now.begins in
     left_loaded c.args.table.now c.args.problem.now c.turn-next.new.seat c.leave.new.seat hold now.goes.holds (now.goes.turn ∙ c.enter-hold.ensures.turn) c.leave.ensures
-    ids log jobs upon now.begins now.carries (all_unformed c.args.problem.now ids log jobs now.unformed)
+    ids log jobs upon begins now.carries (all_unformed c.args.problem.now ids log jobs now.unformed)
 
 pub returns-clause-works : goal.returns-clause-works
 returns-clause-works g c =
     let now = c.turn-next.ensures in
     let upon = ap (λ (b : Base). b.problem) now.goes.base
     ∙ found_problem c.args.table.now c.args.problem.now c.args.seat.now c.enter-hold.result.core c.enter-hold.ensures.finds c.args.replica.now.log c.requires.loaded.free in
-    subst (λ q. All (λ (j : Job). IsWork q c.turn-next.new.replica.log j.work) c.turn-next.new.jobs.items) upon now.works
+    let log = ap (λ (r : ReplicaData). r.log) c.extend.ensures ∙ ap (extended c.turn-next.new.replica) c.as_slice.ensures.value in
+    subst (λ (xs : List EntryData). All (λ (j : Job). IsWork c.args.problem.now xs j.work) c.turn-next.new.jobs.items) (sym log)
+    (subst (λ q. All (λ (j : Job). IsWork q (extended c.turn-next.new.replica c.turn-next.new.rows.items) j.work) c.turn-next.new.jobs.items) upon now.works)

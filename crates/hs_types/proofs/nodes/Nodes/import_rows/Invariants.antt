@@ -1,0 +1,13 @@
+-- the rows that stand here so far stand for what the other's do
+use Rattle.std.proofs.Common.{◌≡◌, All, map, take}
+use Rattle.hs_types.specs.Interned.{IsRow, entry_of, Grows}
+use Rattle.hs_types.specs.Found.{AreFound}
+use Rattle.hs_types.proofs.nodes.Nodes.import_rows.Given as goal
+
+abbrev pub invariant-loop-row : goal.invariant-loop-row
+invariant-loop-row l = record {
+  grows : Grows l.fn.self l.self;
+  found : AreFound l.from l.self l.found.types.pairs.items l.found.envs.pairs.items;
+  known : All (IsRow l.self) l.own.items;
+  same : map (entry_of l.self) l.own.items ≡ map (entry_of l.from) (take l.row-index l.rows);
+}
