@@ -1,4 +1,5 @@
 pub mod OneProblem
+pub mod OneScheme
 pub mod CoreLemmas
 pub mod DecidingLemmas
 pub mod OrderLemmas

@@ -8,6 +8,7 @@ use crate::refusal::Refusal;
 use hs_flow::{FlowFault, analyse};
 use hs_scheme::{OutOfMemory, Points, PointsFault, Problem, Sorted};
 use std::alloc::Global;
+use std::mem;
 
 /// The most pairs of the flow, of both kinds together.
 const MAX_PAIRS: u32 = 4_000_000;
@@ -19,7 +20,11 @@ pub(crate) fn problem_of(alloc: Global, sorted: Sorted) -> Result<Problem, Refus
 {
     let points = match Points::of(alloc, &sorted.scheme) {
         Ok(points) => points,
-        Err(PointsFault::TooMany) => return Err(Refusal::PointLimit),
+        Err(PointsFault::TooMany) => {
+            // The run ends: a large scheme isn't given back piece by piece.
+            mem::forget(sorted);
+            return Err(Refusal::PointLimit);
+        }
         Err(PointsFault::OutOfMemory) => return Err(Refusal::OutOfMemory),
     };
     let flow = match analyse(alloc, &sorted.scheme, &points, MAX_PAIRS) {

@@ -1,19 +1,17 @@
 //! From the bytes of a file to the verdict.
 
-ghost use Rattle.std.specs.Prelude.{◌≡◌, ◌≤◌, ◌<◌, ◌^◌, true, length, map, slice_get, Some, All, IfOk};
-ghost use Rattle.hs_resolve.specs.Answer.{IsFaultless};
-ghost use Rattle.hs_resolve.specs.Numbering.{unsorted_of};
+ghost use Rattle.std.specs.Prelude.{◌≡◌, ◌≤◌, ◌<◌, ◌^◌, true, length, map, slice_get, Some, All, IfOk, IfErr};
 ghost use Rattle.hs_scheme.specs.Sorted.{IsSorted};
-ghost use Rattle.hs_scheme.specs.Unsorted.{IsUnsorted};
+ghost use Rattle.hs_scheme.specs.Unsorted.{UnsortedData, IsUnsorted};
 ghost use Rattle.hs_sorts.specs.Inference.{IsFaultOf};
-ghost use Rattle.hs_app.specs.Problems.{asked_of};
-ghost use Rattle.hs_app.specs.Verdict.{AreWithin, DecidesForm, DecidesSorted, Answers, IsSortRefusal};
+ghost use Rattle.hs_app.specs.Problems.{Asked, asked_of};
+ghost use Rattle.hs_app.specs.Verdict.{AreWithin, IsScheme, DecidesForm, DecidesSorted, Refused, Answers, IsSortRefusal};
 
 use crate::deciding::decide_problem;
 use crate::problem::problem_of;
 use crate::refusal::Refusal;
 use hs_passes::{Pass, simplify, weight_of};
-use hs_reader::{MAX_BYTES, RawFile, read_file};
+use hs_reader::{MAX_BYTES, read_file};
 use hs_resolve::resolve;
 use hs_scheme::{Name, OutOfMemory, Sorted, Unsorted};
 use hs_sorts::{SortFault, infer};
@@ -56,32 +54,53 @@ pub(crate) struct Decided {
     pub(crate) report: Vec<u8>,
 }
 
-/// The name of a terminal. Inference consumes the names, so the file is resolved anew for it.
-fn terminal_name(alloc: Global, raw: &RawFile, terminal: u32) -> Result<Name, OutOfMemory>
-    requires faultless { IsFaultless raw.now }
-    requires in_range { terminal < length (unsorted_of raw.now).ranks }
-    ensures { IfOk result (λ name. slice_get (unsorted_of raw.now).names.terminals terminal ≡ Some name) }
+/// The scheme of the bytes of a file. What the file says is given back before it is returned.
+fn scheme_of(alloc: Global, bytes: &[u8]) -> Result<Unsorted, Refusal>
+    requires { length bytes.now ≤ MAX_BYTES }
+    ensures scheme { IfOk result (λ u. IsScheme bytes.now u) }
+    ensures refused { IfErr result (λ r. (asked : Asked) → Refused asked bytes.now r) }
 {
-    let Ok(unsorted) = resolve(alloc, raw) else {
-        return Err(OutOfMemory);
-    };
+    let raw = read_file(alloc, bytes)?;
+    Ok(resolve(alloc, &raw)?)
+}
+
+/// The name of a terminal of a scheme.
+fn name_in(alloc: Global, unsorted: Unsorted, terminal: u32) -> Result<Name, OutOfMemory>
+    requires { terminal < length unsorted.ranks }
+    ensures { IfOk result (λ name. slice_get unsorted.names.terminals terminal ≡ Some name) }
+{
     let names = unsorted.names;
     let terminals = names.terminals;
     terminals[terminal as usize].copy(alloc)
 }
 
+/// The name of a terminal. Inference consumes the names, so the file is read anew for it.
+fn terminal_name(alloc: Global, bytes: &[u8], terminal: u32) -> Result<Name, OutOfMemory>
+    requires length { length bytes.now ≤ MAX_BYTES }
+    requires in_range { (u : UnsortedData) → IsScheme bytes.now u → terminal < length u.ranks }
+    ensures { IfOk result (λ name. (u : UnsortedData) → IsScheme bytes.now u
+        → slice_get u.names.terminals terminal ≡ Some name) }
+{
+    let Ok(unsorted) = scheme_of(alloc, bytes) else {
+        return Err(OutOfMemory);
+    };
+    name_in(alloc, unsorted, terminal)
+}
+
 /// The refusal of a fault in the sorts.
-fn sort_refusal(alloc: Global, raw: &RawFile, fault: SortFault) -> Refusal
-    requires faultless { IsFaultless raw.now }
-    requires fault { IsFaultOf (unsorted_of raw.now).rules (unsorted_of raw.now).ranks fault }
-    ensures { IsSortRefusal (unsorted_of raw.now) result }
+fn sort_refusal(alloc: Global, bytes: &[u8], fault: SortFault) -> Refusal
+    requires length { length bytes.now ≤ MAX_BYTES }
+    requires fault { (u : UnsortedData) → IsScheme bytes.now u → IsFaultOf u.rules u.ranks fault }
+    ensures { (u : UnsortedData) → IsScheme bytes.now u → IsSortRefusal u result }
 {
     match fault {
         SortFault::IllSorted { rule } => Refusal::IllSorted { rule },
-        SortFault::TerminalNotFirstOrder { terminal } => match terminal_name(alloc, raw, terminal) {
-            Ok(terminal) => Refusal::NotFirstOrder { terminal },
-            Err(_) => Refusal::OutOfMemory,
-        },
+        SortFault::TerminalNotFirstOrder { terminal } => {
+            match terminal_name(alloc, bytes, terminal) {
+                Ok(terminal) => Refusal::NotFirstOrder { terminal },
+                Err(_) => Refusal::OutOfMemory,
+            }
+        }
         SortFault::SortTooLarge { rule } => Refusal::SortTooLarge { rule },
         SortFault::RuleTooLong { rule } => Refusal::RuleTooLong { rule },
         SortFault::OutOfMemory => Refusal::OutOfMemory,
@@ -174,11 +193,10 @@ pub(crate) fn decide<R: Threads + Wait + Sync, G: Gate + Sync>(
     requires tallies { All (λ p. taken p ≡ 0) passes.old.items }
     ensures { Answers (asked_of settings (map (λ p. image p) passes.old.items)) bytes.now result }
 {
-    let raw = read_file(alloc, bytes)?;
-    let unsorted = resolve(alloc, &raw)?;
+    let unsorted = scheme_of(alloc, bytes)?;
     know_unsorted(&unsorted);
     match infer(alloc, unsorted) {
         Ok(sorted) => decide_scheme(rt, alloc, sorted, settings, passes, gate),
-        Err(fault) => Err(sort_refusal(alloc, &raw, fault)),
+        Err(fault) => Err(sort_refusal(alloc, bytes, fault)),
     }
 }

@@ -2,13 +2,14 @@ pub mod Runs
 pub mod Cutting
 pub mod Pieces
 pub mod Lexing
-pub mod Terms
 pub mod Running
 pub mod Bodies
 pub mod Stages
 pub mod Completeness
 pub mod Passing
 pub mod Names
+pub mod Nodes
+pub mod Begun
 pub mod Counts
 pub mod Exact
 pub mod Unique

@@ -4,4 +4,6 @@ pub mod Grammar
 pub mod Limits
 pub mod Reading
 pub mod Faults
+pub mod Preorder
+pub mod Building
 pub mod ReadingStages

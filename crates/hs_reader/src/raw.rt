@@ -41,31 +41,69 @@ pub struct RawName<'a> {
     pub line: u32,
 }
 
+/// A name of a term, and how many arguments it is applied to.
+#[derive(Debug, Drop)]
+pub struct RawNode<'a> {
+    pub text: RawText<'a>,
+    /// The line of the name's first byte, counted from 1.
+    pub line: u32,
+    pub args: u32,
+}
+
+impl<'a> RawNode<'a> {
+    /// The name. Takes no memory.
+    pub fn name(&self) -> RawName<'a>
+        ensures { result ≡ record { text = self.now.text; line = self.now.line } }
+    {
+        RawName {
+            text: RawText::of(self.text.bytes()),
+            line: self.line,
+        }
+    }
+}
+
 /// A name applied to the arguments, none or more.
 ///
-/// Contracts see a finite tree with a name at each node.
+/// Contracts see a finite tree with a name at each node. It lies in memory as the list of its nodes.
 #[derive(Debug, Drop)]
 pub struct RawTerm<'a> {
-    pub head: RawName<'a>,
-    pub args: Vec<RawTerm<'a>>,
+    nodes: Vec<RawNode<'a>>,
 }
 
 impl<'a> Model for RawTerm<'a> {
+    ghost use Rattle.std.specs.Prelude.{◌≡◌};
     ghost use Rattle.hs_reader.specs.declared.raw.RawName.{RawName};
-    ghost use Rattle.hs_scheme.specs.Tree.{Tree, node, forest, height, most_le-heights, tree_code};
+    ghost use Rattle.hs_scheme.specs.Tree.{Tree, tree_code};
     ghost use Rattle.hs_reader.specs.Raw.{coded_name};
+    ghost use Rattle.hs_reader.specs.Preorder.{preorder, first_term};
 
     ghost Value = { Tree RawName };
 
     ghost coded = { tree_code coded_name };
 
-    ghost view = { λ a. node a.head (forest a.args.items) };
+    ghost view = { λ a. first_term a.nodes.items };
 
-    ghost size = { height };
+    ghost invariant = { λ a. a.nodes.items ≡ preorder (first_term a.nodes.items) };
+}
 
-    ghost use Rattle.std.proofs.Common.{arith};
+impl<'a> RawTerm<'a> {
+    ghost use Rattle.std.specs.Prelude.{◌≡◌};
+    ghost use Rattle.hs_reader.specs.Preorder.{preorder, first_term};
 
-    ghost size_decreases = { λ a h. omega (arith, most_le-heights a.args.items) };
+    /// The term with these nodes. Takes no memory.
+    pub(crate) fn of(nodes: Vec<RawNode<'a>>) -> RawTerm<'a>
+        requires { nodes.items ≡ preorder (first_term nodes.items) }
+        ensures { result ≡ first_term nodes.entry.items }
+    {
+        RawTerm { nodes }
+    }
+
+    /// The nodes of the term, each name before its arguments. Takes no memory.
+    pub fn nodes(&self) -> &[RawNode<'a>]
+        ensures { result.now ≡ preorder self.now }
+    {
+        self.nodes.as_slice()
+    }
 }
 
 /// A rule: its name, its parameters and its right side.

@@ -9,12 +9,13 @@ ghost use Rattle.hs_reader.specs.Faults.{IsFileWithin, IsFaultOf, IsAnswer};
 ghost use Rattle.hs_reader.specs.Reading.{tokens};
 ghost use Rattle.hs_reader.specs.ReadingStages.{start, in_rules, in_head, in_body, between, in_transitions, in_transition, in_children, closed, added, is_full, named, run, read, Goes, GivesName, GivesCased, IsMemory, with_rule, with_transition};
 
+use crate::building::Building;
 use crate::cursor::Cursor;
 use crate::fault::{ReadFault, Which};
 use crate::limits::{MAX_CHILDREN, MAX_DEPTH, MAX_NAME, MAX_TRANSITIONS};
 use crate::raw::{RawFile, RawName, RawRule, RawTerm, RawText, RawTransition};
 use crate::token::{Token, is_upper};
-use hs_scheme::{MAX_ARGUMENTS, MAX_PARAMETERS, MAX_RULES};
+use hs_scheme::{MAX_PARAMETERS, MAX_RULES};
 use std::alloc::Global;
 
 /// A name that isn't too long.
@@ -63,81 +64,47 @@ fn parameters<'a>(alloc: Global, cursor: &mut Cursor<'a>) -> Result<Vec<RawName<
     }
 }
 
-/// Whether a term has as many arguments as it may.
-fn is_full(term: &Option<RawTerm<'_>>) -> bool
-    ensures { result ≡ is_full term.now }
-{
-    match term {
-        None => false,
-        Some(term) => term.args.len() == MAX_ARGUMENTS,
-    }
-}
-
-/// Puts a term at the end of the arguments of the one begun, or begins with it.
-fn add<'a>(begun: &mut Option<RawTerm<'a>>, term: RawTerm<'a>) -> Result<(), ReadFault>
-    ensures added { OnOk result (begun.new ≡ Some (added begun.old term.entry)) }
-    ensures fault { IfErr result IsMemory }
-{
-    match begun {
-        None => *begun = Some(term),
-        Some(begun) => begun.args.push(term)?,
-    }
-    Ok(())
-}
-
-/// The right side of a rule, up to its dot. The terms begun before each open parenthesis wait in
-/// `outer`, the innermost last.
+/// The right side of a rule, up to its dot.
 fn body<'a>(alloc: Global, cursor: &mut Cursor<'a>) -> Result<RawTerm<'a>, ReadFault>
     ensures value { (rs : List Rule) (n : RawName) (ps : List RawName) → Goes
         (λ t. read (in_rules (with_rule rs n ps t)) cursor.new.line cursor.new.rest.now)
         result (read (in_body rs n ps [] None) cursor.old.line cursor.old.rest.now) }
     ensures within { OnOk result (length cursor.new.rest.now ≤ length cursor.old.rest.now) }
 {
-    let mut outer = Vec::new(alloc);
-    let mut begun = None;
+    let mut building = Building::new(alloc);
     loop {
         match cursor.next() {
             Token::Name(bytes) => {
-                let head = short_name(bytes, cursor.line)?;
-                if is_full(&begun) {
+                let name = short_name(bytes, cursor.line)?;
+                if building.is_full() {
                     return Err(ReadFault::Limit {
                         which: Which::Arguments,
                     });
                 }
-                let args = Vec::new(alloc);
-                add(&mut begun, RawTerm { head, args })?;
+                building.add(name)?;
             }
             Token::Left => {
-                if outer.len() == MAX_DEPTH {
+                if building.depth() == MAX_DEPTH {
                     return Err(ReadFault::Limit {
                         which: Which::Depth,
                     });
                 }
-                if is_full(&begun) {
+                if building.is_full() {
                     return Err(ReadFault::Limit {
                         which: Which::Arguments,
                     });
                 }
-                outer.push(begun)?;
-                begun = None;
+                building.open()?;
             }
             Token::Right => {
-                let Some(term) = begun else {
-                    return Err(ReadFault::Syntax { line: cursor.line });
-                };
-                let Some(below) = outer.pop() else {
-                    return Err(ReadFault::Syntax { line: cursor.line });
-                };
-                begun = below;
-                add(&mut begun, term)?;
-            }
-            Token::Dot => {
-                let Some(term) = begun else {
-                    return Err(ReadFault::Syntax { line: cursor.line });
-                };
-                if !outer.is_empty() {
+                if !building.close() {
                     return Err(ReadFault::Syntax { line: cursor.line });
                 }
+            }
+            Token::Dot => {
+                let Some(term) = building.term() else {
+                    return Err(ReadFault::Syntax { line: cursor.line });
+                };
                 return Ok(term);
             }
             _ => return Err(ReadFault::Syntax { line: cursor.line }),

@@ -4,6 +4,7 @@ pub mod Leasts
 pub mod NameLoops
 pub mod Growing
 pub mod Bodies
+pub mod Walking
 pub mod TransitionLoops
 pub mod Moves
 pub mod FirstFault

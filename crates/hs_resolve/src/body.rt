@@ -4,6 +4,7 @@ ghost use Rattle.std.specs.Prelude.{◌≡◌, ◌++◌, ◌≤◌, List, ℕ, m
 ghost use Rattle.std.specs.List.{flat_map};
 ghost use Rattle.hs_scheme.specs.declared.term.Head.TheVariants.{Nt, Tm};
 ghost use Rattle.hs_reader.specs.Limits.{term_names};
+ghost use Rattle.hs_reader.specs.Preorder.{first_term, behind, BeginsTerm};
 ghost use Rattle.hs_resolve.specs.Names as names;
 ghost use Rattle.hs_resolve.specs.Names.{texts, distinct, with_name, with_names};
 ghost use Rattle.hs_resolve.specs.Numbering as numbering;
@@ -17,7 +18,7 @@ ghost use Rattle.hs_resolve.specs.Bodies.{unknown_at, undefined_at, undefined_in
 use crate::line::earliest;
 use crate::name_index::NameIndex;
 use crate::numbering::number_in;
-use hs_reader::{RawName, RawRule, RawTerm, is_upper};
+use hs_reader::{RawName, RawNode, RawRule, is_upper};
 use hs_scheme::{Head, OutOfMemory, Rule, Term};
 use std::alloc::Global;
 
@@ -78,26 +79,40 @@ fn head_of<'a>(
     }
 }
 
-/// The term with a head for each of its names. Recurses as deep as the term.
+/// The nodes of a body that are still to be numbered.
+#[derive(Drop)]
+struct Ahead<'r, 'a> {
+    nodes: &'r [RawNode<'a>],
+}
+
+/// The first term of the nodes, with a head for each of its names. Recurses as deep as the term.
 fn term_of<'a>(
     alloc: Global,
     left: &NameIndex,
     params: &NameIndex,
-    raw: &RawTerm<'a>,
+    ahead: &mut Ahead<'_, 'a>,
     met: &mut Met<'a>,
 ) -> Result<Term, OutOfMemory>
     requires left { HasNumbers left.now }
     requires params { HasNumbers params.now }
+    requires begins { BeginsTerm ahead.old.nodes.now }
+    ensures ahead { OnOk result (ahead.new.nodes.now ≡ behind ahead.old.nodes.now) }
     ensures terminals { OnOk result (met.new.terminals ≡ with_names met.old.terminals
-        (filter (numbering.is_terminal params.now) (texts (term_names raw.now)))) }
+        (filter (numbering.is_terminal params.now) (texts (term_names (first_term ahead.old.nodes.now))))) }
     ensures undefined { OnOk result (met.new.undefined
-        ≡ undefined_in left.now met.old.undefined (term_names raw.now)) }
-    ensures term { IfOk result (λ term. IsNumbered left.now params.now met.new.terminals raw.now term) }
+        ≡ undefined_in left.now met.old.undefined (term_names (first_term ahead.old.nodes.now))) }
+    ensures term { IfOk result (λ term.
+        IsNumbered left.now params.now met.new.terminals (first_term ahead.old.nodes.now) term) }
 {
-    let head = head_of(left, params, &raw.head, met)?;
-    let mut args = Vec::with_capacity(alloc, raw.args.len())?;
-    for arg in &raw.args {
-        args.push(term_of(alloc, left, params, arg, met)?)?;
+    let [node, behind @ ..] = ahead.nodes else {
+        unreachable!()
+    };
+    let name = node.name();
+    let head = head_of(left, params, &name, met)?;
+    let mut args = Vec::with_capacity(alloc, node.args as usize)?;
+    ahead.nodes = behind;
+    for _ in 0..node.args {
+        args.push(term_of(alloc, left, params, ahead, met)?)?;
     }
     Ok(Term { head, args })
 }
@@ -119,7 +134,10 @@ fn rule_of<'a>(
         ≡ undefined_in left.now met.old.undefined (term_names raw.now.body)) }
     ensures rule { IfOk result (λ rule. IsScoped left.now met.new.terminals raw.now rule) }
 {
-    let body = term_of(alloc, left, params, &raw.body, met)?;
+    let mut ahead = Ahead {
+        nodes: raw.body.nodes(),
+    };
+    let body = term_of(alloc, left, params, &mut ahead, met)?;
     Ok(Rule {
         params: raw.params.len() as u32,
         body,

@@ -1,14 +1,28 @@
-use Rattle.std.proofs.Common.{subst}
+use Rattle.std.proofs.Common.{refl, subst}
+use Rattle.std.proofs.lemmas.Result.{err_from_is_err_and}
 use Rattle.hs_scheme.specs.Unsorted.{UnsortedData, IsUnsorted}
-use Rattle.hs_sorts.specs.Inference.{IsInferred}
+use Rattle.hs_resolve.specs.Numbering.{unsorted_of}
+use Rattle.hs_sorts.specs.Inference.{IsInferred, IsFaultOf}
 use Rattle.hs_app.proofs.VerdictLemmas.{refused, decided}
+use Rattle.hs_app.proofs.OneScheme.{one_scheme, scheme_is}
 use Rattle.hs_app.proofs.verdict.decide.Goals as goal
 
 pub returns-in-Ok : goal.returns-in-Ok
 returns-in-Ok g c =
-    decided _ c.args.bytes.now c.in_ok-raw.raw c.in_ok-raw.ensures.file c.in_ok-unsorted.ensures.faultless c.in-Ok.sorted
-    (subst (λ (u : UnsortedData). IsInferred u c.in-Ok.sorted) c.in_ok-unsorted.ensures.value c.in-Ok.ensures.ok)
-    (subst (λ (u : UnsortedData). IsUnsorted u) c.in_ok-unsorted.ensures.value c.know_unsorted.ensures) c.decide_scheme.result c.decide_scheme.ensures
+    let s = c.in_ok-unsorted.ensures.scheme in
+    decided _ c.args.bytes.now s.file s.reads s.faultless c.in-Ok.sorted
+    (subst (λ (u : UnsortedData). IsInferred u c.in-Ok.sorted) s.is c.in-Ok.ensures.ok)
+    (subst (λ (u : UnsortedData). IsUnsorted u) s.is c.know_unsorted.ensures) c.decide_scheme.result c.decide_scheme.ensures
 
-pub returns : goal.returns
-returns g c = refused _ c.args.bytes.now c.in_ok-raw.raw c.in_ok-raw.ensures.file c.in_ok-unsorted.ensures.faultless c.sort_refusal.result c.sort_refusal.ensures
+pub returns-in-Err : goal.returns-in-Err
+returns-in-Err g c =
+    let s = c.in_ok-unsorted.ensures.scheme in
+    refused _ c.args.bytes.now s.file s.reads s.faultless c.sort_refusal.result (c.sort_refusal.ensures (unsorted_of s.file) (scheme_is c.args.bytes.now s.file s.reads s.faultless))
+
+pub returns-in_err-unsorted : goal.returns-in_err-unsorted
+returns-in_err-unsorted g c =
+    let p = err_from_is_err_and c.from_residual.result c.from_residual.ensures.1 in rw (p.1, p.2) (c.in_err-unsorted.ensures.refused _)
+
+pub sort_refusal-requires-clause-fault : goal.sort_refusal-requires-clause-fault
+sort_refusal-requires-clause-fault g c = λ u of_bytes.
+    subst (λ (v : UnsortedData). IsFaultOf v.rules v.ranks c.in-Err.fault) (one_scheme c.args.bytes.now c.in_ok-unsorted.unsorted u c.in_ok-unsorted.ensures.scheme of_bytes) c.in-Err.ensures.fault

@@ -1,4 +1,4 @@
-use Rattle.std.proofs.Common.{◌≡◌, ◌≤◌, List, [], length, None, reverse}
+use Rattle.std.proofs.Common.{◌≡◌, ◌≤◌, List, [], length, None}
 use Rattle.hs_reader.specs.declared.raw.RawName.{RawName}
 use Rattle.hs_reader.specs.Raw.{Rule}
 use Rattle.hs_reader.specs.ReadingStages.{in_body, read}
@@ -6,7 +6,7 @@ use Rattle.hs_reader.proofs.reader.body.Given as goal
 
 abbrev pub invariant-loop-bytes : goal.invariant-loop-bytes
 invariant-loop-bytes l =
-    ((rs : List Rule) (n : RawName) (ps : List RawName) → read (in_body rs n ps [] None) l.initial.cursor.line l.initial.cursor.rest.now ≡ read (in_body rs n ps (reverse l.outer.items) l.begun) l.cursor.line l.cursor.rest.now)
+    ((rs : List Rule) (n : RawName) (ps : List RawName) → read (in_body rs n ps [] None) l.initial.cursor.line l.initial.cursor.rest.now ≡ read (in_body rs n ps l.building.outer l.building.top) l.cursor.line l.cursor.rest.now)
     × (length l.cursor.rest.now ≤ length l.initial.cursor.rest.now)
 
 abbrev pub decreases-loop-bytes : goal.decreases-loop-bytes

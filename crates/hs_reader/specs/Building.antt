@@ -1,0 +1,58 @@
+-- The terms of a right side that are begun, as they lie in one list of nodes.
+--     Begun         the terms before each open parenthesis, the innermost first, and the term behind it
+--     nodes_of      the nodes of a term, where one is begun
+--     AreBegun      the nodes are those of the terms begun, the outermost first, and each begins at its place
+--     HasRoom       one more argument is allowed
+--     IsBuilding    what holds while a right side is read
+use Rattle.std.specs.Prelude.{◌≡◌, refl, ℕ, ◌<◌, ◌≤◌, List, [], ◌∷◌, ◌++◌, length, take, drop, reverse, Option, Some, None}
+use Rattle.std.specs.List.{AllByRecursion}
+use Rattle.std.specs.Coded.{Coded, code_by, coded×, coded_list, coded_option}
+use Rattle.hs_scheme.specs.Tree.{Tree, tree_code}
+use Rattle.hs_reader.specs.declared.raw.RawName.{RawName}
+use Rattle.hs_reader.specs.declared.raw.RawNode.{RawNode}
+use Rattle.hs_reader.specs.Raw.{coded_name}
+use Rattle.hs_reader.specs.Faults.{arguments}
+use Rattle.hs_reader.specs.Preorder.{preorder, first_term}
+
+pub record Begun : Type 0 where
+  pub outer : List (Option (Tree RawName))
+  pub top : Option (Tree RawName)
+
+abbrev pub coded_begun : Coded Begun
+coded_begun =
+    code_by (List (Option (Tree RawName)) × Option (Tree RawName)) (coded× (coded_list (coded_option (tree_code coded_name))) (coded_option (tree_code coded_name)))
+    (λ b. (b.outer, b.top)) (λ p. record { outer = p.0; top = p.1 }) (λ _. refl)
+
+abbrev pub nodes_of : Option (Tree RawName) → List RawNode
+nodes_of None = []
+nodes_of (Some t) = preorder t
+
+abbrev pub term_at : List RawNode → Option (Tree RawName)
+term_at [] = None
+term_at (n ∷ ns) = Some (first_term (n ∷ ns))
+
+-- the terms that begin at these places of the nodes, the last first
+abbrev pub terms_from : List RawNode → List ℕ → List (Option (Tree RawName))
+terms_from ns [] = []
+terms_from ns (at ∷ starts) = term_at (drop at ns) ∷ terms_from (take at ns) starts
+
+abbrev pub begun_at : List RawNode → List ℕ → ℕ → Begun
+begun_at ns places start = record { outer = terms_from (take start ns) (reverse places); top = term_at (drop start ns) }
+
+abbrev pub AreBegun : List RawNode → List ℕ → List (Option (Tree RawName)) → Type 0
+AreBegun ns [] [] = ns ≡ []
+AreBegun ns (at ∷ starts) (t ∷ ts) = (before : List RawNode) × (ns ≡ before ++ nodes_of t) × (length before ≡ at) × AreBegun before starts ts
+AreBegun ns starts ts = ⊥
+
+abbrev pub HasRoom : Option (Tree RawName) → Type 0
+HasRoom None = Unit {0}
+HasRoom (Some t) = arguments t < 64
+
+abbrev pub IsWide : Option (Tree RawName) → Type 0
+IsWide None = Unit {0}
+IsWide (Some t) = arguments t ≤ 64
+
+pub record IsBuilding (ns : List RawNode) (places : List ℕ) (start : ℕ) (begun : Begun) : Type 0 where
+  pub are : AreBegun ns (start ∷ reverse places) (begun.top ∷ begun.outer)
+  pub wide : IsWide begun.top
+  pub room : AllByRecursion HasRoom begun.outer
