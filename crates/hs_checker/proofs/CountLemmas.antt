@@ -1,5 +1,5 @@
 -- The entries of a table that are in shape stand for it, and instances are counted point by point.
-use Rattle.std.proofs.Common.{◌≡◌, ◌≢◌, refl, sym, ◌∙◌, ap, subst, ℕ, ◌+◌, ◌-◌, ◌^◌, ◌<◌, ◌≤◌, min, Option, Some, None, MatchOption, List, [], ◌∷◌, ◌++◌, length, arith, Contains, AllPairs, inl, inr, ◌⊎◌, ◌↔◌}
+use Rattle.std.proofs.Common.{◌≡◌, ◌≢◌, refl, sym, ◌∙◌, ap, subst, ℕ, ◌+◌, ◌-◌, ◌^◌, ◌<◌, ◌≤◌, min, Option, Some, None, MatchOption, List, [], ◌∷◌, ◌++◌, length, get_or, arith, Contains, AllPairs, inl, inr, ◌⊎◌, ◌↔◌}
 use Rattle.std.proofs.lemmas.Cmp.{tied_itself}
 use Rattle.std.proofs.lemmas.Bool.Decides.{nat_tests}
 use Rattle.std.specs.declared.cmp.Ordering.TheVariants.{Less, Equal}
@@ -24,6 +24,7 @@ use Rattle.hs_checker.specs.declared.fault.CheckFault.{CheckFault}
 use Rattle.hs_checker.specs.declared.fault.CheckFault.TheVariants.{FlowOpen, HeadOpen, Missing, HasStart, OutOfMemory}
 use Rattle.hs_checker.specs.declared.flow.Kind.TheVariants.{Flow, Heads}
 use Rattle.hs_checker.specs.Gaps.{HoldsAll}
+use Rattle.hs_checker.specs.Slots.{IsCountAt}
 use Rattle.hs_checker.specs.Checked.{IsCount, IsMissing, IsGap, IsFault}
 
 -- entries in shape are elsewhere
@@ -106,7 +107,7 @@ record Beside (olds : List (ℕ × TypeTree)) (k : ℕ) (types : List TypeTree) 
   exact : (x : ℕ × TypeTree) → Contains all x ↔ (Contains olds x ⊎ ((x.0 ≡ k) × Contains types x.1))
   long : length all ≡ length olds + length types
 
-beside : (olds : List (ℕ × TypeTree)) (k : ℕ) (types : List TypeTree) → AllPairs (λ a b. a ≢ b) olds → IsSet types → ((t : TypeTree) → Contains types t → Contains olds (k, t) → ⊥) → Beside olds k types
+beside : (olds : List (ℕ × TypeTree)) (k : ℕ) (types : List TypeTree) → AllPairs (λ a b. a ≢ b) olds → AllPairs (λ a b. a ≢ b) types → ((t : TypeTree) → Contains types t → Contains olds (k, t) → ⊥) → Beside olds k types
 beside olds k [] distinct set new = record {
   all = olds;
   distinct = distinct;
@@ -115,16 +116,11 @@ beside olds k [] distinct set new = record {
 }
 beside olds k (t ∷ types) distinct set new =
     let news = olds ++ (k, t) ∷ [] in
-    let less = pairs_head (λ a b. type_cmp a b ≡ Less) t in
     let apart : AllPairs (λ a b. a ≢ b) news = pairs_push olds (k, t) distinct (new t (here t types)) in
-    let rest = beside news k types apart (pairs_tail (λ a b. type_cmp a b ≡ Less) t types set)
+    let rest = beside news k types apart (pairs_tail (λ a b. a ≢ b) t types set)
     (λ u there c. elim ((in_pushed olds (k, t) (k, u)).0 c) [
       | inl old ↦ new u (later t u types there) old
-      | inr same ↦
-          let e : u ≡ t = ap (λ (x : ℕ × TypeTree). x.1) same in
-          let l : type_cmp t u ≡ Less = less u types set there in
-          let q : Less ≡ Equal = sym l ∙ (ap (type_cmp t) e ∙ tied_itself type_cmp_total t) in
-          absurd (cc)
+      | inr same ↦ pairs_head (λ a b. a ≢ b) t u types set there (sym (ap (λ (x : ℕ × TypeTree). x.1) same))
     ]) in
     record {
       all = rest.all;
@@ -152,25 +148,37 @@ cut_sum : (a b c n m : ℕ) → n ≡ min a (2 ^ 64 - 1) → m ≡ min (n + b) (
 cut_sum a b c n m e f g = grind (arith, nat_tests)
 
 -- and those at k with them
-pub counted_more : (p : ProblemData) (E : List EntryData) (k n m : ℕ) (types : List TypeTree) → IsSet types → ((t : TypeTree) → Contains types t ↔ IsInstance p E k t) → m ≡ min (n + length types) (2 ^ 64 - 1)
-    → CountedBelow p E k n → CountedBelow p E (k + 1) m
-counted_more p E k n m types set are sum before =
-    let b = beside before.all k types before.distinct set (λ t there c. absurd (omega (arith, ((before.exact k t).0 c).0))) in
+pub counted_more : (p : ProblemData) (E : List EntryData) (k n m c : ℕ) → IsCountAt p E k c → m ≡ min (n + c) (2 ^ 64 - 1) → CountedBelow p E k n → CountedBelow p E (k + 1) m
+counted_more p E k n m c at sum before =
+    let types = at.types in
+    let b = beside before.all k types before.distinct at.distinct (λ t there d. absurd (omega (arith, ((before.exact k t).0 d).0))) in
     record {
       all = b.all;
       distinct = b.distinct;
       exact = λ point ty. (
-        λ c. elim ((b.exact (point, ty)).0 c) [
+        λ d. elim ((b.exact (point, ty)).0 d) [
           | inl old ↦ let h = (before.exact point ty).0 old in (omega (arith, h.0), h.1)
-          | inr both ↦ (omega (arith, both.0), subst (λ (q : ℕ). IsInstance p E q ty) (sym both.0) ((are ty).0 both.1))
+          | inr both ↦ (omega (arith, both.0), subst (λ (q : ℕ). IsInstance p E q ty) (sym both.0) ((at.exact ty).0 both.1))
         ],
         λ h. (b.exact (point, ty)).1 (elim (below_or_last point k h.0) [
           | inl lt ↦ inl ((before.exact point ty).1 (lt, h.1))
-          | inr same ↦ inr (same, (are ty).1 (subst (λ (q : ℕ). IsInstance p E q ty) same h.1))
+          | inr same ↦ inr (same, (at.exact ty).1 (subst (λ (q : ℕ). IsInstance p E q ty) same h.1))
         ]),
       );
-      is = cut_sum (length before.all) (length types) (length b.all) n m before.is sum b.long;
+      is = cut_sum (length before.all) (length types) (length b.all) n m before.is (sum ∙ ap (λ d. min (n + d) (2 ^ 64 - 1)) at.count) b.long;
     }
+
+-- a set of types has no two that are the same
+pub set_count : (p : ProblemData) (E : List EntryData) (k n : ℕ) (types : List TypeTree) → IsSet types → ((t : TypeTree) → Contains types t ↔ IsInstance p E k t) → n ≡ length types → IsCountAt p E k n
+set_count p E k n types set are long = record {
+  types = types;
+  distinct = λ i j d low high same.
+      let less : type_cmp (get_or types i d) (get_or types j d) ≡ Less = set i j d low high in
+      let tie : Less ≡ Equal = sym less ∙ (ap (λ z. type_cmp (get_or types i d) z) (sym same) ∙ tied_itself type_cmp_total (get_or types i d)) in
+      absurd (cc);
+  exact = are;
+  count = long;
+}
 
 -- at all points
 pub counted_all : (p : ProblemData) (E : List EntryData) (k n : ℕ) → length p.points.points ≤ k → CountedBelow p E k n → IsCount p E n

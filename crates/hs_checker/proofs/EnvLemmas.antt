@@ -4,8 +4,8 @@ use Rattle.std.specs.List.{flat_map}
 use Rattle.std.specs.Ordering.{is_eq}
 use Rattle.std.proofs.lemmas.Bool.{eqb-true, eq-eqb}
 use Rattle.std.proofs.lemmas.Cmp.{tied_itself}
-use Rattle.hs_scheme.specs.Tree.{node, none, more, children}
-use Rattle.hs_table.specs.Types.{TypeTree, arrow, type_cmp}
+use Rattle.hs_scheme.specs.Tree.{node, none, more, children, children-forest}
+use Rattle.hs_table.specs.Types.{TypeTree, arrow, arrows, type_cmp}
 use Rattle.hs_table.specs.Entries.{Env, EntryData, set_at}
 use Rattle.hs_table_laws.proofs.Orders.{type_cmp_total, type_same}
 use Rattle.hs_table_laws.proofs.Places.{here}
@@ -90,6 +90,36 @@ drop_none zero [] le = refl
 drop_none zero (x ∷ xs) le = absurd (omega arith)
 drop_none (suc k) [] le = refl
 drop_none (suc k) (x ∷ xs) le = drop_none k xs (omega arith)
+
+front : {X : Type 0} (xs : List X) (k : ℕ) (x : X) → k < length xs → x ≡ get_or xs k x → drop k xs ≡ x ∷ drop (k + 1) xs
+front [] k x lt read = absurd (omega arith)
+front (y ∷ xs) zero x lt read = ap (λ z. z ∷ xs) (sym read)
+front (y ∷ xs) (suc k) x lt read =
+    let plus : suc (k + 1) ≡ suc k + 1 = omega arith in
+    front xs k x (omega arith) read ∙ ap (λ n. x ∷ drop n (y ∷ xs)) plus
+
+-- one argument and its set less to choose for
+pub sets_step : (E : List EntryData) (us : List ℕ) (ss : Env) (t : TypeTree) (k u : ℕ) (s : List TypeTree) (es chosen start : List EntryData) → k < length us → k < length ss → u ≡ get_or us k u → s ≡ get_or ss k s
+    → ((e : EntryData) → Contains chosen e ↔ Contains (picks E u s es) e) → (e : EntryData) → Contains (through E (drop k us) (arrows (drop k ss) t) es) e ↔ Contains (through E us (arrows ss t) start) e
+    → Contains (through E (drop (k + 1) us) (arrows (drop (k + 1) ss) t) chosen) e ↔ Contains (through E us (arrows ss t) start) e
+sets_step E us ss t k u s es chosen start ltu lts ru rs h e before =
+    let fu = front us k u ltu ru in
+    let fs = front ss k s lts rs in
+    let us2 = drop (k + 1) us in
+    let ss2 = drop (k + 1) ss in
+    let is : through E (drop k us) (arrows (drop k ss) t) es ≡ through E us2 (arrows ss2 t) (picks E u s es) =
+    (λ i. through E (fu i) (arrows (fs i) t) es) ∙ ap (λ r. through E us2 (arrows ss2 t) (picks E u r es)) (children-forest s) in
+    let old = subst (λ xs. Contains xs e ↔ Contains (through E us (arrows ss t) start) e) is before in
+    let same = through_same E us2 (arrows ss2 t) chosen (picks E u s es) h e in
+    (λ c. old.0 (same.0 c), λ c. same.1 (old.1 c))
+
+-- none is left
+pub sets_done : (E : List EntryData) (us : List ℕ) (ss : Env) (t left : TypeTree) (k : ℕ) (es start : List EntryData) (e : EntryData) → k ≡ length us → left ≡ arrows (drop k ss) t
+    → Contains (through E (drop k us) (arrows (drop k ss) t) es) e ↔ Contains (through E us (arrows ss t) start) e → Contains (map (retyped left) es) e ↔ Contains (through E us (arrows ss t) start) e
+sets_done E us ss t left k es start e end made h =
+    let none : drop k us ≡ [] = drop_none k us (omega (arith, end)) in
+    let is : through E (drop k us) (arrows (drop k ss) t) es ≡ map (retyped left) es = (λ i. through E (none i) (sym made i) es) in
+    subst (λ xs. Contains xs e ↔ Contains (through E us (arrows ss t) start) e) is h
 
 -- nothing left to choose for
 pub picks_done : (E : List EntryData) (u : ℕ) (set : List TypeTree) (k : ℕ) (es start : List EntryData) → length set ≤ k

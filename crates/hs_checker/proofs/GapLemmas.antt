@@ -1,5 +1,5 @@
 -- What points demand, pair by pair.
-use Rattle.std.proofs.Common.{◌≡◌, refl, sym, ◌∙◌, ap, subst, ℕ, ◌+◌, ◌<◌, ◌≤◌, Bool, ◌&&◌, nat_eq, filter, take, List, [], ◌∷◌, ◌++◌, length, map, get_or, slice_get, Some, arith, inl, inr, Contains, ◌↔◌, ◌⊎◌}
+use Rattle.std.proofs.Common.{◌≡◌, refl, sym, ◌∙◌, ap, subst, ℕ, ◌+◌, ◌<◌, ◌≤◌, Bool, ◌&&◌, nat_eq, filter, take, List, [], length, map, get_or, slice_get, Option, Some, None, MatchOption, arith, inl, inr, Contains, ◌↔◌, ◌⊎◌}
 use Rattle.std.proofs.Math.Nat.{eq-or-lt_of_le}
 use Rattle.std.specs.Ordering.{nat_cmp, ordering_index}
 use Rattle.std.specs.List.Sorted.{IsNonDecreasingBy}
@@ -14,10 +14,10 @@ use Rattle.hs_scheme.specs.Flow.{IsAscending, head_cmp, pairs_of}
 use Rattle.hs_scheme.specs.Problem.{ProblemData}
 use Rattle.hs_table_laws.proofs.Places.{some_same, within_from}
 use Rattle.std.proofs.lemmas.Bool.{eqb-true, eq-eqb}
-use Rattle.hs_scheme.specs.declared.term.Head.TheVariants.{Var}
+use Rattle.hs_scheme.specs.declared.term.Head.TheVariants.{Var, Nt}
 use Rattle.hs_scheme.specs.Flow.{IsBase}
 use Rattle.hs_scheme.proofs.FlowRowLemmas.{filter_keeps, filter_has}
-use Rattle.hs_table_plain.proofs.Members.{from_map, into_map, in_pushed, next_member}
+use Rattle.hs_table_plain.proofs.Members.{from_map, into_map, next_member}
 use Rattle.hs_table_plain.proofs.Loops.{and_true, both_true}
 use Rattle.hs_checker.specs.declared.flow.Base.{Base}
 use Rattle.std.proofs.lemmas.Option.{slice_get-get_or}
@@ -27,8 +27,9 @@ use Rattle.hs_scheme.specs.Points.{PointData, PointsData, point_at, points_of}
 use Rattle.hs_checker.specs.declared.flow.Kind.{Kind}
 use Rattle.hs_checker.specs.declared.flow.Kind.TheVariants.{Flow, Heads}
 use Rattle.hs_checker.specs.Gaps.{held, IsDemanded, IsOfKind}
-use Rattle.hs_checker.specs.Passes.{PassesFlow, PassesHead, PassesBy, DemandsAt}
+use Rattle.hs_checker.specs.Passes.{PassesFlow, PassesHead, PassesBy, HoldsBy, LacksBy, DemandsAt}
 use Rattle.hs_checker.proofs.Between.{filter_passes}
+use Rattle.hs_checker.proofs.Steps.{same_read, read_there}
 
 point_le : (t : ℕ) (a b : HeadPair) → head_cmp a b ≡ Less → ordering_index (nat_cmp a.point t) ≤ ordering_index (nat_cmp b.point t)
 point_le t a b h = grind (arith, nat_tests)
@@ -74,50 +75,23 @@ head_held flows heads h = (
   λ c. Contains-append_right (map (λ f. OfFlow f) flows) (map (λ h. OfHead h) heads) (OfHead h) (into_map (λ (h : HeadPair). OfHead h) heads h c),
 )
 
--- one base more
-pub base_step : (olds start news : List Base) (items : List HeadPair) (k point : ℕ) (head : HeadPair) → news ≡ olds ++ record { rule = head.rule; given = head.given } ∷ [] → head.point ≡ point → k < length items → head ≡ get_or items k head
-    → ((b : Base) → Contains olds b ↔ (Contains start b ⊎ Contains (take k items) (record { point = point; rule = b.rule; given = b.given })))
-    → (b : Base) → Contains news b ↔ (Contains start b ⊎ Contains (take (k + 1) items) (record { point = point; rule = b.rule; given = b.given }))
-base_step olds start news items k point head is at lt read before b =
-    let one : Base = record { rule = head.rule; given = head.given } in
-    let pair : HeadPair = record { point = point; rule = b.rule; given = b.given } in
-    let pushed = in_pushed olds one b in
-    let member = next_member items k head pair lt read in (
-      λ c. elim (pushed.0 (subst (λ (bs : List Base). Contains bs b) is c)) [
-        | inl old ↦ elim ((before b).0 old) [
-          | inl s ↦ inl s
-          | inr t ↦ inr (member.1 (inl t))
-        ]
-        | inr same ↦ inr (member.1 (inr (λ i. record { point = (sym at) i; rule = (same i).rule; given = (same i).given })))
-      ],
-      λ h. subst (λ (bs : List Base). Contains bs b) (sym is) (pushed.1 (elim h [
-        | inl s ↦ inl ((before b).1 (inl s))
-        | inr t ↦ elim (member.0 t) [
-          | inl l ↦ inl ((before b).1 (inr l))
-          | inr same ↦ inr (λ i. record { rule = (same i).rule; given = (same i).given })
-        ]
-      ])),
-    )
-
 -- a parameter's pairs lead to its bases
 pub record Leads (pairs : List FlowPair) (heads : List HeadPair) (b : Base) : Type 0 where
   pub pair : FlowPair
   pub there : Contains pairs pair
   pub becomes : Contains heads (record { point = pair.point; rule = b.rule; given = b.given })
 
-pub leads_step : (items : List FlowPair) (heads : List HeadPair) (olds news : List Base) (k : ℕ) (pair : FlowPair) → k < length items → pair ≡ get_or items k pair
-    → ((b : Base) → Contains news b ↔ (Contains olds b ⊎ Contains heads (record { point = pair.point; rule = b.rule; given = b.given })))
-    → ((b : Base) → Contains olds b ↔ Leads (take k items) heads b) → (b : Base) → Contains news b ↔ Leads (take (k + 1) items) heads b
-leads_step items heads olds news k pair lt read more before b = (
-  λ c. elim ((more b).0 c) [
-    | inl old ↦ let l = (before b).0 old in record { pair = l.pair; there = (next_member items k pair l.pair lt read).1 (inl l.there); becomes = l.becomes }
-    | inr own ↦ record { pair = pair; there = (next_member items k pair pair lt read).1 (inr refl); becomes = own }
-  ],
-  λ l. (more b).1 (elim ((next_member items k pair l.pair lt read).0 l.there) [
-    | inl t ↦ inl ((before b).1 (record { pair = l.pair; there = t; becomes = l.becomes }))
-    | inr same ↦ inr (subst (λ (f : FlowPair). Contains heads (record { point = f.point; rule = b.rule; given = b.given })) same l.becomes)
-  ]),
-)
+pub leads_of : (items : List FlowPair) (heads : List HeadPair) (b : Base) (k : ℕ) (d : FlowPair) → k < length items → Contains heads (record { point = (get_or items k d).point; rule = b.rule; given = b.given }) → Leads items heads b
+leads_of items heads b k d lt becomes = record { pair = get_or items k d; there = read_there items k d lt; becomes = becomes }
+
+pub leads_more : (items : List FlowPair) (heads : List HeadPair) (k : ℕ) (d : FlowPair) (b : Base) → k < length items → Leads (take (k + 1) items) heads b
+    → Leads (take k items) heads b ⊎ Contains heads (record { point = (get_or items k d).point; rule = b.rule; given = b.given })
+leads_more items heads k d b lt l =
+    let own = get_or items k d in
+    elim ((next_member items k own l.pair lt (same_read items k d own lt)).0 l.there) [
+      | inl t ↦ inl (record { pair = l.pair; there = t; becomes = l.becomes })
+      | inr same ↦ inr (subst (λ (f : FlowPair). Contains heads (record { point = f.point; rule = b.rule; given = b.given })) same l.becomes)
+    ]
 
 pub leads_base : (rule x : ℕ) (pairs : List FlowPair) (heads : List HeadPair) (b : Base) → Leads (filter (λ f. nat_eq f.rule rule && nat_eq f.param x) pairs) heads b ↔ IsBase (pairs_of pairs heads) rule (Var x) b.rule b.given
 leads_base rule x pairs heads b = (
@@ -163,6 +137,18 @@ pub after_head : (p : ProblemData) (point : ℕ) (args : List ℕ) (b : Base) (k
     → IsOfKind kind (OfHead h) × (PassesBy p point args b (OfHead h) × (Contains (held p) (OfHead h) → ⊥))
 after_head p point args b kind h is both = (subst (λ k. IsOfKind k (OfHead h)) (sym is) tt, (both.0, λ c. both.1 ((head_held p.flow.pairs p.flow.heads h).0 c)))
 
+-- a nonterminal may become itself, without arguments, and nothing else
+pub gap_at_rule : (p : ProblemData) (point rule : ℕ) (head : Head) (args : List ℕ) (kind : Kind) (f : ℕ) (o : Option Pair) → head ≡ Nt f
+    → MatchOption o (HoldsBy p kind point args (record { rule = f; given = 0 })) (LacksBy p kind point args (record { rule = f; given = 0 }))
+    → MatchOption o ((b : Base) → IsBase (held p) rule head b.rule b.given → HoldsBy p kind point args b) (λ pair. (b : Base) × (IsBase (held p) rule head b.rule b.given × LacksBy p kind point args b pair))
+gap_at_rule p point rule head args kind f None is h = λ b base.
+    let own = subst (λ (x : Head). IsBase (held p) rule x b.rule b.given) is base in
+    let same : record { rule = f; given = 0 } ≡ b = λ i. record { rule = (sym own.0) i; given = (sym own.1) i } in
+    subst (λ (x : Base). HoldsBy p kind point args x) same h
+gap_at_rule p point rule head args kind f (Some pair) is h =
+    let b : Base = record { rule = f; given = 0 } in
+    (b, (subst (λ (x : Head). IsBase (held p) rule x f 0) (sym is) (refl, refl), h))
+
 -- what a point demands, from the parts of it
 module _ (p : ProblemData) (point rule : ℕ) (head : Head) (args : List ℕ) (lt : point < length p.points.points)
     (rule_is : rule ≡ (point_at p.points point).rule) (head_is : head ≡ (point_at p.points point).head) (args_is : args ≡ (point_at p.points point).args) where
@@ -188,6 +174,12 @@ module _ (p : ProblemData) (point rule : ℕ) (head : Head) (args : List ℕ) (l
           subst (λ (us : List ℕ). PassesBy p point us b pair) (ap (λ (q : PointData). q.args) same ∙ sym args_is) d.passes,
         ),
       )
+
+  pub gap_by_demands : (kind : Kind) (o : Option Pair)
+      → MatchOption o ((b : Base) → IsBase (held p) rule head b.rule b.given → HoldsBy p kind point args b) (λ pair. (b : Base) × (IsBase (held p) rule head b.rule b.given × LacksBy p kind point args b pair))
+      → MatchOption o ((pair : Pair) → IsOfKind kind pair → DemandsAt p point pair → Contains (held p) pair) (λ pair. IsOfKind kind pair × (DemandsAt p point pair × (Contains (held p) pair → ⊥)))
+  gap_by_demands kind None h = λ pair of d. let by = demand_by pair d in h by.0 by.1.0 pair of by.1.1
+  gap_by_demands kind (Some pair) h = let l = h.1.1 in (l.0, (demand_made h.0 pair h.1.0 l.1.0, l.1.1))
 
 -- demands at some point are demands
 pub at_some_point : (p : ProblemData) (pair : Pair) → p.points ≡ points_of p.sorted.scheme.rules → IsDemanded p pair → (point : ℕ) × ((point < length p.points.points) × DemandsAt p point pair)

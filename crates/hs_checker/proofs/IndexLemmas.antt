@@ -4,11 +4,11 @@ use Rattle.std.specs.Cmp.{IsTotalOrder}
 use Rattle.std.specs.Ordering.{nat_cmp, ordering_then, is_lt, ordering_index}
 use Rattle.std.specs.declared.cmp.Ordering.{Ordering}
 use Rattle.std.specs.declared.cmp.Ordering.TheVariants.{Less, Equal, Greater}
-use Rattle.std.specs.List.Sorted.{IsSortedBy, IsSearchInRange, IsBinarySearchResult, IsNonDecreasingBy, IsPermutation}
+use Rattle.std.specs.List.Sorted.{IsSortedBy, IsSearchInRange, IsBinarySearchResult, IsNonDecreasingBy}
 use Rattle.std.proofs.lemmas.Cmp.{tied_itself, then_total, on_total, nat_cmp_total}
 use Rattle.std.proofs.lemmas.Bool.{cases_lt}
 use Rattle.std.proofs.lemmas.List.Elements.{Contains-get_or}
-use Rattle.std.proofs.lemmas.List.Sorted.{searchable_from_sorted, IsPermutation-map, IsPermutation-sym, Contains-permutation}
+use Rattle.std.proofs.lemmas.List.Sorted.{searchable_from_sorted}
 use Rattle.hs_table.specs.Types.{TypeTree, type_cmp}
 use Rattle.hs_scheme.specs.Problem.{ProblemData}
 use Rattle.hs_table.specs.Entries.{EntryData, entry_cmp, InShape}
@@ -152,12 +152,6 @@ picked xs ys P Q part means e = (
   λ both. let s = from_map (λ (r : Bor EntryData). r.now) xs e both.0 in
       subst (λ x. Contains (map (λ (r : Bor EntryData). r.now) ys) x) (sym s.is) (into_map (λ (r : Bor EntryData). r.now) ys s.item ((part s.item).1 (s.there, (means s.item).1 (subst Q s.is both.1)))),
 )
-
-pub same_rows : (xs ys : List (Bor EntryData)) → IsPermutation xs ys → (e : EntryData) → Contains (map (λ (r : Bor EntryData). r.now) xs) e ↔ Contains (map (λ (r : Bor EntryData). r.now) ys) e
-same_rows xs ys h e =
-    let f : Bor EntryData → EntryData = λ r. r.now in
-    let m = IsPermutation-map f xs ys h in
-    (λ c. Contains-permutation (map f xs) (map f ys) e m c, λ c. Contains-permutation (map f ys) (map f xs) e (IsPermutation-sym (map f xs) (map f ys) m) c)
 
 push_map : (rows : List (Bor EntryData)) (r : Bor EntryData) → map (λ (r : Bor EntryData). r.now) (rows ++ r ∷ []) ≡ map (λ (r : Bor EntryData). r.now) rows ++ r.now ∷ []
 push_map [] r = refl

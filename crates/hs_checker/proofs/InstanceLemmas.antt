@@ -1,10 +1,11 @@
 -- Instances, and what follows by them.
-use Rattle.std.proofs.Common.{◌≡◌, refl, sym, ◌∙◌, ap, subst, ℕ, zero, suc, ◌+◌, ◌<◌, Option, Some, None, MatchOption, List, [], ◌∷◌, ◌++◌, length, set, replicate, slice_index, take, drop, get_or, slice_get, option_map, arith, Contains, inl, inr, ◌↔◌}
+use Rattle.std.proofs.Common.{◌≡◌, refl, sym, ◌∙◌, ap, subst, ℕ, zero, suc, ◌+◌, ◌<◌, Option, Some, None, MatchOption, List, [], ◌∷◌, ◌++◌, length, set, replicate, slice_index, take, drop, get_or, slice_get, option_map, arith, Contains, inl, inr, ◌↔◌, ◌≤◌}
 use Rattle.hs_scheme.specs.declared.term.Head.{Head}
 use Rattle.hs_scheme.specs.Tree.{node, none, more, children, children-forest, forest-children}
 use Rattle.hs_scheme.specs.declared.term.Head.TheVariants.{Tm}
 use Rattle.hs_scheme.specs.Points.{PointData, point_at, NonterminalWithin}
 use Rattle.std.proofs.lemmas.Option.{slice_get-get_or}
+use Rattle.hs_scheme.specs.Automaton.{next}
 use Rattle.hs_scheme.specs.Problem.{ProblemData}
 use Rattle.hs_table.specs.Types.{TypeTree, state, arrow, arrows}
 use Rattle.hs_table.specs.Entries.{Env, EntryData, params_of}
@@ -13,13 +14,15 @@ use Rattle.hs_table.specs.Tables.{IsInstance}
 use Rattle.hs_table_laws.proofs.Places.{some_same, none_in, here, later, uncons, member_at}
 use Rattle.std.proofs.Math.ListN.{length-set, length-replicate}
 use Rattle.std.proofs.lemmas.List.{get_or-set_same}
-use Rattle.hs_table_plain.specs.Enumeration.{through, opening, head_types, retyped, child_type}
-use Rattle.hs_checker.proofs.TypeLemmas.{pushed_is}
+use Rattle.std.proofs.lemmas.List.Elements.{Contains-get_or}
+use Rattle.hs_table_plain.specs.Enumeration.{through, opening, head_types, retyped, child_type, child_types, types_in, body_type, all_at}
+use Rattle.hs_checker.proofs.TypeLemmas.{pushed_is, body_says}
 use Rattle.hs_table_plain.proofs.Members.{from_flat_map, into_flat_map, from_map, next_member, in_pushed}
 use Rattle.hs_table_plain.proofs.ChoiceLemmas.{choose_all, through_arrows, split_from, at_place, from_all}
 use Rattle.hs_table_plain.proofs.HeadLemmas.{from_heads, into_heads}
 use Rattle.hs_table_plain.proofs.ConclusionLemmas.{all_at_exact}
-use Rattle.hs_checker.specs.Slots.{HasTypeAt, HasTypesAt, Fits, AreInShape, IsConclusion}
+use Rattle.hs_table_plain.proofs.TableLemmas.{below_or_last}
+use Rattle.hs_checker.specs.Slots.{HasTypeAt, HasTypesAt, Fits, AreBare, Moves, AreInShape, IsConclusion}
 
 module _ (p : ProblemData) (E : List EntryData) (shapes : AreInShape p E) where
   pub record Choice (i : ℕ) (us : List ℕ) (ty : TypeTree) : Type 0 where
@@ -117,11 +120,31 @@ module _ (p : ProblemData) (E : List EntryData) (shapes : AreInShape p E) where
     part : {A : Type 0} (f : PointData → A) (r : A) → r ≡ f (point_at p.points point) → option_map f (slice_get p.points.points point) ≡ Some r
     part f r is = ap (option_map f) at ∙ ap (λ x. Some x) (sym is)
 
+    all_exact : (e : EntryData) → Contains (all_at p E point rule (params_of p rule) head args) e ↔ ((e.point ≡ point) × Follows p E e)
+    all_exact e = all_at_exact p E point rule head args shapes lt (part (λ d. d.rule) rule rule_is) (part (λ d. d.head) head head_is) (part (λ d. d.args) args args_is) within e
+
+    -- what comes of a type of the head follows, and what follows comes of one that fits
+    pub comes_follows : (params : ℕ) (ty : TypeTree) (e : EntryData) → params ≡ params_of p rule → Contains (head_types p E rule head) ty → Contains (through E args ty (opening point params head ty ∷ [])) e → Follows p E e
+    comes_follows params ty e are c k =
+        ((all_exact e).0 (into_flat_map (λ ty. through E args ty (opening point (params_of p rule) head ty ∷ [])) (head_types p E rule head) ty e c
+        (subst (λ (m : ℕ). Contains (through E args ty (opening point m head ty ∷ [])) e) are k))).1
+
+    pub follows_comes : (params : ℕ) (e : EntryData) → params ≡ params_of p rule → e.point ≡ point → Follows p E e
+        → (ty : TypeTree) × ((Contains (head_types p E rule head) ty × Fits E args ty) × Contains (through E args ty (opening point params head ty ∷ [])) e)
+    follows_comes params e are at_point follows =
+        let s = from_flat_map (λ ty. through E args ty (opening point (params_of p rule) head ty ∷ [])) (head_types p E rule head) e ((all_exact e).1 (at_point, follows)) in (
+          s.item,
+          (
+            (s.there, through_fits args s.item (opening point (params_of p rule) head s.item ∷ []) e s.gives),
+            subst (λ (m : ℕ). Contains (through E args s.item (opening point m head s.item ∷ [])) e) (sym are) s.gives,
+          ),
+        )
+
     pub conclusion_exact : (params : ℕ) (types : List TypeTree) → params ≡ params_of p rule → ((t : TypeTree) → Contains types t ↔ IsInstance p E point t)
         → (e : EntryData) → IsConclusion E point params head args types e ↔ ((e.point ≡ point) × Follows p E e)
     conclusion_exact params types params_are types_are e =
         let n = params_of p rule in
-        let exact = all_at_exact p E point rule head args shapes lt (part (λ d. d.rule) rule rule_is) (part (λ d. d.head) head head_is) (part (λ d. d.args) args args_is) within e in (
+        let exact = all_exact e in (
           λ k. exact.0 (into_flat_map (λ ty. through E args ty (opening point n head ty ∷ [])) (head_types p E rule head) k.ty e (from_instance k.ty ((types_are k.ty).0 k.there)).0
               (subst (λ (m : ℕ). Contains (through E args k.ty (opening point m head k.ty ∷ [])) e) params_are k.comes)),
           λ both.
@@ -191,6 +214,62 @@ unfit_child E us qs q place u lt read never h =
     let within : place < length sets = omega (arith, long) in
     let has = fits_set E us (set sets place (r ∷ [])) (state q) place u read (omega (arith, length-set sets place (r ∷ []), within)) h in
     never (subst (λ s. HasTypesAt E u s) (get_or-set_same sets place (r ∷ []) [] within) has r (here r []))
+
+-- the sets of the first n arguments have entries
+abbrev pub SetsHave : List EntryData → List ℕ → Env → ℕ → Type 0
+SetsHave E us ss n = (k u : ℕ) → k < n → slice_get us k ≡ Some u → HasTypesAt E u (get_or ss k [])
+
+pub sets_fit : (E : List EntryData) (us : List ℕ) (ss : Env) (q : ℕ) → length us ≤ length ss → SetsHave E us ss (length us) → Fits E us (arrows ss (state q))
+sets_fit E [] ss q le h = tt
+sets_fit E (u ∷ us) [] q le h = absurd (omega arith)
+sets_fit E (u ∷ us) (s ∷ ss) q le h =
+    (fits_arrow E (u ∷ us) u s (arrows ss (state q)) (arrow s (arrows ss (state q))) refl refl).0
+    (h 0 u (omega arith) refl, sets_fit E us ss q (omega arith) (λ k v lt at. h (suc k) v (omega arith) at))
+
+-- so of one argument more
+pub sets_more : (E : List EntryData) (us : List ℕ) (ss : Env) (k : ℕ) → k < length us → SetsHave E us ss k → HasTypesAt E (get_or us k 0) (get_or ss k []) → SetsHave E us ss (k + 1)
+sets_more E us ss k lt before own n u low at = elim (below_or_last n k low) [
+  | inl below ↦ before n u below at
+  | inr same ↦
+      let is : get_or us k 0 ≡ u = some_same (get_or us k 0) u (sym (slice_get-get_or us k 0 lt) ∙ (ap (λ m. slice_get us m) (sym same) ∙ at)) in
+      subst (λ w. HasTypesAt E w (get_or ss n [])) is (subst (λ m. HasTypesAt E (get_or us k 0) (get_or ss m [])) (sym same) own)
+]
+
+pub sets_too_few : (E : List EntryData) (us : List ℕ) (ss : Env) (q : ℕ) → length ss < length us → Fits E us (arrows ss (state q)) → ⊥
+sets_too_few E [] ss q lt h = absurd (omega arith)
+sets_too_few E (u ∷ us) [] q lt h = h
+sets_too_few E (u ∷ us) (s ∷ ss) q lt h = sets_too_few E us ss q (omega arith) ((fits_arrow E (u ∷ us) u s (arrows ss (state q)) (arrow s (arrows ss (state q))) refl refl).1 h).1
+
+-- what an entry at the body says, where its sets have entries
+pub body_fits : (E : List EntryData) (args : List ℕ) (b : ℕ) (x : EntryData) (q : ℕ) (t : TypeTree) → x.point ≡ b → x.ty ≡ state q → Fits E args (arrows x.env (state q)) → (t ≡ arrows x.env (state q)) ↔ (Contains (body_type b x) t × Fits E args t)
+body_fits E args b x q t point is fits = let says = body_says b x q t point is in (λ e. (says.0 e, subst (λ z. Fits E args z) (sym e) fits), λ both. says.1 both.0)
+
+child_place : (to : List ℕ) (q n : ℕ) (t : TypeTree) → Contains (child_types to q n) t → (k : ℕ) × ((k < n) × (t ≡ child_type to q k))
+child_place to q zero t c = absurd (none_in t c)
+child_place to q (suc n) t c = elim ((in_pushed (child_types to q n) (child_type to q n) t).0 c) [
+  | inl before ↦ let r = child_place to q n t before in (r.0, (omega (arith, r.1.0), r.1.1))
+  | inr same ↦ (n, (omega arith, same))
+]
+
+-- over arguments without entries no child's type fits
+pub bare_unfit : (E : List EntryData) (us to : List ℕ) (q : ℕ) (t : TypeTree) → AreBare E us → length to ≤ length us → Contains (child_types to q (length to)) t → Fits E us t → ⊥
+bare_unfit E us to q t bare le c fits =
+    let r = child_place to q (length to) t c in
+    let lt : r.0 < length us = omega (arith, r.1.0) in
+    let u = get_or us r.0 0 in
+    unfit_child E us to q r.0 u r.1.0 (slice_get-get_or us r.0 0 lt) (bare u (state (slice_index to r.0)) (Contains-get_or us r.0 0 lt)) (subst (λ z. Fits E us z) r.1.1 fits)
+
+-- so nothing comes of a state that has a transition for no more children than there are arguments
+pub barren_unfit : (p : ProblemData) (E : List EntryData) (us : List ℕ) (a q : ℕ) (t : TypeTree) → AreBare E us → Moves p.sorted.automaton.transitions a (length us) q
+    → Contains (types_in p a q (next p.sorted.automaton.transitions q a)) t × Fits E us t → ⊥
+barren_unfit p E us a q t bare moves both =
+    bare_unfit E us moves.0 q t bare moves.1.1 (subst (λ (o : Option (List ℕ)). Contains (types_in p a q o) t) moves.1.0 both.0) both.1
+
+pub bare_more : (E : List EntryData) (us : List ℕ) (k u : ℕ) → k < length us → u ≡ get_or us k u → AreBare E (take k us) → ((a : TypeTree) → HasTypeAt E u a → ⊥) → AreBare E (take (k + 1) us)
+bare_more E us k u lt read before own v a c has = elim ((next_member us k u v lt read).0 c) [
+  | inl t ↦ before v a t has
+  | inr same ↦ own a (subst (λ z. HasTypeAt E z a) same has)
+]
 
 -- those so far that fit, and one more
 pub fitting_pushed : (E : List EntryData) (args : List ℕ) (olds found news : List TypeTree) (a : TypeTree) → news ≡ found ++ a ∷ [] → Fits E args a → ((t : TypeTree) → Contains found t ↔ (Contains olds t × Fits E args t))

@@ -7,6 +7,8 @@ pub mod Steps
 pub mod TypeLemmas
 pub mod EnvLemmas
 pub mod InstanceLemmas
+pub mod BodyLemmas
+pub mod TerminalLemmas
 pub mod ShapeLemmas
 pub mod CountLemmas
 mod Once

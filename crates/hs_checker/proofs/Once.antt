@@ -1,8 +1,8 @@
 -- Sorted lists from which repeats are dropped.
-use Rattle.std.proofs.Common.{◌≡◌, refl, sym, ◌∙◌, ap, subst, true, List, [], ◌∷◌, ◌++◌, length, append_assoc, arith, Contains, ◌↔◌}
-use Rattle.std.specs.List.{dedup}
+use Rattle.std.proofs.Common.{◌≡◌, refl, sym, ◌∙◌, ap, subst, ◌+◌, Bool, true, false, cond, get_or, map, List, [], ◌∷◌, ◌++◌, length, append_assoc, arith, Contains, ◌↔◌}
+use Rattle.std.specs.List.{dedup, dedup_from}
 use Rattle.std.specs.Cmp.{IsTotalOrder}
-use Rattle.std.specs.Ordering.{is_eq, ordering_index}
+use Rattle.std.specs.Ordering.{is_eq, is_lt, ordering_index, ordering_reverse}
 use Rattle.std.specs.declared.cmp.Ordering.{Ordering}
 use Rattle.std.specs.declared.cmp.Ordering.TheVariants.{Less, Equal, Greater}
 use Rattle.std.specs.List.Sorted.{IsPermutation, IsSorted, IsStrictlySortedBy}
@@ -49,3 +49,26 @@ all_given ys (x ∷ rest) all none whole = absurd (omega arith)
 
 pub one_given : {X : Type 0} (ys rest news all : List X) (x : X) → rest ≡ x ∷ news → ys ++ rest ≡ all → (ys ++ x ∷ []) ++ news ≡ all
 one_given ys rest news all x step whole = append_assoc ys (x ∷ []) news ∙ (sym (ap (λ xs. ys ++ xs) step) ∙ whole)
+
+-- what is kept once of a list is that of its image
+module _ {X Y : Type 0} (f : X → Y) (E : Y → Y → Bool) where
+  cond_map : (b : Bool) (xs ys : List X) → map f (cond b xs ys) ≡ cond b (map f xs) (map f ys)
+  cond_map true xs ys = refl
+  cond_map false xs ys = refl
+
+  dedup_from-map : (k : X) (xs : List X) → map f (dedup_from (λ a b. E (f a) (f b)) k xs) ≡ dedup_from E (f k) (map f xs)
+  dedup_from-map k [] = refl
+  dedup_from-map k (x ∷ xs) =
+      cond_map (E (f x) (f k)) (dedup_from (λ a b. E (f a) (f b)) k xs) (k ∷ dedup_from (λ a b. E (f a) (f b)) x xs)
+      ∙ (λ i. cond (E (f x) (f k)) (dedup_from-map k xs i) (f k ∷ dedup_from-map x xs i))
+
+  pub dedup-map : (xs : List X) → map f (dedup (λ a b. E (f a) (f b)) xs) ≡ dedup E (map f xs)
+  dedup-map [] = refl
+  dedup-map (x ∷ xs) = dedup_from-map x xs
+
+-- what ascends is sorted
+pub ascending_sorted : {X : Type 0} (R : X → X → Ordering) → IsTotalOrder R → (xs : List X) → IsAscending R xs → IsSorted R xs
+ascending_sorted R total xs up k d low high =
+    let a = get_or xs k d in
+    let b = get_or xs (k + 1) d in
+    ap is_lt (total.antisymm b a ∙ ap ordering_reverse (up k (k + 1) d (omega arith) high))

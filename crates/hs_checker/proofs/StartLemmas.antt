@@ -10,6 +10,7 @@ use Rattle.std.proofs.Math.Seq.{get_or-append_seam}
 use Rattle.std.proofs.lemmas.Map.Keys.{ge_from_not_lt}
 use Rattle.std.proofs.lemmas.Bool.{cases_lt}
 use Rattle.std.proofs.lemmas.List.{get_or-take, get_or-drop, length-drop, length-take, length-append, drop-map, take-map}
+use Rattle.hs_scheme.specs.Flow.{IsAscending}
 use Rattle.hs_table.specs.Entries.{EntryData}
 use Rattle.hs_table_laws.proofs.Places.{none_in}
 use Rattle.hs_checker.specs.Order.{IsIndex, IsStart, AreStarts, index_cmp}
@@ -126,6 +127,19 @@ index_part rows n k up =
         let above : get_or (take k (drop n es)) (i + 1) d ≡ get_or es (n + i + 1) d = get_or-take k (drop n es) (i + 1) d short ∙ (get_or-drop n es (i + 1) d ∙ ap (λ j. get_or es j d) next) in
         let below : get_or (take k (drop n es)) i d ≡ get_or es (n + i) d = get_or-take k (drop n es) i d (omega arith) ∙ get_or-drop n es i d in
         (λ j. is_lt (index_cmp (above j) (below j))) ∙ up (n + i) d (omega arith) within
+
+pub once_part : (rows : List (Bor EntryData)) (n k : ℕ) → IsAscending index_cmp (entries rows) → IsAscending index_cmp (entries (take k (drop n rows)))
+once_part rows n k up =
+    let f : Bor EntryData → EntryData = λ x. x.now in
+    subst (λ es. IsAscending index_cmp es) (ap (take k) (drop-map f n rows) ∙ take-map f k (drop n rows)) (part (entries rows) up)
+  where
+    part : (es : List EntryData) → IsAscending index_cmp es → IsAscending index_cmp (take k (drop n es))
+    part es up i j d low high =
+        let short : j < k = omega (arith, length-take k (drop n es), high) in
+        let within : n + j < length es = omega (arith, length-take k (drop n es), length-drop n es, high) in
+        let above : get_or (take k (drop n es)) j d ≡ get_or es (n + j) d = get_or-take k (drop n es) j d short ∙ get_or-drop n es j d in
+        let below : get_or (take k (drop n es)) i d ≡ get_or es (n + i) d = get_or-take k (drop n es) i d (omega arith) ∙ get_or-drop n es i d in
+        (λ m. index_cmp (below m) (above m)) ∙ up (n + i) (n + j) d (omega arith) within
 
 -- those of one type stand before the others
 pub split_at : {X : Type 0} (ord : X → Ordering) (xs : List X) (n : ℕ) → IsPartitionedBy (λ y. is_eq (ord y)) xs → n ≤ length xs → ((k : ℕ) (d : X) → k < n → ord (get_or xs k d) ≡ Equal)

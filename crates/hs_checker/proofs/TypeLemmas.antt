@@ -1,6 +1,7 @@
 -- The types of a head, as far as they are gathered.
 use Rattle.std.proofs.Common.{◌≡◌, refl, sym, ◌∙◌, ap, subst, ℕ, suc, ◌+◌, Bool, true, ◌&&◌, nat_eq, replicate, Option, Some, None, List, [], ◌∷◌, ◌++◌, length, map, filter, arith, Contains, inl, inr, ◌⊎◌, ◌↔◌, Bor}
 use Rattle.std.specs.List.{flat_map, list_any}
+use Rattle.std.specs.Bool.{◌==◌}
 use Rattle.std.proofs.lemmas.Bool.{eqb-true, eq-eqb}
 use Rattle.std.proofs.lemmas.List.Elements.{Contains-append_left, Contains-append_right, Contains-append_cases}
 use Rattle.hs_scheme.specs.declared.flow.FlowPair.{FlowPair}
@@ -10,7 +11,7 @@ use Rattle.hs_scheme.proofs.FlowRowLemmas.{filter_keeps, filter_has}
 use Rattle.hs_table.specs.Types.{TypeTree, state, arrows}
 use Rattle.hs_table.specs.Entries.{EntryData}
 use Rattle.hs_table.specs.Follows.{rank_of}
-use Rattle.hs_table_laws.proofs.Places.{here}
+use Rattle.hs_table_laws.proofs.Places.{here, none_in}
 use Rattle.hs_table_plain.specs.Enumeration.{child_type, child_types, types_in, terminal_types, is_state, body_type, is_pair, flow_type}
 use Rattle.hs_table_plain.proofs.Loops.{and_true, both_true, pair_there, pair_found}
 use Rattle.hs_table_plain.proofs.Members.{from_flat_map, into_flat_map, from_map, into_map, in_pushed, only}
@@ -60,6 +61,12 @@ types_at E rows u exact t = (
   λ h. let row = from_map (λ (r : Bor EntryData). r.now) rows h.entry ((exact h.entry).1 (h.there, h.at)) in
       record { item = row.item; there = row.there; holds = sym h.typed ∙ ap (λ (e : EntryData). e.ty) row.is },
 )
+
+-- where no row stands, nothing has a type
+pub nothing_at : (E : List EntryData) (rows : List (Bor EntryData)) (u : ℕ) → ((e : EntryData) → Contains (map (λ (r : Bor EntryData). r.now) rows) e ↔ (Contains E e × (e.point ≡ u))) → true ≡ (length rows == 0)
+    → (a : TypeTree) → HasTypeAt E u a → ⊥
+nothing_at E [] u exact none a h = none_in h.entry ((exact h.entry).1 (h.there, h.at))
+nothing_at E (r ∷ rows) u exact none a h = let f : length (r ∷ rows) ≡ 0 = eqb-true (length (r ∷ rows)) 0 (sym none) in absurd (omega (arith, f))
 
 pub flow_types : (E : List EntryData) (pairs : List FlowPair) (rule x : ℕ) (t : TypeTree)
     → AnyOf (λ (f : FlowPair) (t : TypeTree). HasTypeAt E f.point t) (filter (λ f. nat_eq f.rule rule && nat_eq f.param x) pairs) t ↔ Contains (flat_map (flow_type pairs rule x) E) t
@@ -115,6 +122,13 @@ both_parts A B C F h = (
 
 pub same_part : (A B F : Type 0) → A ↔ B → (A × F) ↔ (B × F)
 same_part A B F h = (λ x. (h.0 x.0, x.1), λ y. (h.1 y.0, y.1))
+
+-- some give a type that has a part
+pub any_part : {X : Type 0} (P : X → TypeTree → Type 0) (F : TypeTree → Type 0) (xs : List X) (t : TypeTree) → AnyOf (λ x y. P x y × F y) xs t ↔ (AnyOf P xs t × F t)
+any_part P F xs t = (
+  λ a. (record { item = a.item; there = a.there; holds = a.holds.0 }, a.holds.1),
+  λ both. record { item = both.0.item; there = both.0.there; holds = (both.0.holds, both.1) },
+)
 
 -- nothing is added where there is nothing to add
 pub or_nothing : (A B : Type 0) → (B → ⊥) → A ↔ (A ⊎ B)

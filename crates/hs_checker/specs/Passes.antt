@@ -1,5 +1,5 @@
 -- What a point demands by what its head may become; only private contracts cite it.
-use Rattle.std.specs.Prelude.{◌≡◌, ℕ, List, slice_get, Some}
+use Rattle.std.specs.Prelude.{◌≡◌, ℕ, List, slice_get, Some, Contains}
 use Rattle.hs_scheme.specs.declared.flow.FlowPair.{FlowPair}
 use Rattle.hs_scheme.specs.declared.flow.HeadPair.{HeadPair}
 use Rattle.hs_scheme.specs.declared.flow.Pair.{Pair}
@@ -8,7 +8,8 @@ use Rattle.hs_scheme.specs.Points.{PointData}
 use Rattle.hs_scheme.specs.Flow.{IsBase, Passes}
 use Rattle.hs_scheme.specs.Problem.{ProblemData}
 use Rattle.hs_checker.specs.declared.flow.Base.{Base}
-use Rattle.hs_checker.specs.Gaps.{held}
+use Rattle.hs_checker.specs.declared.flow.Kind.{Kind}
+use Rattle.hs_checker.specs.Gaps.{held, IsOfKind}
 
 abbrev pub PassesBy : ProblemData → ℕ → List ℕ → Base → Pair → Type 0
 PassesBy p point args b pair = Passes p.sorted.scheme.rules point args b.rule b.given pair
@@ -19,6 +20,14 @@ PassesFlow p args b f = PassesBy p 0 args b (OfFlow f)
 
 abbrev pub PassesHead : ProblemData → ℕ → List ℕ → Base → HeadPair → Type 0
 PassesHead p point args b h = PassesBy p point args b (OfHead h)
+
+-- what the base demands of the kind is held
+abbrev pub HoldsBy : ProblemData → Kind → ℕ → List ℕ → Base → Type 0
+HoldsBy p kind point args b = (pair : Pair) → IsOfKind kind pair → PassesBy p point args b pair → Contains (held p) pair
+
+-- the base demands the pair, which is of the kind and isn't held
+abbrev pub LacksBy : ProblemData → Kind → ℕ → List ℕ → Base → Pair → Type 0
+LacksBy p kind point args b pair = IsOfKind kind pair × (PassesBy p point args b pair × (Contains (held p) pair → ⊥))
 
 -- the pair is demanded at this point
 pub record DemandsAt (p : ProblemData) (point : ℕ) (pair : Pair) : Type 0 where

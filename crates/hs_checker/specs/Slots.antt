@@ -1,10 +1,16 @@
 -- Types that have entries; only private contracts cite it.
 --     HasTypeAt E u a     an entry at the point has the type
 --     Fits E us ty        each type of the sets has an entry at its argument
-use Rattle.std.specs.Prelude.{◌≡◌, ℕ, List, [], ◌∷◌, Some, None, Contains}
+--     AreBare E us        no argument has an entry
+--     Says E us e         the entry's type is a state, and the type that it says of its nonterminal fits
+--     IsCountAt p E u n   n is the number of instances at the point
+use Rattle.std.specs.Prelude.{◌≡◌, ◌≢◌, ◌↔◌, ℕ, ◌≤◌, List, [], ◌∷◌, length, Some, None, Contains, AllPairs}
 use Rattle.hs_scheme.specs.Tree.{node, none, more, children}
-use Rattle.hs_table.specs.Types.{TypeTree}
+use Rattle.hs_table.specs.Types.{TypeTree, state, arrows}
+use Rattle.hs_table.specs.Tables.{IsInstance}
 use Rattle.hs_scheme.specs.declared.term.Head.{Head}
+use Rattle.hs_scheme.specs.Transition.{TransitionData}
+use Rattle.hs_scheme.specs.Automaton.{next}
 use Rattle.hs_scheme.specs.Problem.{ProblemData}
 use Rattle.hs_table.specs.Entries.{EntryData, InShape}
 use Rattle.hs_table_plain.specs.Enumeration.{through, opening}
@@ -24,6 +30,18 @@ Fits E (u ∷ us) (node (Some q) ts) = ⊥
 Fits E (u ∷ us) (node None none) = ⊥
 Fits E (u ∷ us) (node None (more t ts)) = HasTypesAt E u (children ts) × Fits E us t
 
+abbrev pub AreBare : List EntryData → List ℕ → Type 0
+AreBare E us = (u : ℕ) (a : TypeTree) → Contains us u → HasTypeAt E u a → ⊥
+
+-- in state q the terminal a has a transition, with at most n children
+abbrev pub Moves : List TransitionData → ℕ → ℕ → ℕ → Type 0
+Moves ts a n q = (to : List ℕ) × ((next ts q a ≡ Some to) × (length to ≤ n))
+
+pub record Says (E : List EntryData) (us : List ℕ) (e : EntryData) : Type 0 where
+  pub q : ℕ
+  pub is_state : e.ty ≡ state q
+  pub fits : Fits E us (arrows e.env (state q))
+
 abbrev pub AreInShape : ProblemData → List EntryData → Type 0
 AreInShape p E = (e : EntryData) → Contains E e → InShape p e
 
@@ -32,3 +50,10 @@ pub record IsConclusion (E : List EntryData) (point params : ℕ) (head : Head) 
   pub ty : TypeTree
   pub there : Contains types ty
   pub comes : Contains (through E args ty (opening point params head ty ∷ [])) e
+
+-- so many types, of which no two are the same, are the instances at the point
+pub record IsCountAt (p : ProblemData) (E : List EntryData) (point n : ℕ) : Type 0 where
+  pub types : List TypeTree
+  pub distinct : AllPairs (λ a b. a ≢ b) types
+  pub exact : (t : TypeTree) → Contains types t ↔ IsInstance p E point t
+  pub count : n ≡ length types

@@ -1,19 +1,22 @@
 //! The check of a table.
 
-ghost use Rattle.std.specs.Prelude.{◌≡◌, ◌↔◌, [], IsTrue, IfOk, IfErr, OnOk};
+ghost use Rattle.std.specs.Prelude.{◌≡◌, ◌↔◌, ◌<◌, [], length, Contains, IsTrue, IfOk, IfErr, OnOk};
 ghost use Rattle.hs_scheme.specs.Run.{Accepts};
 ghost use Rattle.hs_table.specs.Types.{state};
+ghost use Rattle.hs_table.specs.Entries.{EntryData};
+ghost use Rattle.hs_table.specs.Follows.{Follows};
 ghost use Rattle.hs_table.specs.Tables.{IsClosedTable, HasStart};
 ghost use Rattle.hs_verdict.specs.Premises.{HasClosedFlow};
-ghost use Rattle.hs_checker.specs.Slots.{AreInShape};
+ghost use Rattle.hs_checker.specs.Slots.{AreInShape, IsCountAt};
 ghost use Rattle.hs_checker.specs.Checked.{IsCount, IsFault, IsGap, fault_of};
 
+use crate::bodies::count_at_rule;
 use crate::fault::CheckFault;
 use crate::flow::{Kind, gap};
 use crate::index::Index;
 use crate::instances::instances;
 use crate::missing::missing_at;
-use hs_scheme::{Pair, Problem};
+use hs_scheme::{Head, Pair, Problem};
 use hs_table::{Entry, Shape};
 use hs_verdict::is_sorted_problem;
 use std::alloc::Global;
@@ -62,6 +65,25 @@ fn has_start(problem: &Problem, table: &[Entry]) -> bool
     false
 }
 
+/// The number of instances at the point, where all that follows there is in the index. Those at a
+/// nonterminal are counted by the entries of its body.
+fn count_at(alloc: Global, problem: &Problem, index: &Index, point: u32) -> Result<u64, CheckFault>
+    requires point { point < length problem.now.points.points }
+    requires shape { AreInShape problem.now index.now }
+    ensures closed { OnOk result ((e : EntryData) → e.point ≡ point → Follows problem.now index.now e → Contains index.now e) }
+    ensures count { IfOk result (IsCountAt problem.now index.now point) }
+    ensures missing { IfErr result (IsGap problem.now index.now) }
+{
+    if let Head::Nt(nonterminal) = problem.points.head_of(point) {
+        return count_at_rule(alloc, problem, index, point, nonterminal);
+    }
+    let types = instances(alloc, problem, index, point)?;
+    match missing_at(alloc, problem, index, point, types.as_slice())? {
+        Some(entry) => Err(CheckFault::Missing { entry }),
+        None => Ok(types.len() as u64),
+    }
+}
+
 /// The number of instances, where all that follows from the index is in it.
 fn count_closed(alloc: Global, problem: &Problem, index: &Index) -> Result<u64, CheckFault>
     requires { AreInShape problem.now index.now }
@@ -71,12 +93,8 @@ fn count_closed(alloc: Global, problem: &Problem, index: &Index) -> Result<u64, 
 {
     let mut count: u64 = 0;
     for point in 0..problem.points.count() {
-        let types = instances(alloc, problem, index, point)?;
-        match missing_at(alloc, problem, index, point, types.as_slice())? {
-            Some(entry) => return Err(CheckFault::Missing { entry }),
-            None => {}
-        }
-        count = count.saturating_add(types.len() as u64);
+        let added = count_at(alloc, problem, index, point)?;
+        count = count.saturating_add(added);
     }
     Ok(count)
 }
@@ -93,8 +111,8 @@ fn count_closed(alloc: Global, problem: &Problem, index: &Index) -> Result<u64, 
 /// Time is in proportion to the meetings: of points with what their heads may become, of the points of
 /// terminals with the states, and of the partial results at each instance with the entries that they
 /// meet, with the logarithms of the numbers of pairs, types and entries. Memory is for a reference to
-/// each entry, a number for each point, and the types of one point and what follows by one of them
-/// there. Types are compared as trees, and calls recurse as deep as they.
+/// each entry, a number for each point, and at one point a mark for each state, the types and what
+/// follows by one of them. Types are compared as trees, and calls recurse as deep as they.
 pub fn check(alloc: Global, problem: &Problem, table: &[Entry]) -> Result<u64, CheckFault>
     ensures closed { OnOk result (HasClosedFlow problem.now × (IsClosedTable problem.now table.now × (HasStart problem.now table.now → ⊥))) }
     ensures count { IfOk result (IsCount problem.now table.now) }
@@ -102,10 +120,10 @@ pub fn check(alloc: Global, problem: &Problem, table: &[Entry]) -> Result<u64, C
     ensures fault { IfErr result (IsFault problem.now table.now) }
 {
     is_sorted_problem(problem);
-    if let Some(pair) = gap(alloc, problem, Kind::Flow)? {
+    if let Some(pair) = gap(problem, Kind::Flow) {
         return Err(open(pair));
     }
-    if let Some(pair) = gap(alloc, problem, Kind::Heads)? {
+    if let Some(pair) = gap(problem, Kind::Heads) {
         return Err(open(pair));
     }
     let index = Index::of(alloc, problem, table)?;

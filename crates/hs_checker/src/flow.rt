@@ -1,17 +1,16 @@
 //! Whether a flow holds all that is demanded by the pairs that it holds.
 
-ghost use Rattle.std.specs.Prelude.{◌≡◌, ◌↔◌, ◌⊎◌, ◌+◌, ◌-◌, ◌^◌, ◌<◌, Contains, IsTrue, IfOk, OnOk, MatchOption, length};
+ghost use Rattle.std.specs.Prelude.{◌≡◌, ◌↔◌, ◌+◌, ◌-◌, ◌^◌, ◌<◌, Contains, IsTrue, MatchOption, length};
 ghost use Rattle.hs_scheme.specs.declared.flow.Pair.{Pair as AnyPair};
 ghost use Rattle.hs_scheme.specs.declared.flow.FlowPair.{FlowPair as AnyFlow};
 ghost use Rattle.hs_scheme.specs.declared.flow.HeadPair.{HeadPair as AnyHead};
-ghost use Rattle.hs_scheme.specs.Flow.{IsAscending, head_cmp, IsBase, pairs_of};
+ghost use Rattle.hs_scheme.specs.Flow.{IsAscending, head_cmp, IsBase};
 ghost use Rattle.hs_table.specs.Entries.{params_of};
 ghost use Rattle.hs_checker.specs.declared.flow.Base.{Base as AnyBase};
 ghost use Rattle.hs_checker.specs.Gaps.{held, IsOfKind, HoldsAll, Lacks};
-ghost use Rattle.hs_checker.specs.Passes.{PassesFlow, PassesHead, PassesBy, DemandsAt};
+ghost use Rattle.hs_checker.specs.Passes.{PassesFlow, PassesHead, HoldsBy, LacksBy, DemandsAt};
 
-use hs_scheme::{FlowPair, FlowTable, Head, HeadPair, OutOfMemory, Pair, Problem};
-use std::alloc::Global;
+use hs_scheme::{FlowPair, FlowTable, Head, HeadPair, Pair, Problem};
 
 /// The two kinds of pairs.
 #[derive(Clone, Copy, Debug, PartialEq, Eq, Drop)]
@@ -36,54 +35,6 @@ fn heads_at(heads: &[HeadPair], point: u32) -> &[HeadPair]
     let rest = &heads[from..];
     let count = rest.partition_point(|h| h.point.cmp(&point).is_eq());
     &rest[..count]
-}
-
-/// Adds what the point of these pairs may become.
-fn add_bases(bases: &mut Vec<Base>, heads: &[HeadPair], point: u32) -> Result<(), OutOfMemory>
-    requires { IsAscending head_cmp heads.now }
-    ensures { OnOk result ((b : AnyBase) → Contains bases.new.items b ↔ (Contains bases.old.items b ⊎ Contains heads.now (record { point = point; rule = b.rule; given = b.given }))) }
-{
-    for head in heads_at(heads, point) {
-        bases.push(Base {
-            rule: head.rule,
-            given: head.given,
-        })?;
-    }
-    Ok(())
-}
-
-/// What this parameter of a rule may become.
-fn parameter_bases(
-    alloc: Global,
-    flow: &FlowTable,
-    rule: u32,
-    parameter: u32,
-) -> Result<Vec<Base>, OutOfMemory>
-    ensures { IfOk result (λ bases. (b : AnyBase) → Contains bases.items b ↔ IsBase (pairs_of flow.now.pairs flow.now.heads) rule (Head.Var parameter) b.rule b.given) }
-{
-    let mut bases = Vec::new(alloc);
-    for pair in flow.flow_of(rule, parameter) {
-        add_bases(&mut bases, flow.heads.as_slice(), pair.point)?;
-    }
-    Ok(bases)
-}
-
-/// What the head of a point in this rule may become.
-fn bases(alloc: Global, flow: &FlowTable, rule: u32, head: Head) -> Result<Vec<Base>, OutOfMemory>
-    ensures { IfOk result (λ bases. (b : AnyBase) → Contains bases.items b ↔ IsBase (pairs_of flow.now.pairs flow.now.heads) rule head b.rule b.given) }
-{
-    match head {
-        Head::Tm(_) => Ok(Vec::new(alloc)),
-        Head::Nt(nonterminal) => {
-            let mut bases = Vec::new(alloc);
-            bases.push(Base {
-                rule: nonterminal,
-                given: 0,
-            })?;
-            Ok(bases)
-        }
-        Head::Var(parameter) => parameter_bases(alloc, flow, rule, parameter),
-    }
 }
 
 /// How many parameters of the base's rule are still missing.
@@ -151,8 +102,8 @@ fn head_gap(problem: &Problem, point: u32, args: &[u32], base: Base) -> Option<H
 /// held.
 fn gap_by(problem: &Problem, kind: Kind, point: u32, args: &[u32], base: Base) -> Option<Pair>
     ensures { MatchOption result
-        ((pair : AnyPair) → IsOfKind kind pair → PassesBy problem.now point args.now base pair → Contains (held problem.now) pair)
-        (λ pair. IsOfKind kind pair × (PassesBy problem.now point args.now base pair × (Contains (held problem.now) pair → ⊥))) }
+        (HoldsBy problem.now kind point args.now base)
+        (LacksBy problem.now kind point args.now base) }
 {
     match kind {
         Kind::Flow => match flow_gap(problem, args, base) {
@@ -166,42 +117,115 @@ fn gap_by(problem: &Problem, kind: Kind, point: u32, args: &[u32], base: Base) -
     }
 }
 
-/// The first pair of the kind that the point demands and that isn't held.
-fn gap_at(
-    alloc: Global,
+/// So by what the point `from` may become.
+fn gap_from(
     problem: &Problem,
     kind: Kind,
     point: u32,
-) -> Result<Option<Pair>, OutOfMemory>
+    args: &[u32],
+    heads: &[HeadPair],
+    from: u32,
+) -> Option<Pair>
+    requires { IsAscending head_cmp heads.now }
+    ensures { MatchOption result
+        ((b : AnyBase) → Contains heads.now (record { point = from; rule = b.rule; given = b.given }) → HoldsBy problem.now kind point args.now b)
+        (λ pair. (b : AnyBase) × (Contains heads.now (record { point = from; rule = b.rule; given = b.given }) × LacksBy problem.now kind point args.now b pair)) }
+{
+    for head in heads_at(heads, from) {
+        let base = Base {
+            rule: head.rule,
+            given: head.given,
+        };
+        match gap_by(problem, kind, point, args, base) {
+            Some(pair) => return Some(pair),
+            None => {}
+        }
+    }
+    None
+}
+
+/// So by what this parameter of a rule may become.
+fn gap_through(
+    problem: &Problem,
+    kind: Kind,
+    point: u32,
+    args: &[u32],
+    rule: u32,
+    parameter: u32,
+) -> Option<Pair>
+    ensures { MatchOption result
+        ((b : AnyBase) → IsBase (held problem.now) rule (Head.Var parameter) b.rule b.given → HoldsBy problem.now kind point args.now b)
+        (λ pair. (b : AnyBase) × (IsBase (held problem.now) rule (Head.Var parameter) b.rule b.given × LacksBy problem.now kind point args.now b pair)) }
+{
+    let flow = &problem.flow;
+    for pair in flow.flow_of(rule, parameter) {
+        match gap_from(
+            problem,
+            kind,
+            point,
+            args,
+            flow.heads.as_slice(),
+            pair.point,
+        ) {
+            Some(pair) => return Some(pair),
+            None => {}
+        }
+    }
+    None
+}
+
+/// So by what the head of a point in this rule may become.
+fn gap_of(
+    problem: &Problem,
+    kind: Kind,
+    point: u32,
+    args: &[u32],
+    rule: u32,
+    head: Head,
+) -> Option<Pair>
+    ensures { MatchOption result
+        ((b : AnyBase) → IsBase (held problem.now) rule head b.rule b.given → HoldsBy problem.now kind point args.now b)
+        (λ pair. (b : AnyBase) × (IsBase (held problem.now) rule head b.rule b.given × LacksBy problem.now kind point args.now b pair)) }
+{
+    match head {
+        Head::Tm(_) => None,
+        Head::Nt(nonterminal) => {
+            let base = Base {
+                rule: nonterminal,
+                given: 0,
+            };
+            gap_by(problem, kind, point, args, base)
+        }
+        Head::Var(parameter) => gap_through(problem, kind, point, args, rule, parameter),
+    }
+}
+
+/// The first pair of the kind that the point demands and that isn't held.
+fn gap_at(problem: &Problem, kind: Kind, point: u32) -> Option<Pair>
     requires { point < length problem.now.points.points }
-    ensures { IfOk result (λ gap. MatchOption gap
+    ensures { MatchOption result
         ((pair : AnyPair) → IsOfKind kind pair → DemandsAt problem.now point pair → Contains (held problem.now) pair)
-        (λ pair. IsOfKind kind pair × (DemandsAt problem.now point pair × (Contains (held problem.now) pair → ⊥)))) }
+        (λ pair. IsOfKind kind pair × (DemandsAt problem.now point pair × (Contains (held problem.now) pair → ⊥))) }
 {
     let rule = problem.points.rule_of(point);
     let head = problem.points.head_of(point);
     let args = problem.points.args_of(point);
-    for base in &bases(alloc, &problem.flow, rule, head)? {
-        match gap_by(problem, kind, point, args, *base) {
-            Some(pair) => return Ok(Some(pair)),
-            None => {}
-        }
-    }
-    Ok(None)
+    gap_of(problem, kind, point, args, rule, head)
 }
 
-/// The first pair of the kind that is demanded by the pairs held, and isn't one of them.
+/// The first pair of the kind that is demanded by the pairs held, and isn't one of them. Takes no
+/// memory.
 ///
 /// Time is in proportion to the meetings of points with what their heads may become, with the
-/// logarithm of the number of pairs; memory to those of one point.
-pub(crate) fn gap(alloc: Global, problem: &Problem, kind: Kind) -> Result<Option<Pair>, OutOfMemory>
-    ensures { IfOk result (λ gap. MatchOption gap (HoldsAll problem.now kind) (λ pair. IsOfKind kind pair × Lacks problem.now pair)) }
+/// logarithm of the number of pairs.
+pub(crate) fn gap(problem: &Problem, kind: Kind) -> Option<Pair>
+    ensures { MatchOption result (HoldsAll problem.now kind) (λ pair. IsOfKind kind pair × Lacks problem.now pair) }
 {
     for point in 0..problem.points.count() {
-        match gap_at(alloc, problem, kind, point)? {
-            Some(pair) => return Ok(Some(pair)),
+        match gap_at(problem, kind, point) {
+            Some(pair) => return Some(pair),
             None => {}
         }
     }
-    Ok(None)
+    None
 }

@@ -1,4 +1,4 @@
-//! The types of nonterminals and parameters, as the entries say.
+//! The types of parameters, as the entries say, and what types are made of.
 
 ghost use Rattle.std.specs.Prelude.{◌≡◌, ◌↔◌, ◌⊎◌, [], ◌∷◌, replicate, IsTrue, Contains, IfOk, OnOk};
 ghost use Rattle.std.specs.List.{flat_map};
@@ -91,41 +91,6 @@ pub(crate) fn in_order(types: Vec<Ty>) -> Result<Vec<Ty>, OutOfMemory>
     let mut found = types;
     found.sort_by(|a, b| a.compare(b))?;
     found.dedup_by(|a, b| a.compare(b) == Ordering::Equal);
-    Ok(found)
-}
-
-/// Adds what an entry at the body says of its nonterminal, where its type is a state.
-fn add_body_type(
-    alloc: Global,
-    entry: &Entry,
-    body: u32,
-    found: &mut Vec<Ty>,
-) -> Result<(), OutOfMemory>
-    requires { entry.now.point ≡ body }
-    ensures { OnOk result ((t : TypeTree) → Contains found.new.items t ↔ (Contains found.old.items t ⊎ Contains (plain.body_type body entry.now) t)) }
-{
-    match &entry.ty.shape {
-        Shape::State(q) => {
-            let ty = arrows(alloc, entry.env.as_slice(), state(*q))?;
-            found.push(ty)?;
-            Ok(())
-        }
-        Shape::Arrow(_, _) => Ok(()),
-    }
-}
-
-/// What the entries at the body say of its nonterminal, where their types are states.
-pub(crate) fn nonterminal_types(
-    alloc: Global,
-    index: &Index,
-    body: u32,
-) -> Result<Vec<Ty>, OutOfMemory>
-    ensures { IfOk result (λ found. (t : TypeTree) → Contains found.items t ↔ Contains (flat_map (plain.body_type body) index.now) t) }
-{
-    let mut found = Vec::new(alloc);
-    for entry in index.at_point(body) {
-        add_body_type(alloc, entry, body, &mut found)?;
-    }
     Ok(found)
 }
 

@@ -4,6 +4,7 @@ ghost use Rattle.std.specs.Prelude.{◌≡◌, ◌↔◌, ◌<◌, ◌≤◌, �
 ghost use Rattle.std.specs.Prelude.{Contains, IsTrue, IfOk, OnOk, MatchOption};
 ghost use Rattle.std.specs.Borrow.{Bor};
 ghost use Rattle.std.specs.declared.cmp.Ordering.TheVariants.{Equal};
+ghost use Rattle.hs_scheme.specs.Flow.{IsAscending};
 ghost use Rattle.hs_table.specs.Types.{type_cmp};
 ghost use Rattle.hs_table.specs.Entries.{EntryData, InShape};
 ghost use Rattle.hs_checker.specs.Order.{index_cmp, key_cmp, IsIndex, AreStarts};
@@ -50,7 +51,8 @@ fn order(entry: &Entry, other: &Entry) -> Ordering
     entry.compare(other)
 }
 
-/// The entries in shape of a table, those of lesser points first, and those of each point by type.
+/// The entries in shape of a table, each once, those of lesser points first, and those of each point by
+/// type.
 /// Contracts see the list of them.
 #[derive(Drop)]
 pub(crate) struct Index<'a> {
@@ -63,7 +65,8 @@ impl<'a> Model for Index<'a> {
     ghost use Rattle.std.specs.Prelude.{List, map};
     ghost use Rattle.std.specs.Coded.{coded_list};
     ghost use Rattle.hs_table.specs.Entries.{EntryData, coded_entry};
-    ghost use Rattle.hs_checker.specs.Order.{IsIndex, AreStarts};
+    ghost use Rattle.hs_scheme.specs.Flow.{IsAscending};
+    ghost use Rattle.hs_checker.specs.Order.{index_cmp, IsIndex, AreStarts};
 
     ghost Value = { List EntryData };
 
@@ -73,6 +76,7 @@ impl<'a> Model for Index<'a> {
 
     ghost invariant = { λ a. record {
       sorted : IsIndex (map (λ r. r.now) a.rows.items);
+      once : IsAscending index_cmp (map (λ r. r.now) a.rows.items);
       starts : AreStarts (map (λ r. r.now) a.rows.items) a.starts.items;
     } };
 }
@@ -147,15 +151,17 @@ impl<'a> Index<'a> {
     {
         let mut rows = shaped(alloc, problem, table)?;
         rows.sort_by(|a, b| order(a, b))?;
+        rows.dedup_by(|a, b| order(a, b) == Ordering::Equal);
         let starts = starts_of(alloc, rows.as_slice(), problem.points.count())?;
         Ok(Index { rows, starts })
     }
 
-    /// The entries at the point, in their order. Takes constant time.
+    /// The entries at the point, each once and in their order. Takes constant time.
     pub(crate) fn at_point(&self, point: u32) -> &[&'a Entry]
         ensures has { (e : EntryData) →
             Contains (map (λ r. r.now) result.now) e ↔ (Contains self.now e × (e.point ≡ point)) }
         ensures sorted { IsIndex (map (λ r. r.now) result.now) }
+        ensures once { IsAscending index_cmp (map (λ r. r.now) result.now) }
     {
         let rows = self.rows.as_slice();
         let starts = self.starts.as_slice();

@@ -1,17 +1,19 @@
-//! The instances at a point: the types of its head whose sets have entries.
+//! The instances at a point whose head is a terminal or a parameter: the types of the head whose sets
+//! have entries.
 
-ghost use Rattle.std.specs.Prelude.{◌≡◌, ◌↔◌, ◌<◌, length, Contains, IsTrue, IfOk};
-ghost use Rattle.hs_scheme.specs.Points.{NonterminalWithin};
+ghost use Rattle.std.specs.Prelude.{◌≡◌, ◌↔◌, ◌<◌, ℕ, length, Contains, IsTrue, IfOk};
+ghost use Rattle.hs_scheme.specs.Points.{point_at};
+ghost use Rattle.hs_table.specs.Types as types;
 ghost use Rattle.hs_table.specs.Types.{TypeTree, IsSet};
 ghost use Rattle.hs_table.specs.Tables.{IsInstance};
 ghost use Rattle.hs_checker.specs.Slots.{HasTypesAt, Fits, AreInShape};
 ghost use Rattle.hs_table_plain.specs.Enumeration as plain;
 
-use crate::heads::{in_order, nonterminal_types, parameter_types};
+use crate::heads::{in_order, parameter_types};
 use crate::index::Index;
 use crate::terminals::terminal_instances;
 use hs_scheme::{Head, OutOfMemory, Problem};
-use hs_table::{Shape, Ty};
+use hs_table::{Shape, Ty, TypeSet};
 use std::alloc::Global;
 
 /// Whether each of the types has an entry at the argument.
@@ -41,6 +43,23 @@ pub(crate) fn fits(index: &Index, args: &[u32], ty: &Ty) -> bool
     }
 }
 
+/// Whether each type of these sets has an entry at its argument, and there are no more arguments than
+/// sets.
+pub(crate) fn sets_fit(index: &Index, args: &[u32], sets: &[TypeSet]) -> bool
+    ensures { (q : ℕ) → IsTrue result ↔ Fits index.now args.now (types.arrows sets.now (types.state q)) }
+{
+    if args.len() > sets.len() {
+        return false;
+    }
+    for (place, arg) in args.iter().enumerate() {
+        let set = &sets[place];
+        if !have_entries(index, *arg, set.types.as_slice()) {
+            return false;
+        }
+    }
+    true
+}
+
 /// Those of the types whose sets have entries.
 fn fitting(
     alloc: Global,
@@ -59,7 +78,8 @@ fn fitting(
     Ok(found)
 }
 
-/// The types of this head, in this rule, whose sets have entries at the arguments, in any order.
+/// The types of this head, which isn't a nonterminal, in this rule, whose sets have entries at the
+/// arguments, in any order.
 fn fitting_types(
     alloc: Global,
     problem: &Problem,
@@ -68,15 +88,12 @@ fn fitting_types(
     head: Head,
     args: &[u32],
 ) -> Result<Vec<Ty>, OutOfMemory>
-    requires { NonterminalWithin (length problem.now.points.bodies) head }
+    requires { (f : ℕ) → head ≡ Head.Nt f → ⊥ }
     ensures { IfOk result (λ found. (t : TypeTree) → Contains found.items t ↔ (Contains (plain.head_types problem.now index.now rule head) t × Fits index.now args.now t)) }
 {
     match head {
         Head::Tm(terminal) => terminal_instances(alloc, problem, index, args, terminal),
-        Head::Nt(nonterminal) => {
-            let types = nonterminal_types(alloc, index, problem.points.body_of(nonterminal))?;
-            fitting(alloc, index, args, types)
-        }
+        Head::Nt(_f) => unreachable!(),
         Head::Var(parameter) => {
             let types = parameter_types(alloc, problem, index, rule, parameter)?;
             fitting(alloc, index, args, types)
@@ -93,7 +110,7 @@ fn instances_of(
     head: Head,
     args: &[u32],
 ) -> Result<Vec<Ty>, OutOfMemory>
-    requires { NonterminalWithin (length problem.now.points.bodies) head }
+    requires { (f : ℕ) → head ≡ Head.Nt f → ⊥ }
     ensures set { IfOk result (λ found. IsSet found.items) }
     ensures each { IfOk result (λ found. (t : TypeTree) → Contains found.items t ↔ (Contains (plain.head_types problem.now index.now rule head) t × Fits index.now args.now t)) }
 {
@@ -101,7 +118,7 @@ fn instances_of(
     in_order(types)
 }
 
-/// The types of the point's head whose sets have entries, each once.
+/// The types of the point's head, which isn't a nonterminal, whose sets have entries, each once.
 pub(crate) fn instances(
     alloc: Global,
     problem: &Problem,
@@ -110,6 +127,7 @@ pub(crate) fn instances(
 ) -> Result<Vec<Ty>, OutOfMemory>
     requires point { point < length problem.now.points.points }
     requires shape { AreInShape problem.now index.now }
+    requires head { (f : ℕ) → (point_at problem.now.points point).head ≡ Head.Nt f → ⊥ }
     ensures set { IfOk result (λ found. IsSet found.items) }
     ensures each { IfOk result (λ found. (t : TypeTree) → Contains found.items t ↔ IsInstance problem.now index.now point t) }
 {

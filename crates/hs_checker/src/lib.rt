@@ -5,6 +5,7 @@
 //! alone.
 #![tactic(auto)]
 
+mod bodies;
 mod checking;
 mod fault;
 mod flow;

@@ -19,7 +19,7 @@ use std::alloc::Global;
 
 /// An entry with what the head asks of the parameters. Its type doesn't matter: what follows by it
 /// gets its own.
-fn opening(
+pub(crate) fn opening(
     alloc: Global,
     point: u32,
     params: u32,
@@ -44,7 +44,7 @@ fn opening(
 
 /// The first of the entries that isn't in the index. What follows comes mostly in the index's order, so
 /// each is looked for behind the one before; `guess` is the place for the first, and then for the next.
-fn first_missing(index: &Index, entries: Vec<Entry>, guess: &mut usize) -> Option<Entry>
+pub(crate) fn first_missing(index: &Index, entries: Vec<Entry>, guess: &mut usize) -> Option<Entry>
     ensures { MatchOption result
         ((e : EntryData) → Contains entries.items e → Contains index.now e)
         (λ e. Contains entries.items e × (Contains index.now e → ⊥)) }

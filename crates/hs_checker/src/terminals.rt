@@ -1,18 +1,18 @@
 //! The types of a terminal whose sets have entries.
 
-ghost use Rattle.std.specs.Prelude.{◌≡◌, ◌<◌, ◌↔◌, ◌⊎◌, ℕ, IsTrue, length, slice_get, Some, Contains, IfOk, OnOk, option_copied};
+ghost use Rattle.std.specs.Prelude.{◌≡◌, ◌<◌, ◌≤◌, ◌↔◌, ◌⊎◌, ℕ, IsTrue, length, slice_get, Some, true, Contains, IfOk, OnOk, option_copied};
 ghost use Rattle.hs_scheme.specs.Automaton as automaton;
 ghost use Rattle.hs_table.specs.Types as types;
 ghost use Rattle.hs_table.specs.Types.{TypeTree};
 ghost use Rattle.hs_table.specs.Follows.{rank_of};
-ghost use Rattle.hs_checker.specs.Slots.{HasTypeAt, Fits};
+ghost use Rattle.hs_checker.specs.Slots.{HasTypeAt, Fits, AreBare, Moves};
 ghost use Rattle.hs_table_plain.specs.Enumeration as plain;
 
 use crate::heads::{arrows, empty_sets, singleton, state};
 use crate::index::Index;
 use crate::instances::fits;
 use crate::shape::states;
-use hs_scheme::{OutOfMemory, Problem};
+use hs_scheme::{Automaton, OutOfMemory, Problem, Transition};
 use hs_table::Ty;
 use std::alloc::Global;
 
@@ -51,6 +51,18 @@ fn add_fitting(index: &Index, args: &[u32], ty: Ty, found: &mut Vec<Ty>) -> Resu
         found.push(ty)?;
     }
     Ok(())
+}
+
+/// Whether no entry stands at one of the arguments.
+fn are_bare(index: &Index, args: &[u32]) -> bool
+    ensures { IsTrue result → AreBare index.now args.now }
+{
+    for arg in args {
+        if !index.at_point(*arg).is_empty() {
+            return false;
+        }
+    }
+    true
 }
 
 /// Whether there is an argument at this place, and no entry there has the state as its type.
@@ -128,8 +140,70 @@ fn add_types_in(
     }
 }
 
+/// Marks the state of the transition, where it has no more than so many children.
+fn mark(marks: &mut Vec<bool>, transition: &Transition, most: usize)
+    requires { transition.now.from < length marks.old.items }
+    ensures long { length marks.new.items ≡ length marks.old.items }
+    ensures marked { (q : ℕ) → slice_get marks.new.items q ≡ Some true
+        → slice_get marks.old.items q ≡ Some true ⊎ ((transition.now.from ≡ q) × (length transition.now.to ≤ most)) }
+{
+    if transition.to.len() <= most {
+        marks[transition.from as usize] = true;
+    }
+}
+
+/// For each state whether it has a transition for the terminal, with no more than so many children.
+fn moving(
+    alloc: Global,
+    automaton: &Automaton,
+    terminal: u32,
+    most: usize,
+) -> Result<Vec<bool>, OutOfMemory>
+    ensures { IfOk result (λ marks. (q : ℕ) → slice_get marks.items q ≡ Some true → Moves automaton.now.transitions terminal most q) }
+{
+    automaton.is_automaton();
+    let mut marks = vec![in alloc; false; automaton.states() as usize]?;
+    let transitions = automaton.transitions();
+    for place in automaton.with_terminal(terminal) {
+        match transitions.get(*place) {
+            Some(transition) => mark(&mut marks, transition, most),
+            None => {}
+        }
+    }
+    Ok(marks)
+}
+
+/// Whether the state is marked.
+fn is_marked(marks: &[bool], q: u32) -> bool
+    ensures { IsTrue result → slice_get marks.now q ≡ Some true }
+{
+    match marks.get(q as usize) {
+        None => false,
+        Some(mark) => *mark,
+    }
+}
+
+/// The states in which nothing comes of the terminal over bare arguments: those that have a transition
+/// for no more children than there are arguments. None are marked where the arguments aren't bare.
+fn barren(
+    alloc: Global,
+    problem: &Problem,
+    args: &[u32],
+    bare: bool,
+    terminal: u32,
+) -> Result<Vec<bool>, OutOfMemory>
+    ensures { IfOk result (λ marks. (q : ℕ) → slice_get marks.items q ≡ Some true
+        → IsTrue bare × Moves problem.now.sorted.automaton.transitions terminal (length args.now) q) }
+{
+    if !bare {
+        return Ok(Vec::new(alloc));
+    }
+    moving(alloc, &problem.sorted.automaton, terminal, args.len())
+}
+
 /// The types of the terminal whose sets have entries at the arguments. A type is formed only where its
-/// child has an entry, so that a state costs little more than the look-up of its transition.
+/// child has an entry, so that a state costs little more than the look-up of its transition; where the
+/// arguments are bare, the states with one are passed over.
 pub(crate) fn terminal_instances(
     alloc: Global,
     problem: &Problem,
@@ -139,9 +213,13 @@ pub(crate) fn terminal_instances(
 ) -> Result<Vec<Ty>, OutOfMemory>
     ensures { IfOk result (λ found. (t : TypeTree) → Contains found.items t ↔ (Contains (plain.terminal_types problem.now terminal problem.now.sorted.automaton.states) t × Fits index.now args.now t)) }
 {
+    let bare = are_bare(index, args);
+    let barren = barren(alloc, problem, args, bare, terminal)?;
     let mut found = Vec::new(alloc);
     for q in 0..states(problem) {
-        add_types_in(alloc, problem, index, args, terminal, q, &mut found)?;
+        if !is_marked(barren.as_slice(), q) {
+            add_types_in(alloc, problem, index, args, terminal, q, &mut found)?;
+        }
     }
     Ok(found)
 }

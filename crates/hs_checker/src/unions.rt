@@ -4,10 +4,12 @@
 ghost use Rattle.std.specs.Prelude.{◌≡◌, ◌∷◌, ◌++◌, ◌≤◌, ◌↔◌, ◌⊎◌, take, drop, length, Contains, IfOk, OnOk, MatchResult, map};
 ghost use Rattle.hs_checker.specs.Any.{AnyOf};
 ghost use Rattle.std.specs.List.{flat_map};
+ghost use Rattle.hs_table.specs.Types as types;
 ghost use Rattle.hs_table.specs.Entries.{EntryData, set_at};
 ghost use Rattle.hs_table_laws.proofs.Sets.{insert as with_type};
 ghost use Rattle.hs_table_plain.specs.Enumeration as plain;
 
+use crate::heads::arrows;
 use crate::index::Index;
 use hs_scheme::OutOfMemory;
 use hs_table::{Entry, Shape, Ty, TypeSet};
@@ -232,6 +234,31 @@ fn retyped(alloc: Global, ty: &Ty, entries: Vec<Entry>) -> Result<Vec<Entry>, Ou
         retype(alloc, entry, ty)?;
     }
     Ok(out)
+}
+
+/// Each entry joined with one candidate for each type of the set of each argument, by its place. The
+/// type behind all sets is given; the entries get what is left of the sets before it.
+///
+/// Time is as for `through`, and nothing is formed for a type whose arguments are all there.
+pub(crate) fn through_sets(
+    alloc: Global,
+    index: &Index,
+    args: &[u32],
+    sets: &[TypeSet],
+    ty: &Ty,
+    entries: Vec<Entry>,
+) -> Result<Vec<Entry>, OutOfMemory>
+    requires { length args.now ≤ length sets.now }
+    ensures { IfOk result (λ found. (e : EntryData) → Contains found.items e ↔ Contains (plain.through index.now args.now (types.arrows sets.now ty.now) entries.items) e) }
+{
+    let mut found = entries;
+    for (place, arg) in args.iter().enumerate() {
+        let set = &sets[place];
+        found = picks(alloc, index, *arg, set.types.as_slice(), found)?;
+    }
+    let behind = ty.copy(alloc)?;
+    let left = arrows(alloc, &sets[args.len()..], behind)?;
+    retyped(alloc, &left, found)
 }
 
 /// Each entry joined with one candidate for each type of each argument's set, with the type that

@@ -11,8 +11,8 @@ pub returns-in_err-count-clause-fault : goal.returns-in_err-count-clause-fault
 returns-in_err-count-clause-fault c =
     let p = c.args.problem.now in
     let flow = both_kinds p
-    (none_lacking c.in_ok-pair.field-0 (HoldsAll p Flow) (λ (pair : Pair). IsOfKind Flow pair × Lacks p pair) c.in_default.not-Some c.in_ok-pair.ensures)
-    (none_lacking c.in_ok-pair-2.field-0 (HoldsAll p Heads) (λ (pair : Pair). IsOfKind Heads pair × Lacks p pair) c.in_default-2.not-Some c.in_ok-pair-2.ensures) in
+    (none_lacking c.gap.result (HoldsAll p Flow) (λ (pair : Pair). IsOfKind Flow pair × Lacks p pair) c.in_default.not-Some c.gap.ensures)
+    (none_lacking c.gap-2.result (HoldsAll p Heads) (λ (pair : Pair). IsOfKind Heads pair × Lacks p pair) c.in_default-gap.not-Some c.gap-2.ensures) in
     let fault = gap_whole p c.in_ok-index.index c.args.table.now c.in_err-count.field-0.0 c.in_ok-index.ensures c.is_sorted_problem.ensures.automaton flow c.in_err-count.ensures.missing in
     let e = err_from_is_err_and c.from_residual-in_err-count.result c.from_residual-in_err-count.ensures.1 in
     rw (e.1, e.2) fault
@@ -21,16 +21,16 @@ pub returns-then-has_start-clause-fault : goal.returns-then-has_start-clause-fau
 returns-then-has_start-clause-fault c =
     let p = c.args.problem.now in
     let flow = both_kinds p
-    (none_lacking c.in_ok-pair.field-0 (HoldsAll p Flow) (λ (pair : Pair). IsOfKind Flow pair × Lacks p pair) c.in_default.not-Some c.in_ok-pair.ensures)
-    (none_lacking c.in_ok-pair-2.field-0 (HoldsAll p Heads) (λ (pair : Pair). IsOfKind Heads pair × Lacks p pair) c.in_default-2.not-Some c.in_ok-pair-2.ensures) in
+    (none_lacking c.gap.result (HoldsAll p Flow) (λ (pair : Pair). IsOfKind Flow pair × Lacks p pair) c.in_default.not-Some c.gap.ensures)
+    (none_lacking c.gap-2.result (HoldsAll p Heads) (λ (pair : Pair). IsOfKind Heads pair × Lacks p pair) c.in_default-gap.not-Some c.gap-2.ensures) in
     (flow, (closed_whole p c.in_ok-index.index c.args.table.now c.in_ok-index.ensures c.in_ok-count.ensures.closed, c.has_start.ensures.0 c.if-has_start.true))
 
 pub returns-clause-closed : goal.returns-clause-closed
 returns-clause-closed c =
     let p = c.args.problem.now in
     let flow = both_kinds p
-    (none_lacking c.in_ok-pair.field-0 (HoldsAll p Flow) (λ (pair : Pair). IsOfKind Flow pair × Lacks p pair) c.in_default.not-Some c.in_ok-pair.ensures)
-    (none_lacking c.in_ok-pair-2.field-0 (HoldsAll p Heads) (λ (pair : Pair). IsOfKind Heads pair × Lacks p pair) c.in_default-2.not-Some c.in_ok-pair-2.ensures) in (
+    (none_lacking c.gap.result (HoldsAll p Flow) (λ (pair : Pair). IsOfKind Flow pair × Lacks p pair) c.in_default.not-Some c.gap.ensures)
+    (none_lacking c.gap-2.result (HoldsAll p Heads) (λ (pair : Pair). IsOfKind Heads pair × Lacks p pair) c.in_default-gap.not-Some c.gap-2.ensures) in (
       flow,
       (
         closed_whole p c.in_ok-index.index c.args.table.now c.in_ok-index.ensures c.in_ok-count.ensures.closed,
@@ -45,7 +45,7 @@ pub returns-clause-accepted : goal.returns-clause-accepted
 returns-clause-accepted c =
     let p = c.args.problem.now in
     let flow = both_kinds p
-    (none_lacking c.in_ok-pair.field-0 (HoldsAll p Flow) (λ (pair : Pair). IsOfKind Flow pair × Lacks p pair) c.in_default.not-Some c.in_ok-pair.ensures)
-    (none_lacking c.in_ok-pair-2.field-0 (HoldsAll p Heads) (λ (pair : Pair). IsOfKind Heads pair × Lacks p pair) c.in_default-2.not-Some c.in_ok-pair-2.ensures) in
+    (none_lacking c.gap.result (HoldsAll p Flow) (λ (pair : Pair). IsOfKind Flow pair × Lacks p pair) c.in_default.not-Some c.gap.ensures)
+    (none_lacking c.gap-2.result (HoldsAll p Heads) (λ (pair : Pair). IsOfKind Heads pair × Lacks p pair) c.in_default-gap.not-Some c.gap-2.ensures) in
     accepts_without_start p c.is_sorted_problem.ensures flow c.args.table.now (closed_whole p c.in_ok-index.index c.args.table.now c.in_ok-index.ensures c.in_ok-count.ensures.closed)
     (λ start. let f : true ≡ false = sym (c.has_start.ensures.1 start) ∙ c.if-has_start.false in absurd (cc))

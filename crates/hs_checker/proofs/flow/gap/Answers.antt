@@ -16,7 +16,7 @@ none_lacking P Q (Some pair) e h = absurd (cc)
 pub loop-point-preserved : goal.loop-point-preserved
 loop-point-preserved c = λ q lt pair of d. elim (below_or_last q c.loop-point.point lt) [
   | inl below ↦ c.loop-point.invariant q below pair of d
-  | inr same ↦ none_lacking ((pair : Pair) → IsOfKind c.args.kind pair → DemandsAt c.args.problem.now c.loop-point.point pair → Contains (held c.args.problem.now) pair) _ c.in_ok-pair.field-0 c.in-None.is c.in_ok-pair.ensures pair of
+  | inr same ↦ none_lacking ((pair : Pair) → IsOfKind c.args.kind pair → DemandsAt c.args.problem.now c.loop-point.point pair → Contains (held c.args.problem.now) pair) _ c.gap_at.result c.in-None.is c.gap_at.ensures pair of
       (subst (λ n. DemandsAt c.args.problem.now n pair) same d)
 ]
 

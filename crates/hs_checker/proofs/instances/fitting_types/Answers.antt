@@ -1,7 +1,5 @@
-use Rattle.std.proofs.Common.{sym, ◌∙◌, ap, subst, ℕ, slice_index, Contains, ◌↔◌, IfOk}
-use Rattle.std.specs.List.{flat_map}
+use Rattle.std.proofs.Common.{sym, subst, Contains, ◌↔◌, IfOk}
 use Rattle.hs_scheme.specs.declared.term.Head.{Head}
-use Rattle.hs_scheme.specs.Problem.{ProblemData}
 use Rattle.hs_table.specs.Types.{TypeTree}
 use Rattle.hs_table_plain.specs.Enumeration as plain
 use Rattle.hs_table_plain.proofs.ConclusionLemmas.{if_ok_map}
@@ -13,22 +11,11 @@ returns-in-Tm c =
     subst (λ (h : Head). IfOk c.terminal_instances.result (λ found. (t : TypeTree) → Contains found.items t ↔ (Contains (plain.head_types c.args.problem.now c.args.index.now c.args.rule h) t × Fits c.args.index.now c.args.args.now t)))
     (sym c.in-Tm.is) c.terminal_instances.ensures
 
-pub returns-in_ok-types-in-Nt : goal.returns-in_ok-types-in-Nt
-returns-in_ok-types-in-Nt c =
-    let p = c.args.problem.now in
-    let E = c.args.index.now in
-    let types = c.in_ok-types-in-Nt.types.items in
-    let body = c.body_of.ensures.body ∙ ap (λ (q : ProblemData). slice_index q.points.bodies c.in-Nt.nonterminal) c.problem.view_is in
-    let mine = subst (λ (b : ℕ). (t : TypeTree) → Contains types t ↔ Contains (flat_map (plain.body_type b) E) t) body c.in_ok-types-in-Nt.ensures in
-    let exact = subst (λ (h : Head). (t : TypeTree) → Contains types t ↔ Contains (plain.head_types p E c.args.rule h) t) (sym c.in-Nt.is) mine in
-    if_ok_map c.fitting.result _ (λ found. (t : TypeTree) → Contains found.items t ↔ (Contains (plain.head_types p E c.args.rule c.args.head) t × Fits E c.args.args.now t))
-    (λ found each t. (λ k. let b = (each t).0 k in ((exact t).0 b.0, b.1), λ b. (each t).1 ((exact t).1 b.0, b.1))) c.fitting.ensures
-
 pub returns-in_ok-types-in-Var : goal.returns-in_ok-types-in-Var
 returns-in_ok-types-in-Var c =
     let p = c.args.problem.now in
     let E = c.args.index.now in
     let types = c.in_ok-types-in-Var.types.items in
     let exact = subst (λ (h : Head). (t : TypeTree) → Contains types t ↔ Contains (plain.head_types p E c.args.rule h) t) (sym c.in-Var.is) c.in_ok-types-in-Var.ensures in
-    if_ok_map c.fitting-in-Var.result _ (λ found. (t : TypeTree) → Contains found.items t ↔ (Contains (plain.head_types p E c.args.rule c.args.head) t × Fits E c.args.args.now t))
-    (λ found each t. (λ k. let b = (each t).0 k in ((exact t).0 b.0, b.1), λ b. (each t).1 ((exact t).1 b.0, b.1))) c.fitting-in-Var.ensures
+    if_ok_map c.fitting.result _ (λ found. (t : TypeTree) → Contains found.items t ↔ (Contains (plain.head_types p E c.args.rule c.args.head) t × Fits E c.args.args.now t))
+    (λ found each t. (λ k. let b = (each t).0 k in ((exact t).0 b.0, b.1), λ b. (each t).1 ((exact t).1 b.0, b.1))) c.fitting.ensures

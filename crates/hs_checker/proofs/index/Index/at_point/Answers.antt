@@ -1,7 +1,8 @@
 use Rattle.std.proofs.Common.{◌≡◌, sym, ◌∙◌, ap, subst, ℕ, List, map, length, get_or, Contains, Bor, arith}
 use Rattle.hs_table.specs.Entries.{EntryData}
-use Rattle.hs_checker.specs.Order.{IsIndex, AreStarts}
-use Rattle.hs_checker.proofs.StartLemmas.{none_of, part_up, part_has, index_part}
+use Rattle.hs_scheme.specs.Flow.{IsAscending}
+use Rattle.hs_checker.specs.Order.{index_cmp, IsIndex, AreStarts}
+use Rattle.hs_checker.proofs.StartLemmas.{none_of, part_up, part_has, index_part, once_part}
 use Rattle.hs_checker.proofs.index.Index.at_point.Goals as goal
 
 -- what is known of the fields is known of the slices of them
@@ -40,3 +41,12 @@ returns-clause-sorted c =
     let f : Bor EntryData → EntryData = λ r. r.now in
     index_part c.as_slice-rows.result.now (get_or c.as_slice-starts.result.now c.args.point 0) _
     (subst (λ (rs : List (Bor EntryData)). IsIndex (map f rs)) (sym c.as_slice-rows.ensures.value) c.self.invariant.sorted)
+
+pub returns-clause-once : goal.returns-clause-once
+returns-clause-once c =
+    let f : Bor EntryData → EntryData = λ r. r.now in
+    once_part c.as_slice-rows.result.now (get_or c.as_slice-starts.result.now c.args.point 0) _
+    (subst (λ (rs : List (Bor EntryData)). IsAscending index_cmp (map f rs)) (sym c.as_slice-rows.ensures.value) c.self.invariant.once)
+
+pub returns-then-place-starts-clause-once : goal.returns-then-place-starts-clause-once
+returns-then-place-starts-clause-once c = once_part c.as_slice-rows.result.now 0 0 (subst (λ (rs : List (Bor EntryData)). IsAscending index_cmp (map (λ (r : Bor EntryData). r.now) rs)) (sym c.as_slice-rows.ensures.value) c.self.invariant.once)

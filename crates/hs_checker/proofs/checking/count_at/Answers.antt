@@ -1,0 +1,24 @@
+use Rattle.std.proofs.Common.{◌≡◌, sym, subst, length, List, Contains, ◌↔◌, arith}
+use Rattle.hs_table.specs.Types.{TypeTree}
+use Rattle.hs_table.specs.Entries.{EntryData}
+use Rattle.hs_table.specs.Follows.{Follows}
+use Rattle.hs_table.specs.Tables.{IsInstance}
+use Rattle.hs_checker.proofs.InstanceLemmas.{nothing_found}
+use Rattle.hs_checker.proofs.CountLemmas.{set_count}
+use Rattle.hs_checker.proofs.checking.count_at.Goals as goal
+
+pub missing_at-requires-clause-types : goal.missing_at-requires-clause-types
+missing_at-requires-clause-types c =
+    subst (λ (ts : List TypeTree). (t : TypeTree) → Contains ts t ↔ IsInstance c.args.problem.now c.args.index.now c.args.point t) (sym c.as_slice.ensures.value) c.in_ok-types.ensures.each
+
+pub returns : goal.returns
+returns c =
+    let p = c.args.problem.now in
+    let E = c.args.index.now in
+    let types = c.in_ok-types.types.items in
+    let long : c.len.result ≡ length types = omega (arith, c.len.ensures, c.in_ok-types.types.ok.0) in
+    record {
+      closed = λ e at f. nothing_found c.in_ok-entry.field-0 ((e : EntryData) → e.point ≡ c.args.point → Follows p E e → Contains E e) (λ e. Follows p E e × (Contains E e → ⊥)) c.in-None.is c.in_ok-entry.ensures e at f;
+      count = set_count p E c.args.point c.len.result types c.in_ok-types.ensures.set c.in_ok-types.ensures.each long;
+      missing = tt;
+    }
