@@ -1,5 +1,4 @@
-use Rattle.std.proofs.Common.{subst, length, ◌<◌, arith}
-use Rattle.hs_sorts.specs.declared.fault.SortFault.{SortFault}
+use Rattle.std.proofs.Common.{subst}
 use Rattle.hs_sorts.specs.Inference.{IsFaultOf}
 use Rattle.hs_app.proofs.verdict.sort_refusal.Goals as goal
 

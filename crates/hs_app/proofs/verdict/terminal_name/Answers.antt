@@ -1,4 +1,4 @@
-use Rattle.std.proofs.Common.{◌≡◌, ◌∙◌, ap, sym, slice_get, Some}
+use Rattle.std.proofs.Common.{◌∙◌, ap, slice_get}
 use Rattle.std.proofs.lemmas.Result.{IfOk-weaker}
 use Rattle.hs_scheme.specs.Unsorted.{UnsortedData}
 use Rattle.hs_app.proofs.OneScheme.{one_scheme}
