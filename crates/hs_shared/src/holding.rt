@@ -16,7 +16,7 @@ use crate::hold::{copy_log, count, publish_deduction, take_work, tell};
 use hs_core::{Deduced, Published, Replica, Taken};
 use hs_scheme::OutOfMemory;
 use hs_turn::{Guard, Seat};
-use hs_types::{Found, Row};
+use hs_types::{ImportedNumbers, Row};
 use std::marker::Model;
 
 /// The core of a shared table while a seat holds it: no other call of the table goes on until the
@@ -149,7 +149,7 @@ impl<'a, 'p> Hold<'a, 'p> {
     pub fn read_new(
         &self,
         replica: &mut Replica,
-        found: &mut Found,
+        found: &mut ImportedNumbers,
     ) -> Result<Vec<Row>, OutOfMemory>
         requires { IsPrefix replica.old.log (log_of self.now.core) }
         ensures fits { IfOk result (λ rows. CanExtend replica.new rows.items) }

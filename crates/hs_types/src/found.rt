@@ -75,15 +75,15 @@ impl Pairs {
 /// begins without any; it is kept so that the next one takes no memory anew. It takes some 4 bytes for
 /// each number of the other interner.
 #[derive(Drop)]
-pub struct Found {
+pub struct ImportedNumbers {
     pub(crate) types: Pairs,
     pub(crate) envs: Pairs,
 }
 
-impl Found {
+impl ImportedNumbers {
     /// Nothing was found. Takes no memory.
-    pub fn new(alloc: Global) -> Found {
-        Found {
+    pub fn new(alloc: Global) -> ImportedNumbers {
+        ImportedNumbers {
             types: Pairs::new(alloc),
             envs: Pairs::new(alloc),
         }

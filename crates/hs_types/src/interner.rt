@@ -6,7 +6,7 @@ ghost use Rattle.hs_table.specs.Types.{TypeTree, state, arrow, type_cmp};
 ghost use Rattle.hs_types.specs.Unions.{IsSetUnion, IsEnvUnion};
 ghost use Rattle.hs_types.specs.Interned.{type_of_id, set_of_id, env_of_id, IsRow, entry_of, IsView, IsInterner, Grows, IsSetOf, IsUnion, IsUnionEnv};
 
-use crate::found::Found;
+use crate::found::ImportedNumbers;
 use crate::guesses::Guesses;
 use crate::ids::{EnvId, Row, SetId, TyId, View};
 use crate::nodes::Nodes;
@@ -181,7 +181,7 @@ impl Interner {
     /// each type and each environment once, and then finds it by its number.
     pub fn import_rows(
         &mut self,
-        found: &mut Found,
+        found: &mut ImportedNumbers,
         from: &Interner,
         rows: &[Row],
     ) -> Result<Vec<Row>, OutOfMemory>

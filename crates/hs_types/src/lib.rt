@@ -21,6 +21,6 @@ mod tests;
 mod tree;
 mod unions;
 
-pub use found::Found;
+pub use found::ImportedNumbers;
 pub use ids::{EnvId, Row, SetId, TyId, View};
 pub use interner::Interner;

@@ -4,7 +4,7 @@ ghost use Rattle.std.specs.Prelude.{◌≡◌, ◌<◌, All, IfOk, OnOk, Some, l
 ghost use Rattle.hs_types.specs.Interned.{type_of_id, env_of_id, IsRow, entry_of, Grows};
 ghost use Rattle.hs_types.specs.Found.{AreTypes, AreEnvs, AreFound};
 
-use crate::found::{Found, Pairs};
+use crate::found::{ImportedNumbers, Pairs};
 use crate::guesses::Guesses;
 use crate::ids::{EnvId, Row, TyId};
 use crate::nodes::Nodes;
@@ -63,7 +63,7 @@ impl Nodes {
         &mut self,
         alloc: Global,
         guesses: &mut Guesses,
-        found: &mut Found,
+        found: &mut ImportedNumbers,
         from: &Nodes,
         row: Row,
     ) -> Result<Row, OutOfMemory>
@@ -88,7 +88,7 @@ impl Nodes {
         &mut self,
         alloc: Global,
         guesses: &mut Guesses,
-        found: &mut Found,
+        found: &mut ImportedNumbers,
         from: &Nodes,
         rows: &[Row],
     ) -> Result<Vec<Row>, OutOfMemory>

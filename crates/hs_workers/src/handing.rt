@@ -19,7 +19,7 @@ use hs_core::{Published, Taken};
 use hs_rules::{Deduced, Replica};
 use hs_scheme::OutOfMemory;
 use hs_shared::{Held, Hold, Seat};
-use hs_types::{Found, Row};
+use hs_types::{ImportedNumbers, Row};
 use std::alloc::Global;
 use std::mem::replace;
 
@@ -226,7 +226,7 @@ pub(crate) fn turn<'p>(
     hold: &mut Hold<'_, 'p>,
     seat: &mut Seat<Held<'p>>,
     replica: &mut Replica,
-    found: &mut Found,
+    found: &mut ImportedNumbers,
     rows: &mut Vec<Row>,
     jobs: &mut Vec<Job>,
     workers: usize,

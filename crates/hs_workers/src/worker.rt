@@ -16,7 +16,7 @@ use hs_flow::Dependents;
 use hs_rules::Replica;
 use hs_scheme::Problem;
 use hs_shared::{Held, Rested, RestedSeat, Seat, SharedTable};
-use hs_types::Found;
+use hs_types::ImportedNumbers;
 use hs_verdict::is_sorted_problem;
 use std::alloc::Global;
 use std::mem::replace;
@@ -32,7 +32,7 @@ fn exchange<'p, R: Wait>(
     bell: &Bell,
     seat: &mut Seat<Held<'p>>,
     replica: &mut Replica,
-    found: &mut Found,
+    found: &mut ImportedNumbers,
     jobs: &mut Vec<Job>,
 ) -> Next
     requires loaded { IsLoaded table.now problem.now seat.old replica.old.ids replica.old.log jobs.old.items }
@@ -105,7 +105,7 @@ fn work_on<'p, R: Wait, G: Gate>(
     ensures { IsSeatOf table.now seat.new }
 {
     let mut replica = Replica::new(alloc);
-    let mut found = Found::new(alloc);
+    let mut found = ImportedNumbers::new(alloc);
     let mut jobs = Vec::new(alloc);
     let mut heard = None;
     for _ in rt.forever() {
