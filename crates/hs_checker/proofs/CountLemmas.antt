@@ -18,14 +18,15 @@ use Rattle.hs_table_laws.proofs.Orders.{type_cmp_total}
 use Rattle.hs_table_laws.proofs.Shapes.{follows_shape}
 use Rattle.hs_table_plain.proofs.Members.{in_pushed, pairs_push}
 use Rattle.hs_table_plain.proofs.TableLemmas.{below_or_last, one_more}
+use Rattle.hs_scheme.specs.declared.flow.Pair.{Pair}
 use Rattle.hs_scheme.specs.declared.flow.Pair.TheVariants.{OfFlow, OfHead}
 use Rattle.hs_verdict.specs.Premises.{HasClosedFlow}
 use Rattle.hs_checker.specs.declared.fault.CheckFault.{CheckFault}
 use Rattle.hs_checker.specs.declared.fault.CheckFault.TheVariants.{FlowOpen, HeadOpen, Missing, HasStart, OutOfMemory}
 use Rattle.hs_checker.specs.declared.flow.Kind.TheVariants.{Flow, Heads}
-use Rattle.hs_checker.specs.Gaps.{HoldsAll}
+use Rattle.hs_checker.specs.Gaps.{HoldsAll, IsFirst}
 use Rattle.hs_checker.specs.Slots.{IsCountAt}
-use Rattle.hs_checker.specs.Checked.{IsCount, IsMissing, IsGap, IsFault}
+use Rattle.hs_checker.specs.Checked.{IsCount, IsMissing, IsGap, IsFault, fault_of}
 
 -- entries in shape are elsewhere
 module _ (p : ProblemData) (E F : List EntryData) (all : (e : EntryData) → InShape p e → Contains E e → Contains F e) where
@@ -197,13 +198,23 @@ counted_all p E k n all_points c = record {
 }
 
 -- flow pairs and head pairs together
-pub both_kinds : (p : ProblemData) → HoldsAll p Flow → HoldsAll p Heads → HasClosedFlow p
+both_kinds : (p : ProblemData) → HoldsAll p Flow → HoldsAll p Heads → HasClosedFlow p
 both_kinds p flows heads (OfFlow f) d = flows (OfFlow f) tt d
 both_kinds p flows heads (OfHead h) d = heads (OfHead h) tt d
 
-pub none_lacking : {X : Type 0} (o : Option X) (P : Type 0) (Q : X → Type 0) → ((x : X) → o ≡ Some x → ⊥) → MatchOption o P Q → P
-none_lacking None P Q never h = h
-none_lacking (Some x) P Q never h = absurd (never x refl)
+pub no_gap : (p : ProblemData) (o : Option Pair) → ((pair : Pair) → o ≡ Some pair → ⊥) → MatchOption o (HoldsAll p Flow × HoldsAll p Heads) (IsFirst p) → HasClosedFlow p
+no_gap p None never h = both_kinds p h.0 h.1
+no_gap p (Some pair) never h = absurd (never pair refl)
+
+first_fault : (p : ProblemData) (T : List EntryData) (pair : Pair) → IsFirst p pair → IsFault p T (fault_of pair)
+first_fault p T (OfFlow f) h = h
+first_fault p T (OfHead h) both = both
+
+pub gap_fault : (p : ProblemData) (T : List EntryData) (o : Option Pair) (pair : Pair) (fault : CheckFault) → o ≡ Some pair → MatchOption o (HoldsAll p Flow × HoldsAll p Heads) (IsFirst p) → fault ≡ fault_of pair → IsFault p T fault
+gap_fault p T None pair fault is h same = absurd (cc)
+gap_fault p T (Some own) pair fault is h same =
+    let e : own ≡ pair = cc in
+    subst (λ (x : CheckFault). IsFault p T x) (sym (same ∙ ap fault_of (sym e))) (first_fault p T own h)
 
 -- what an index lacks the table lacks
 pub gap_whole : (p : ProblemData) (E T : List EntryData) (fault : CheckFault) → ((e : EntryData) → Contains E e ↔ (Contains T e × InShape p e)) → IsAutomaton p.sorted.automaton → HasClosedFlow p → IsGap p E fault → IsFault p T fault

@@ -75,6 +75,18 @@ head_held flows heads h = (
   λ c. Contains-append_right (map (λ f. OfFlow f) flows) (map (λ h. OfHead h) heads) (OfHead h) (into_map (λ (h : HeadPair). OfHead h) heads h c),
 )
 
+-- a row has the pairs of its parameter
+pub row_has : (rule x : ℕ) (pairs : List FlowPair) (f : FlowPair) → Contains (filter (λ f. nat_eq f.rule rule && nat_eq f.param x) pairs) f ↔ (Contains pairs f × ((f.rule ≡ rule) × (f.param ≡ x)))
+row_has rule x pairs f = (
+  λ c.
+      let m : FlowPair → Bool = λ f. nat_eq f.rule rule && nat_eq f.param x in
+      let parts = and_true (nat_eq f.rule rule) (nat_eq f.param x) (filter_passes m pairs f c) in
+      (filter_has m pairs f c, (eqb-true f.rule rule parts.0, eqb-true f.param x parts.1)),
+  λ h.
+      let m : FlowPair → Bool = λ f. nat_eq f.rule rule && nat_eq f.param x in
+      filter_keeps m pairs f (both_true (nat_eq f.rule rule) (nat_eq f.param x) (eq-eqb f.rule rule h.1.0) (eq-eqb f.param x h.1.1)) h.0,
+)
+
 -- a parameter's pairs lead to its bases
 pub record Leads (pairs : List FlowPair) (heads : List HeadPair) (b : Base) : Type 0 where
   pub pair : FlowPair

@@ -1,4 +1,4 @@
--- Where the entries of a point begin in an index.
+-- Where the entries of a point begin in an index, and its head pairs among all.
 use Rattle.std.proofs.Common.{◌≡◌, refl, sym, ◌∙◌, ap, subst, ℕ, ◌+◌, ◌-◌, ◌<◌, ◌≤◌, true, false, List, [], ◌∷◌, ◌++◌, length, map, take, drop, get_or, arith, inl, inr, Contains, ◌↔◌, Bor}
 use Rattle.std.specs.Cmp.{nat_cmp_is}
 use Rattle.std.specs.Ordering.{nat_cmp, is_lt, is_eq}
@@ -13,7 +13,7 @@ use Rattle.std.proofs.lemmas.List.{get_or-take, get_or-drop, length-drop, length
 use Rattle.hs_scheme.specs.Flow.{IsAscending}
 use Rattle.hs_table.specs.Entries.{EntryData}
 use Rattle.hs_table_laws.proofs.Places.{none_in}
-use Rattle.hs_checker.specs.Order.{IsIndex, IsStart, AreStarts, index_cmp}
+use Rattle.hs_checker.specs.Order.{IsIndex, IsStart, AreStarts, IsStartBy, AreStartsBy, index_cmp}
 use Rattle.hs_checker.proofs.Between.{equal_of}
 use Rattle.hs_checker.proofs.IndexLemmas.{get_or-map, same_read, length-map}
 
@@ -47,59 +47,79 @@ start_of (r ∷ rs) t n point within =
       behind = λ k d le lt. subst (λ (e : EntryData). t ≤ e.point) (sym (read_row rows k d r (omega (arith, long)))) (ge_from_not_lt (get_or rows k r).now.point t (point.1 k r le (omega (arith, long))));
     }
 
--- a start for one point more
-pub starts_more : (es : List EntryData) (olds news : List ℕ) (t n : ℕ) → news ≡ olds ++ n ∷ [] → length olds ≡ t → IsStart es t n → ((p d : ℕ) → p < length olds → IsStart es p (get_or olds p d)) → (p d : ℕ) → p < length news → IsStart es p (get_or news p d)
-starts_more es olds news t n made long own before p d lt = elim (cases_lt p (length olds)) [
-  | inl low ↦ subst (λ m. IsStart es p m) (sym (ap (λ ns. get_or ns p d) made ∙ get_or-append olds (n ∷ []) d p low)) (before p d low)
-  | inr high ↦
-      let same : p ≡ length olds = omega (arith, ap length made, length-append olds (n ∷ [])) in
-      subst (λ m. IsStart es p m) (sym (ap (λ ns. get_or ns p d) made ∙ (ap (λ k. get_or (olds ++ n ∷ []) k d) same ∙ get_or-append_seam olds n [] d))) (subst (λ q. IsStart es q n) (sym (same ∙ long)) own)
-]
+-- items behind no references
+pub start_by : {X : Type 0} (at : X → ℕ) (xs : List X) (t n : ℕ) → IsPartitionPoint (λ (y : X). is_lt (nat_cmp (at y) t) ≡ true) (λ (y : X). is_lt (nat_cmp (at y) t) ≡ false) xs n → n ≤ length xs → IsStartBy at xs t n
+start_by at xs t n point within = record {
+  within = within;
+  before = λ k d lt. lt_from (at (get_or xs k d)) t (point.0 k d (omega arith) lt);
+  behind = λ k d le lt. ge_from_not_lt (at (get_or xs k d)) t (point.1 k d le lt);
+}
 
--- past all, where all are of lesser points
-pub start_past : (es : List EntryData) (t : ℕ) → ((e : EntryData) → Contains es e → e.point < t) → IsStart es t (length es)
-start_past es t all = record { within = omega arith; before = λ k d lt. all (get_or es k d) (k, lt, same_read es k (get_or es k d) d lt); behind = λ k d le lt. absurd (omega arith) }
-
-module _ (es : List EntryData) (p n m : ℕ) (low : IsStart es p n) (high : IsStart es (p + 1) m) where
-  pub starts_up : n ≤ m
-  starts_up = elim (cases_lt m n) [
-    | inl lt ↦ go es low high lt
-    | inr le ↦ le
+module _ {X : Type 0} (at : X → ℕ) where
+  -- a start for one point more
+  pub starts_more : (xs : List X) (olds news : List ℕ) (t n : ℕ) → news ≡ olds ++ n ∷ [] → length olds ≡ t → IsStartBy at xs t n → ((p d : ℕ) → p < length olds → IsStartBy at xs p (get_or olds p d)) → (p d : ℕ) → p < length news → IsStartBy at xs p (get_or news p d)
+  starts_more xs olds news t n made long own before p d lt = elim (cases_lt p (length olds)) [
+    | inl low ↦ subst (λ m. IsStartBy at xs p m) (sym (ap (λ ns. get_or ns p d) made ∙ get_or-append olds (n ∷ []) d p low)) (before p d low)
+    | inr high ↦
+        let same : p ≡ length olds = omega (arith, ap length made, length-append olds (n ∷ [])) in
+        subst (λ m. IsStartBy at xs p m) (sym (ap (λ ns. get_or ns p d) made ∙ (ap (λ k. get_or (olds ++ n ∷ []) k d) same ∙ get_or-append_seam olds n [] d))) (subst (λ q. IsStartBy at xs q n) (sym (same ∙ long)) own)
   ]
-    where
-      go : (xs : List EntryData) → IsStart xs p n → IsStart xs (p + 1) m → m < n → n ≤ m
-      go [] l h lt = absurd (omega (arith, l.within))
-      go (x ∷ xs) l h lt = absurd (omega (arith, l.within, l.before m x lt, h.behind m x (omega arith) (omega (arith, l.within))))
 
-  -- between two starts stand the entries of the point
-  pub between_starts : (e : EntryData) → Contains (take (m - n) (drop n es)) e ↔ (Contains es e × (e.point ≡ p))
-  between_starts e = (
-    λ c.
-        let k = c.0 in
-        let short : k < m - n = omega (arith, c.1, length-take (m - n) (drop n es)) in
-        let there : n + k < length es = omega (arith, high.within) in
-        let read : get_or es (n + k) e ≡ e = sym (get_or-take (m - n) (drop n es) k e short ∙ get_or-drop n es k e) ∙ c.2 in
-        let least : p ≤ (get_or es (n + k) e).point = low.behind (n + k) e (omega arith) there in
-        let most : (get_or es (n + k) e).point < p + 1 = high.before (n + k) e (omega arith) in
-        ((n + k, there, read), (ap (λ (x : EntryData). x.point) (sym read) ∙ omega arith)),
-    λ both.
-        let k = both.0.0 in
-        let lt = both.0.1 in
-        let read : get_or es k e ≡ e = both.0.2 in
-        let point : (get_or es k e).point ≡ p = ap (λ (x : EntryData). x.point) read ∙ both.1 in
-        let least : n ≤ k = elim (cases_lt k n) [ inl below ↦ absurd (omega (arith, low.before k e below)) | inr le ↦ le ] in
-        let most : k < m = elim (cases_lt k m) [ inl below ↦ below | inr le ↦ absurd (omega (arith, high.behind k e le lt)) ] in
-        let back : n + (k - n) ≡ k = omega arith in (
-          k - n,
-          omega (arith, length-take (m - n) (drop n es), length-drop n es, high.within),
-          get_or-take (m - n) (drop n es) (k - n) e (omega arith) ∙ (get_or-drop n es (k - n) e ∙ (ap (λ j. get_or es j e) back ∙ read)),
-        ),
-  )
+  -- past all, where all are of lesser points
+  pub start_past : (xs : List X) (t : ℕ) → ((x : X) → Contains xs x → at x < t) → IsStartBy at xs t (length xs)
+  start_past xs t all = record { within = omega arith; before = λ k d lt. all (get_or xs k d) (k, lt, same_read xs k (get_or xs k d) d lt); behind = λ k d le lt. absurd (omega arith) }
+
+  module _ (xs : List X) (p n m : ℕ) (low : IsStartBy at xs p n) (high : IsStartBy at xs (p + 1) m) where
+    pub starts_up : n ≤ m
+    starts_up = elim (cases_lt m n) [
+      | inl lt ↦ go xs low high lt
+      | inr le ↦ le
+    ]
+      where
+        go : (ys : List X) → IsStartBy at ys p n → IsStartBy at ys (p + 1) m → m < n → n ≤ m
+        go [] l h lt = absurd (omega (arith, l.within))
+        go (y ∷ ys) l h lt = absurd (omega (arith, l.within, l.before m y lt, h.behind m y (omega arith) (omega (arith, l.within))))
+
+    -- between two starts stand the items of the point
+    pub between_starts : (x : X) → Contains (take (m - n) (drop n xs)) x ↔ (Contains xs x × (at x ≡ p))
+    between_starts x = (
+      λ c.
+          let k = c.0 in
+          let short : k < m - n = omega (arith, c.1, length-take (m - n) (drop n xs)) in
+          let there : n + k < length xs = omega (arith, high.within) in
+          let read : get_or xs (n + k) x ≡ x = sym (get_or-take (m - n) (drop n xs) k x short ∙ get_or-drop n xs k x) ∙ c.2 in
+          let least : p ≤ at (get_or xs (n + k) x) = low.behind (n + k) x (omega arith) there in
+          let most : at (get_or xs (n + k) x) < p + 1 = high.before (n + k) x (omega arith) in
+          ((n + k, there, read), (ap at (sym read) ∙ omega arith)),
+      λ both.
+          let k = both.0.0 in
+          let lt = both.0.1 in
+          let read : get_or xs k x ≡ x = both.0.2 in
+          let point : at (get_or xs k x) ≡ p = ap at read ∙ both.1 in
+          let least : n ≤ k = elim (cases_lt k n) [ inl below ↦ absurd (omega (arith, low.before k x below)) | inr le ↦ le ] in
+          let most : k < m = elim (cases_lt k m) [ inl below ↦ below | inr le ↦ absurd (omega (arith, high.behind k x le lt)) ] in
+          let back : n + (k - n) ≡ k = omega arith in (
+            k - n,
+            omega (arith, length-take (m - n) (drop n xs), length-drop n xs, high.within),
+            get_or-take (m - n) (drop n xs) (k - n) x (omega arith) ∙ (get_or-drop n xs (k - n) x ∙ (ap (λ j. get_or xs j x) back ∙ read)),
+          ),
+    )
+
+  -- the items of a point, by the starts
+  module _ (xs : List X) (starts : List ℕ) (p : ℕ) (are : AreStartsBy at xs starts) (within : p + 1 < length starts) where
+    pub part_rises : get_or starts p 0 ≤ get_or starts (p + 1) 0
+    part_rises = starts_up xs p (get_or starts p 0) (get_or starts (p + 1) 0) (are.each p 0 (omega arith)) (are.each (p + 1) 0 within)
+
+    pub part_within : get_or starts (p + 1) 0 ≤ length xs
+    part_within = (are.each (p + 1) 0 within).within
+
+    pub part_exact : (x : X) → Contains (take (get_or starts (p + 1) 0 - get_or starts p 0) (drop (get_or starts p 0) xs)) x ↔ (Contains xs x × (at x ≡ p))
+    part_exact = between_starts xs p (get_or starts p 0) (get_or starts (p + 1) 0) (are.each p 0 (omega arith)) (are.each (p + 1) 0 within)
 
 -- the entries of a point, by the starts of an index
 module _ (rows : List (Bor EntryData)) (starts : List ℕ) (p : ℕ) (are : AreStarts (entries rows) starts) (within : p + 1 < length starts) where
   pub part_up : get_or starts p 0 ≤ get_or starts (p + 1) 0
-  part_up = starts_up (entries rows) p (get_or starts p 0) (get_or starts (p + 1) 0) (are.each p 0 (omega arith)) (are.each (p + 1) 0 within)
+  part_up = part_rises (λ (e : EntryData). e.point) (entries rows) starts p are within
 
   pub part_has : (e : EntryData) → Contains (entries (take (get_or starts (p + 1) 0 - get_or starts p 0) (drop (get_or starts p 0) rows))) e ↔ (Contains (entries rows) e × (e.point ≡ p))
   part_has e =
@@ -107,7 +127,7 @@ module _ (rows : List (Bor EntryData)) (starts : List ℕ) (p : ℕ) (are : AreS
       let n = get_or starts p 0 in
       let m = get_or starts (p + 1) 0 in
       subst (λ es. Contains es e ↔ (Contains (entries rows) e × (e.point ≡ p))) (ap (take (m - n)) (drop-map f n rows) ∙ take-map f (m - n) (drop n rows))
-      (between_starts (entries rows) p n m (are.each p 0 (omega arith)) (are.each (p + 1) 0 within) e)
+      (part_exact (λ (e : EntryData). e.point) (entries rows) starts p are within e)
 
 pub none_of : (rows : List (Bor EntryData)) (e : EntryData) → Contains (entries (take 0 rows)) e → ⊥
 none_of [] e c = none_in e c
@@ -128,18 +148,19 @@ index_part rows n k up =
         let below : get_or (take k (drop n es)) i d ≡ get_or es (n + i) d = get_or-take k (drop n es) i d (omega arith) ∙ get_or-drop n es i d in
         (λ j. is_lt (index_cmp (above j) (below j))) ∙ up (n + i) d (omega arith) within
 
+-- a part of an ascending list is one
+pub ascending_part : {X : Type 0} (R : X → X → Ordering) (xs : List X) (n k : ℕ) → IsAscending R xs → IsAscending R (take k (drop n xs))
+ascending_part R xs n k up i j d low high =
+    let short : j < k = omega (arith, length-take k (drop n xs), high) in
+    let within : n + j < length xs = omega (arith, length-take k (drop n xs), length-drop n xs, high) in
+    let above : get_or (take k (drop n xs)) j d ≡ get_or xs (n + j) d = get_or-take k (drop n xs) j d short ∙ get_or-drop n xs j d in
+    let below : get_or (take k (drop n xs)) i d ≡ get_or xs (n + i) d = get_or-take k (drop n xs) i d (omega arith) ∙ get_or-drop n xs i d in
+    (λ m. R (below m) (above m)) ∙ up (n + i) (n + j) d (omega arith) within
+
 pub once_part : (rows : List (Bor EntryData)) (n k : ℕ) → IsAscending index_cmp (entries rows) → IsAscending index_cmp (entries (take k (drop n rows)))
 once_part rows n k up =
     let f : Bor EntryData → EntryData = λ x. x.now in
-    subst (λ es. IsAscending index_cmp es) (ap (take k) (drop-map f n rows) ∙ take-map f k (drop n rows)) (part (entries rows) up)
-  where
-    part : (es : List EntryData) → IsAscending index_cmp es → IsAscending index_cmp (take k (drop n es))
-    part es up i j d low high =
-        let short : j < k = omega (arith, length-take k (drop n es), high) in
-        let within : n + j < length es = omega (arith, length-take k (drop n es), length-drop n es, high) in
-        let above : get_or (take k (drop n es)) j d ≡ get_or es (n + j) d = get_or-take k (drop n es) j d short ∙ get_or-drop n es j d in
-        let below : get_or (take k (drop n es)) i d ≡ get_or es (n + i) d = get_or-take k (drop n es) i d (omega arith) ∙ get_or-drop n es i d in
-        (λ m. index_cmp (below m) (above m)) ∙ up (n + i) (n + j) d (omega arith) within
+    subst (λ es. IsAscending index_cmp es) (ap (take k) (drop-map f n rows) ∙ take-map f k (drop n rows)) (ascending_part index_cmp (entries rows) n k up)
 
 -- those of one type stand before the others
 pub split_at : {X : Type 0} (ord : X → Ordering) (xs : List X) (n : ℕ) → IsPartitionedBy (λ y. is_eq (ord y)) xs → n ≤ length xs → ((k : ℕ) (d : X) → k < n → ord (get_or xs k d) ≡ Equal)

@@ -12,7 +12,7 @@ ghost use Rattle.hs_checker.specs.Checked.{IsCount, IsFault, IsGap, fault_of};
 
 use crate::bodies::count_at_rule;
 use crate::fault::CheckFault;
-use crate::flow::{Kind, gap};
+use crate::flow::first_gap;
 use crate::index::Index;
 use crate::instances::instances;
 use crate::missing::missing_at;
@@ -120,10 +120,7 @@ pub fn check(alloc: Global, problem: &Problem, table: &[Entry]) -> Result<u64, C
     ensures fault { IfErr result (IsFault problem.now table.now) }
 {
     is_sorted_problem(problem);
-    if let Some(pair) = gap(problem, Kind::Flow) {
-        return Err(open(pair));
-    }
-    if let Some(pair) = gap(problem, Kind::Heads) {
+    if let Some(pair) = first_gap(alloc, problem)? {
         return Err(open(pair));
     }
     let index = Index::of(alloc, problem, table)?;

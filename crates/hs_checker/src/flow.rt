@@ -1,16 +1,19 @@
 //! Whether a flow holds all that is demanded by the pairs that it holds.
 
-ghost use Rattle.std.specs.Prelude.{◌≡◌, ◌↔◌, ◌+◌, ◌-◌, ◌^◌, ◌<◌, Contains, IsTrue, MatchOption, length};
+ghost use Rattle.std.specs.Prelude.{◌≡◌, ◌↔◌, ◌+◌, ◌-◌, ◌^◌, ◌<◌, Contains, IsTrue, IfOk, MatchOption, length};
 ghost use Rattle.hs_scheme.specs.declared.flow.Pair.{Pair as AnyPair};
 ghost use Rattle.hs_scheme.specs.declared.flow.FlowPair.{FlowPair as AnyFlow};
 ghost use Rattle.hs_scheme.specs.declared.flow.HeadPair.{HeadPair as AnyHead};
-ghost use Rattle.hs_scheme.specs.Flow.{IsAscending, head_cmp, IsBase};
+ghost use Rattle.hs_scheme.specs.Flow.{IsBase};
 ghost use Rattle.hs_table.specs.Entries.{params_of};
 ghost use Rattle.hs_checker.specs.declared.flow.Base.{Base as AnyBase};
-ghost use Rattle.hs_checker.specs.Gaps.{held, IsOfKind, HoldsAll, Lacks};
+ghost use Rattle.hs_checker.specs.declared.flow.Kind.TheVariants.{Flow as OfFlows, Heads as OfHeads};
+ghost use Rattle.hs_checker.specs.Gaps.{held, IsOfKind, HoldsAll, Lacks, IsFirst};
 ghost use Rattle.hs_checker.specs.Passes.{PassesFlow, PassesHead, HoldsBy, LacksBy, DemandsAt};
 
-use hs_scheme::{FlowPair, FlowTable, Head, HeadPair, Pair, Problem};
+use crate::head_pairs::HeadPairs;
+use hs_scheme::{FlowPair, FlowTable, Head, HeadPair, OutOfMemory, Pair, Problem};
+use std::alloc::Global;
 
 /// The two kinds of pairs.
 #[derive(Clone, Copy, Debug, PartialEq, Eq, Drop)]
@@ -26,17 +29,6 @@ pub(crate) struct Base {
     pub(crate) given: u32,
 }
 
-/// The pairs of the point.
-fn heads_at(heads: &[HeadPair], point: u32) -> &[HeadPair]
-    requires { IsAscending head_cmp heads.now }
-    ensures { (h : AnyHead) → Contains result.now h ↔ (Contains heads.now h × (h.point ≡ point)) }
-{
-    let from = heads.partition_point(|h| h.point.cmp(&point).is_lt());
-    let rest = &heads[from..];
-    let count = rest.partition_point(|h| h.point.cmp(&point).is_eq());
-    &rest[..count]
-}
-
 /// How many parameters of the base's rule are still missing.
 fn missing_parameters(problem: &Problem, base: Base) -> u32
     ensures count { result ≡ params_of problem.now base.rule - base.given }
@@ -48,8 +40,34 @@ fn missing_parameters(problem: &Problem, base: Base) -> u32
     }
 }
 
-/// The first flow pair that a point with these arguments demands and that isn't held.
-fn flow_gap(problem: &Problem, args: &[u32], base: Base) -> Option<FlowPair>
+/// Whether a pair of the point stands at this place.
+fn is_at(row: &[FlowPair], place: usize, point: u32) -> bool
+    ensures { IsTrue result → (f : AnyFlow) × (Contains row.now f × (f.point ≡ point)) }
+{
+    match row.get(place) {
+        None => false,
+        Some(pair) => pair.point == point,
+    }
+}
+
+/// The place of the pair among those of its parameter, if the flow holds it. It is looked for at the
+/// place that is guessed first.
+fn find(flow: &FlowTable, pair: FlowPair, guess: usize) -> Option<usize>
+    ensures { MatchOption result (Contains flow.now.pairs pair → ⊥) (λ _. Contains flow.now.pairs pair) }
+{
+    let row = flow.flow_of(pair.rule, pair.param);
+    if is_at(row, guess, pair.point) {
+        return Some(guess);
+    }
+    match row.binary_search(&pair) {
+        Ok(place) => Some(place),
+        Err(_) => None,
+    }
+}
+
+/// The first flow pair that a point with these arguments demands and that isn't held. The last that
+/// is held was found at the place `guess`.
+fn flow_gap(problem: &Problem, args: &[u32], base: Base, guess: &mut usize) -> Option<FlowPair>
     ensures { MatchOption result
         ((f : AnyFlow) → PassesFlow problem.now args.now base f → Contains problem.now.flow.pairs f)
         (λ f. PassesFlow problem.now args.now base f × (Contains problem.now.flow.pairs f → ⊥)) }
@@ -59,27 +77,30 @@ fn flow_gap(problem: &Problem, args: &[u32], base: Base) -> Option<FlowPair>
         if number >= missing as usize {
             return None;
         }
-        let param = base.given + number as u32;
-        if !problem.flow.holds(base.rule, param, *arg) {
-            return Some(FlowPair {
-                rule: base.rule,
-                param,
-                point: *arg,
-            });
+        let pair = FlowPair {
+            rule: base.rule,
+            param: base.given + number as u32,
+            point: *arg,
+        };
+        match find(&problem.flow, pair, *guess) {
+            None => return Some(pair),
+            Some(place) => *guess = place,
         }
     }
     None
 }
 
-/// Whether the flow holds the head pair.
-fn holds_head(flow: &FlowTable, pair: HeadPair) -> bool
-    ensures { IsTrue result ↔ Contains flow.now.heads pair }
-{
-    flow.heads.binary_search(&pair).is_ok()
-}
-
-/// The head pair that a point with these arguments demands, where it isn't held.
-fn head_gap(problem: &Problem, point: u32, args: &[u32], base: Base) -> Option<HeadPair>
+/// The head pair that a point with these arguments demands, where it isn't held. The last that is held
+/// was found before the place `guess`.
+fn head_gap(
+    problem: &Problem,
+    heads: &HeadPairs,
+    point: u32,
+    args: &[u32],
+    base: Base,
+    guess: &mut usize,
+) -> Option<HeadPair>
+    requires { heads.now ≡ problem.now.flow.heads }
     ensures { MatchOption result
         ((h : AnyHead) → PassesHead problem.now point args.now base h → Contains problem.now.flow.heads h)
         (λ h. PassesHead problem.now point args.now base h × (Contains problem.now.flow.heads h → ⊥)) }
@@ -92,25 +113,38 @@ fn head_gap(problem: &Problem, point: u32, args: &[u32], base: Base) -> Option<H
         rule: base.rule,
         given: base.given + args.len() as u32,
     };
-    if holds_head(&problem.flow, pair) {
-        return None;
+    match heads.find(pair, *guess) {
+        None => Some(pair),
+        Some(place) => {
+            *guess = place.saturating_add(1);
+            None
+        }
     }
-    Some(pair)
 }
 
 /// The first pair of the kind that a point with these arguments demands by the base and that isn't
-/// held.
-fn gap_by(problem: &Problem, kind: Kind, point: u32, args: &[u32], base: Base) -> Option<Pair>
+/// held. What is demanded is looked for at the place `guess` first, which is then the one for what
+/// the next base is likely to demand.
+fn gap_by(
+    problem: &Problem,
+    heads: &HeadPairs,
+    kind: Kind,
+    point: u32,
+    args: &[u32],
+    base: Base,
+    guess: &mut usize,
+) -> Option<Pair>
+    requires { heads.now ≡ problem.now.flow.heads }
     ensures { MatchOption result
         (HoldsBy problem.now kind point args.now base)
         (LacksBy problem.now kind point args.now base) }
 {
     match kind {
-        Kind::Flow => match flow_gap(problem, args, base) {
+        Kind::Flow => match flow_gap(problem, args, base, guess) {
             None => None,
             Some(pair) => Some(Pair::OfFlow(pair)),
         },
-        Kind::Heads => match head_gap(problem, point, args, base) {
+        Kind::Heads => match head_gap(problem, heads, point, args, base, guess) {
             None => None,
             Some(pair) => Some(Pair::OfHead(pair)),
         },
@@ -120,23 +154,24 @@ fn gap_by(problem: &Problem, kind: Kind, point: u32, args: &[u32], base: Base) -
 /// So by what the point `from` may become.
 fn gap_from(
     problem: &Problem,
+    heads: &HeadPairs,
     kind: Kind,
     point: u32,
     args: &[u32],
-    heads: &[HeadPair],
     from: u32,
+    guess: &mut usize,
 ) -> Option<Pair>
-    requires { IsAscending head_cmp heads.now }
+    requires { heads.now ≡ problem.now.flow.heads }
     ensures { MatchOption result
         ((b : AnyBase) → Contains heads.now (record { point = from; rule = b.rule; given = b.given }) → HoldsBy problem.now kind point args.now b)
         (λ pair. (b : AnyBase) × (Contains heads.now (record { point = from; rule = b.rule; given = b.given }) × LacksBy problem.now kind point args.now b pair)) }
 {
-    for head in heads_at(heads, from) {
+    for head in heads.at_point(from) {
         let base = Base {
             rule: head.rule,
             given: head.given,
         };
-        match gap_by(problem, kind, point, args, base) {
+        match gap_by(problem, heads, kind, point, args, base, guess) {
             Some(pair) => return Some(pair),
             None => {}
         }
@@ -147,26 +182,24 @@ fn gap_from(
 /// So by what this parameter of a rule may become.
 fn gap_through(
     problem: &Problem,
+    heads: &HeadPairs,
     kind: Kind,
     point: u32,
     args: &[u32],
     rule: u32,
     parameter: u32,
 ) -> Option<Pair>
+    requires { heads.now ≡ problem.now.flow.heads }
     ensures { MatchOption result
         ((b : AnyBase) → IsBase (held problem.now) rule (Head.Var parameter) b.rule b.given → HoldsBy problem.now kind point args.now b)
         (λ pair. (b : AnyBase) × (IsBase (held problem.now) rule (Head.Var parameter) b.rule b.given × LacksBy problem.now kind point args.now b pair)) }
 {
-    let flow = &problem.flow;
-    for pair in flow.flow_of(rule, parameter) {
-        match gap_from(
-            problem,
-            kind,
-            point,
-            args,
-            flow.heads.as_slice(),
-            pair.point,
-        ) {
+    if kind == Kind::Flow && args.is_empty() {
+        return None;
+    }
+    let mut guess = 0;
+    for pair in problem.flow.flow_of(rule, parameter) {
+        match gap_from(problem, heads, kind, point, args, pair.point, &mut guess) {
             Some(pair) => return Some(pair),
             None => {}
         }
@@ -177,12 +210,14 @@ fn gap_through(
 /// So by what the head of a point in this rule may become.
 fn gap_of(
     problem: &Problem,
+    heads: &HeadPairs,
     kind: Kind,
     point: u32,
     args: &[u32],
     rule: u32,
     head: Head,
 ) -> Option<Pair>
+    requires { heads.now ≡ problem.now.flow.heads }
     ensures { MatchOption result
         ((b : AnyBase) → IsBase (held problem.now) rule head b.rule b.given → HoldsBy problem.now kind point args.now b)
         (λ pair. (b : AnyBase) × (IsBase (held problem.now) rule head b.rule b.given × LacksBy problem.now kind point args.now b pair)) }
@@ -194,15 +229,16 @@ fn gap_of(
                 rule: nonterminal,
                 given: 0,
             };
-            gap_by(problem, kind, point, args, base)
+            gap_by(problem, heads, kind, point, args, base, &mut 0)
         }
-        Head::Var(parameter) => gap_through(problem, kind, point, args, rule, parameter),
+        Head::Var(parameter) => gap_through(problem, heads, kind, point, args, rule, parameter),
     }
 }
 
 /// The first pair of the kind that the point demands and that isn't held.
-fn gap_at(problem: &Problem, kind: Kind, point: u32) -> Option<Pair>
-    requires { point < length problem.now.points.points }
+fn gap_at(problem: &Problem, heads: &HeadPairs, kind: Kind, point: u32) -> Option<Pair>
+    requires point { point < length problem.now.points.points }
+    requires heads { heads.now ≡ problem.now.flow.heads }
     ensures { MatchOption result
         ((pair : AnyPair) → IsOfKind kind pair → DemandsAt problem.now point pair → Contains (held problem.now) pair)
         (λ pair. IsOfKind kind pair × (DemandsAt problem.now point pair × (Contains (held problem.now) pair → ⊥))) }
@@ -210,22 +246,34 @@ fn gap_at(problem: &Problem, kind: Kind, point: u32) -> Option<Pair>
     let rule = problem.points.rule_of(point);
     let head = problem.points.head_of(point);
     let args = problem.points.args_of(point);
-    gap_of(problem, kind, point, args, rule, head)
+    gap_of(problem, heads, kind, point, args, rule, head)
 }
 
-/// The first pair of the kind that is demanded by the pairs held, and isn't one of them. Takes no
-/// memory.
-///
-/// Time is in proportion to the meetings of points with what their heads may become, with the
-/// logarithm of the number of pairs.
-pub(crate) fn gap(problem: &Problem, kind: Kind) -> Option<Pair>
+/// The first pair of the kind that is demanded by the pairs held, and isn't one of them.
+fn gap(problem: &Problem, heads: &HeadPairs, kind: Kind) -> Option<Pair>
+    requires { heads.now ≡ problem.now.flow.heads }
     ensures { MatchOption result (HoldsAll problem.now kind) (λ pair. IsOfKind kind pair × Lacks problem.now pair) }
 {
     for point in 0..problem.points.count() {
-        match gap_at(problem, kind, point) {
+        match gap_at(problem, heads, kind, point) {
             Some(pair) => return Some(pair),
             None => {}
         }
     }
     None
+}
+
+/// The first flow pair that is demanded by the pairs held, and isn't one of them, and where there is
+/// none, the first such head pair.
+///
+/// Time is in proportion to the meetings of points with what their heads may become, with the
+/// logarithm of the number of pairs. Memory is for a number for each point.
+pub(crate) fn first_gap(alloc: Global, problem: &Problem) -> Result<Option<Pair>, OutOfMemory>
+    ensures { IfOk result (λ found. MatchOption found (HoldsAll problem.now OfFlows × HoldsAll problem.now OfHeads) (IsFirst problem.now)) }
+{
+    let heads = HeadPairs::of(alloc, problem)?;
+    if let Some(pair) = gap(problem, &heads, Kind::Flow) {
+        return Ok(Some(pair));
+    }
+    Ok(gap(problem, &heads, Kind::Heads))
 }

@@ -9,6 +9,7 @@ mod bodies;
 mod checking;
 mod fault;
 mod flow;
+mod head_pairs;
 mod heads;
 mod index;
 mod instances;

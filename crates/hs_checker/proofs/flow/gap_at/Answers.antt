@@ -8,7 +8,7 @@ pub returns : goal.returns
 returns c =
     let p = c.args.problem.now in
     let points = ap (λ (q : ProblemData). q.points) c.problem.view_is in
-    gap_by_demands p c.args.point c.rule_of-rule.result c.head_of-head.result c.args_of-args.result.now c.requires
+    gap_by_demands p c.args.point c.rule_of-rule.result c.head_of-head.result c.args_of-args.result.now c.requires.point
     (subst (λ (x : PointsData). c.rule_of-rule.result ≡ (point_at x c.args.point).rule) points c.rule_of-rule.ensures.rule)
     (subst (λ (x : PointsData). c.head_of-head.result ≡ (point_at x c.args.point).head) points c.head_of-head.ensures.head)
     (subst (λ (x : PointsData). c.args_of-args.result.now ≡ (point_at x c.args.point).args) points c.args_of-args.ensures.args) c.args.kind c.gap_of.result c.gap_of.ensures

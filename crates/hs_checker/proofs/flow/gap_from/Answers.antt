@@ -9,16 +9,16 @@ use Rattle.hs_checker.proofs.flow.gap_from.Goals as goal
 
 pub returns-in-Some : goal.returns-in-Some
 returns-in-Some c =
-    let items = c.heads_at-head-items.result.now in
+    let items = c.at_point-head-items.result.now in
     let d : HeadPair = record { point = 0; rule = 0; given = 0 } in
     let own : HeadPair = get_or items c.loop-head.head-index d in
     let b : Base = record { rule = own.rule; given = own.given } in
-    let both = (c.heads_at-head-items.ensures own).0 (read_there items c.loop-head.head-index d c.loop-head-test.true) in
+    let both = (c.at_point-head-items.ensures.has own).0 (read_there items c.loop-head.head-index d c.loop-head-test.true) in
     (b, (subst (λ (n : ℕ). Contains c.args.heads.now (record { point = n; rule = own.rule; given = own.given })) both.1 both.0, c.in-Some.ensures))
 
 pub loop-head-preserved : goal.loop-head-preserved
 loop-head-preserved c = λ b there pair of passes.
-    let items = c.heads_at-head-items.result.now in
+    let items = c.at_point-head-items.result.now in
     let k = c.loop-head.head-index in
     let d : HeadPair = record { point = 0; rule = 0; given = 0 } in
     let own : HeadPair = get_or items k d in
@@ -30,7 +30,7 @@ loop-head-preserved c = λ b there pair of passes.
 
 pub returns : goal.returns
 returns c = λ b there pair of passes.
-    let items = c.heads_at-head-items.result.now in
+    let items = c.at_point-head-items.result.now in
     let x : HeadPair = record { point = c.args.from; rule = b.rule; given = b.given } in
-    let all = subst (λ (hs : List HeadPair). Contains hs x) (sym (take_all c.loop-head.head-index items c.loop-head-test.false)) ((c.heads_at-head-items.ensures x).1 (there, refl)) in
+    let all = subst (λ (hs : List HeadPair). Contains hs x) (sym (take_all c.loop-head.head-index items c.loop-head-test.false)) ((c.at_point-head-items.ensures.has x).1 (there, refl)) in
     c.loop-head.invariant b all pair of passes

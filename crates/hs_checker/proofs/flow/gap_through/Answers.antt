@@ -2,7 +2,6 @@ use Rattle.std.proofs.Common.{sym, ◌∙◌, ap, subst, ◌&&◌, nat_eq, filte
 use Rattle.std.proofs.lemmas.List.{take_all}
 use Rattle.hs_scheme.specs.declared.flow.FlowPair.{FlowPair}
 use Rattle.hs_scheme.specs.declared.flow.HeadPair.{HeadPair}
-use Rattle.hs_scheme.specs.Flow.{FlowData}
 use Rattle.hs_scheme.specs.Problem.{ProblemData}
 use Rattle.hs_checker.specs.declared.flow.Base.{Base}
 use Rattle.hs_checker.proofs.GapLemmas.{Leads, leads_of, leads_more, leads_base}
@@ -15,8 +14,7 @@ returns-in-Some c =
     let d : FlowPair = record { rule = 0; param = 0; point = 0 } in
     let own : FlowPair = get_or items c.loop-pair.pair-index d in
     let b : Base = c.in-Some.ensures.0 in
-    let heads = c.as_slice.ensures.value ∙ (ap (λ (t : FlowData). t.heads) c.flow.view_is ∙ ap (λ (q : ProblemData). q.flow.heads) c.problem.view_is) in
-    let becomes = subst (λ (hs : List HeadPair). Contains hs (record { point = own.point; rule = b.rule; given = b.given })) heads c.in-Some.ensures.1.0 in
+    let becomes = subst (λ (hs : List HeadPair). Contains hs (record { point = own.point; rule = b.rule; given = b.given })) c.requires c.in-Some.ensures.1.0 in
     let l = leads_of items p.flow.heads b c.loop-pair.pair-index d c.loop-pair-test.true becomes in
     let own_pairs : List FlowPair → List FlowPair = λ fs. filter (λ f. nat_eq f.rule c.args.rule && nat_eq f.param c.args.parameter) fs in
     let pairs = c.flow_of-pair-items.ensures.pairs ∙ ap (λ (q : ProblemData). own_pairs q.flow.pairs) c.problem.view_is in
@@ -29,10 +27,9 @@ loop-pair-preserved c = λ b l.
     let items = c.flow_of-pair-items.result.now in
     let d : FlowPair = record { rule = 0; param = 0; point = 0 } in
     let own : FlowPair = get_or items c.loop-pair.pair-index d in
-    let heads = c.as_slice.ensures.value ∙ (ap (λ (t : FlowData). t.heads) c.flow.view_is ∙ ap (λ (q : ProblemData). q.flow.heads) c.problem.view_is) in
     elim (leads_more items p.flow.heads c.loop-pair.pair-index d b c.loop-pair-test.true l) [
       | inl before ↦ c.loop-pair.invariant b before
-      | inr becomes ↦ c.in-None.ensures b (subst (λ (hs : List HeadPair). Contains hs (record { point = own.point; rule = b.rule; given = b.given })) (sym heads) becomes)
+      | inr becomes ↦ c.in-None.ensures b (subst (λ (hs : List HeadPair). Contains hs (record { point = own.point; rule = b.rule; given = b.given })) (sym c.requires) becomes)
     ]
 
 pub returns : goal.returns

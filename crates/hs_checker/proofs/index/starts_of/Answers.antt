@@ -16,7 +16,7 @@ loop-point-preserved c =
     let point = IsPartitionPoint-from_clause (λ (r : Bor EntryData). is_lt (nat_cmp r.now.point t)) _ _ c.partition_point.ensures.partitioned (parted_less (λ (r : Bor EntryData). nat_cmp r.now.point t) rows (points_up rows c.requires.sorted t)) (λ a r q k. search rules) in
     record {
       long = omega (arith, c.loop-point.invariant.long, ap length c.in_ok-push.ensures.items, length-append c.loop-point.starts.items (n ∷ []));
-      each = starts_more (map (λ (r : Bor EntryData). r.now) rows) c.loop-point.starts.items c.push.new.self.items t n c.in_ok-push.ensures.items c.loop-point.invariant.long
+      each = starts_more (λ (e : EntryData). e.point) (map (λ (r : Bor EntryData). r.now) rows) c.loop-point.starts.items c.push.new.self.items t n c.in_ok-push.ensures.items c.loop-point.invariant.long
           (start_of rows t n point c.partition_point.ensures.bound) c.loop-point.invariant.each;
     }
 
@@ -28,8 +28,8 @@ returns c =
     let news = c.push-2.new.self.items in
     let e : c.loop-point.point-counter ≡ c.args.points = omega arith in
     let long : length news ≡ c.args.points + 1 = omega (arith, e, c.loop-point.invariant.long, ap length c.in_ok-push-2.ensures.items, length-append c.loop-point.starts.items (length rows ∷ [])) in
-    let own = subst (λ n. IsStart es c.args.points n) (length-map f rows) (start_past es c.args.points c.requires.within) in
+    let own = subst (λ n. IsStart es c.args.points n) (length-map f rows) (start_past (λ (e : EntryData). e.point) es c.args.points c.requires.within) in
     record {
-      each = starts_more es c.loop-point.starts.items news c.args.points (length rows) c.in_ok-push-2.ensures.items (c.loop-point.invariant.long ∙ e) own c.loop-point.invariant.each;
+      each = starts_more (λ (e : EntryData). e.point) es c.loop-point.starts.items news c.args.points (length rows) c.in_ok-push-2.ensures.items (c.loop-point.invariant.long ∙ e) own c.loop-point.invariant.each;
       within = λ x k. omega (arith, long, c.requires.within x k);
     }
