@@ -4,8 +4,9 @@
 ghost use Rattle.std.specs.Prelude.{◌≡◌, ◌∷◌, ◌++◌, ◌≤◌, ◌↔◌, ◌⊎◌, take, drop, length, Contains, IfOk, OnOk, MatchResult, map};
 ghost use Rattle.hs_checker.specs.Any.{AnyOf};
 ghost use Rattle.std.specs.List.{flat_map};
+ghost use Rattle.hs_scheme.specs.Flow.{IsAscending};
 ghost use Rattle.hs_table.specs.Types as types;
-ghost use Rattle.hs_table.specs.Entries.{EntryData, set_at};
+ghost use Rattle.hs_table.specs.Entries.{EntryData, set_at, entry_cmp};
 ghost use Rattle.hs_table_laws.proofs.Sets.{insert as with_type};
 ghost use Rattle.hs_table_plain.specs.Enumeration as plain;
 
@@ -99,7 +100,8 @@ fn joined(alloc: Global, entry: &Entry, other: &Entry) -> Result<Entry, OutOfMem
 
 /// The entries in order, each once.
 fn thin(entries: &mut Vec<Entry>) -> Result<(), OutOfMemory>
-    ensures { OnOk result ((e : EntryData) → Contains entries.new.items e ↔ Contains entries.old.items e) }
+    ensures each { OnOk result ((e : EntryData) → Contains entries.new.items e ↔ Contains entries.old.items e) }
+    ensures once { OnOk result (IsAscending entry_cmp entries.new.items) }
 {
     if entries.len() < 2 {
         return Ok(());
@@ -142,8 +144,9 @@ fn joined_with_all(
     candidates: &[&Entry],
     entries: &[Entry],
 ) -> Result<Vec<Entry>, OutOfMemory>
-    ensures { IfOk result (λ found. (e : EntryData) → Contains found.items e
+    ensures each { IfOk result (λ found. (e : EntryData) → Contains found.items e
         ↔ AnyOf (λ r y. AnyOf (λ x y. y ≡ plain.joined x r.now) entries.now y) candidates.now e) }
+    ensures once { IfOk result (λ found. IsAscending entry_cmp found.items) }
 {
     let mut found = Vec::new(alloc);
     let mut room = ROOM;
@@ -172,8 +175,9 @@ fn joined_with_one(
     candidate: &Entry,
     entries: Vec<Entry>,
 ) -> Result<Vec<Entry>, OutOfMemory>
-    ensures { IfOk result (λ found. (e : EntryData) →
+    ensures each { IfOk result (λ found. (e : EntryData) →
         Contains found.items e ↔ AnyOf (λ x y. y ≡ plain.joined x candidate.now) entries.items e) }
+    ensures once { IfOk result (λ found. IsAscending entry_cmp found.items) }
 {
     let mut found = entries;
     join_each(alloc, &mut found, candidate)?;
@@ -189,8 +193,9 @@ fn extended(
     ty: &Ty,
     entries: Vec<Entry>,
 ) -> Result<Vec<Entry>, OutOfMemory>
-    ensures { IfOk result (λ found. (e : EntryData) → Contains found.items e
+    ensures each { IfOk result (λ found. (e : EntryData) → Contains found.items e
         ↔ Contains (flat_map (λ x. flat_map (plain.extended arg ty.now x) index.now) entries.items) e) }
+    ensures once { IfOk result (λ found. IsAscending entry_cmp found.items) }
 {
     let candidates = index.at(arg, ty);
     if candidates.len() == 1 {

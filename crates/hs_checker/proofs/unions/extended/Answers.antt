@@ -7,8 +7,8 @@ use Rattle.hs_checker.specs.Any.{AnyOf}
 use Rattle.hs_checker.proofs.EnvLemmas.{extended_by, any_of_one}
 use Rattle.hs_checker.proofs.unions.extended.Goals as goal
 
-pub returns-then-candidates-eq1 : goal.returns-then-candidates-eq1
-returns-then-candidates-eq1 c =
+pub returns-then-candidates-eq1-clause-each : goal.returns-then-candidates-eq1-clause-each
+returns-then-candidates-eq1-clause-each c =
     let E = c.args.index.now in
     let es = c.args.entries.items in
     let rows = c.at-candidates.result.now in
@@ -18,10 +18,10 @@ returns-then-candidates-eq1 c =
     (λ found each e.
     let exact = extended_by E rows c.args.arg c.args.ty.now es c.at-candidates.ensures e in
     let one = any_of_one (λ (r : Bor EntryData) (y : EntryData). AnyOf (λ (x y : EntryData). y ≡ plain.joined x r.now) es y) rows r e c.if-candidates-eq1.true c.index-candidates-0.is in
-    (λ k. exact.0 (one.1 ((each e).0 k)), λ k. (each e).1 (one.0 (exact.1 k)))) c.joined_with_one.ensures
+    (λ k. exact.0 (one.1 ((each e).0 k)), λ k. (each e).1 (one.0 (exact.1 k)))) c.joined_with_one.ensures.each
 
-pub returns : goal.returns
-returns c =
+pub returns-clause-each : goal.returns-clause-each
+returns-clause-each c =
     let E = c.args.index.now in
     let es = c.args.entries.items in
     let rows = c.at-candidates.result.now in
@@ -30,4 +30,4 @@ returns c =
     (λ found each e.
     let exact = extended_by E rows c.args.arg c.args.ty.now es c.at-candidates.ensures e in
     let mine = subst (λ (xs : List EntryData). Contains found.items e ↔ AnyOf (λ (r : Bor EntryData) (y : EntryData). AnyOf (λ (x y : EntryData). y ≡ plain.joined x r.now) xs y) rows e) c.as_slice.ensures.value (each e) in
-    (λ k. exact.0 (mine.0 k), λ k. mine.1 (exact.1 k))) c.joined_with_all.ensures
+    (λ k. exact.0 (mine.0 k), λ k. mine.1 (exact.1 k))) c.joined_with_all.ensures.each
