@@ -143,7 +143,11 @@ impl Replica {
     /// The rows, in the replica's interner, of the entries that the other log has and this one lacks,
     /// which begins it; then there is room for them, and `extend` adds them. Takes less time than to
     /// append them, since each type and each environment is walked once, and none of the rows is hashed.
-    pub fn read_new(&mut self, found: &mut ImportedNumbers, from: &Replica) -> Result<Vec<Row>, OutOfMemory>
+    pub fn read_new(
+        &mut self,
+        found: &mut ImportedNumbers,
+        from: &Replica,
+    ) -> Result<Vec<Row>, OutOfMemory>
         requires { IsPrefix self.old.log from.now.log }
         ensures fits { IfOk result (λ rows. CanExtend self.new rows.items) }
         ensures whole { IfOk result (λ rows. extended self.new rows.items ≡ from.now.log) }
