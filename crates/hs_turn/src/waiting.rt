@@ -11,8 +11,9 @@ use std::hint::spin_loop;
 use std::sync::Wait;
 use std::sync::atomic::Ordering::SeqCst;
 
-/// How often a thread looks at the lock word before it sleeps, as often as the kit's `Mutex` does.
-const LOOKS: u32 = 100;
+/// How often a thread looks at the lock word before it sleeps. To sleep and to be woken takes as long
+/// as some thousand looks.
+const LOOKS: u32 = 2_000;
 
 impl<T: Storied> Turn<T> {
     /// Waits until the lock may be free: looks for a while, then sleeps until it is woken.

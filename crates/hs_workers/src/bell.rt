@@ -11,7 +11,7 @@ use std::sync::atomic::AtomicU64;
 use std::sync::atomic::Ordering::SeqCst;
 
 /// How often a worker looks for a ring before it sleeps.
-const LOOKS: u32 = 200;
+const LOOKS: u32 = 2_000;
 
 /// A bell that wakes the workers that wait.
 #[derive(Drop)]
