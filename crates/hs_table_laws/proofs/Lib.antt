@@ -4,3 +4,6 @@ pub mod Sets
 pub mod Growing
 pub mod Least
 pub mod Shapes
+pub mod Members
+pub mod Standing
+pub mod Arrows

@@ -12,6 +12,7 @@ use Rattle.hs_table.specs.declared.support.HeadBy.TheVariants.{Terminal, Rule, P
 use Rattle.hs_table.specs.Types.{TypeTree, state, arrow, arrows, IsSet, IsType, AreTypes}
 use Rattle.hs_table.specs.Entries.{Env, EntryData, Has, set_at, InShape}
 use Rattle.hs_table.specs.Follows.{IsHeadType, IsTerminalType, rank_of, HeadHas, Chosen, done, next_argument, choose, AnyHas, Follows}
+use Rattle.hs_table_laws.proofs.Arrows.{empties}
 use Rattle.hs_table_laws.proofs.Places.{some_same, none_in, here, later, uncons, member_at}
 use Rattle.hs_table_laws.proofs.Sets.{no_set, one_set}
 
@@ -34,11 +35,6 @@ arrows_shape n (s ∷ ss) t h type = arrow_shape n s (arrows ss t) (h.sets 0) (h
 pub result_shape : (n : ℕ) (ss : Env) (t : TypeTree) → IsType n (arrows ss t) → IsType n t
 result_shape n [] t h = h
 result_shape n (s ∷ ss) t h = result_shape n ss t h.0
-
-empties : (k j : ℕ) → set_at (replicate k []) j ≡ []
-empties zero j = refl
-empties (suc k) zero = refl
-empties (suc k) (suc j) = empties k j
 
 -- empty sets but for one
 one_full : (k i j : ℕ) (s : List TypeTree) → (set_at (set (replicate k []) i s) j ≡ []) ⊎ (set_at (set (replicate k []) i s) j ≡ s)

@@ -4,7 +4,7 @@ use Rattle.std.specs.List.{flat_map}
 use Rattle.std.specs.Ordering.{is_eq}
 use Rattle.std.specs.declared.cmp.Ordering.{Ordering}
 use Rattle.std.specs.declared.cmp.Ordering.TheVariants.{Less, Equal, Greater}
-use Rattle.std.proofs.lemmas.Bool.{eqb-true, eq-eqb}
+use Rattle.std.proofs.lemmas.Bool.{eqb-true, eq-eqb, and_parts, and_from}
 use Rattle.std.proofs.lemmas.Cmp.{tied_itself}
 use Rattle.hs_scheme.specs.Problem.{ProblemData}
 use Rattle.hs_scheme.specs.Tree.{node, none, more, children, children-forest, forest-children}
@@ -13,9 +13,9 @@ use Rattle.hs_table.specs.Entries.{Env, EntryData, InShape}
 use Rattle.hs_table.specs.Follows.{IsAt, Chosen, done, next_argument, choose}
 use Rattle.hs_table_laws.proofs.Places.{none_in, here, member_at, place_of}
 use Rattle.hs_table_laws.proofs.Orders.{type_cmp_total, type_same}
+use Rattle.hs_table_laws.proofs.Members.{only}
 use Rattle.hs_table_plain.specs.Enumeration.{joined, extended, picks, retyped, through}
-use Rattle.hs_table_plain.proofs.Loops.{and_true, both_true}
-use Rattle.hs_table_plain.proofs.Members.{from_flat_map, into_flat_map, only}
+use Rattle.hs_table_plain.proofs.Members.{from_flat_map, into_flat_map}
 use Rattle.hs_table_plain.proofs.UnionLemmas.{joins, joins-append}
 
 equal_of : (o : Ordering) → is_eq o ≡ true → o ≡ Equal
@@ -65,7 +65,7 @@ module _ (p : ProblemData) (E : List EntryData) (shapes : (e : EntryData) → Co
       into_flat_map (λ e. flat_map (extended u a e) E) es e (joined e x) c
       (into_flat_map (extended u a e) E x (joined e x) d
       (into_cond (nat_eq x.point u && is_eq (type_cmp x.ty a)) (joined e x)
-      (both_true (nat_eq x.point u) (is_eq (type_cmp x.ty a)) (eq-eqb x.point u point) (ap is_eq (ap (type_cmp x.ty) (sym ty) ∙ tied_itself type_cmp_total x.ty)))))
+      (and_from (nat_eq x.point u) (is_eq (type_cmp x.ty a)) (eq-eqb x.point u point) (ap is_eq (ap (type_cmp x.ty) (sym ty) ∙ tied_itself type_cmp_total x.ty)))))
 
   pub into_all : {i : ℕ} {us : List ℕ} {ss : Env} {args : List (ℕ × ℕ)} {xs : List EntryData} → Chosen p E i us ss args xs → (es : List EntryData) (e : EntryData) → Contains es e
       → Contains (choose_all E us ss es) (joins e xs)
@@ -93,7 +93,7 @@ module _ (p : ProblemData) (E : List EntryData) (shapes : (e : EntryData) → Co
       let first = from_flat_map (λ e. flat_map (extended u a e) E) es later_ones.from later_ones.there in
       let candidate = from_flat_map (extended u a first.item) E later_ones.from first.gives in
       let test = from_cond (nat_eq candidate.item.point u && is_eq (type_cmp candidate.item.ty a)) (joined first.item candidate.item) later_ones.from candidate.gives in
-      let parts = and_true (nat_eq candidate.item.point u) (is_eq (type_cmp candidate.item.ty a)) test.0 in
+      let parts = and_parts (nat_eq candidate.item.point u) (is_eq (type_cmp candidate.item.ty a)) test.0 in
       let place = at_place candidate.item candidate.there in
       record {
         from = first.item;

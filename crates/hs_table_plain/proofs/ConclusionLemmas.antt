@@ -8,8 +8,9 @@ use Rattle.hs_table.specs.Entries.{Env, EntryData, Has, IsEnv, InShape, params_o
 use Rattle.hs_table.specs.Follows.{IsHeadType, HeadHas, AnyHas, Chosen, Support, FollowsBy, Follows}
 use Rattle.hs_table_laws.proofs.Places.{some_same, here}
 use Rattle.hs_table_laws.proofs.Sets.{envs_same}
+use Rattle.hs_table_laws.proofs.Members.{from_map, into_map, only}
 use Rattle.hs_table_plain.specs.Enumeration.{retyped, through, own_env, opening, head_types, all_at}
-use Rattle.hs_table_plain.proofs.Members.{from_flat_map, into_flat_map, from_map, into_map, only}
+use Rattle.hs_table_plain.proofs.Members.{from_flat_map, into_flat_map}
 use Rattle.hs_table_plain.proofs.UnionLemmas.{joins, joins_point, joins_env, joins_has, own_is_env, own_has}
 use Rattle.hs_table_plain.proofs.ChoiceLemmas.{choose_all, through_arrows, split_from, into_all, long, from_all}
 use Rattle.hs_table_plain.proofs.HeadLemmas.{from_heads, into_heads}

@@ -1,8 +1,9 @@
 -- The types of a head are those of `IsHeadType`.
 use Rattle.std.proofs.Common.{◌≡◌, refl, sym, ◌∙◌, ap, subst, ℕ, zero, suc, ◌+◌, ◌<◌, true, false, ◌&&◌, nat_eq, Option, Some, None, List, [], ◌∷◌, length, get_or, slice_get, replicate, set, arith, Contains, inl, inr}
 use Rattle.std.specs.List.{flat_map, list_any}
-use Rattle.std.proofs.lemmas.Bool.{eqb-true, eq-eqb, cases_order}
+use Rattle.std.proofs.lemmas.Bool.{eqb-true, eq-eqb, cases_order, and_parts, and_from}
 use Rattle.std.proofs.lemmas.List.Elements.{Contains-append_left, Contains-append_right, Contains-append_cases}
+use Rattle.std.proofs.lemmas.List.{get_or_default}
 use Rattle.hs_scheme.specs.declared.term.Head.{Head}
 use Rattle.hs_scheme.specs.declared.term.Head.TheVariants.{Var, Nt, Tm}
 use Rattle.hs_scheme.specs.Tree.{node}
@@ -15,18 +16,14 @@ use Rattle.hs_table.specs.Types.{TypeTree, state, arrows, IsType}
 use Rattle.hs_table.specs.Entries.{EntryData, InShape}
 use Rattle.hs_table.specs.Follows.{rank_of, IsTerminalType, FromBody, FromFlow, IsHeadType}
 use Rattle.hs_table_laws.proofs.Places.{none_in, here, at_from, within_from, read_from, member_at}
+use Rattle.hs_table_laws.proofs.Members.{only}
 use Rattle.hs_table_plain.specs.Enumeration.{child_type, child_types, types_in, terminal_types, is_state, body_type, body_at, is_pair, flow_type, head_types}
-use Rattle.hs_table_plain.proofs.Loops.{and_true, both_true, pair_there, pair_found}
-use Rattle.hs_table_plain.proofs.Members.{from_flat_map, into_flat_map, only}
+use Rattle.hs_table_plain.proofs.Loops.{pair_there, pair_found}
+use Rattle.hs_table_plain.proofs.Members.{from_flat_map, into_flat_map}
 use Rattle.hs_table_plain.proofs.ChoiceLemmas.{from_cond, into_cond, at_place}
 
-same_read : {X : Type 0} (xs : List X) (k : ℕ) (c d : X) → k < length xs → get_or xs k c ≡ get_or xs k d
-same_read [] k c d h = absurd (omega arith)
-same_read (x ∷ xs) zero c d h = refl
-same_read (x ∷ xs) (suc k) c d h = same_read xs k c d (omega arith)
-
 read_at : (xs : List ℕ) (k : ℕ) → k < length xs → slice_get xs k ≡ Some (get_or xs k 0)
-read_at xs k h = at_from xs k (get_or xs k 0) h (same_read xs k (get_or xs k 0) 0 h)
+read_at xs k h = at_from xs k (get_or xs k 0) h (get_or_default xs k (get_or xs k 0) 0 h)
 
 less : (q n : ℕ) → q < suc n → nat_eq q n ≡ false → q < n
 less q n h e = elim (cases_order q n) [
@@ -98,7 +95,7 @@ module _ (p : ProblemData) (E : List EntryData) (shapes : (e : EntryData) → Co
       let s = from_flat_map (body_type (body_at p f)) E ty c in
       let x = s.item in
       let t = from_cond (nat_eq x.point (body_at p f) && is_state x.ty) (arrows x.env x.ty) ty s.gives in
-      let parts = and_true (nat_eq x.point (body_at p f)) (is_state x.ty) t.0 in
+      let parts = and_parts (nat_eq x.point (body_at p f)) (is_state x.ty) t.0 in
       let here_is = at_place p E shapes x s.there in
       let q = state_of p.sorted.automaton.states x.ty here_is.1.shape.ty parts.1 in (
         here_is.0,
@@ -119,7 +116,7 @@ module _ (p : ProblemData) (E : List EntryData) (shapes : (e : EntryData) → Co
       into_flat_map (body_type (body_at p f)) E x ty (member_at E place x h.holds.at)
       (subst (λ t. Contains (body_type (body_at p f) x) t) (ap (arrows x.env) h.is_state ∙ sym h.is)
       (into_cond (nat_eq x.point (body_at p f) && is_state x.ty) (arrows x.env x.ty)
-      (both_true (nat_eq x.point (body_at p f)) (is_state x.ty) (eq-eqb x.point (body_at p f) point) (ap is_state h.is_state))))
+      (and_from (nat_eq x.point (body_at p f)) (is_state x.ty) (eq-eqb x.point (body_at p f) point) (ap is_state h.is_state))))
 
   from_flow : (rule x : ℕ) (ty : TypeTree) → Contains (flat_map (flow_type p.flow.pairs rule x) E) ty → (place : ℕ) × FromFlow p E rule x place ty
   from_flow rule x ty c =

@@ -1,11 +1,11 @@
 -- What a step of each loop adds.
-use Rattle.std.proofs.Common.{◌≡◌, refl, sym, ◌∙◌, ap, subst, ℕ, zero, suc, ◌+◌, ◌-◌, ◌<◌, ◌≤◌, Bool, true, false, ◌&&◌, ◌||◌, nat_eq, cond, List, [], ◌∷◌, ◌++◌, length, get_or, take, drop, slice_get, Some, arith, Contains, ◌⊎◌, inl, inr, ◌↔◌, IsTrue, add-one, append-nil}
+use Rattle.std.proofs.Common.{◌≡◌, refl, sym, ◌∙◌, ap, subst, ℕ, zero, suc, ◌+◌, ◌-◌, ◌<◌, ◌≤◌, Bool, true, false, ◌&&◌, nat_eq, cond, List, [], ◌∷◌, ◌++◌, length, get_or, take, drop, slice_get, Some, arith, Contains, ◌⊎◌, inl, inr, ◌↔◌, IsTrue, add-one, append-nil}
 use Rattle.std.specs.Bool.{◌==◌}
 use Rattle.std.specs.List.{list_any}
 use Rattle.std.specs.Ordering.{ordering_index}
 use Rattle.std.specs.declared.cmp.Ordering.{Ordering}
 use Rattle.std.specs.declared.cmp.Ordering.TheVariants.{Less, Equal, Greater}
-use Rattle.std.proofs.lemmas.Bool.{eqb-true, eq-eqb}
+use Rattle.std.proofs.lemmas.Bool.{eqb-true, eq-eqb, and_parts, and_from, or_left, or_right, or_cases}
 use Rattle.std.proofs.lemmas.Cmp.{tied_itself}
 use Rattle.hs_scheme.specs.declared.flow.FlowPair.{FlowPair}
 use Rattle.hs_scheme.specs.Tree.{children-forest}
@@ -65,34 +65,14 @@ joined_step k e r s lt is =
     let m : suc k ≡ k + 1 = omega arith in
     ap (λ j. union_from 0 (take k e) r ++ union s (set_at r j) ∷ []) z ∙ (sym (union_step 0 k e r s lt is) ∙ ap (λ j. union_from 0 (take j e) r) m)
 
-pub and_true : (a b : Bool) → (a && b) ≡ true → (a ≡ true) × (b ≡ true)
-and_true true true e = (refl, refl)
-and_true true false e = absurd (cc)
-and_true false true e = absurd (cc)
-and_true false false e = absurd (cc)
-
-pub both_true : (a b : Bool) → a ≡ true → b ≡ true → (a && b) ≡ true
-both_true a b e f = ap (λ x. x && b) e ∙ f
-
-or_left : (a b : Bool) → a ≡ true → (a || b) ≡ true
-or_left a b e = ap (λ x. x || b) e
-
-or_right : (a b : Bool) → b ≡ true → (a || b) ≡ true
-or_right true b e = refl
-or_right false b e = e
-
-or_cases : (a b : Bool) → (a || b) ≡ true → (a ≡ true) ⊎ (b ≡ true)
-or_cases true b e = inl refl
-or_cases false b e = inr e
-
 pair_of : (rule x u : ℕ) (f : FlowPair) → is_pair rule x u f ≡ true → f ≡ record { rule = rule; param = x; point = u }
 pair_of rule x u f e =
-    let p = and_true (nat_eq f.rule rule) (nat_eq f.param x && nat_eq f.point u) e in
-    let q = and_true (nat_eq f.param x) (nat_eq f.point u) p.1 in
+    let p = and_parts (nat_eq f.rule rule) (nat_eq f.param x && nat_eq f.point u) e in
+    let q = and_parts (nat_eq f.param x) (nat_eq f.point u) p.1 in
     λ i. record { rule = eqb-true f.rule rule p.0 i; param = eqb-true f.param x q.0 i; point = eqb-true f.point u q.1 i }
 
 itself : (rule x u : ℕ) → is_pair rule x u (record { rule = rule; param = x; point = u }) ≡ true
-itself rule x u = both_true (nat_eq rule rule) (nat_eq x x && nat_eq u u) (eq-eqb rule rule refl) (both_true (nat_eq x x) (nat_eq u u) (eq-eqb x x refl) (eq-eqb u u refl))
+itself rule x u = and_from (nat_eq rule rule) (nat_eq x x && nat_eq u u) (eq-eqb rule rule refl) (and_from (nat_eq x x) (nat_eq u u) (eq-eqb x x refl) (eq-eqb u u refl))
 
 -- the test finds the pair where it is there
 pub pair_there : (pairs : List FlowPair) (rule x u : ℕ) → Contains pairs (record { rule = rule; param = x; point = u }) → list_any (is_pair rule x u) pairs ≡ true

@@ -1,8 +1,9 @@
 -- Members of lists that are made of lists.
-use Rattle.std.proofs.Common.{◌≡◌, ◌≢◌, refl, sym, ◌∙◌, ap, subst, ℕ, zero, suc, ◌+◌, ◌<◌, List, [], ◌∷◌, ◌++◌, length, get_or, take, map, arith, AllPairs, Contains, ◌⊎◌, inl, inr, ◌↔◌}
+use Rattle.std.proofs.Common.{◌≡◌, ◌≢◌, refl, sym, ◌∙◌, subst, ℕ, ◌+◌, ◌<◌, List, [], ◌∷◌, ◌++◌, length, get_or, take, arith, AllPairs, Contains, ◌⊎◌, inl, inr, ◌↔◌}
 use Rattle.std.specs.List.{flat_map}
 use Rattle.std.proofs.lemmas.List.Elements.{Contains-append_left, Contains-append_right, Contains-append_cases}
 use Rattle.hs_table_laws.proofs.Places.{none_in, here, later, uncons, pairs_cons, pairs_head, pairs_tail}
+use Rattle.hs_table_laws.proofs.Members.{only, taken_next}
 
 pub record Source {X Y : Type 0} (f : X → List Y) (xs : List X) (y : Y) : Type 0 where
   pub item : X
@@ -22,40 +23,6 @@ into_flat_map f (z ∷ xs) x y c h = elim (uncons z x xs c) [
   | inl e ↦ Contains-append_left (f z) (flat_map f xs) y (subst (λ w. Contains (f w) y) e h)
   | inr there ↦ Contains-append_right (f z) (flat_map f xs) y (into_flat_map f xs x y there h)
 ]
-
-pub record Image {X Y : Type 0} (f : X → Y) (xs : List X) (y : Y) : Type 0 where
-  pub item : X
-  pub there : Contains xs item
-  pub is : y ≡ f item
-
-pub from_map : {X Y : Type 0} (f : X → Y) (xs : List X) (y : Y) → Contains (map f xs) y → Image f xs y
-from_map f [] y c = absurd (none_in y c)
-from_map f (x ∷ xs) y c = elim (uncons (f x) y (map f xs) c) [
-  | inl e ↦ record { item = x; there = here x xs; is = e }
-  | inr h ↦ let r = from_map f xs y h in record { item = r.item; there = later x r.item xs r.there; is = r.is }
-]
-
-pub into_map : {X Y : Type 0} (f : X → Y) (xs : List X) (x : X) → Contains xs x → Contains (map f xs) (f x)
-into_map f [] x c = absurd (none_in x c)
-into_map f (z ∷ xs) x c = elim (uncons z x xs c) [
-  | inl e ↦ subst (λ w. Contains (f z ∷ map f xs) (f w)) (sym e) (here (f z) (map f xs))
-  | inr there ↦ later (f z) (f x) (map f xs) (into_map f xs x there)
-]
-
-pub only : {X : Type 0} (x y : X) → Contains (x ∷ []) y → y ≡ x
-only x y c = elim (uncons x y [] c) [
-  | inl e ↦ e
-  | inr nowhere ↦ absurd (none_in y nowhere)
-]
-
--- one more element
-take_next : {X : Type 0} (xs : List X) (k : ℕ) (y : X) → k < length xs → y ≡ get_or xs k y → take (suc k) xs ≡ take k xs ++ y ∷ []
-take_next [] k y lt is = absurd (omega arith)
-take_next (x ∷ xs) zero y lt is = ap (λ z. z ∷ []) (sym is)
-take_next (x ∷ xs) (suc k) y lt is = ap (λ zs. x ∷ zs) (take_next xs k y (omega arith) is)
-
-pub taken_next : {X : Type 0} (xs : List X) (k : ℕ) (y : X) → k < length xs → y ≡ get_or xs k y → take (k + 1) xs ≡ take k xs ++ y ∷ []
-taken_next xs k y lt is = let e : k + 1 ≡ suc k = omega arith in ap (λ n. take n xs) e ∙ take_next xs k y lt is
 
 pub in_pushed : {X : Type 0} (xs : List X) (y x : X) → Contains (xs ++ y ∷ []) x ↔ (Contains xs x ⊎ (x ≡ y))
 in_pushed xs y x = (

@@ -1,14 +1,14 @@
 -- Joined environments ask for what either asks for.
-use Rattle.std.proofs.Common.{◌≡◌, refl, sym, ◌∙◌, ap, subst, ℕ, zero, suc, ◌+◌, ◌<◌, List, [], ◌∷◌, ◌++◌, length, replicate, set, arith, Contains, ◌⊎◌, inl, inr, ◌↔◌}
+use Rattle.std.proofs.Common.{◌≡◌, refl, sym, ◌∙◌, ap, subst, ℕ, zero, suc, ◌+◌, ◌<◌, List, [], ◌∷◌, ◌++◌, length, arith, Contains, ◌⊎◌, inl, inr, ◌↔◌}
 use Rattle.hs_scheme.specs.declared.term.Head.{Head}
 use Rattle.hs_scheme.specs.declared.term.Head.TheVariants.{Var, Nt, Tm}
 use Rattle.hs_table.specs.Types.{TypeTree, IsSet}
 use Rattle.hs_table.specs.Entries.{Env, EntryData, Has, set_at, IsEnv}
 use Rattle.hs_table.specs.Follows.{HeadHas, AnyHas}
 use Rattle.hs_table_laws.proofs.Places.{none_in, here, later, uncons}
-use Rattle.hs_table_laws.proofs.Sets.{insert, insert_set, insert_only, insert_old, insert_own, no_set, one_set}
+use Rattle.hs_table_laws.proofs.Sets.{insert, insert_set, insert_only, insert_old, insert_own, one_set}
+use Rattle.hs_table_laws.proofs.Arrows.{length-empties, empties_set, empties_has, one_long, one_sets, one_has}
 use Rattle.hs_table_plain.specs.Enumeration.{union, union_from, joined, own_env}
-use Rattle.hs_table_plain.proofs.Members.{only}
 
 union_set : (s r : List TypeTree) → IsSet s → IsSet (union s r)
 union_set s [] h = h
@@ -92,43 +92,6 @@ joins_has e (x ∷ xs) j a lt =
     back f (inl h) = inl (f (inl h))
     back f (inr (inl h)) = inl (f (inr h))
     back f (inr (inr h)) = inr h
-
--- what the head asks for
-empties : (k j : ℕ) → set_at (replicate k []) j ≡ []
-empties zero j = refl
-empties (suc k) zero = refl
-empties (suc k) (suc j) = empties k j
-
-length-empties : (k : ℕ) → length (replicate k (let none : List TypeTree = [] in none)) ≡ k
-length-empties zero = refl
-length-empties (suc k) = ap suc (length-empties k)
-
-empties_set : (k j : ℕ) → IsSet (set_at (replicate k []) j)
-empties_set k j = subst (λ (s : List TypeTree). IsSet s) (sym (empties k j)) no_set
-
-empties_has : (k j : ℕ) (a : TypeTree) → Has (replicate k []) j a → ⊥
-empties_has k j a h = none_in a (subst (λ (s : List TypeTree). Contains s a) (empties k j) h)
-
-one_long : (k i : ℕ) (s : List TypeTree) → length (set (replicate k []) i s) ≡ k
-one_long zero i s = refl
-one_long (suc k) zero s = ap suc (length-empties k)
-one_long (suc k) (suc i) s = ap suc (one_long k i s)
-
-one_sets : (k i j : ℕ) (s : List TypeTree) → IsSet s → IsSet (set_at (set (replicate k []) i s) j)
-one_sets zero i j s h = no_set
-one_sets (suc k) zero zero s h = h
-one_sets (suc k) zero (suc j) s h = empties_set k j
-one_sets (suc k) (suc i) zero s h = no_set
-one_sets (suc k) (suc i) (suc j) s h = one_sets k i j s h
-
-one_has : (k i j : ℕ) (t a : TypeTree) → j < k → Has (set (replicate k []) i (t ∷ [])) j a ↔ ((j ≡ i) × (a ≡ t))
-one_has zero i j t a lt = absurd (omega arith)
-one_has (suc k) zero zero t a lt = (λ h. (refl, only t a h), λ h. subst (λ z. Contains (t ∷ []) z) (sym h.1) (here t []))
-one_has (suc k) zero (suc j) t a lt = (λ h. absurd (empties_has k j a h), λ h. absurd (omega (arith, h.0)))
-one_has (suc k) (suc i) zero t a lt = (λ h. absurd (none_in a h), λ h. absurd (omega (arith, h.0)))
-one_has (suc k) (suc i) (suc j) t a lt =
-    let r = one_has k i j t a (omega arith) in
-    (λ h. let q = r.0 h in (ap suc q.0, q.1), λ h. let z : j ≡ i = omega (arith, h.0) in r.1 (z, h.1))
 
 pub own_is_env : (n : ℕ) (h : Head) (t : TypeTree) → IsEnv n (own_env n h t)
 own_is_env n (Var x) t = record { long = one_long n x (t ∷ []); sets = λ j. one_sets n x j (t ∷ []) (one_set t) }

@@ -27,6 +27,8 @@ use Rattle.hs_table.specs.Follows.{rank_of, IsAt, FromBody, FromFlow, IsHeadType
 use Rattle.hs_table.specs.Tables.{IsClosedTable, HasStart}
 use Rattle.hs_table_laws.proofs.Places.{none_in, member_at, place_of}
 use Rattle.hs_table_laws.proofs.Shapes.{follows_shape, next_within}
+use Rattle.hs_table_laws.proofs.Members.{only}
+use Rattle.hs_table_laws.proofs.Arrows.{arrows-append, has_within, empties_has}
 use Rattle.hs_verdict.specs.Premises.{IsSortedProblem, HasClosedFlow}
 use Rattle.hs_verdict.specs.Closures.{Closure, root, argument_closures, read, reads, stands_for}
 use Rattle.hs_verdict.specs.Typed.{HasType, has, Have, Flows, flows, IsGood}
@@ -36,25 +38,14 @@ use Rattle.hs_verdict.proofs.Counts.{problem_sorts, sorted_by, terminal_count}
 use Rattle.hs_verdict.proofs.Moves.{stands, reads_past, parameter_move}
 use Rattle.hs_verdict.proofs.Paths.{Failing, no_parameter, front_count, to_body, to_child}
 use Rattle.hs_verdict.proofs.Good.{good_parameter, good_body, good_child, all_flow, param_pair}
-use Rattle.hs_verdict.proofs.Unions.{only_one, union, pick, parts, have_by_place, arrows-append}
-
--- a row of empty sets has no types; with one set it has only that set's
-none_has : (n j : ℕ) (a : TypeTree) → Has (replicate n []) j a → ⊥
-none_has zero j a h = none_in a h
-none_has (suc n) zero a h = none_in a h
-none_has (suc n) (suc j) a h = none_has n j a h
+use Rattle.hs_verdict.proofs.Unions.{union, pick, parts, have_by_place}
 
 one_has : (n i j : ℕ) (t a : TypeTree) → Has (set (replicate n []) i (t ∷ [])) j a → (j ≡ i) × (a ≡ t)
 one_has zero i j t a h = absurd (none_in a h)
-one_has (suc n) zero zero t a h = (refl, only_one t a h)
-one_has (suc n) zero (suc j) t a h = absurd (none_has n j a h)
+one_has (suc n) zero zero t a h = (refl, only t a h)
+one_has (suc n) zero (suc j) t a h = absurd (empties_has n j a h)
 one_has (suc n) (suc i) zero t a h = absurd (none_in a h)
 one_has (suc n) (suc i) (suc j) t a h = let r = one_has n i j t a h in (ap suc r.0, r.1)
-
-has_within : (env : Env) (j : ℕ) (a : TypeTree) → Has env j a → j < length env
-has_within [] j a h = absurd (none_in a h)
-has_within (s ∷ env) zero a h = omega arith
-has_within (s ∷ env) (suc j) a h = let r = has_within env j a h in omega (arith, r)
 
 module _ (p : ProblemData) (given : IsSortedProblem p) (closed : HasClosedFlow p) (term : ℕ → Tree Head) (are : AreTerms p.sorted.scheme.rules term)
     (T : List EntryData) (table : IsClosedTable p T) where
@@ -240,7 +231,7 @@ module _ (p : ProblemData) (given : IsSortedProblem p) (closed : HasClosedFlow p
       let long : length zs ≡ rank = sym (front_count p given term zs) ∙ terminal_count p b (forest (map (read term) zs)) there.sorted in
       let all : Env = replicate rank [] in
       settle point cs rule (Tm b) args ds q at (Terminal q None) all (in_states, record { moves = there.fails.1; is = refl }) (λ j a c at_j o. absurd o)
-      (have_by_place p T zs all (length-replicate rank [] ∙ sym long) (λ j a d at_j h. absurd (none_has rank j a h)))
+      (have_by_place p T zs all (length-replicate rank [] ∙ sym long) (λ j a d at_j h. absurd (empties_has rank j a h)))
   terminal_case point cs rule b args at (suc m) below ds q in_states good failing =
       let zs : List Closure = argument_closures args cs ++ ds in
       let d : PointData = record { rule = rule; head = Tm b; args = args } in

@@ -9,12 +9,13 @@ use Rattle.hs_scheme.specs.declared.flow.Pair.TheVariants.{OfFlow, OfHead}
 use Rattle.hs_scheme.specs.Tree.{Tree, Trees, node, forest, children, children-forest}
 use Rattle.hs_scheme.specs.Points.{PointData, points_of}
 use Rattle.hs_scheme.specs.Flow.{HasParameter, IsBase, IsClosed}
+use Rattle.hs_table_laws.proofs.Standing.{place-append}
 use Rattle.hs_verdict.specs.Closures.{Closure, root, argument_closures}
 use Rattle.hs_verdict.specs.Typed.{Flows, flows, Fits, IsGood}
 use Rattle.hs_steps.proofs.Terms.{same_some}
 use Rattle.hs_table_laws.proofs.Places.{within_from}
 use Rattle.hs_verdict.proofs.TermLemmas.{AreTerms, IsPoint}
-use Rattle.hs_verdict.proofs.Lists.{place-append, place-map}
+use Rattle.hs_verdict.proofs.Lists.{place-map}
 
 module _ (rules : List Rule) (found : List Pair) (term : ℕ → Tree Head) (closed : IsClosed rules found) (are : AreTerms rules term) where
   abbrev Param : ℕ → ℕ → ℕ → Type 0

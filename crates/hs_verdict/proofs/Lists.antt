@@ -1,5 +1,5 @@
--- Places of joined lists and of images, and members of lists of pairs.
-use Rattle.std.proofs.Common.{◌≡◌, refl, subst, ap, ℕ, zero, suc, ◌+◌, List, [], ◌∷◌, ◌++◌, length, map, slice_get, Some, arith, Contains, ◌⊎◌, inl, inr}
+-- Places of images, and members of lists of pairs.
+use Rattle.std.proofs.Common.{◌≡◌, refl, subst, ap, ℕ, zero, suc, List, [], ◌∷◌, map, slice_get, Some, Contains, inl, inr}
 use Rattle.std.proofs.lemmas.List.Elements.{Contains-append_cases}
 use Rattle.hs_scheme.specs.declared.flow.FlowPair.{FlowPair}
 use Rattle.hs_scheme.specs.declared.flow.HeadPair.{HeadPair}
@@ -8,19 +8,6 @@ use Rattle.hs_scheme.specs.declared.flow.Pair.TheVariants.{OfFlow, OfHead}
 use Rattle.hs_scheme.specs.Flow.{pairs_of}
 use Rattle.hs_steps.proofs.Terms.{same_some}
 use Rattle.hs_table_laws.proofs.Places.{none_in, here, later, uncons}
-
-pub record Behind {A : Type 0} (xs ys : List A) (i : ℕ) (x : A) : Type 0 where
-  pub place : ℕ
-  pub is : i ≡ length xs + place
-  pub at : slice_get ys place ≡ Some x
-
-pub place-append : {A : Type 0} (xs ys : List A) (i : ℕ) (x : A) → slice_get (xs ++ ys) i ≡ Some x → (slice_get xs i ≡ Some x) ⊎ Behind xs ys i x
-place-append [] ys i x e = inr (record { place = i; is = omega arith; at = e })
-place-append (y ∷ xs) ys zero x e = inl e
-place-append (y ∷ xs) ys (suc i) x e = elim (place-append xs ys i x e) [
-  | inl h ↦ inl h
-  | inr b ↦ inr (record { place = b.place; is = omega (arith, b.is); at = b.at })
-]
 
 pub record Image {A B : Type 0} (f : A → B) (xs : List A) (i : ℕ) (y : B) : Type 0 where
   pub item : A

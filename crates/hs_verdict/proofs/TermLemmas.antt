@@ -1,5 +1,5 @@
 -- The terms at the points are as the points say.
-use Rattle.std.proofs.Common.{◌≡◌, refl, sym, ◌∙◌, ap, subst, ℕ, zero, suc, ◌+◌, List, [], ◌∷◌, ◌++◌, length, map, get_or, slice_get, Some, arith, inl, inr, length-append}
+use Rattle.std.proofs.Common.{◌≡◌, refl, sym, ◌∙◌, ap, subst, ℕ, zero, suc, ◌+◌, List, [], ◌∷◌, length, map, get_or, slice_get, Some, arith, inl, inr, length-append}
 use Rattle.std.proofs.lemmas.Option.{get_or_from_slice_get}
 use Rattle.hs_scheme.specs.declared.term.Head.{Head}
 use Rattle.hs_scheme.specs.declared.term.Head.TheVariants.{Nt}
@@ -7,9 +7,9 @@ use Rattle.hs_scheme.specs.declared.term.Rule.{Rule}
 use Rattle.hs_scheme.specs.Tree.{Tree, Trees, node, none, more, forest}
 use Rattle.hs_scheme.specs.Points.{PointData, size, sizes, numbers, term_points, terms_points, rules_points, bodies, points_of}
 use Rattle.hs_scheme.proofs.PointLemmas.{length-term_points}
+use Rattle.hs_table_laws.proofs.Standing.{place-append, StandsFrom, stands_front, stands_back, stands_tail, stands_head}
 use Rattle.hs_verdict.specs.Terms.{subterms, subterms_row, terms_of, term_at}
 use Rattle.hs_steps.proofs.Terms.{same_some}
-use Rattle.hs_verdict.proofs.Lists.{place-append}
 
 -- a term for each point: what the point is made of; its arguments stand in its own rule; and bodies
 pub record AreTerms (rules : List Rule) (term : ℕ → Tree Head) : Type 0 where
@@ -24,36 +24,7 @@ pub record AreTerms (rules : List Rule) (term : ℕ → Tree Head) : Type 0 wher
 abbrev pub IsPoint : List Rule → ℕ → ℕ → Head → List ℕ → Type 0
 IsPoint rules point rule h args = slice_get (points_of rules).points point ≡ Some (record { rule = rule; head = h; args = args })
 
--- ys stands in xs from n on
-pub record Stands {A : Type 0} (xs : List A) (n : ℕ) (ys : List A) : Type 0 where
-  pub at : (i : ℕ) (y : A) → slice_get ys i ≡ Some y → slice_get xs (n + i) ≡ Some y
-
-front_at : {A : Type 0} (xs ys : List A) (i : ℕ) (x : A) → slice_get xs i ≡ Some x → slice_get (xs ++ ys) i ≡ Some x
-front_at [] ys i x e = absurd (cc)
-front_at (y ∷ xs) ys zero x e = e
-front_at (y ∷ xs) ys (suc i) x e = front_at xs ys i x e
-
-back_at : {A : Type 0} (xs ys : List A) (i : ℕ) → slice_get (xs ++ ys) (length xs + i) ≡ slice_get ys i
-back_at [] ys i = let e : 0 + i ≡ i = omega arith in ap (λ k. slice_get ys k) e
-back_at (x ∷ xs) ys i = let e : length (x ∷ xs) + i ≡ suc (length xs + i) = omega arith in ap (λ k. slice_get (x ∷ (xs ++ ys)) k) e ∙ back_at xs ys i
-
-stands_front : {A : Type 0} (all : List A) (n : ℕ) (xs ys : List A) → Stands all n (xs ++ ys) → Stands all n xs
-stands_front all n xs ys s = record { at = λ i y e. s.at i y (front_at xs ys i y e) }
-
-stands_back : {A : Type 0} (all : List A) (n m : ℕ) (xs ys : List A) → length xs ≡ m → Stands all n (xs ++ ys) → Stands all (n + m) ys
-stands_back all n m xs ys long s = record {
-  at = λ i y e.
-      let same : n + (length xs + i) ≡ n + m + i = omega (arith, long) in
-      ap (λ k. slice_get all k) (sym same) ∙ s.at (length xs + i) y (back_at xs ys i ∙ e);
-}
-
-stands_tail : {A : Type 0} (all : List A) (n : ℕ) (x : A) (xs : List A) → Stands all n (x ∷ xs) → Stands all (n + 1) xs
-stands_tail all n x xs s = record { at = λ i y e. let same : n + suc i ≡ n + 1 + i = omega arith in ap (λ k. slice_get all k) (sym same) ∙ s.at (suc i) y e }
-
-stands_head : {A : Type 0} (all : List A) (n : ℕ) (x : A) (xs : List A) → Stands all n (x ∷ xs) → slice_get all n ≡ Some x
-stands_head all n x xs s = let same : n + 0 ≡ n = omega arith in ap (λ k. slice_get all k) (sym same) ∙ s.at 0 x refl
-
-stands_whole : {A : Type 0} (xs : List A) → Stands xs 0 xs
+stands_whole : {A : Type 0} (xs : List A) → StandsFrom xs 0 xs
 stands_whole xs = record { at = λ i y e. let same : 0 + i ≡ i = omega arith in ap (λ k. slice_get xs k) same ∙ e }
 
 mutual
@@ -76,20 +47,20 @@ module _ (points : List PointData) (terms : List (Tree Head)) where
     pub term_of : term point ≡ node d.head (forest (map term d.args))
     pub arguments : (j a : ℕ) → slice_get d.args j ≡ Some a → (of : PointData) × (slice_get points a ≡ Some of) × (of.rule ≡ rule)
 
-  front_term : (n : ℕ) (t : Tree Head) → Stands terms n (subterms t) → term n ≡ t
+  front_term : (n : ℕ) (t : Tree Head) → StandsFrom terms n (subterms t) → term n ≡ t
   front_term n (node h ts) s = term_is n (node h ts) (stands_head terms n (node h ts) (subterms_row ts) s)
 
-  row_terms : (n : ℕ) (ts : Trees Head) → Stands terms n (subterms_row ts) → ts ≡ forest (map term (numbers n ts))
+  row_terms : (n : ℕ) (ts : Trees Head) → StandsFrom terms n (subterms_row ts) → ts ≡ forest (map term (numbers n ts))
   row_terms n none s = refl
   row_terms n (more t ts) s =
       λ i. more (sym (front_term n t (stands_front terms n (subterms t) (subterms_row ts) s)) i)
       (row_terms (n + size t) ts (stands_back terms n (size t) (subterms t) (subterms_row ts) (length-subterms t) s) i)
 
-  front_point : (rule n : ℕ) (t : Tree Head) → Stands points n (term_points rule n t) → (of : PointData) × (slice_get points n ≡ Some of) × (of.rule ≡ rule)
+  front_point : (rule n : ℕ) (t : Tree Head) → StandsFrom points n (term_points rule n t) → (of : PointData) × (slice_get points n ≡ Some of) × (of.rule ≡ rule)
   front_point rule n (node h ts) s =
       let d : PointData = record { rule = rule; head = h; args = numbers (n + 1) ts } in (d, stands_head points n d (terms_points rule (n + 1) ts) s, refl)
 
-  row_points : (rule n : ℕ) (ts : Trees Head) → Stands points n (terms_points rule n ts) → (j a : ℕ) → slice_get (numbers n ts) j ≡ Some a → (of : PointData) × (slice_get points a ≡ Some of) × (of.rule ≡ rule)
+  row_points : (rule n : ℕ) (ts : Trees Head) → StandsFrom points n (terms_points rule n ts) → (j a : ℕ) → slice_get (numbers n ts) j ≡ Some a → (of : PointData) × (slice_get points a ≡ Some of) × (of.rule ≡ rule)
   row_points rule n none s j a e = absurd (cc)
   row_points rule n (more t ts) s zero a e =
       let same : n ≡ a = same_some n a e in
@@ -99,7 +70,7 @@ module _ (points : List PointData) (terms : List (Tree Head)) where
       row_points rule (n + size t) ts (stands_back points n (size t) (term_points rule n t) (terms_points rule (n + size t) ts) (length-term_points rule n t) s) j a e
 
   mutual
-    whole_term : (rule n : ℕ) (t : Tree Head) → Stands points n (term_points rule n t) → Stands terms n (subterms t)
+    whole_term : (rule n : ℕ) (t : Tree Head) → StandsFrom points n (term_points rule n t) → StandsFrom terms n (subterms t)
         → (i : ℕ) (d : PointData) → slice_get (term_points rule n t) i ≡ Some d → IsWhole rule (n + i) d
     whole_term rule n (node h ts) s r zero d e =
         let own : PointData = record { rule = rule; head = h; args = numbers (n + 1) ts } in
@@ -117,7 +88,7 @@ module _ (points : List PointData) (terms : List (Tree Head)) where
         let same : n + 1 + i ≡ n + suc i = omega arith in
         subst (λ (k : ℕ). IsWhole rule k d) same (whole_row rule (n + 1) ts (stands_tail points n own (terms_points rule (n + 1) ts) s) (stands_tail terms n (node h ts) (subterms_row ts) r) i d e)
 
-    whole_row : (rule n : ℕ) (ts : Trees Head) → Stands points n (terms_points rule n ts) → Stands terms n (subterms_row ts)
+    whole_row : (rule n : ℕ) (ts : Trees Head) → StandsFrom points n (terms_points rule n ts) → StandsFrom terms n (subterms_row ts)
         → (i : ℕ) (d : PointData) → slice_get (terms_points rule n ts) i ≡ Some d → IsWhole rule (n + i) d
     whole_row rule n none s r i d e = absurd (cc)
     whole_row rule n (more t ts) s r i d e = elim (place-append (term_points rule n t) (terms_points rule (n + size t) ts) i d e) [
@@ -142,7 +113,7 @@ module _ (points : List PointData) (terms : List (Tree Head)) where
     whole = subst (λ (k : ℕ). IsWhole k point d) (sym w.in_rule) w;
   }
 
-  whole_rules : (rules : List Rule) (rule n : ℕ) (rest : List Rule) → Stands rules rule rest → Stands points n (rules_points rule n rest) → Stands terms n (terms_of rest)
+  whole_rules : (rules : List Rule) (rule n : ℕ) (rest : List Rule) → StandsFrom rules rule rest → StandsFrom points n (rules_points rule n rest) → StandsFrom terms n (terms_of rest)
       → (i : ℕ) (d : PointData) → slice_get (rules_points rule n rest) i ≡ Some d → InRule rules (n + i) d
   whole_rules rules rule n [] q s t i d e = absurd (cc)
   whole_rules rules rule n (r ∷ rest) q s t i d e = elim (place-append (term_points rule n r.body) (rules_points (rule + 1) (n + size r.body) rest) i d e) [
@@ -164,7 +135,7 @@ module _ (points : List PointData) (terms : List (Tree Head)) where
     pub in_rule : of.rule ≡ rule + f
     pub is : term body ≡ r.body
 
-  whole_bodies : (rule n : ℕ) (rest : List Rule) → Stands points n (rules_points rule n rest) → Stands terms n (terms_of rest)
+  whole_bodies : (rule n : ℕ) (rest : List Rule) → StandsFrom points n (rules_points rule n rest) → StandsFrom terms n (terms_of rest)
       → (f : ℕ) (r : Rule) → slice_get rest f ≡ Some r → IsBody rule f n rest r
   whole_bodies rule n [] s t f r e = absurd (cc)
   whole_bodies rule n (k ∷ rest) s t zero r e =

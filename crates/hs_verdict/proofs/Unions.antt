@@ -6,11 +6,12 @@ use Rattle.hs_scheme.specs.declared.term.Head.{Head}
 use Rattle.hs_scheme.specs.declared.term.Head.TheVariants.{Var, Nt, Tm}
 use Rattle.hs_scheme.specs.Tree.{Trees, node, children}
 use Rattle.hs_scheme.specs.Problem.{ProblemData}
-use Rattle.hs_table.specs.Types.{TypeTree, arrow, arrows, IsSet}
+use Rattle.hs_table.specs.Types.{TypeTree, IsSet}
 use Rattle.hs_table.specs.Entries.{Env, EntryData, Has, set_at, IsEnv}
 use Rattle.hs_table.specs.Follows.{HeadHas, AnyHas, Chosen, done, next_argument, choose}
-use Rattle.hs_table_laws.proofs.Places.{none_in, here, later, uncons}
+use Rattle.hs_table_laws.proofs.Places.{none_in, here, later}
 use Rattle.hs_table_laws.proofs.Sets.{no_set, set_of, set_of-IsSet, set_of-Contains}
+use Rattle.hs_table_laws.proofs.Members.{only}
 use Rattle.hs_verdict.specs.Closures.{Closure, argument_closures}
 use Rattle.hs_verdict.specs.Typed.{HasType, has, Have}
 
@@ -56,12 +57,6 @@ own (Var x) t j = cond (nat_eq j x) (t ∷ []) []
 own (Nt f) t j = []
 own (Tm b) t j = []
 
-pub only_one : (t a : TypeTree) → Contains (t ∷ []) a → a ≡ t
-only_one t a h = elim (uncons t a [] h) [
-  | inl e ↦ e
-  | inr nowhere ↦ absurd (none_in a nowhere)
-]
-
 own_all : (h : Head) (t : TypeTree) (j : ℕ) (a : TypeTree) → HeadHas h t j a → Contains (own h t j) a
 own_all (Var x) t j a (e, f) = subst (λ b. Contains (cond b (t ∷ []) []) a) (sym (eq-eqb j x e)) (subst (λ b. Contains (t ∷ []) b) (sym f) (here t []))
 own_all (Nt g) t j a h = absurd h
@@ -69,7 +64,7 @@ own_all (Tm b) t j a h = absurd h
 
 own_only : (h : Head) (t : TypeTree) (j : ℕ) (a : TypeTree) → Contains (own h t j) a → HeadHas h t j a
 own_only (Var x) t j a h = elim (nat_eq j x) as (λ b. nat_eq j x ≡ b → Contains (cond b (t ∷ []) []) a → (j ≡ x) × (a ≡ t)) [
-  | true ↦ λ e k. (eqb-true j x e, only_one t a k)
+  | true ↦ λ e k. (eqb-true j x e, only t a k)
   | false ↦ λ e k. absurd (none_in a k)
 ] refl h
 own_only (Nt g) t j a h = absurd (none_in a h)
@@ -158,7 +153,3 @@ module _ (p : ProblemData) (T : List EntryData) where
   have_by_place [] (s ∷ ss) e f = absurd (omega arith)
   have_by_place (d ∷ ds) [] e f = absurd (omega arith)
   have_by_place (d ∷ ds) (s ∷ ss) e f = (λ a h. f 0 a d refl h, have_by_place ds ss (omega arith) (λ j a c at h. f (suc j) a c at h))
-
-pub arrows-append : (xs ys : Env) (t : TypeTree) → arrows (xs ++ ys) t ≡ arrows xs (arrows ys t)
-arrows-append [] ys t = refl
-arrows-append (s ∷ xs) ys t = ap (arrow s) (arrows-append xs ys t)

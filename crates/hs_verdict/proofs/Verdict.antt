@@ -1,5 +1,5 @@
 -- Acceptance and failing paths, and the laws of a closed table.
-use Rattle.std.proofs.Common.{◌≡◌, refl, ℕ, zero, suc, ◌+◌, Bool, true, false, IsTrue, List, length, Option, arith, add-one}
+use Rattle.std.proofs.Common.{◌≡◌, ℕ, zero, suc, ◌+◌, false, List, length, Option, arith, add-one}
 use Rattle.hs_scheme.specs.declared.term.Rule.{Rule}
 use Rattle.hs_scheme.specs.Transition.{TransitionData}
 use Rattle.hs_scheme.specs.Cut.{cut}
@@ -8,7 +8,7 @@ use Rattle.hs_scheme.specs.Sorted.{known}
 use Rattle.hs_scheme.specs.Steps.{Path, Fails}
 use Rattle.hs_scheme.specs.Problem.{ProblemData}
 use Rattle.hs_steps.proofs.Sorted.{start_sorted}
-use Rattle.hs_steps.proofs.Failing.{refused_within, within_refused}
+use Rattle.hs_steps.proofs.Failing.{refused_within, within_refused, not_refused, not_both}
 use Rattle.hs_table.specs.Entries.{EntryData}
 use Rattle.hs_table.specs.Tables.{IsClosedTable, HasStart}
 use Rattle.hs_verdict.specs.Premises.{IsSortedProblem, HasClosedFlow}
@@ -16,14 +16,6 @@ use Rattle.hs_verdict.specs.Terms.{term_at}
 use Rattle.hs_verdict.proofs.Counts.{problem_sorts, sorted_by}
 use Rattle.hs_verdict.proofs.TermLemmas.{are_terms}
 use Rattle.hs_verdict.proofs.Complete.{complete}
-
-not_refused : (b : Bool) → (b ≡ false → ⊥) → IsTrue b
-not_refused true h = refl
-not_refused false h = absurd (h refl)
-
-not_both : (b : Bool) → IsTrue b → b ≡ false → ⊥
-not_both true t e = (cc)
-not_both false t e = (cc)
 
 module _ (p : ProblemData) (given : IsSortedProblem p) where
   abbrev rules : List Rule

@@ -1,0 +1,41 @@
+-- A list that stands in another from a place on.
+use Rattle.std.proofs.Common.{◌≡◌, refl, sym, ◌∙◌, ap, ℕ, zero, suc, ◌+◌, List, [], ◌∷◌, ◌++◌, length, slice_get, Some, arith, ◌⊎◌, inl, inr}
+use Rattle.hs_table_laws.proofs.Places.{at_append}
+
+-- ys stands in xs from n on
+pub record StandsFrom {A : Type 0} (xs : List A) (n : ℕ) (ys : List A) : Type 0 where
+  pub at : (i : ℕ) (y : A) → slice_get ys i ≡ Some y → slice_get xs (n + i) ≡ Some y
+
+pub back_at : {A : Type 0} (xs ys : List A) (i : ℕ) → slice_get (xs ++ ys) (length xs + i) ≡ slice_get ys i
+back_at [] ys i = let e : 0 + i ≡ i = omega arith in ap (λ k. slice_get ys k) e
+back_at (x ∷ xs) ys i = let e : length (x ∷ xs) + i ≡ suc (length xs + i) = omega arith in ap (λ k. slice_get (x ∷ (xs ++ ys)) k) e ∙ back_at xs ys i
+
+-- x stands behind xs, at place i of the two together
+pub record Behind {A : Type 0} (xs ys : List A) (i : ℕ) (x : A) : Type 0 where
+  pub place : ℕ
+  pub is : i ≡ length xs + place
+  pub at : slice_get ys place ≡ Some x
+
+pub place-append : {A : Type 0} (xs ys : List A) (i : ℕ) (x : A) → slice_get (xs ++ ys) i ≡ Some x → (slice_get xs i ≡ Some x) ⊎ Behind xs ys i x
+place-append [] ys i x e = inr (record { place = i; is = omega arith; at = e })
+place-append (y ∷ xs) ys zero x e = inl e
+place-append (y ∷ xs) ys (suc i) x e = elim (place-append xs ys i x e) [
+  | inl h ↦ inl h
+  | inr b ↦ inr (record { place = b.place; is = omega (arith, b.is); at = b.at })
+]
+
+pub stands_front : {A : Type 0} (all : List A) (n : ℕ) (xs ys : List A) → StandsFrom all n (xs ++ ys) → StandsFrom all n xs
+stands_front all n xs ys s = record { at = λ i y e. s.at i y (at_append xs ys i y e) }
+
+pub stands_back : {A : Type 0} (all : List A) (n m : ℕ) (xs ys : List A) → length xs ≡ m → StandsFrom all n (xs ++ ys) → StandsFrom all (n + m) ys
+stands_back all n m xs ys long s = record {
+  at = λ i y e.
+      let same : n + (length xs + i) ≡ n + m + i = omega (arith, long) in
+      ap (λ k. slice_get all k) (sym same) ∙ s.at (length xs + i) y (back_at xs ys i ∙ e);
+}
+
+pub stands_tail : {A : Type 0} (all : List A) (n : ℕ) (x : A) (xs : List A) → StandsFrom all n (x ∷ xs) → StandsFrom all (n + 1) xs
+stands_tail all n x xs s = record { at = λ i y e. let same : n + suc i ≡ n + 1 + i = omega arith in ap (λ k. slice_get all k) (sym same) ∙ s.at (suc i) y e }
+
+pub stands_head : {A : Type 0} (all : List A) (n : ℕ) (x : A) (xs : List A) → StandsFrom all n (x ∷ xs) → slice_get all n ≡ Some x
+stands_head all n x xs s = let same : n + 0 ≡ n = omega arith in ap (λ k. slice_get all k) (sym same) ∙ s.at 0 x refl
