@@ -13,7 +13,7 @@ use Rattle.hs_sorts.proofs.Joining.{arrow_parts}
 use Rattle.hs_sorts.proofs.NodeLemmas.{over, over_agrees, over_later, respects_more, respects_fewer, respects_set, respects_unset, one_place}
 
 -- no arrow is o
-no_arrow : (a b : SortTree) → o ≡ arrow a b → ⊥
+pub no_arrow : (a b : SortTree) → o ≡ arrow a b → ⊥
 no_arrow a (node u ks) h = cc
 
 -- a function of which nothing is known

@@ -1,7 +1,9 @@
 -- Sorts with arguments in front, and what is left of them behind these.
-use Rattle.std.proofs.Common.{◌≡◌, refl, sym, ◌∙◌, ap, ℕ, zero, suc, ◌<◌, arith}
+use Rattle.std.proofs.Common.{◌≡◌, refl, sym, ◌∙◌, ap, ℕ, zero, suc, ◌<◌, ◌∷◌, slice_get, Some, arith}
+use Rattle.std.specs.Prelude.{unwrap_or}
 use Rattle.hs_scheme.specs.Tree.{node}
-use Rattle.hs_scheme.specs.Sorting.{SortTree, arrow, arrows, behind}
+use Rattle.hs_scheme.specs.Sorting.{SortTree, o, arrow, arrows, behind, arguments}
+use Rattle.hs_scheme.specs.Sorted.{sort_at}
 
 pub arrows_more : (n : ℕ) (args : ℕ → SortTree) (k : SortTree) → arrows n args (arrow (args n) k) ≡ arrows (suc n) args k
 arrows_more zero args k = refl
@@ -29,3 +31,15 @@ behind_arrows (suc n) args k = behind_arrows n (λ j. args (suc j)) k ∙ behind
 
 pub left_behind : (n : ℕ) (args : ℕ → SortTree) (k t : SortTree) → t ≡ arrows n args k → k ≡ behind n t
 left_behind n args k t e = behind_arrows n args k ∙ ap (behind n) (sym e)
+
+pub arguments-arrow : (a b : SortTree) → arguments (arrow a b) ≡ a ∷ arguments b
+arguments-arrow a (node u ks) = refl
+
+argument_at : (n : ℕ) (p : ℕ → SortTree) (k : SortTree) (j : ℕ) → j < n → slice_get (arguments (arrows n p k)) j ≡ Some (p j)
+argument_at zero p k j h = absurd (omega arith)
+argument_at (suc n) p k zero h = ap (λ xs. slice_get xs 0) (arguments-arrow (p 0) (arrows n (λ j. p (suc j)) k))
+argument_at (suc n) p k (suc j) h = ap (λ xs. slice_get xs (suc j)) (arguments-arrow (p 0) (arrows n (λ j. p (suc j)) k)) ∙ argument_at n (λ j. p (suc j)) k j (omega arith)
+
+-- one of the arguments that were put in front
+pub argument_is : (n : ℕ) (p : ℕ → SortTree) (k s : SortTree) (j : ℕ) → j < n → s ≡ arrows n p k → sort_at (arguments s) j ≡ p j
+argument_is n p k s j h e = ap (λ t. sort_at (arguments t) j) e ∙ ap (λ t. unwrap_or t o) (argument_at n p k j h)

@@ -1,13 +1,12 @@
 -- Claims on the sorts of nodes, one after another.
-use Rattle.std.proofs.Common.{◌≡◌, sym, ◌∙◌, ap, subst, ℕ, suc, ◌+◌, ◌^◌, ◌<◌, ◌≤◌, List, [], ◌∷◌, ◌++◌, length, slice_get, replicate, length-append, Option, Some, None, Bool, true, false, arith}
-use Rattle.std.specs.Option.{is_some}
+use Rattle.std.proofs.Common.{◌≡◌, sym, ◌∙◌, ap, subst, ℕ, suc, ◌+◌, ◌^◌, ◌<◌, ◌≤◌, List, [], ◌∷◌, ◌++◌, length, slice_get, replicate, length-append, Some, Bool, true, false, arith}
 use Rattle.std.proofs.lemmas.List.{length-replicate}
 use Rattle.hs_scheme.specs.Sorting.{SortTree, o, arrow, arrows}
 use Rattle.hs_sorts.specs.declared.store.Shape.TheVariants.{Base}
 use Rattle.hs_sorts.specs.declared.store.Node.{Node}
 use Rattle.hs_sorts.specs.declared.store.Node.TheVariants.{Root}
 use Rattle.hs_sorts.specs.Nodes.{Valuation, Respects, FitsNode, IsStore, Equates, IsEquation}
-use Rattle.hs_sorts.specs.Constraints.{Agree, Extension, Adds, Refutes, IsNodeFor, Claims, IsClaim, IsBase, Leaves, IsRanked, Takes}
+use Rattle.hs_sorts.specs.Constraints.{Agree, Extension, Adds, Refutes, Claims, IsClaim, IsBase, Leaves, IsRanked, Takes}
 use Rattle.hs_sorts.proofs.Arrows.{arrows_more, arrows_split, arrows_same}
 use Rattle.hs_sorts.proofs.Lists.{get_right, get_replicate, get_of_replicate}
 use Rattle.hs_sorts.proofs.NodeLemmas.{agree_trans, over, over_agrees, over_later, respects_more, respects_fewer, one_place}
@@ -66,23 +65,6 @@ ended old mid new sort P true a b = record {
       record { valuation = z.valuation; agrees = agree_trans (length old) (length mid) v w.valuation z.valuation a.longer w.agrees z.agrees; respects = z.respects };
 }
 ended old mid new sort P false a b = λ v r p. let w = a.complete v o r p in b w.valuation w.respects w.gives
-
--- one claim for each sort that the node may have
-some_sort : (old new : List Node) (sort : ℕ) (P : Valuation → SortTree → Type 0) → Adds old new sort P → Claims old new (λ v. (k : SortTree) × P v k)
-some_sort old new sort P a = record {
-  longer = a.longer;
-  few = a.few;
-  sound = λ v r. let p = a.sound v r in (p.0, (v sort, p.1));
-  complete = λ v r (k, p). let w = a.complete v k r p in record { valuation = w.valuation; agrees = w.agrees; respects = w.respects };
-}
-
-pub some_node : (old new : List Node) (P : Valuation → SortTree → Type 0) (answer : Option ℕ) → IsNodeFor old new P answer → is_some answer ≡ true → Claims old new (λ v. (k : SortTree) × P v k)
-some_node old new P None a h = absurd (cc)
-some_node old new P (Some sort) a h = some_sort old new sort P a
-
-pub no_node : (old new : List Node) (P : Valuation → SortTree → Type 0) (answer : Option ℕ) → IsNodeFor old new P answer → is_some answer ≡ false → (v : Valuation) → Respects v old → ((k : SortTree) × P v k) → ⊥
-no_node old new P None a h = λ v r (k, p). a v k r p
-no_node old new P (Some sort) a h = absurd (cc)
 
 -- two nodes for a sort, made one
 module _ (old mid wide : List Node) (a b : ℕ) (P Q : Valuation → SortTree → Type 0) (first : Adds old mid a P) (second : Adds mid wide b Q)

@@ -60,14 +60,9 @@ module _ (nodes : List Node) where
           ]
 
 -- the same store has the same solutions
-pub solves_same : (rules : List Rule) (ranks : List (Option ℕ)) (k : ℕ) (old new : List Node) (number : ℕ) (firsts : List ℕ) → IsSameStore old new → Solves rules ranks k old number firsts → Solves rules ranks k new number firsts
-solves_same rules ranks k old new number firsts same s = record {
-  layout = record {
-    numbered = s.layout.numbered;
-    each_rule = s.layout.each_rule;
-    room = omega (arith, s.layout.room, same.as_long);
-    parameters = λ f rule below at. omega (arith, s.layout.parameters f rule below at, same.as_long);
-  };
+pub solves_same : (rules : List Rule) (ranks : List (Option ℕ)) (k : ℕ) (old new : List Node) → IsSameStore old new → Solves rules ranks k old → Solves rules ranks k new
+solves_same rules ranks k old new same s = record {
+  room = omega (arith, s.room, same.as_long);
   sound = λ v r. s.sound v (same.back v r);
   complete = λ t ts. let v = s.complete t ts in record { valuation = v.valuation; respects = same.onward v.valuation v.respects; realizes = v.realizes };
 }

@@ -1,5 +1,5 @@
 -- The least sorting that was found, and the faults.
-use Rattle.std.proofs.Common.{◌≡◌, refl, sym, ◌∙◌, ap, subst, ℕ, zero, suc, ◌+◌, ◌<◌, ◌≤◌, List, ◌∷◌, length, slice_get, get_or, Option, Some, None, true, false, arith}
+use Rattle.std.proofs.Common.{◌≡◌, refl, sym, ◌∙◌, ap, subst, ℕ, zero, suc, ◌+◌, ◌<◌, ◌≤◌, List, length, slice_get, get_or, Option, Some, None, true, false, arith}
 use Rattle.std.specs.Prelude.{unwrap_or}
 use Rattle.std.specs.Option.{option_map, is_some}
 use Rattle.std.proofs.lemmas.List.Elements.{All-head, All-tail}
@@ -17,13 +17,14 @@ use Rattle.hs_sorts.specs.declared.weights.Weight.{Weight}
 use Rattle.hs_sorts.specs.Nodes.{Valuation}
 use Rattle.hs_sorts.specs.Weights.{Describes}
 use Rattle.hs_sorts.specs.Reading.{size_at}
-use Rattle.hs_sorts.specs.Solving.{IsLayout, sorts_at}
+use Rattle.hs_sorts.specs.Solving.{sorts_at}
 use Rattle.hs_sorts.specs.Finding.{Finds, IsFinding, IsFirstHigherOrder, IsFirstLarge, IsFirstLong, AreSorts, AreArities}
 use Rattle.hs_sorts.specs.Inference.{IsFirstHigherTerminal, IsFirstTooLarge, IsTooLong, IsFirstTooLong}
 use Rattle.hs_sorts.specs.Least.{IsLeast}
-use Rattle.hs_sorts.proofs.Arrows.{arrows_same, left_behind}
-use Rattle.hs_sorts.proofs.Solutions.{All_at, has_in_range}
-use Rattle.hs_sorts.proofs.Readings.{reading_respects, reading_least, counted}
+use Rattle.hs_sorts.proofs.Arrows.{arrows_same, left_behind, arguments-arrow}
+use Rattle.hs_sorts.proofs.Ranges.{has_in_range}
+use Rattle.hs_sorts.proofs.Solutions.{All_at}
+use Rattle.hs_sorts.proofs.Readings.{reading_respects, reading_least, least_argument, counted}
 
 -- no bodies have a sorting in which all parameters are o
 pub no_rules_sorted : (rules : List Rule) (ranks : List (Option ℕ)) → AreRules rules (length ranks) → HasSorting rules ranks 0
@@ -51,17 +52,9 @@ no_rules_sorted rules ranks are = (
 -- what was found is a sorting
 pub found_sorting : (rules : List Rule) (ranks : List (Option ℕ)) (k : ℕ) (found : Found) → Finds rules ranks k found → HasSorting rules ranks k
 found_sorting rules ranks k found f = (
-  sorts_at found.solved.layout.rules found.solved.layout.firsts.items f.weighing.valuation,
-  f.solves.sound f.weighing.valuation (reading_respects f.weighing.valuation found.solved.store f.weighing.reading),
+  sorts_at (length rules) f.weighing.valuation,
+  f.solves.sound f.weighing.valuation (reading_respects f.weighing.valuation found.store f.weighing.reading),
 )
-
-arguments-arrow : (a b : SortTree) → arguments (arrow a b) ≡ a ∷ arguments b
-arguments-arrow a (node u ks) = refl
-
-argument_at : (n : ℕ) (p : ℕ → SortTree) (k : SortTree) (j : ℕ) → j < n → slice_get (arguments (arrows n p k)) j ≡ Some (p j)
-argument_at zero p k j h = absurd (omega arith)
-argument_at (suc n) p k zero h = ap (λ xs. slice_get xs 0) (arguments-arrow (p 0) (arrows n (λ j. p (suc j)) k))
-argument_at (suc n) p k (suc j) h = ap (λ xs. slice_get xs (suc j)) (arguments-arrow (p 0) (arrows n (λ j. p (suc j)) k)) ∙ argument_at n (λ j. p (suc j)) k j (omega arith)
 
 arity-ranked : (n : ℕ) → length (arguments (ranked n)) ≡ n
 arity-ranked zero = refl
@@ -117,13 +110,10 @@ module _ (rules : List Rule) (ranks : List (Option ℕ)) (are : AreRules rules (
 
 module _ (rules : List Rule) (ranks : List (Option ℕ)) (are : AreRules rules (length ranks)) (found : Found) (f : Finds rules ranks (length rules) found) where
   abbrev nodes : List Node
-  nodes = found.solved.store
+  nodes = found.store
 
   abbrev number : ℕ
-  number = found.solved.layout.rules
-
-  abbrev firsts : List ℕ
-  firsts = found.solved.layout.firsts.items
+  number = length rules
 
   abbrev weights : List Weight
   weights = found.weights.items
@@ -132,20 +122,20 @@ module _ (rules : List Rule) (ranks : List (Option ℕ)) (are : AreRules rules (
   low = f.weighing.valuation
 
   abbrev pub least_sorts : Sorts
-  least_sorts = sorts_at number firsts low
-
-  layout : IsLayout rules (length ranks) (length nodes) number firsts (length rules)
-  layout = f.solves.layout
+  least_sorts = sorts_at number low
 
   terminal_below : (a : ℕ) → a < length ranks → number + a < length nodes
-  terminal_below a h = omega (arith, layout.room, layout.numbered)
+  terminal_below a h = omega (arith, f.solves.room)
 
   rule_below : (g : ℕ) → g < length rules → g < length nodes
-  rule_below g h = omega (arith, layout.room)
+  rule_below g h = omega (arith, f.solves.room)
+
+  least_sorting : IsSorting rules ranks (length rules) least_sorts
+  least_sorting = f.solves.sound low (reading_respects low nodes f.weighing.reading)
 
   pub least_found : IsLeastSorting rules ranks least_sorts
   least_found = record {
-    sorting = f.solves.sound low (reading_respects low nodes f.weighing.reading);
+    sorting = least_sorting;
     least = λ t ts.
         let v = f.solves.complete t ts in
         let smaller = reading_least nodes f.store low v.valuation f.weighing.reading v.respects in
@@ -153,9 +143,9 @@ module _ (rules : List Rule) (ranks : List (Option ℕ)) (are : AreRules rules (
           nonterminals = λ g below. omega (arith, smaller g (rule_below g below), ap size (v.realizes.nonterminals g below));
           parameters = λ g j rule at below.
               let in_rules = slice_get_within rules g rule at in
-              omega (arith, smaller (get_or firsts g 0 + j) (omega (arith, layout.parameters g rule in_rules at)), ap size (v.realizes.parameters g j rule in_rules at below));
-          terminals = λ a below.
-              omega (arith, smaller (number + a) (terminal_below a below), ap (λ n. size (v.valuation (n + a))) layout.numbered, ap size (v.realizes.terminals a below));
+              least_argument nodes f.store low v.valuation f.weighing.reading v.respects f.flat rule.params g (least_sorts.parameter g) (t.parameter g) (behind rule.params (low g)) (behind rule.params (t.nonterminal g)) (rule_below g in_rules)
+              (least_sorting.nonterminals g rule at) (v.realizes.nonterminals g in_rules ∙ ts.nonterminals g rule at) j below;
+          terminals = λ a below. omega (arith, smaller (number + a) (terminal_below a below), ap size (v.realizes.terminals a below));
         };
   }
 
@@ -188,19 +178,19 @@ module _ (rules : List Rule) (ranks : List (Option ℕ)) (are : AreRules rules (
     sorts = least_sorts;
     least = least_found;
     first_order = all_first_order all;
-    in_range = omega (arith, below, layout.numbered);
+    in_range = omega (arith, below);
     large =
-        let w = weighed g (rule_below g (omega (arith, below, layout.numbered))) in
+        let w = weighed g (rule_below g (omega (arith, below))) in
         let e : 0 + g ≡ g = omega arith in
         omega (arith, fails w.weight (ap (slice_get weights) e ∙ w.at), w.describes.sized);
     before = λ h less.
-        let w = weighed h (rule_below h (omega (arith, below, layout.numbered))) in
+        let w = weighed h (rule_below h (omega (arith, below))) in
         let e : 0 + h ≡ h = omega arith in
         omega (arith, before h w.weight less (ap (slice_get weights) e ∙ w.at), w.describes.sized);
   }
 
   pub weights_many : length rules ≤ length weights
-  weights_many = omega (arith, f.weighing.as_long, layout.room)
+  weights_many = omega (arith, f.weighing.as_long, f.solves.room)
 
   none_long : IsFirstLong rules weights None → (g : ℕ) (rule : Rule) → slice_get rules g ≡ Some rule → IsTooLong rule (low g) → ⊥
   none_long passed g rule at =
@@ -210,7 +200,7 @@ module _ (rules : List Rule) (ranks : List (Option ℕ)) (are : AreRules rules (
   module _ (all : IsFirstHigherOrder weights number (length ranks) None) (small : IsFirstLarge weights 0 number None) where
     small_at : (g : ℕ) → g < number → size (low g) ≤ 1000
     small_at g below =
-        let w = weighed g (rule_below g (omega (arith, below, layout.numbered))) in
+        let w = weighed g (rule_below g (omega (arith, below))) in
         let e : 0 + g ≡ g = omega arith in
         omega (arith, small g w.weight below (ap (slice_get weights) e ∙ w.at), w.describes.sized)
 
@@ -223,7 +213,7 @@ module _ (rules : List Rule) (ranks : List (Option ℕ)) (are : AreRules rules (
           sorts = least_sorts;
           least = least_found;
           first_order = all_first_order all;
-          small = λ h inside. small_at h (omega (arith, inside, layout.numbered));
+          small = λ h inside. small_at h (omega (arith, inside));
           rule = rule;
           at = at;
           long = tells rule w.weight at w.at (low g) w.describes.arity;
@@ -233,18 +223,16 @@ module _ (rules : List Rule) (ranks : List (Option ℕ)) (are : AreRules rules (
         }
 
     pub counted_small : (g : ℕ) → g < number → size_at weights g ≤ 1000
-    counted_small g below = omega (arith, counted nodes weights f.weighing g (rule_below g (omega (arith, below, layout.numbered))), small_at g below)
+    counted_small g below = omega (arith, counted nodes weights f.weighing g (rule_below g (omega (arith, below))), small_at g below)
 
     module _ (passed : IsFirstLong rules weights None) (sorts : List SortTree) (arities : List ℕ) (are_sorts : AreSorts nodes number sorts) (are_arities : AreArities weights number (length ranks) arities) where
       same_nonterminals : (g : ℕ) → g < length rules → sort_at sorts g ≡ low g
       same_nonterminals g below =
-          let at = slice_get-get_or sorts g o (omega (arith, are_sorts.as_long, layout.numbered)) in
+          let at = slice_get-get_or sorts g o (omega (arith, are_sorts.as_long)) in
           ap (λ k. unwrap_or k o) at ∙ are_sorts.reads low f.weighing.reading g (get_or sorts g o) at
 
-      same_parameters : (g j : ℕ) (rule : Rule) → slice_get rules g ≡ Some rule → j < rule.params → sort_at (arguments (sort_at sorts g)) j ≡ low (get_or firsts g 0 + j)
-      same_parameters g j rule at below =
-          let whole = same_nonterminals g (slice_get_within rules g rule at) ∙ least_found.sorting.nonterminals g rule at in
-          ap (λ k. sort_at (arguments k) j) whole ∙ ap (λ k. unwrap_or k o) (argument_at rule.params (least_sorts.parameter g) (behind rule.params (least_sorts.nonterminal g)) j below)
+      same_parameters : (g j : ℕ) (rule : Rule) → slice_get rules g ≡ Some rule → j < rule.params → sort_at (arguments (sort_at sorts g)) j ≡ sort_at (arguments (low g)) j
+      same_parameters g j rule at below = ap (λ k. sort_at (arguments k) j) (same_nonterminals g (slice_get_within rules g rule at))
 
       arity_of : (a : ℕ) → a < length ranks → slice_get arities a ≡ Some (length (arguments (low (number + a))))
       arity_of a below =
@@ -264,14 +252,14 @@ module _ (rules : List Rule) (ranks : List (Option ℕ)) (are : AreRules rules (
 
       pub is_least : IsLeast rules ranks sorts arities
       is_least = record {
-        each_rule = are_sorts.as_long ∙ layout.numbered;
+        each_rule = are_sorts.as_long;
         each_terminal = are_arities.as_long;
         agrees = λ a n at.
             let below = slice_get_within ranks a (Some n) at in
             arity_of a below ∙ ap (λ m. Some m) (ap (λ k. length (arguments k)) (least_found.sorting.terminals a n at) ∙ arity-ranked n);
         sorting = same_sorting rules ranks are least_sorts (sorts_of sorts arities) same_nonterminals same_parameters same_terminals (known arities) least_found.sorting known_rank;
         least = same_least rules ranks are least_sorts (sorts_of sorts arities) same_nonterminals same_parameters same_terminals least_found;
-        small = λ g below. omega (arith, ap size (same_nonterminals g below), small_at g (omega (arith, below, layout.numbered)));
+        small = λ g below. omega (arith, ap size (same_nonterminals g below), small_at g (omega (arith, below)));
         none_too_long = λ g rule at long. none_long passed g rule at (subst (IsTooLong rule) (same_nonterminals g (slice_get_within rules g rule at)) long);
       }
 

@@ -1,20 +1,15 @@
--- The nodes of a scheme's parts, as they are added, and claims on each of a list's elements.
-use Rattle.std.proofs.Common.{◌≡◌, refl, sym, ◌∙◌, ap, subst, ℕ, ◌+◌, ◌^◌, ◌<◌, ◌≤◌, List, [], ◌∷◌, ◌++◌, length, slice_get, get_or, replicate, length-append, Option, Some, None, ◌⊎◌, inl, inr, arith}
+-- The nodes of nonterminals and terminals, and claims on each of a list's elements.
+use Rattle.std.proofs.Common.{◌≡◌, refl, sym, ◌∙◌, ap, subst, ℕ, ◌+◌, ◌^◌, ◌<◌, ◌≤◌, List, [], ◌++◌, length, slice_get, replicate, length-append, Option, Some, None, ◌⊎◌, inl, inr, arith}
 use Rattle.std.proofs.Math.Nat.{eq-or-lt_of_le}
-use Rattle.std.proofs.lemmas.List.{length-replicate, get_or_append_left, get_or_at}
+use Rattle.std.proofs.lemmas.List.{length-replicate}
 use Rattle.std.proofs.lemmas.Option.{same_Some}
-use Rattle.hs_scheme.specs.declared.term.Head.{Head}
-use Rattle.hs_scheme.specs.declared.term.Rule.{Rule}
-use Rattle.hs_scheme.specs.Sorting.{SortTree}
 use Rattle.hs_sorts.specs.declared.store.Shape.TheVariants.{Open}
 use Rattle.hs_sorts.specs.declared.store.Node.{Node}
 use Rattle.hs_sorts.specs.declared.store.Node.TheVariants.{Root}
 use Rattle.hs_sorts.specs.Nodes.{Valuation, Respects, FitsNode, IsStore}
-use Rattle.hs_sorts.specs.Constraints.{Agree, Claims, NodesBelow, Leaves, Begins, IsRankedIf, HasBody}
+use Rattle.hs_sorts.specs.Constraints.{Agree, Claims, IsRankedIf}
 use Rattle.hs_sorts.specs.Solving.{LaysOut, EachBefore}
 use Rattle.hs_sorts.proofs.Lists.{get_replicate, get_append}
-use Rattle.hs_sorts.proofs.Arrows.{arrows_same}
-use Rattle.hs_sorts.proofs.Typing.{has_same}
 use Rattle.hs_sorts.proofs.NodeLemmas.{agree_trans, over, over_agrees, over_later, respects_more}
 
 le_last : (i n : ℕ) → i < n + 1 → (i ≡ n) ⊎ (i < n)
@@ -64,108 +59,47 @@ module _ {A : Type 0} (Q : ℕ → A → Valuation → Type 0) (xs : List A) (ol
     each_clash n l never v r h = claims_clash old now (EachBefore Q xs i) (Q i x) so_far never (λ u w. stable i x u w at) v r (λ f y less there. h f y (omega arith) there) (h i x l at)
 
 -- open nodes are respected whatever their sorts
-open_respected : (v : Valuation) (nodes : List Node) (n : ℕ) → IsStore nodes → (w : Valuation) → Agree (length nodes) v w → Respects v nodes → Respects w (nodes ++ replicate n (Root Open))
+pub open_respected : (v : Valuation) (nodes : List Node) (n : ℕ) → IsStore nodes → (w : Valuation) → Agree (length nodes) v w → Respects v nodes → Respects w (nodes ++ replicate n (Root Open))
 open_respected v nodes n is w same r = respects_more nodes (replicate n (Root Open)) v w is same r (λ j m h.
     subst (λ (x : Node). FitsNode w (w (length nodes + j)) x) (sym (get_replicate n j (Root Open) m h)) tt)
 
-row_long : (nodes : List Node) (n : ℕ) → length (nodes ++ replicate n (Root Open)) ≡ length nodes + n
+pub row_long : (nodes : List Node) (n : ℕ) → length (nodes ++ replicate n (Root Open)) ≡ length nodes + n
 row_long nodes n = length-append nodes (replicate n (Root Open)) ∙ ap (λ m. length nodes + m) (length-replicate n (Root Open))
 
-module _ (rules : List Rule) (terminals number : ℕ) (numbered : number ≡ length rules) where
+module _ (rules terminals : ℕ) where
   abbrev parts : List Node
-  parts = ([] ++ replicate number (Root Open)) ++ replicate terminals (Root Open)
+  parts = ([] ++ replicate rules (Root Open)) ++ replicate terminals (Root Open)
 
-  parts_long : length parts ≡ number + terminals
-  parts_long = row_long ([] ++ replicate number (Root Open)) terminals ∙ ap (λ m. m + terminals) (length-replicate number (Root Open))
+  parts_long : length parts ≡ rules + terminals
+  parts_long = row_long ([] ++ replicate rules (Root Open)) terminals ∙ ap (λ m. m + terminals) (length-replicate rules (Root Open))
 
-  pub laid_first : (empty mid nodes : List Node) → empty ≡ [] → mid ≡ empty ++ replicate number (Root Open) → nodes ≡ mid ++ replicate terminals (Root Open) → length nodes ≤ 2 ^ 32 → LaysOut rules terminals nodes number [] 0
-  laid_first empty mid nodes none first second few =
-      let whole : nodes ≡ parts = second ∙ (λ i. (first ∙ ap (λ xs. xs ++ replicate number (Root Open)) none) i ++ replicate terminals (Root Open)) in
-      let long : length nodes ≡ number + terminals = ap length whole ∙ parts_long in
+  is_open : (i : ℕ) (n : Node) → slice_get parts i ≡ Some n → n ≡ Root Open
+  is_open i n h = elim (get_append ([] ++ replicate rules (Root Open)) (replicate terminals (Root Open)) i n h) [
+    | inl e ↦ get_replicate rules i (Root Open) n e
+    | inr l ↦ get_replicate terminals l.place (Root Open) n l.at
+  ]
+
+  pub laid_out : (empty mid nodes : List Node) → empty ≡ [] → mid ≡ empty ++ replicate rules (Root Open) → nodes ≡ mid ++ replicate terminals (Root Open) → length nodes ≤ 2 ^ 32 → LaysOut rules terminals nodes
+  laid_out empty mid nodes none first second few =
+      let whole : nodes ≡ parts = second ∙ (λ i. (first ∙ ap (λ xs. xs ++ replicate rules (Root Open)) none) i ++ replicate terminals (Root Open)) in
+      let long : length nodes ≡ rules + terminals = ap length whole ∙ parts_long in
       record {
         few = few;
-        layout = record { numbered = numbered; each_rule = refl; room = omega (arith, long, numbered); parameters = λ f rule h at. absurd (omega arith) };
+        room = omega (arith, long);
         any = λ s. record {
-          valuation = over (length rules) s.nonterminal s.terminal;
+          valuation = over rules s.nonterminal s.terminal;
           respects = record {
             fits = λ i n h.
-                subst (λ (x : Node). FitsNode (over (length rules) s.nonterminal s.terminal) (over (length rules) s.nonterminal s.terminal i) x) (sym (is_open i n (subst (λ (xs : List Node). slice_get xs i ≡ Some n) whole h))) tt;
+                subst (λ (x : Node). FitsNode (over rules s.nonterminal s.terminal) (over rules s.nonterminal s.terminal i) x) (sym (is_open i n (subst (λ (xs : List Node). slice_get xs i ≡ Some n) whole h))) tt;
           };
           realizes = record {
-            nonterminals = λ f below. (over_agrees (length rules) s.nonterminal s.terminal).at f below;
-            parameters = λ f j rule h at l. absurd (omega arith);
-            terminals = λ a below. over_later (length rules) a s.nonterminal s.terminal;
+            nonterminals = λ f below. (over_agrees rules s.nonterminal s.terminal).at f below;
+            terminals = λ a below. over_later rules a s.nonterminal s.terminal;
           };
         };
       }
-    where
-      is_open : (i : ℕ) (n : Node) → slice_get parts i ≡ Some n → n ≡ Root Open
-      is_open i n h = elim (get_append ([] ++ replicate number (Root Open)) (replicate terminals (Root Open)) i n h) [
-        | inl e ↦ get_replicate number i (Root Open) n e
-        | inr l ↦ get_replicate terminals l.place (Root Open) n l.at
-      ]
 
-  module _ (nodes next : List Node) (firsts : List ℕ) (i first : ℕ) (rule : Rule) (at : slice_get rules i ≡ Some rule) (is : IsStore nodes) (first_is : first ≡ length nodes)
-      (widened : next ≡ nodes ++ replicate rule.params (Root Open)) (was : LaysOut rules terminals nodes number firsts i) where
-    long : length next ≡ length nodes + rule.params
-    long = ap length widened ∙ row_long nodes rule.params
-
-    old_first : (f : ℕ) → f < i → get_or (firsts ++ first ∷ []) f 0 ≡ get_or firsts f 0
-    old_first f h = get_or_append_left firsts (first ∷ []) 0 f (omega (arith, was.layout.each_rule))
-
-    new_first : get_or (firsts ++ first ∷ []) i 0 ≡ length nodes
-    new_first = get_or_at firsts first [] 0 i was.layout.each_rule ∙ first_is
-
-    one_rule : (r : Rule) → slice_get rules i ≡ Some r → rule ≡ r
-    one_rule r h = same_Some rule r (sym at ∙ h)
-
-    pub laid_more : length next ≤ 2 ^ 32 → LaysOut rules terminals next number (firsts ++ first ∷ []) (i + 1)
-    laid_more few = record {
-      few = few;
-      layout = record {
-        numbered = numbered;
-        each_rule = length-append firsts (first ∷ []) ∙ ap (λ m. m + 1) was.layout.each_rule;
-        room = omega (arith, was.layout.room, long);
-        parameters = λ f r h there. elim (le_last f i h) [
-          | inl same ↦
-              let e = one_rule r (subst (λ (j : ℕ). slice_get rules j ≡ Some r) same there) in
-              omega (arith, ap (λ j. get_or (firsts ++ first ∷ []) j 0) same, new_first, ap (λ (x : Rule). x.params) e, long)
-          | inr less ↦ omega (arith, was.layout.parameters f r less there, old_first f less, long)
-        ];
-      };
-      any = λ s.
-          let v = was.any s in
-          let w = over (length nodes) v.valuation (s.parameter i) in
-          let same = over_agrees (length nodes) v.valuation (s.parameter i) in
-          record {
-            valuation = w;
-            respects = subst (Respects w) (sym widened) (open_respected v.valuation nodes rule.params is w same v.respects);
-            realizes = record {
-              nonterminals = λ f below. same.at f (omega (arith, was.layout.room)) ∙ v.realizes.nonterminals f below;
-              parameters = λ f j r h there l. elim (le_last f i h) [
-                | inl e ↦
-                    ap (λ m. w (m + j)) (ap (λ m. get_or (firsts ++ first ∷ []) m 0) e ∙ new_first)
-                    ∙ (over_later (length nodes) j v.valuation (s.parameter i) ∙ ap (λ m. s.parameter m j) (sym e))
-                | inr less ↦
-                    ap (λ m. w (m + j)) (old_first f less)
-                    ∙ (same.at (get_or firsts f 0 + j) (omega (arith, was.layout.parameters f r less there)) ∙ v.realizes.parameters f j r less there l)
-              ];
-              terminals = λ a below. same.at (length rules + a) (omega (arith, was.layout.room)) ∙ v.realizes.terminals a below;
-            };
-          };
-    }
-
--- what stays true where the nodes that it speaks of keep their sorts
-pub leaves_stable : (n i first count : ℕ) (v w : Valuation) (k : SortTree) → i < n → first + count ≤ n → Agree n v w → Leaves i first count v k → Leaves i first count w k
-leaves_stable n i first count v w k below within same h =
-    same.at i below ∙ (h ∙ arrows_same count (λ j. v (first + j)) (λ j. w (first + j)) k (λ j l. sym (same.at (first + j) (omega arith))))
-
-pub begins_stable : (n i first count : ℕ) (v w : Valuation) → i < n → first + count ≤ n → Agree n v w → Begins i first count v → Begins i first count w
-begins_stable n i first count v w below within same (k, h) = (k, leaves_stable n i first count v w k below within same h)
-
-pub body_stable : (at : Head → ℕ) (n i first : ℕ) (rule : Rule) (v w : Valuation) → i < n → first + rule.params ≤ n → NodesBelow at n rule.body → Agree n v w → HasBody at i first rule v → HasBody at i first rule w
-body_stable at n i first rule v w below within nodes same (k, h, body) = (k, leaves_stable n i first rule.params v w k below within same h, has_same at n v w same rule.body k nodes body)
-
+-- what stays true where the node that it speaks of keeps its sort
 pub ranked_stable : (n i : ℕ) (rank : Option ℕ) (v w : Valuation) → i < n → Agree n v w → IsRankedIf i rank v → IsRankedIf i rank w
 ranked_stable n i None v w below same h = tt
 ranked_stable n i (Some k) v w below same h = same.at i below ∙ h

@@ -7,6 +7,8 @@ pub mod Typing
 pub mod Arrows
 pub mod Claiming
 pub mod Laying
+pub mod Ranges
+pub mod Ruling
 pub mod Solutions
 pub mod Weighing
 pub mod Searching

@@ -1,19 +1,21 @@
 -- Sorts read from nodes: the least that respect them, argument by argument.
-use Rattle.std.proofs.Common.{◌≡◌, refl, sym, ◌∙◌, ap, subst, ℕ, zero, suc, ◌+◌, ◌*◌, ◌<◌, ◌≤◌, List, [], ◌∷◌, ◌++◌, length, slice_get, min, Option, Some, None, ◌⊎◌, inl, inr, arith}
+use Rattle.std.proofs.Common.{◌≡◌, refl, sym, ◌∙◌, ap, subst, ℕ, zero, suc, ◌+◌, ◌*◌, ◌<◌, ◌≤◌, List, [], ◌∷◌, ◌++◌, length, slice_get, get_or, min, Option, Some, None, ◌⊎◌, inl, inr, arith}
 use Rattle.std.specs.Option.{option_map}
 use Rattle.std.specs.Prelude.{unwrap_or}
-use Rattle.std.proofs.lemmas.Option.{slice_get-get_or}
+use Rattle.std.proofs.lemmas.Option.{slice_get-get_or, slice_get_within}
 use Rattle.hs_scheme.specs.Tree.{node, forest}
-use Rattle.hs_scheme.specs.Sorting.{SortTree, o, arrow, size}
+use Rattle.hs_scheme.specs.Sorting.{SortTree, o, arrow, arrows, size}
 use Rattle.hs_sorts.specs.declared.store.Shape.{Shape}
 use Rattle.hs_sorts.specs.declared.store.Shape.TheVariants.{Open, Base, Arrow}
 use Rattle.hs_sorts.specs.declared.store.Node.{Node}
 use Rattle.hs_sorts.specs.declared.store.Node.TheVariants.{Root, Link}
 use Rattle.hs_sorts.specs.declared.weights.Weight.{Weight}
-use Rattle.hs_sorts.specs.Nodes.{Valuation, FitsNode, Respects, IsStore}
+use Rattle.hs_sorts.specs.Nodes.{Valuation, FitsNode, Respects, IsStore, IsFlat}
 use Rattle.hs_sorts.specs.Weights.{Reads, IsReading}
 use Rattle.hs_sorts.specs.Search.{rank, Weighing}
 use Rattle.hs_sorts.specs.Reading.{size_at, parts, IsArrow, IsSplit}
+use Rattle.hs_sorts.proofs.Applying.{no_arrow}
+use Rattle.hs_sorts.proofs.Joining.{arrow_parts}
 use Rattle.hs_sorts.proofs.Weighing.{size-arrow, size_positive}
 use Rattle.hs_sorts.proofs.Searching.{child_lower, child_below}
 
@@ -49,10 +51,49 @@ module _ (nodes : List Node) (is : IsStore nodes) (low v : Valuation) (reading :
   smaller_by : (fuel i : ℕ) → i < length nodes → rank low (length nodes) i < fuel → size (low i) ≤ size (v i)
   smaller_by zero i within h = absurd (omega arith)
   smaller_by (suc fuel) i within h =
-      smaller_at i (Rattle.std.proofs.Common.get_or nodes i (Root Open)) (slice_get-get_or nodes i (Root Open) within) (λ j inside lower. smaller_by fuel j inside (omega (arith, lower, h)))
+      smaller_at i (get_or nodes i (Root Open)) (slice_get-get_or nodes i (Root Open) within) (λ j inside lower. smaller_by fuel j inside (omega (arith, lower, h)))
 
   pub reading_least : (i : ℕ) → i < length nodes → size (low i) ≤ size (v i)
   reading_least i within = smaller_by (suc (rank low (length nodes) i)) i within (omega arith)
+
+  -- the nodes of an arrow's parts
+  record Parts (i : ℕ) : Type 0 where
+    argument : ℕ
+    rest : ℕ
+    argument_within : argument < length nodes
+    rest_within : rest < length nodes
+    reads : low i ≡ arrow (low argument) (low rest)
+    fits : v i ≡ arrow (v argument) (v rest)
+
+  root_parts : (i : ℕ) (s : Shape) (a b : SortTree) → slice_get nodes i ≡ Some (Root s) → low i ≡ arrow a b → Parts i
+  root_parts i Open a b at e = absurd (no_arrow a b (sym (reading.reads i (Root Open) at) ∙ e))
+  root_parts i Base a b at e = absurd (no_arrow a b (sym (reading.reads i (Root Base) at) ∙ e))
+  root_parts i (Arrow x y) a b at e =
+      let range = is.in_range i (Root (Arrow x y)) at in
+      record { argument = x; rest = y; argument_within = range.0; rest_within = range.1; reads = reading.reads i (Root (Arrow x y)) at; fits = respects.fits i (Root (Arrow x y)) at }
+
+  parts_at : (flat : IsFlat nodes) (i : ℕ) (n : Node) (a b : SortTree) → slice_get nodes i ≡ Some n → low i ≡ arrow a b → Parts i
+  parts_at flat i (Root s) a b at e = root_parts i s a b at e
+  parts_at flat i (Link up) a b at e =
+      let top = flat.all i up (slice_get_within nodes i (Link up) at) at in
+      let reads : low i ≡ low up = reading.reads i (Link up) at in
+      let fits : v i ≡ v up = respects.fits i (Link up) at in
+      let p = root_parts up top.0 a b top.1 (sym reads ∙ e) in
+      record { argument = p.argument; rest = p.rest; argument_within = p.argument_within; rest_within = p.rest_within; reads = reads ∙ p.reads; fits = fits ∙ p.fits }
+
+  -- nor is one of its arguments
+  pub least_argument : (flat : IsFlat nodes) (n i : ℕ) (p q : ℕ → SortTree) (k l : SortTree) → i < length nodes → low i ≡ arrows n p k → v i ≡ arrows n q l → (j : ℕ) → j < n → size (p j) ≤ size (q j)
+  least_argument flat zero i p q k l within e f j h = absurd (omega arith)
+  least_argument flat (suc n) i p q k l within e f zero h =
+      let s = parts_at flat i (get_or nodes i (Root Open)) (p 0) (arrows n (λ m. p (suc m)) k) (slice_get-get_or nodes i (Root Open) within) e in
+      let x = arrow_parts (low s.argument) (low s.rest) (p 0) (arrows n (λ m. p (suc m)) k) (sym s.reads ∙ e) in
+      let y = arrow_parts (v s.argument) (v s.rest) (q 0) (arrows n (λ m. q (suc m)) l) (sym s.fits ∙ f) in
+      omega (arith, reading_least s.argument s.argument_within, ap size x.0, ap size y.0)
+  least_argument flat (suc n) i p q k l within e f (suc j) h =
+      let s = parts_at flat i (get_or nodes i (Root Open)) (p 0) (arrows n (λ m. p (suc m)) k) (slice_get-get_or nodes i (Root Open) within) e in
+      let x = arrow_parts (low s.argument) (low s.rest) (p 0) (arrows n (λ m. p (suc m)) k) (sym s.reads ∙ e) in
+      let y = arrow_parts (v s.argument) (v s.rest) (q 0) (arrows n (λ m. q (suc m)) l) (sym s.fits ∙ f) in
+      least_argument flat n s.rest (λ m. p (suc m)) (λ m. q (suc m)) k l s.rest_within x.1 y.1 j (omega arith)
 
 -- the sort with these arguments before those of k
 abbrev pub with_arguments : List SortTree → SortTree → SortTree

@@ -1,20 +1,22 @@
--- The nodes of a scheme's parts, and what a term asks of the sorts of nodes.
+-- The nodes of a scheme's parts, and what terms and rules ask of the sorts of nodes.
 --     node_of          the node of a head in the body of a rule
 --     Adds             a store gains a node whose sort is as is asked, and no valuation is lost
-use Rattle.std.specs.Prelude.{◌≡◌, ℕ, ◌+◌, ◌^◌, ◌<◌, ◌≤◌, List, length, slice_index, Option, Some, None, Bool, true, false}
+--     IsRuled          what a rule asks of its nonterminal's sort
+use Rattle.std.specs.Prelude.{◌≡◌, ℕ, ◌+◌, ◌^◌, ◌<◌, ◌≤◌, List, length, slice_get, Option, Some, None, Bool, true, false}
 use Rattle.hs_scheme.specs.declared.term.Head.{Head}
 use Rattle.hs_scheme.specs.declared.term.Head.TheVariants.{Var, Nt, Tm}
 use Rattle.hs_scheme.specs.Tree.{Tree, Trees, node, none, more}
 use Rattle.hs_scheme.specs.declared.term.Rule.{Rule}
+use Rattle.hs_scheme.specs.Scheme.{TermInRange}
 use Rattle.hs_scheme.specs.Sorting.{SortTree, o, arrow, arrows, ranked, HasSort}
 use Rattle.hs_sorts.specs.declared.store.Node.{Node}
 use Rattle.hs_sorts.specs.Nodes.{Valuation, Respects}
 
--- the nonterminals' nodes come first, by rule, then the terminals', then the parameters', of each rule in a row
-abbrev pub node_of : ℕ → List ℕ → ℕ → Head → ℕ
-node_of rules firsts f (Var j) = slice_index firsts f + j
-node_of rules firsts f (Nt g) = g
-node_of rules firsts f (Tm a) = rules + a
+-- the nonterminals' nodes come first, by rule, then the terminals'; those of a rule's parameters are in a row
+abbrev pub node_of : ℕ → ℕ → Head → ℕ
+node_of rules first (Var j) = first + j
+node_of rules first (Nt g) = g
+node_of rules first (Tm a) = rules + a
 
 -- each head's node is one of the first `count`
 abbrev mutual
@@ -86,10 +88,6 @@ IsBase i v = v i ≡ o
 abbrev pub Leaves : ℕ → ℕ → ℕ → Valuation → SortTree → Type 0
 Leaves i first count v k = v i ≡ arrows count (λ j. v (first + j)) k
 
--- the node's sort begins with those of `count` nodes in a row
-abbrev pub Begins : ℕ → ℕ → ℕ → Valuation → Type 0
-Begins i first count v = (k : SortTree) × Leaves i first count v k
-
 -- the node's sort is that of a terminal of this rank
 abbrev pub IsRanked : ℕ → ℕ → Valuation → Type 0
 IsRanked i n v = v i ≡ ranked n
@@ -99,6 +97,24 @@ abbrev pub IsRankedIf : ℕ → Option ℕ → Valuation → Type 0
 IsRankedIf i None v = Unit {0}
 IsRankedIf i (Some n) v = IsRanked i n v
 
--- the node's sort begins with those of the rule's parameters, and the body has what is left
-abbrev pub HasBody : (Head → ℕ) → ℕ → ℕ → Rule → Valuation → Type 0
-HasBody at i first rule v = (k : SortTree) × Leaves i first rule.params v k × Has at rule.body v k
+-- the sorts of the heads in a body, where p gives those of the rule's parameters
+abbrev pub sorts_with : ℕ → (ℕ → SortTree) → Valuation → Head → SortTree
+sorts_with rules p v (Var j) = p j
+sorts_with rules p v (Nt g) = v g
+sorts_with rules p v (Tm a) = v (rules + a)
+
+-- the nonterminal's sort begins with some sorts of the rule's parameters, and the body has what is left, if the rule is one of the first k
+pub record IsRuled (rules k f : ℕ) (rule : Rule) (v : Valuation) : Type 0 where
+  pub parameters : ℕ → SortTree
+  pub rest : SortTree
+  pub begins : v f ≡ arrows rule.params parameters rest
+  pub body : f < k → HasSort (sorts_with rules parameters v) rule.body rest
+
+-- each head of the body is a parameter of the rule, or has one of the first `count` nodes
+pub record BodyWithin (rules count : ℕ) (rule : Rule) : Type 0 where
+  pub terminals : ℕ
+  pub room : rules + terminals ≤ count
+  pub body : TermInRange rule.params rules terminals rule.body
+
+abbrev pub BodiesWithin : ℕ → List Rule → Type 0
+BodiesWithin count rules = (f : ℕ) (rule : Rule) → slice_get rules f ≡ Some rule → BodyWithin (length rules) count rule

@@ -12,10 +12,10 @@ use Rattle.hs_sorts.specs.Solving.{Solves}
 use Rattle.hs_sorts.specs.Inference.{IsTooLong}
 
 pub record Finds (rules : List Rule) (ranks : List (Option ℕ)) (k : ℕ) (found : Found) : Type 0 where
-  pub store : IsStore found.solved.store
-  pub flat : IsFlat found.solved.store
-  pub solves : Solves rules ranks k found.solved.store found.solved.layout.rules found.solved.layout.firsts.items
-  pub weighing : Weighing found.solved.store found.weights.items
+  pub store : IsStore found.store
+  pub flat : IsFlat found.store
+  pub solves : Solves rules ranks k found.store
+  pub weighing : Weighing found.store found.weights.items
 
 -- they are found exactly where the first k rules have a sorting
 abbrev pub IsFinding : List Rule → List (Option ℕ) → ℕ → Option Found → Type 0

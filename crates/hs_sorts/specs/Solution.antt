@@ -2,14 +2,14 @@
 use Rattle.std.specs.Prelude.{ℕ, List, Option, Some, None}
 use Rattle.hs_scheme.specs.declared.term.Rule.{Rule}
 use Rattle.hs_scheme.specs.Sorting.{HasSorting}
-use Rattle.hs_sorts.specs.declared.solve.Solved.{Solved}
+use Rattle.hs_sorts.specs.declared.store.Node.{Node}
 use Rattle.hs_sorts.specs.Nodes.{IsFlat}
 use Rattle.hs_sorts.specs.Solving.{Solves}
 
-pub record IsSolved (rules : List Rule) (ranks : List (Option ℕ)) (k : ℕ) (s : Solved) : Type 0 where
-  pub solves : Solves rules ranks k s.store s.layout.rules s.layout.firsts.items
-  pub flat : IsFlat s.store
+pub record IsSolved (rules : List Rule) (ranks : List (Option ℕ)) (k : ℕ) (nodes : List Node) : Type 0 where
+  pub solves : Solves rules ranks k nodes
+  pub flat : IsFlat nodes
 
-abbrev pub IsSolution : List Rule → List (Option ℕ) → ℕ → Option Solved → Type 0
-IsSolution rules ranks k (Some s) = IsSolved rules ranks k s
+abbrev pub IsSolution : List Rule → List (Option ℕ) → ℕ → Option (List Node) → Type 0
+IsSolution rules ranks k (Some nodes) = IsSolved rules ranks k nodes
 IsSolution rules ranks k None = HasSorting rules ranks k → ⊥

@@ -1,11 +1,10 @@
-//! What the terms of a scheme ask of the sorts of its parts.
+//! What the terms and rules of a scheme ask of the sorts of its parts.
 
 ghost use Rattle.std.specs.Prelude.{◌≡◌, ◌+◌, ◌<◌, ◌≤◌, ◌^◌, length, IfOk};
-ghost use Rattle.std.specs.Prelude.{slice_index};
 ghost use Rattle.hs_sorts.specs.Constraints.{node_of, NodesBelow, IsNodeFor, Takes, Has};
-ghost use Rattle.hs_sorts.specs.Constraints.{IsClaim, IsBase, Leaves, IsRanked, IsRankedIf, HasBody};
+ghost use Rattle.hs_sorts.specs.Constraints.{IsClaim, IsBase, Leaves, IsRanked, IsRankedIf, IsRuled, BodyWithin};
 
-use crate::layout::Layout;
+use crate::heads::Heads;
 use crate::store::{Shape, Store};
 use hs_scheme::{OutOfMemory, Rule, Term};
 use std::alloc::Global;
@@ -38,28 +37,24 @@ pub fn apply(
     }
 }
 
-/// The node of a term's sort in the body of this rule, or `None` where it has none. Recurses as
-/// deep as the term.
+/// The node of a term's sort, or `None` where it has none. Recurses as deep as the term.
 pub fn term_sort(
     alloc: Global,
     store: &mut Store,
-    layout: &Layout,
-    rule: usize,
+    heads: &Heads,
     term: &Term,
 ) -> Result<Option<u32>, OutOfMemory>
-    requires rule { rule < length layout.now.firsts.items }
-    requires nodes { NodesBelow (node_of layout.now.rules layout.now.firsts.items rule)
-        (length store.old) term.now }
+    requires nodes { NodesBelow (node_of heads.now.rules heads.now.first) (length store.old) term.now }
     requires few { length store.old ≤ 2 ^ 32 }
     ensures { IfOk result (λ sort. IsNodeFor store.old store.new
-        (Has (node_of layout.now.rules layout.now.firsts.items rule) term.now) sort) }
+        (Has (node_of heads.now.rules heads.now.first) term.now) sort) }
 {
-    let mut sort = layout.node_of(rule, term.head);
+    let mut sort = heads.node_of(term.head);
     for arg in &term.args {
         let argument = if arg.args.is_empty() {
-            layout.node_of(rule, arg.head)
+            heads.node_of(arg.head)
         } else {
-            let Some(node) = term_sort(alloc, store, layout, rule, arg)? else {
+            let Some(node) = term_sort(alloc, store, heads, arg)? else {
                 return Ok(None);
             };
             node
@@ -134,30 +129,29 @@ pub fn make_ranked_if(
     }
 }
 
-/// Gives the body of this rule what is left of its nonterminal's sort behind the sorts of its
-/// parameters. `false` where it can't have it.
-pub fn make_body(
+/// What a rule asks, with nodes for its parameters: its nonterminal's sort begins with theirs, and its
+/// body has what is left, if the rule is one of the first `count`. `false` where that can't be.
+pub fn make_rule(
     alloc: Global,
     store: &mut Store,
-    layout: &Layout,
-    number: usize,
+    rules: u32,
     rule: &Rule,
+    number: u32,
+    count: usize,
 ) -> Result<bool, OutOfMemory>
-    requires number { number < length layout.now.firsts.items }
-    requires nonterminal { number < length store.old }
-    requires parameters { slice_index layout.now.firsts.items number + rule.now.params ≤ length store.old }
-    requires nodes { NodesBelow (node_of layout.now.rules layout.now.firsts.items number)
-        (length store.old) rule.now.body }
-    requires few { length store.old ≤ 2 ^ 32 }
-    ensures { IfOk result (λ yes. IsClaim store.old store.new
-        (HasBody (node_of layout.now.rules layout.now.firsts.items number) number
-        (slice_index layout.now.firsts.items number) rule.now) yes) }
+    requires number { number < length store.old }
+    requires body { BodyWithin rules (length store.old) rule.now }
+    ensures { IfOk result (λ yes. IsClaim store.old store.new (IsRuled rules count number rule.now) yes) }
 {
-    let first = layout.firsts[number];
-    let Some(rest) = rest_behind(alloc, store, number as u32, first, rule.params)? else {
+    let first = store.add_all(rule.params, Shape::Open)?;
+    let Some(rest) = rest_behind(alloc, store, number, first, rule.params)? else {
         return Ok(false);
     };
-    let Some(body) = term_sort(alloc, store, layout, number, &rule.body)? else {
+    if number as usize >= count {
+        return Ok(true);
+    }
+    let heads = Heads { rules, first };
+    let Some(body) = term_sort(alloc, store, &heads, &rule.body)? else {
         return Ok(false);
     };
     store.equate(alloc, rest, body)

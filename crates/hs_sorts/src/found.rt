@@ -11,8 +11,8 @@ ghost use Rattle.hs_sorts.specs.Finding.{IsFinding, IsFirstHigherOrder, IsFirstL
 
 use crate::reading::read_sort;
 use crate::search::weigh;
-use crate::solve::{Solved, solve};
-use crate::store::Node;
+use crate::solve::solve;
+use crate::store::{Node, Store};
 use crate::weights::Weight;
 use hs_scheme::{MAX_ARGUMENTS, MAX_PARAMETERS, OutOfMemory, Rule, Sort, Term};
 use std::alloc::Global;
@@ -23,7 +23,7 @@ pub const MAX_SORT_SIZE: u32 = 1_000;
 /// The nodes of a scheme's first rules, with the weights of their sorts.
 #[derive(Drop)]
 pub struct Found {
-    pub solved: Solved,
+    pub store: Store,
     pub weights: Vec<Weight>,
 }
 
@@ -39,13 +39,13 @@ pub fn find(
     requires count { count ≤ length rules.now }
     ensures { IfOk result (λ found. IsFinding rules.now ranks.now count found) }
 {
-    let Some(solved) = solve(alloc, rules, ranks, count)? else {
+    let Some(store) = solve(alloc, rules, ranks, count)? else {
         return Ok(None);
     };
-    let Some(weights) = weigh(alloc, solved.store.nodes())? else {
+    let Some(weights) = weigh(alloc, store.nodes())? else {
         return Ok(None);
     };
-    Ok(Some(Found { solved, weights }))
+    Ok(Some(Found { store, weights }))
 }
 
 /// The first of `count` nodes from `start` on whose sort has an argument other than `o`.

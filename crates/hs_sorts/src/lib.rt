@@ -8,9 +8,9 @@
 mod constraints;
 mod fault;
 mod found;
+mod heads;
 mod inference;
 mod laws;
-mod layout;
 mod lengthening;
 mod reading;
 mod search;

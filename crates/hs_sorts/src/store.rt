@@ -4,7 +4,7 @@ ghost use Rattle.std.specs.Prelude.{◌≡◌, ◌+◌, ◌++◌, ◌∷◌, [],
 ghost use Rattle.std.specs.Prelude.{IfOk, length, replicate, slice_get, Some, min, max};
 ghost use Rattle.hs_sorts.specs.declared.store.Shape.TheVariants.{Open};
 ghost use Rattle.hs_sorts.specs.declared.store.Node.TheVariants.{Root, Link};
-ghost use Rattle.hs_sorts.specs.Nodes.{IsStore, ShapeInRange, IsSameStore, FlatBelow, IsFlat, AreRoots};
+ghost use Rattle.hs_sorts.specs.Nodes.{Valuation, Respects, IsStore, ShapeInRange, IsSameStore, FlatBelow, IsFlat, AreRoots};
 ghost use Rattle.hs_sorts.specs.Nodes.{linked, with_arrow, IsRootOf, IsMerge, IsJoin, IsEquation};
 
 use hs_scheme::OutOfMemory;
@@ -183,6 +183,17 @@ impl Store {
         Ok(true)
     }
 
+    /// The node that this one has a link to, or the node itself. Takes no memory.
+    fn above(&self, node: u32) -> u32
+        requires { node < length self.now }
+        ensures { (v : Valuation) → Respects v self.now → v node ≡ v result }
+    {
+        match self.nodes[node as usize] {
+            Node::Root(_shape) => node,
+            Node::Link(up) => up,
+        }
+    }
+
     /// Makes two nodes one, and whatever nodes then have to be one. `false` where no sorts respect
     /// that. Almost linear in the number of nodes that become one.
     pub fn equate(&mut self, alloc: Global, a: u32, b: u32) -> Result<bool, OutOfMemory>
@@ -190,6 +201,12 @@ impl Store {
         requires b { b < length self.old }
         ensures { IfOk result (λ yes. IsEquation a b self.old self.new yes) }
     {
+        // Most nodes that are made one are one already, and most links lead to a root.
+        let left = self.above(a);
+        let right = self.above(b);
+        if left == right {
+            return Ok(true);
+        }
         let (first, _) = self.find(a);
         let (second, _) = self.find(b);
         if first == second {

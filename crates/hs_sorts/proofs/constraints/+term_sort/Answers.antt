@@ -9,7 +9,7 @@ use Rattle.hs_sorts.proofs.constraints.+term_sort.Goals.{then-is_empty, else-is_
 
 pub returns : goal.returns
 returns t c =
-    let at : Head → ℕ = node_of c.args.layout.now.rules c.args.layout.now.firsts.items c.args.rule in
+    let at : Head → ℕ = node_of c.args.heads.now.rules c.args.heads.now.first in
     let ts = c.deref-arg-items.result.now in
     let whole : node c.term.inside.head (forest ts) ≡ c.args.term.now = ap (λ (us : List (Tree Head)). node c.term.inside.head (forest us)) c.deref-arg-items.ensures.value ∙ c.term.view_is in
     let parts = parts_below at c.args.term.now c.term.inside.head ts c.node_of-sort.result whole c.node_of-sort.ensures (length c.args.store.now) c.requires.nodes in
@@ -18,7 +18,7 @@ returns t c =
 
 pub returns-in_default : goal.returns-in_default
 returns-in_default t c =
-    let at : Head → ℕ = node_of c.args.layout.now.rules c.args.layout.now.firsts.items c.args.rule in
+    let at : Head → ℕ = node_of c.args.heads.now.rules c.args.heads.now.first in
     let ts = c.deref-arg-items.result.now in
     let whole : node c.term.inside.head (forest ts) ≡ c.args.term.now = ap (λ (us : List (Tree Head)). node c.term.inside.head (forest us)) c.deref-arg-items.ensures.value ∙ c.term.view_is in
     let parts = parts_below at c.args.term.now c.term.inside.head ts c.node_of-sort.result whole c.node_of-sort.ensures (length c.args.store.now) c.requires.nodes in
@@ -29,7 +29,7 @@ returns-in_default t c =
 
 pub returns-in_default-2 : goal.returns-in_default-2
 returns-in_default-2 t c =
-    let at : Head → ℕ = node_of c.args.layout.now.rules c.args.layout.now.firsts.items c.args.rule in
+    let at : Head → ℕ = node_of c.args.heads.now.rules c.args.heads.now.first in
     let ts = c.deref-arg-items.result.now in
     let whole : node c.term.inside.head (forest ts) ≡ c.args.term.now = ap (λ (us : List (Tree Head)). node c.term.inside.head (forest us)) c.deref-arg-items.ensures.value ∙ c.term.view_is in
     let parts = parts_below at c.args.term.now c.term.inside.head ts c.node_of-sort.result whole c.node_of-sort.ensures (length c.args.store.now) c.requires.nodes in
@@ -54,7 +54,7 @@ returns-in_default-2 t c =
 
 pub loop-arg-preserved : goal.loop-arg-preserved
 loop-arg-preserved t c =
-    let at : Head → ℕ = node_of c.args.layout.now.rules c.args.layout.now.firsts.items c.args.rule in
+    let at : Head → ℕ = node_of c.args.heads.now.rules c.args.heads.now.first in
     let ts = c.deref-arg-items.result.now in
     let whole : node c.term.inside.head (forest ts) ≡ c.args.term.now = ap (λ (us : List (Tree Head)). node c.term.inside.head (forest us)) c.deref-arg-items.ensures.value ∙ c.term.view_is in
     let parts = parts_below at c.args.term.now c.term.inside.head ts c.node_of-sort.result whole c.node_of-sort.ensures (length c.args.store.now) c.requires.nodes in
@@ -78,7 +78,7 @@ loop-arg-preserved t c =
 
 pub apply-requires-clause-argument : goal.apply-requires-clause-argument
 apply-requires-clause-argument t c =
-    let at : Head → ℕ = node_of c.args.layout.now.rules c.args.layout.now.firsts.items c.args.rule in
+    let at : Head → ℕ = node_of c.args.heads.now.rules c.args.heads.now.first in
     let ts = c.deref-arg-items.result.now in
     let whole : node c.term.inside.head (forest ts) ≡ c.args.term.now = ap (λ (us : List (Tree Head)). node c.term.inside.head (forest us)) c.deref-arg-items.ensures.value ∙ c.term.view_is in
     let parts = parts_below at c.args.term.now c.term.inside.head ts c.node_of-sort.result whole c.node_of-sort.ensures (length c.args.store.now) c.requires.nodes in
@@ -98,9 +98,9 @@ apply-requires-clause-argument t c =
     ] in
     taken.within
 
-pub node_of-argument-requires-clause-node : goal.node_of-argument-requires-clause-node
-node_of-argument-requires-clause-node t c =
-    let at : Head → ℕ = node_of c.args.layout.now.rules c.args.layout.now.firsts.items c.args.rule in
+pub node_of-argument-requires : goal.node_of-argument-requires
+node_of-argument-requires t c =
+    let at : Head → ℕ = node_of c.args.heads.now.rules c.args.heads.now.first in
     let ts = c.deref-arg-items.result.now in
     let whole : node c.term.inside.head (forest ts) ≡ c.args.term.now = ap (λ (us : List (Tree Head)). node c.term.inside.head (forest us)) c.deref-arg-items.ensures.value ∙ c.term.view_is in
     let parts = parts_below at c.args.term.now c.term.inside.head ts c.node_of-sort.result whole c.node_of-sort.ensures (length c.args.store.now) c.requires.nodes in
@@ -112,7 +112,7 @@ node_of-argument-requires-clause-node t c =
 
 pub term_sort-requires : goal.term_sort-requires
 term_sort-requires t c =
-    let at : Head → ℕ = node_of c.args.layout.now.rules c.args.layout.now.firsts.items c.args.rule in
+    let at : Head → ℕ = node_of c.args.heads.now.rules c.args.heads.now.first in
     let ts = c.deref-arg-items.result.now in
     let whole : node c.term.inside.head (forest ts) ≡ c.args.term.now = ap (λ (us : List (Tree Head)). node c.term.inside.head (forest us)) c.deref-arg-items.ensures.value ∙ c.term.view_is in
     let parts = parts_below at c.args.term.now c.term.inside.head ts c.node_of-sort.result whole c.node_of-sort.ensures (length c.args.store.now) c.requires.nodes in
@@ -120,4 +120,4 @@ term_sort-requires t c =
     subst (NodesBelow at (length c.args.store.now)) (sym c.arg-item.is) (all_below_at at (length c.args.store.now) c.loop-arg.arg-index ts c.arg-item.result c.loop-arg-test.true parts.1) in
     let lower = height_at c.loop-arg.arg-index ts c.arg-item.result c.loop-arg-test.true in
     let smaller : 1 * (height c.arg-item.result + 1) + 0 < t = omega (arith, c.decreases, lower, ap height c.arg-item.is, ap height whole) in
-    (smaller, (c.requires.rule, (nodes_wider at (length c.args.store.now) (length c.loop-arg.store) c.arg-item.result c.loop-arg.invariant.longer below, c.loop-arg.invariant.few)))
+    (smaller, (nodes_wider at (length c.args.store.now) (length c.loop-arg.store) c.arg-item.result c.loop-arg.invariant.longer below, c.loop-arg.invariant.few))

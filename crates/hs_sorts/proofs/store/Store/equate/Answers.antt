@@ -1,7 +1,15 @@
+use Rattle.std.proofs.Common.{refl, sym, ◌∙◌, ap}
 use Rattle.std.proofs.lemmas.Result.{IfOk-weaker}
 use Rattle.hs_sorts.specs.Nodes.{IsEquation}
 use Rattle.hs_sorts.proofs.Joining.{one_root, equates_roots}
 use Rattle.hs_sorts.proofs.store.Store.equate.Goals as goal
+
+pub returns-then-left-right : goal.returns-then-left-right
+returns-then-left-right c = record {
+  as_long = refl;
+  onward = λ v r e. r;
+  back = λ v r. (r, c.above-left.ensures v r ∙ (ap v c.if-left-right.true ∙ sym (c.above-right.ensures v r)));
+}
 
 pub returns-then-first-second : goal.returns-then-first-second
 returns-then-first-second c =
