@@ -95,6 +95,8 @@ impl<'a> RawTerm<'a> {
         requires { nodes.items ≡ preorder (first_term nodes.items) }
         ensures { result ≡ first_term nodes.entry.items }
     {
+        let mut nodes = nodes;
+        nodes.shrink_to_fit();
         RawTerm { nodes }
     }
 

@@ -123,7 +123,8 @@ fn rule<'a>(
         result (read (in_head rs name.entry []) cursor.old.line cursor.old.rest.now) }
     ensures within { OnOk result (length cursor.new.rest.now ≤ length cursor.old.rest.now) }
 {
-    let params = parameters(alloc, cursor)?;
+    let mut params = parameters(alloc, cursor)?;
+    params.shrink_to_fit();
     let body = body(alloc, cursor)?;
     Ok(RawRule { name, params, body })
 }
@@ -210,7 +211,8 @@ fn transition<'a>(
     ensures within { OnOk result (length cursor.new.rest.now ≤ length cursor.old.rest.now) }
 {
     let terminal = terminal(cursor)?;
-    let to = children(alloc, cursor)?;
+    let mut to = children(alloc, cursor)?;
+    to.shrink_to_fit();
     Ok(RawTransition { from, terminal, to })
 }
 

@@ -22,7 +22,9 @@ use Rattle.hs_resolve.specs.Names.{texts, is_among, number_of, number, distinct}
 use Rattle.hs_resolve.specs.Numbering.{left, left_names, is_terminal, terminals_in, terminal_names, states_in, state_names, head_of, numbered, numbered_each, rule_of, transition_of, rank_of, unsorted_of}
 use Rattle.hs_resolve.specs.LineFaults.{same_left}
 use Rattle.hs_resolve.specs.Answer.{IsFaultless}
-use Rattle.hs_resolve.specs.Tables.{scoped_rule}
+use Rattle.hs_resolve.specs.declared.resolving.Resolved.{Resolved}
+use Rattle.hs_resolve.specs.Lengths.{length_of}
+use Rattle.hs_resolve.specs.Tables.{scoped_rule, IsResolved, made_of}
 use Rattle.hs_resolve.proofs.Lists.{at_map, is_some-position, map-map}
 use Rattle.hs_resolve.proofs.Distinct.{same_self, among-distinct, distinct-le}
 use Rattle.hs_resolve.proofs.Members.{some_at, all-map, all-same, all-append, map-same, any-at, any-before, any-filter, any-flat_map, or_left, or_right, position-at, number-name, number-within, apart-distinct, recursion-at, not-empty}
@@ -283,3 +285,18 @@ module _ (raw : File) (inside : IsRaw raw) (clean : IsFaultless raw) where
 pub left-few : (raw : File) → IsRaw raw → length (distinct (left_names raw)) ≤ 20000
 left-few raw inside =
     omega (arith, distinct-le (left_names raw), length-map (left raw) (λ (n : RawName). n.text), length-map raw.rules (λ (r : Rule). r.name), inside.within.rules)
+
+-- a file without faults stands for what was made of its numbers
+pub made-is : (raw : File) (r : Resolved) → IsResolved raw r → IsFaultless raw → made_of r.tables r.numbered ≡ unsorted_of raw
+made-is raw r is clean =
+    let t = r.tables in
+    let inside = is.numbered.inside in
+    let m = made raw inside clean t.left t.terminals t.states t.params.items (length_of t.lengths) is.tables.left is.tables.params is.tables.terminals is.tables.states is.tables.lengths in
+    let rules = is.numbered.rules ∙ ((λ i. map (scoped_rule (sym is.tables.left i) (sym is.tables.terminals i)) raw.rules) ∙ m.rules_are) in
+    let transitions = is.numbered.transitions ∙ ((λ i. map (transition_of (sym is.tables.states i) (sym is.tables.terminals i)) raw.transitions) ∙ m.transitions_are) in
+    λ i. record {
+      rules = rules i;
+      ranks = m.ranks_are i;
+      automaton = record { states = m.states_are i; transitions = transitions i };
+      names = record { rules = m.left_are i; params = m.params_are i; terminals = is.tables.terminals i; states = is.tables.states i };
+    }

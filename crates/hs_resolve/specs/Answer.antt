@@ -1,11 +1,13 @@
 -- What a file is answered with.
 --     IsFaultless      no line fault stands in it, and it has at most 10,000 states
 --     IsAnswered       the first fault: on the least line, and on that line the first in the list of the line faults
-use Rattle.std.specs.Prelude.{ℕ, ◌<◌, ◌≤◌, length}
+--     Decides          the answer to a file: its scheme or its first fault, or want of memory
+use Rattle.std.specs.Prelude.{◌≡◌, ◌⊎◌, ℕ, ◌<◌, ◌≤◌, length, Result, IfOk, OnOk, IfErr, IsErrAnd}
+use Rattle.hs_scheme.specs.Unsorted.{UnsortedData}
 use Rattle.hs_reader.specs.Raw.{File}
 use Rattle.hs_resolve.specs.declared.fault.NameFault.{NameFault}
 use Rattle.hs_resolve.specs.declared.fault.NameFault.TheVariants as fault
-use Rattle.hs_resolve.specs.Numbering.{state_names}
+use Rattle.hs_resolve.specs.Numbering.{state_names, unsorted_of}
 use Rattle.hs_resolve.specs.LineFaults.{DuplicateRule, DuplicateParam, Undefined, StartHasParams, DuplicateTransition, RankClash, LineFault}
 
 abbrev pub HasNoLineFault : File → Type 0
@@ -31,3 +33,10 @@ IsAnswered raw (fault.RankClash line) =
     RankClash raw line × IsFirstLine raw line × (¬ DuplicateRule raw line) × (¬ DuplicateParam raw line) × (¬ Undefined raw line) × (¬ StartHasParams raw line) × (¬ DuplicateTransition raw line)
 IsAnswered raw fault.TooManyStates = HasNoLineFault raw × (10000 < length (state_names raw))
 IsAnswered raw fault.OutOfMemory = ⊥
+
+pub record Decides (raw : File) (answer : Result UnsortedData NameFault) : Type 0 where
+  pub value : IfOk answer (λ u. u ≡ unsorted_of raw)
+  pub faultless : OnOk answer (IsFaultless raw)
+  pub answered : IfErr answer (λ e. (e ≡ fault.OutOfMemory) ⊎ IsAnswered raw e)
+  pub taken : IsFaultless raw → IfErr answer (λ e. e ≡ fault.OutOfMemory)
+  pub refused : (first : NameFault) → IsAnswered raw first → IsErrAnd answer (λ e. (e ≡ fault.OutOfMemory) ⊎ (e ≡ first))

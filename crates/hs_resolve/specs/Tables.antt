@@ -4,13 +4,17 @@
 --     AreTables       the names of the file by number
 --     IsNumberedFile  its rules and transitions with these numbers, where it is a file
 --     AreLines        the least line of each line fault
+--     IsResolved      all of these
+--     made_of         the scheme with these rules, transitions and names
 use Rattle.std.specs.Prelude.{◌≡◌, ℕ, ◌<◌, ◌^◌, List, map, length}
 use Rattle.hs_reader.specs.Raw.{File, Rule}
 use Rattle.hs_reader.specs.Limits.{IsRaw}
 use Rattle.hs_scheme.specs.declared.term.Rule.{Rule as NumberedRule}
+use Rattle.hs_scheme.specs.Unsorted.{UnsortedData}
 use Rattle.hs_resolve.specs.declared.line.FaultLines.{FaultLines}
 use Rattle.hs_resolve.specs.declared.resolving.Tables.{Tables}
 use Rattle.hs_resolve.specs.declared.resolving.Numbered.{Numbered}
+use Rattle.hs_resolve.specs.declared.resolving.Resolved.{Resolved}
 use Rattle.hs_resolve.specs.Names.{texts, distinct}
 use Rattle.hs_resolve.specs.Numbering.{left_names, terminal_names, state_names, rank_of, head_of, numbered, transition_of}
 use Rattle.hs_resolve.specs.Lengths.{length_of}
@@ -43,3 +47,16 @@ pub record IsNumberedFile (raw : File) (numbered : Numbered) : Type 0 where
   pub inside : IsRaw raw
   pub rules : numbered.rules.items ≡ map (scoped_rule (distinct (left_names raw)) (terminal_names raw)) raw.rules
   pub transitions : numbered.transitions.items ≡ map (transition_of (state_names raw) (terminal_names raw)) raw.transitions
+
+pub record IsResolved (raw : File) (r : Resolved) : Type 0 where
+  pub tables : AreTables raw r.tables
+  pub numbered : IsNumberedFile raw r.numbered
+  pub lines : AreLines raw r.tables.lines
+
+abbrev pub made_of : Tables → Numbered → UnsortedData
+made_of tables numbered = record {
+  rules = numbered.rules.items;
+  ranks = map (length_of tables.lengths) tables.terminals;
+  automaton = record { states = length tables.states; transitions = numbered.transitions.items };
+  names = record { rules = tables.left; params = tables.params.items; terminals = tables.terminals; states = tables.states };
+}

@@ -14,4 +14,4 @@ mod transitions;
 
 pub use fault::{MAX_STATES, NameFault};
 pub use laws::one_first_fault;
-pub use resolving::resolve;
+pub use resolving::{resolve, resolve_owned};

@@ -1,11 +1,14 @@
 //! From a file to the scheme that it stands for.
 
-ghost use Rattle.std.specs.Prelude.{◌≡◌, ◌⊎◌, IfOk, OnOk, IfErr, IsErrAnd};
+ghost use Rattle.std.specs.Prelude.{◌≡◌, ◌⊎◌, ◌≤◌, length, IfOk, OnOk, IfErr, IsErrAnd, IfSome, IfNone};
+ghost use Rattle.hs_scheme.specs.Automaton.{IsAutomaton};
+ghost use Rattle.hs_scheme.specs.Unsorted.{IsUnsorted};
+ghost use Rattle.hs_reader.specs.Raw.{File};
 ghost use Rattle.hs_resolve.specs.Least.{IsLeast};
 ghost use Rattle.hs_resolve.specs.LineFaults.{StartHasParams};
 ghost use Rattle.hs_resolve.specs.Numbering.{unsorted_of};
-ghost use Rattle.hs_resolve.specs.Answer.{IsFaultless, IsAnswered};
-ghost use Rattle.hs_resolve.specs.Tables.{AreLines, AreTables, IsNumberedFile};
+ghost use Rattle.hs_resolve.specs.Answer.{IsFaultless, IsAnswered, Decides};
+ghost use Rattle.hs_resolve.specs.Tables.{AreLines, AreTables, IsNumberedFile, IsResolved, made_of};
 
 use crate::body::bodies_of;
 use crate::fault::{MAX_STATES, NameFault};
@@ -63,12 +66,12 @@ fn number_file<'a>(alloc: Global, raw: &RawFile<'a>) -> Result<Resolved<'a>, Out
 {
     let rules = raw.rules.as_slice();
     let transitions = raw.transitions.as_slice();
+    let lines = transition_lines(alloc, transitions)?;
     let left = left_of(alloc, rules)?;
     let scopes = scopes_of(alloc, rules)?;
     let bodies = bodies_of(alloc, &left.index, scopes.params.as_slice(), rules)?;
     let mut terminals = bodies.terminals;
     let moves = transitions_of(alloc, &mut terminals, transitions)?;
-    let lines = transition_lines(alloc, transitions)?;
     Ok(Resolved {
         tables: Tables {
             left: left.index,
@@ -92,28 +95,38 @@ fn number_file<'a>(alloc: Global, raw: &RawFile<'a>) -> Result<Resolved<'a>, Out
     })
 }
 
-/// The scheme of a file without faults.
-fn unsorted(
-    alloc: Global,
-    raw: &RawFile,
-    tables: &Tables,
-    numbered: Numbered,
-) -> Result<Unsorted, OutOfMemory>
-    requires tables { AreTables raw.now tables.now }
-    requires numbered { IsNumberedFile raw.now numbered }
-    requires faultless { IsFaultless raw.now }
-    ensures { IfOk result (λ u. u ≡ unsorted_of raw.now) }
+/// The first fault of a file, where it has one.
+fn first_fault(tables: &Tables) -> Option<NameFault>
+    ensures fault { (raw : File) → AreTables raw tables.now → AreLines raw tables.now.lines
+        → IfSome result (λ e. IsAnswered raw e) }
+    ensures none { (raw : File) → AreTables raw tables.now → AreLines raw tables.now.lines
+        → IfNone result (IsFaultless raw) }
+{
+    if let Some(fault) = tables.lines.first() {
+        return Some(fault);
+    }
+    if tables.states.len() > MAX_STATES {
+        return Some(NameFault::TooManyStates);
+    }
+    None
+}
+
+/// The scheme with these rules and transitions and these names.
+fn put_together(alloc: Global, tables: Tables, numbered: Numbered) -> Result<Unsorted, OutOfMemory>
+    requires automaton { IsAutomaton (made_of tables numbered).automaton }
+    requires scheme { IsUnsorted (made_of tables numbered) }
+    requires few { length tables.states ≤ MAX_STATES }
+    ensures { IfOk result (λ u. u ≡ made_of tables.entry numbered) }
 {
     let Numbered { rules, transitions } = numbered;
-    let terminals = &tables.terminals;
-    let states = &tables.states;
-    let automaton = Automaton::of(alloc, states.len() as u32, transitions)?;
-    let ranks = terminals.values_in(alloc, &tables.lengths)?;
+    let states = tables.states.len() as u32;
+    let automaton = Automaton::of(alloc, states, transitions)?;
+    let ranks = tables.terminals.values_in(alloc, &tables.lengths)?;
     let names = Names {
         rules: tables.left.copies(alloc)?,
         params: params_of(alloc, tables.params.as_slice())?,
-        terminals: terminals.copies(alloc)?,
-        states: states.copies(alloc)?,
+        terminals: tables.terminals.copies(alloc)?,
+        states: tables.states.copies(alloc)?,
     };
     Ok(Unsorted {
         rules,
@@ -121,6 +134,18 @@ fn unsorted(
         automaton,
         names,
     })
+}
+
+/// The scheme of a file that was numbered, or its first fault. It doesn't need the file any more.
+fn decide(alloc: Global, resolved: Resolved) -> Result<Unsorted, NameFault>
+    requires some { (raw : File) × IsResolved raw resolved }
+    ensures { (raw : File) → IsResolved raw resolved.entry → Decides raw result }
+{
+    let Resolved { tables, numbered } = resolved;
+    if let Some(fault) = first_fault(&tables) {
+        return Err(fault);
+    }
+    Ok(put_together(alloc, tables, numbered)?)
 }
 
 /// Numbers the names of a file.
@@ -141,13 +166,20 @@ pub fn resolve(alloc: Global, raw: &RawFile) -> Result<Unsorted, NameFault>
         → IsErrAnd result (λ e. (e ≡ NameFault.OutOfMemory) ⊎ (e ≡ fault)) }
 {
     let resolved = number_file(alloc, raw)?;
-    let numbered = resolved.numbered;
-    let tables = resolved.tables;
-    if let Some(fault) = tables.lines.first() {
-        return Err(fault);
-    }
-    if tables.states.len() > MAX_STATES {
-        return Err(NameFault::TooManyStates);
-    }
-    Ok(unsorted(alloc, raw, &tables, numbered)?)
+    decide(alloc, resolved)
+}
+
+/// As [`resolve`], and what the file says is given back as soon as its names are numbered: before the
+/// automaton and the names of the scheme are made.
+pub fn resolve_owned(alloc: Global, raw: RawFile) -> Result<Unsorted, NameFault>
+    ensures value { IfOk result (λ u. u ≡ unsorted_of raw.entry) }
+    ensures faultless { OnOk result (IsFaultless raw.entry) }
+    ensures fault { IfErr result (λ e. (e ≡ NameFault.OutOfMemory) ⊎ IsAnswered raw.entry e) }
+    ensures taken { IsFaultless raw.entry → IfErr result (λ e. e ≡ NameFault.OutOfMemory) }
+    ensures refused { (fault : NameFault) → IsAnswered raw.entry fault
+        → IsErrAnd result (λ e. (e ≡ NameFault.OutOfMemory) ⊎ (e ≡ fault)) }
+{
+    let resolved = number_file(alloc, &raw)?;
+    drop(raw);
+    decide(alloc, resolved)
 }
