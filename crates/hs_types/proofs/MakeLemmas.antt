@@ -1,9 +1,10 @@
 -- Environments of few sets.
-use Rattle.std.proofs.Common.{◌≡◌, sym, ◌∙◌, ap, ℕ, List, [], ◌++◌, length, take, drop, map, set, replicate, slice_get, Some}
+use Rattle.std.proofs.Common.{◌≡◌, refl, sym, ◌∙◌, ap, ℕ, suc, ◌+◌, ◌<◌, ◌≤◌, List, [], ◌∷◌, ◌++◌, length, take, drop, map, set, replicate, get_or, slice_get, Some, arith, inl, inr}
 use Rattle.std.specs.List.{refill}
 use Rattle.std.proofs.Math.Seq.{take-append_seam}
-use Rattle.std.proofs.lemmas.List.{length-set}
-use Rattle.std.proofs.lemmas.Option.{get_or_from_slice_get}
+use Rattle.std.proofs.lemmas.Bool.{cases_lt}
+use Rattle.std.proofs.lemmas.List.{get_or_default, length-set}
+use Rattle.std.proofs.lemmas.Option.{get_or_from_slice_get, slice_get-get_or}
 use Rattle.hs_table.specs.Types.{TypeTree}
 use Rattle.hs_types.specs.Interned.{InternerData, set_of_id, Grows}
 use Rattle.hs_types.proofs.ListLemmas.{map-replicate, map-set_at}
@@ -25,3 +26,25 @@ refilled xs ws long = ap (λ n. take n (ws ++ drop (length ws) xs)) (sym long) �
 
 pub set_refilled : (xs ys : List ℕ) (x s : ℕ) → ys ≡ xs → refill (length xs) xs (set ys x s) ≡ set xs x s
 set_refilled xs ys x s is = ap (λ (zs : List ℕ). refill (length xs) xs (set zs x s)) is ∙ refilled xs (set xs x s) (length-set xs x s)
+
+-- the first sets of an environment that are looked at one by one
+abbrev pub AreEmpty : (ℕ → List TypeTree) → List ℕ → ℕ → Type 0
+AreEmpty f sets n = (k : ℕ) → k < n → f (get_or sets k 0) ≡ []
+
+pub more_empty : (f : ℕ → List TypeTree) (sets : List ℕ) (n s : ℕ) → AreEmpty f sets n → n < length sets → s ≡ get_or sets n s → f s ≡ [] → AreEmpty f sets (n + 1)
+more_empty f sets n s was lt is empty k less = elim (cases_lt k n) [
+  | inl before ↦ was k before
+  | inr last ↦
+      let same : k ≡ n = omega arith in
+      ap f (ap (λ j. get_or sets j 0) same ∙ sym (is ∙ get_or_default sets n s 0 lt)) ∙ empty
+]
+
+all_empty : (f : ℕ → List TypeTree) (sets : List ℕ) → AreEmpty f sets (length sets) → map f sets ≡ replicate (length sets) []
+all_empty f [] h = refl
+all_empty f (s ∷ sets) h = λ i. h 0 (omega arith) i ∷ all_empty f sets (λ k lt. h (suc k) (omega arith)) i
+
+pub is_empty : (J : InternerData) (id n m : ℕ) (sets : List ℕ) → id < length J.envs → map (set_of_id J) sets ≡ get_or J.envs id [] → length sets ≡ n → length sets ≤ m → AreEmpty (set_of_id J) sets m
+    → slice_get J.envs id ≡ Some (replicate n [])
+is_empty J id n m sets lt is long whole h =
+    slice_get-get_or J.envs id [] lt
+    ∙ ap (λ e. Some e) (sym is ∙ (all_empty (set_of_id J) sets (λ k less. h k (omega arith)) ∙ ap (λ j. replicate j []) long))

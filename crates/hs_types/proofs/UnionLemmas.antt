@@ -1,14 +1,16 @@
 -- Unions that are known.
-use Rattle.std.proofs.Common.{◌≡◌, refl, sym, ◌∙◌, ap, subst, ℕ, ◌<◌, Bool, true, false, cond, ◌&&◌, nat_eq, List, [], ◌∷◌, length, map, Some, arith, Contains, ◌⊎◌, inl, inr}
+use Rattle.std.proofs.Common.{◌≡◌, refl, sym, ◌∙◌, ap, subst, ℕ, ◌<◌, Bool, true, false, cond, ◌&&◌, nat_eq, List, [], ◌∷◌, length, map, Some, arith, Contains, ◌⊎◌, inl, inr, ◌≤◌, replicate, slice_get}
 use Rattle.std.specs.Map.{lookup}
-use Rattle.std.proofs.lemmas.Bool.{eqb-true}
+use Rattle.std.proofs.lemmas.Bool.{eqb-true, cases_lt}
+use Rattle.std.proofs.lemmas.List.{length-map, length-replicate, get_or-replicate, get_or_past}
+use Rattle.std.proofs.lemmas.Option.{get_or_from_slice_get}
 use Rattle.indexmap.specs.IndexMap.{insert_entry}
 use Rattle.hs_table_laws.proofs.Places.{here, later, uncons, none_in}
 use Rattle.hs_table.specs.Types.{TypeTree, IsSet}
 use Rattle.hs_table.specs.Entries.{Env, set_at}
 use Rattle.hs_types.specs.declared.unions.Pair.{Pair}
 use Rattle.hs_types.specs.contracts.unions.PairPartialEq.TheImpl.{eq-value}
-use Rattle.hs_types.specs.Interned.{InternerData, type_of_id, set_of_id, env_of_id, IsUnion, IsUnionEnv, Grows}
+use Rattle.hs_types.specs.Interned.{InternerData, type_of_id, set_of_id, env_of_id, IsUnion, IsUnionEnv, IsInterner, Grows}
 use Rattle.hs_types.specs.Unions.{Known, IsPair, Knows, KnowsMore, IsSetUnion, IsEnvUnion, AreUnions}
 use Rattle.hs_types.proofs.MergeLemmas.{union_swap}
 use Rattle.hs_types.proofs.Numbers.{set_within, set_stays, env_within, env_stays}
@@ -213,3 +215,29 @@ kept_env I J K sets envs new are is g a b u m n r e f q h k long ok more =
       is = subst (λ x. IsUnionEnv x (env_of_id K b) (env_of_id K u)) (sym (env_stays I K g a h)) (subst (λ x. IsUnionEnv (env_of_id I a) x (env_of_id K u)) (sym (env_stays I K g b k)) ok.1);
     } in
     keep_env J sets envs are new a b u (more_at envs new a b u m n r e f q more) (subst (λ (L : InternerData). IsEnvUnion L a b u) (sym is) made)
+
+-- the union of an environment without types and another one
+set_of_empty : (n j : ℕ) → set_at (replicate n []) j ≡ []
+set_of_empty n j = elim (cases_lt j n) [
+  | inl lt ↦ get_or-replicate n j [] [] lt
+  | inr past ↦ get_or_past (replicate n []) j [] (omega (arith, past, length-replicate {A = List TypeTree} n []))
+]
+
+pub union_of_empty : (I K : InternerData) (n a b : ℕ) (sets : List ℕ) → I ≡ K → IsInterner I → slice_get I.envs a ≡ Some (replicate n []) → map (set_of_id I) sets ≡ env_of_id I b → n ≡ length sets
+    → a < length K.envs → b < length K.envs → IsEnvUnion K a b b
+union_of_empty I K n a b sets same exact at is long first second =
+    let e : env_of_id I a ≡ replicate n [] = get_or_from_slice_get I.envs a (replicate n []) [] at in
+    let a_long : length (env_of_id I a) ≡ n = ap (λ (z : Env). length z) e ∙ length-replicate n [] in
+    let b_long : length (env_of_id I b) ≡ length sets = ap (λ (z : Env). length z) (sym is) ∙ length-map sets (set_of_id I) in
+    let one : length (env_of_id I a) ≡ length (env_of_id I b) = a_long ∙ (long ∙ sym b_long) in
+    subst (λ (J : InternerData). IsEnvUnion J a b b) same
+    (record {
+      first = subst (λ (J : InternerData). a < length J.envs) (sym same) first;
+      second = subst (λ (J : InternerData). b < length J.envs) (sym same) second;
+      within = subst (λ (J : InternerData). b < length J.envs) (sym same) second;
+      long = one;
+      is = record {
+        long = sym one;
+        sets = λ j. union_second (set_at (env_of_id I a) j) (set_at (env_of_id I b) j) (ap (λ (z : Env). set_at z j) e ∙ set_of_empty n j) (exact.env_ascends b j);
+      };
+    })

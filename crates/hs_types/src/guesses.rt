@@ -14,7 +14,7 @@ pub(crate) struct Guesses {
 }
 
 /// The guess for this number.
-fn guess(guesses: &[u32], number: u32) -> u32 {
+pub(crate) fn guess(guesses: &[u32], number: u32) -> u32 {
     match guesses.get(number as usize) {
         Some(own) => *own,
         None => 0,
@@ -22,7 +22,7 @@ fn guess(guesses: &[u32], number: u32) -> u32 {
 }
 
 /// Keeps the guess for this number.
-fn keep(guesses: &mut Vec<u32>, number: u32, own: u32) -> Result<(), OutOfMemory> {
+pub(crate) fn keep(guesses: &mut Vec<u32>, number: u32, own: u32) -> Result<(), OutOfMemory> {
     let place = number as usize;
     if guesses.len() <= place {
         guesses.resize(place + 1, 0)?;

@@ -14,7 +14,7 @@ use std::alloc::Global;
 
 impl Nodes {
     /// The guess, where it is the node's type.
-    fn guessed_type(&self, guess: TyId, node: &View) -> Option<TyId>
+    pub(crate) fn guessed_type(&self, guess: TyId, node: &View) -> Option<TyId>
         ensures { IfSome result (λ own. slice_get self.now.types own ≡ Some (node_type self.now node.now)) }
     {
         if guess.number() >= self.count_types() || self.view(guess) != *node {
@@ -24,7 +24,7 @@ impl Nodes {
     }
 
     /// The guess, where it is the set of these types.
-    fn guessed_set(&self, guess: SetId, types: &[TyId]) -> Option<SetId>
+    pub(crate) fn guessed_set(&self, guess: SetId, types: &[TyId]) -> Option<SetId>
         ensures { IfSome result (λ own. slice_get self.now.sets own ≡ Some (map (type_of_id self.now) types.now)) }
     {
         if guess.number() >= self.count_sets() || self.members(guess) != types {
@@ -34,7 +34,7 @@ impl Nodes {
     }
 
     /// The guess, where it is the environment of these sets.
-    fn guessed_env(&self, guess: EnvId, sets: &[SetId]) -> Option<EnvId>
+    pub(crate) fn guessed_env(&self, guess: EnvId, sets: &[SetId]) -> Option<EnvId>
         ensures { IfSome result (λ own. slice_get self.now.envs own ≡ Some (map (set_of_id self.now) sets.now)) }
     {
         if guess.number() >= self.count_envs() || self.sets(guess) != sets {

@@ -9,6 +9,7 @@ ghost use Rattle.hs_types.specs.Interned.{type_of_id, set_of_id, env_of_id, IsRo
 use crate::found::ImportedNumbers;
 use crate::guesses::Guesses;
 use crate::ids::{EnvId, Row, SetId, TyId, View};
+use crate::latest::Latest;
 use crate::nodes::Nodes;
 use crate::unions::Unions;
 use hs_scheme::OutOfMemory;
@@ -25,8 +26,9 @@ use std::marker::Model;
 ///
 /// A type takes some 40 bytes, a set or an environment some 80, and 4 for each of its items. Beside
 /// these the latest unions are kept, at most 524,288 of sets and as many of environments, in some
-/// 16 MiB each, and 4 bytes for each number of an interner that was imported from. There are at most
-/// 2^32 numbers of each kind; past that a call answers want of memory.
+/// 16 MiB each, 4 bytes for each number of an interner that was imported from, and 64 KiB at most for
+/// each of four kinds of guesses. There are at most 2^32 numbers of each kind; past that a call
+/// answers want of memory.
 #[derive(Drop)]
 pub struct Interner {
     alloc: Global,
@@ -34,6 +36,7 @@ pub struct Interner {
     set_unions: Unions,
     env_unions: Unions,
     guesses: Guesses,
+    latest: Latest,
 }
 
 impl Model for Interner {
@@ -60,6 +63,7 @@ impl Interner {
             set_unions: Unions::new(alloc),
             env_unions: Unions::new(alloc),
             guesses: Guesses::new(alloc),
+            latest: Latest::new(alloc),
         }
     }
 
@@ -71,12 +75,13 @@ impl Interner {
         self.nodes.numbers_are_exact();
     }
 
-    /// The type that is this state, counted from 0. Constant time on average.
+    /// The type that is this state, counted from 0. Constant time on average. Nothing is hashed where
+    /// the guess by the state is right, which was kept when the type was asked for last.
     pub fn base(&mut self, q: u32) -> Result<TyId, OutOfMemory>
         ensures ok { IfOk result (λ id. slice_get self.new.types id ≡ Some (state q)) }
         ensures grows { Grows self.old self.new }
     {
-        let id = self.nodes.add_type(View::State(q))?;
+        let id = self.nodes.base(&mut self.latest, q)?;
         Ok(id)
     }
 
@@ -100,7 +105,7 @@ impl Interner {
             × IsSetOf (map (type_of_id self.old) ids.now) (set_of_id self.new id)) }
         ensures grows { Grows self.old self.new }
     {
-        let id = self.nodes.set(self.alloc, ids)?;
+        let id = self.nodes.set(self.alloc, &mut self.latest, ids)?;
         Ok(id)
     }
 
@@ -114,12 +119,13 @@ impl Interner {
         Ok(id)
     }
 
-    /// The environment of n empty sets.
+    /// The environment of n empty sets. Time in proportion to n. Nothing is hashed where it was asked
+    /// for before.
     pub fn empty_env(&mut self, n: usize) -> Result<EnvId, OutOfMemory>
         ensures ok { IfOk result (λ id. slice_get self.new.envs id ≡ Some (replicate n [])) }
         ensures grows { Grows self.old self.new }
     {
-        let id = self.nodes.empty_env(self.alloc, n)?;
+        let id = self.nodes.empty_env(self.alloc, &mut self.latest, n)?;
         Ok(id)
     }
 
@@ -132,7 +138,9 @@ impl Interner {
             ≡ Some (slice_set (replicate n []) x (type_of_id self.old ty ∷ []))) }
         ensures grows { Grows self.old self.new }
     {
-        let id = self.nodes.single_env(self.alloc, n, x as usize, ty)?;
+        let id = self
+            .nodes
+            .single_env(self.alloc, &mut self.latest, n, x as usize, ty)?;
         Ok(id)
     }
 
@@ -289,7 +297,8 @@ impl Interner {
         Ok(union)
     }
 
-    /// The union of the two environments, where it is at hand: they are equal, or it is known.
+    /// The union of the two environments, where it is at hand: they are equal, or the first has no
+    /// types, or it is known.
     fn known_union_envs(&self, a: EnvId, b: EnvId) -> Option<EnvId>
         requires a { a < length self.now.envs }
         requires b { b < length self.now.envs }
@@ -298,6 +307,9 @@ impl Interner {
         self.nodes.numbers_are_exact();
         if a == b {
             return Some(a);
+        }
+        if self.nodes.is_empty_env(a, self.nodes.sets(b).len()) {
+            return Some(b);
         }
         let union = self.env_unions.find(a.stored(), b.stored())?;
         Some(EnvId::at(union))
@@ -324,7 +336,8 @@ impl Interner {
     }
 
     /// The environment whose sets have the types of both, set by set. Constant time on average for
-    /// equal environments and a pair that was asked for not too long ago; else a union for each set.
+    /// equal environments and a pair that was asked for not too long ago; else a union for each set, or
+    /// a look at each where the first environment has no types.
     pub fn union_envs(&mut self, a: EnvId, b: EnvId) -> Result<EnvId, OutOfMemory>
         requires a { a < length self.old.envs }
         requires b { b < length self.old.envs }

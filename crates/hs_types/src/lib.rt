@@ -12,6 +12,7 @@ mod guesses;
 mod ids;
 mod import;
 mod interner;
+mod latest;
 mod make;
 mod merge;
 mod nodes;

@@ -1,24 +1,82 @@
 //! Sets and environments that are made from others.
 
-ghost use Rattle.std.specs.Prelude.{◌≡◌, ◌<◌, ◌∷◌, [], IfOk, All, Some, length, map, replicate, slice_get, slice_set};
+ghost use Rattle.std.specs.Prelude.{◌≡◌, ◌<◌, ◌∷◌, [], IfOk, IsTrue, All, Some, length, map, replicate, slice_get, slice_set};
+ghost use Rattle.hs_table.specs.Types.{state, IsSet};
 ghost use Rattle.hs_types.specs.Interned.{type_of_id, set_of_id, Grows, IsSetOf, IsUnion};
 
-use crate::ids::{EnvId, SetId, TyId};
+use crate::ids::{EnvId, SetId, TyId, View};
+use crate::latest::{Latest, number_of_count, number_of_set};
 use crate::nodes::Nodes;
 use hs_scheme::OutOfMemory;
 use smallvec::SmallVec;
 use std::alloc::Global;
 
 impl Nodes {
+    /// The type that is this state. Looks at the guess first.
+    pub(crate) fn base(&mut self, latest: &mut Latest, q: u32) -> Result<TyId, OutOfMemory>
+        ensures ok { IfOk result (λ id. slice_get self.new.types id ≡ Some (state q)) }
+        ensures grows { Grows self.old self.new }
+    {
+        let guess = TyId::at(latest.states.find(q));
+        if let Some(id) = self.guessed_type(guess, &View::State(q)) {
+            return Ok(id);
+        }
+        let id = self.add_type(View::State(q))?;
+        latest.states.keep(q, id.stored())?;
+        Ok(id)
+    }
+
+    /// The set of these types, which are in order. Looks at the guess by the first of them.
+    fn latest_set(&mut self, latest: &mut Latest, types: &[TyId]) -> Result<SetId, OutOfMemory>
+        requires range { All (λ t. t < length self.old.types) types.now }
+        requires ascends { IsSet (map (type_of_id self.old) types.now) }
+        ensures ok { IfOk result (λ id. slice_get self.new.sets id ≡ Some (map (type_of_id self.old) types.now)) }
+        ensures grows { Grows self.old self.new }
+    {
+        let number = number_of_set(types);
+        let guess = SetId::at(latest.sets.find(number));
+        if let Some(id) = self.guessed_set(guess, types) {
+            return Ok(id);
+        }
+        let id = self.add_set(types)?;
+        latest.sets.keep(number, id.stored())?;
+        Ok(id)
+    }
+
+    /// The environment of these sets. Looks at the guess by the type.
+    fn latest_env(
+        &mut self,
+        latest: &mut Latest,
+        ty: TyId,
+        sets: &[SetId],
+    ) -> Result<EnvId, OutOfMemory>
+        requires { All (λ s. s < length self.old.sets) sets.now }
+        ensures ok { IfOk result (λ id. slice_get self.new.envs id ≡ Some (map (set_of_id self.old) sets.now)) }
+        ensures grows { Grows self.old self.new }
+    {
+        let guess = EnvId::at(latest.single_envs.find(ty.stored()));
+        if let Some(id) = self.guessed_env(guess, sets) {
+            return Ok(id);
+        }
+        let id = self.add_env(sets)?;
+        latest.single_envs.keep(ty.stored(), id.stored())?;
+        Ok(id)
+    }
+
     /// The set of these types.
-    pub(crate) fn set(&mut self, alloc: Global, ids: &[TyId]) -> Result<SetId, OutOfMemory>
+    pub(crate) fn set(
+        &mut self,
+        alloc: Global,
+        latest: &mut Latest,
+        ids: &[TyId],
+    ) -> Result<SetId, OutOfMemory>
         requires { All (λ t. t < length self.old.types) ids.now }
         ensures ok { IfOk result (λ id. (id < length self.new.sets)
             × IsSetOf (map (type_of_id self.old) ids.now) (set_of_id self.new id)) }
         ensures grows { Grows self.old self.new }
     {
         if ids.len() <= 1 {
-            let id = self.add_set(ids)?;
+            let id = self.latest_set(latest, ids)?;
             return Ok(id);
         }
         let sorted = self.sorted(alloc, ids)?;
@@ -45,14 +103,44 @@ impl Nodes {
         Ok(id)
     }
 
-    /// The environment of n empty sets.
-    pub(crate) fn empty_env(&mut self, alloc: Global, n: usize) -> Result<EnvId, OutOfMemory>
+    /// Whether this is the number of the environment of n empty sets.
+    pub(crate) fn is_empty_env(&self, id: EnvId, n: usize) -> bool
+        ensures { IsTrue result → slice_get self.now.envs id ≡ Some (replicate n []) }
+    {
+        if id.number() >= self.count_envs() {
+            return false;
+        }
+        let sets = self.sets(id);
+        if sets.len() != n {
+            return false;
+        }
+        for set in sets {
+            if !self.members(*set).is_empty() {
+                return false;
+            }
+        }
+        true
+    }
+
+    /// The environment of n empty sets. Looks at the guess first.
+    pub(crate) fn empty_env(
+        &mut self,
+        alloc: Global,
+        latest: &mut Latest,
+        n: usize,
+    ) -> Result<EnvId, OutOfMemory>
         ensures ok { IfOk result (λ id. slice_get self.new.envs id ≡ Some (replicate n [])) }
         ensures grows { Grows self.old self.new }
     {
+        let number = number_of_count(n);
+        let guess = EnvId::at(latest.empty_envs.find(number));
+        if self.is_empty_env(guess, n) {
+            return Ok(guess);
+        }
         let empty = self.add_set(&[])?;
         let sets: SmallVec<SetId, 8> = SmallVec::from_elem(alloc, empty, n)?;
         let id = self.add_env(sets.as_slice())?;
+        latest.empty_envs.keep(number, id.stored())?;
         Ok(id)
     }
 
@@ -60,6 +148,7 @@ impl Nodes {
     pub(crate) fn single_env(
         &mut self,
         alloc: Global,
+        latest: &mut Latest,
         n: usize,
         x: usize,
         ty: TyId,
@@ -70,11 +159,11 @@ impl Nodes {
             ≡ Some (slice_set (replicate n []) x (type_of_id self.old ty ∷ []))) }
         ensures grows { Grows self.old self.new }
     {
-        let single = self.add_set(&[ty])?;
-        let empty = self.add_set(&[])?;
+        let single = self.latest_set(latest, &[ty])?;
+        let empty = self.latest_set(latest, &[])?;
         let mut sets: SmallVec<SetId, 8> = SmallVec::from_elem(alloc, empty, n)?;
         sets[x] = single;
-        let id = self.add_env(sets.as_slice())?;
+        let id = self.latest_env(latest, ty, sets.as_slice())?;
         Ok(id)
     }
 }

@@ -1,9 +1,40 @@
-use Rattle.std.proofs.Common.{◌<◌, ap, length, arith}
+use Rattle.std.proofs.Common.{◌<◌, sym, subst, ap, length, arith}
 use Rattle.hs_types.specs.Interned.{env_of_id}
 use Rattle.hs_types.proofs.ListLemmas.{length-push}
-use Rattle.hs_types.proofs.Numbers.{Grows-refl, Grows-trans}
+use Rattle.hs_types.proofs.Numbers.{Grows-refl, Grows-trans, env_within}
 use Rattle.hs_types.proofs.JoinLemmas.{same_long, joined_range, joined_each, joined_all}
 use Rattle.hs_types.proofs.interner.Interner.join_envs.Goals as goal
+
+pub bounds-sets-place : goal.bounds-sets-place
+bounds-sets-place c =
+    let I = c.args.self.now in
+    let lc = same_long I I c.args.a c.sets-count.result.now (Grows-refl I) c.requires.a c.sets-count.ensures.sets in
+    let lx = same_long I c.loop-place.self c.args.a c.sets.result.now c.loop-place.invariant.grows c.requires.a c.sets.ensures.sets in
+    omega (arith, c.loop-place-test.true, lc, lx)
+
+pub sets-requires-in-loop-place : goal.sets-requires-in-loop-place
+sets-requires-in-loop-place c = env_within c.args.self.now c.loop-place.self c.loop-place.invariant.grows c.args.b c.requires.b
+
+pub bounds-sets-place-in-loop-place : goal.bounds-sets-place-in-loop-place
+bounds-sets-place-in-loop-place c =
+    let I = c.args.self.now in
+    let lc = same_long I I c.args.a c.sets-count.result.now (Grows-refl I) c.requires.a c.sets-count.ensures.sets in
+    let ly = same_long I c.loop-place.self c.args.b c.sets-in-loop-place.result.now c.loop-place.invariant.grows c.requires.b c.sets-in-loop-place.ensures.sets in
+    omega (arith, c.loop-place-test.true, lc, ly, c.requires.long)
+
+pub union_sets-requires-clause-a : goal.union_sets-requires-clause-a
+union_sets-requires-clause-a c =
+    let I = c.args.self.now in
+    let lc = same_long I I c.args.a c.sets-count.result.now (Grows-refl I) c.requires.a c.sets-count.ensures.sets in
+    let lx = same_long I c.loop-place.self c.args.a c.sets.result.now c.loop-place.invariant.grows c.requires.a c.sets.ensures.sets in
+    subst (λ s. s < length c.loop-place.self.sets) (sym c.index-sets-place.is) (c.sets.ensures.range c.loop-place.place c.index-sets-place.result (omega (arith, c.loop-place-test.true, lc, lx)))
+
+pub union_sets-requires-clause-b : goal.union_sets-requires-clause-b
+union_sets-requires-clause-b c =
+    let I = c.args.self.now in
+    let lc = same_long I I c.args.a c.sets-count.result.now (Grows-refl I) c.requires.a c.sets-count.ensures.sets in
+    let ly = same_long I c.loop-place.self c.args.b c.sets-in-loop-place.result.now c.loop-place.invariant.grows c.requires.b c.sets-in-loop-place.ensures.sets in
+    subst (λ s. s < length c.loop-place.self.sets) (sym c.index-sets-place-in-loop-place.is) (c.sets-in-loop-place.ensures.range c.loop-place.place c.index-sets-place-in-loop-place.result (omega (arith, c.loop-place-test.true, lc, ly, c.requires.long)))
 
 pub loop-place-preserved : goal.loop-place-preserved
 loop-place-preserved c =
