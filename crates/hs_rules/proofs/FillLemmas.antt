@@ -7,12 +7,13 @@ use Rattle.std.proofs.lemmas.Bool.{cases_order}
 use Rattle.hs_table.specs.Types.{TypeTree}
 use Rattle.hs_table.specs.Entries.{Env, EntryData, set_at}
 use Rattle.hs_table_laws.proofs.Places.{place_of, member_at, read_from, at_take, to_take, within_from, none_in, uncons, here, later}
+use Rattle.hs_table_laws.proofs.Members.{taken_next}
 use Rattle.hs_types.specs.Interned.{InternerData, type_of_id, set_of_id}
 use Rattle.hs_replica.specs.Places.{typed, ArePlaces}
 use Rattle.hs_rules.specs.declared.search.Fixed.{Fixed}
 use Rattle.hs_rules.specs.Slots.{SlotData, slots_of, slots, FixedData, FilledData, Respects, IsCandidate, Picked, none_left, pick}
 use Rattle.hs_rules.specs.Filling.{entry_at, fixed_of, IsFilled, AreFilled, GainsFilled, LacksCandidate}
-use Rattle.hs_rules.proofs.Lists.{read_other, taken_next}
+use Rattle.hs_rules.proofs.Lists.{read_other}
 use Rattle.hs_rules.proofs.SlotLemmas.{into_slots}
 
 -- the places below the limit are the first ones, up to one that isn't

@@ -1,13 +1,14 @@
 -- What the types of a head lead to.
 use Rattle.std.proofs.Common.{◌≡◌, ◌≢◌, refl, sym, ◌∙◌, ap, subst, ℕ, zero, suc, ◌<◌, Bool, true, false, ◌&&◌, nat_eq, List, [], ◌∷◌, ◌++◌, length, map, take, drop, get_or, Option, arith, All, AllPairs, Contains, ◌≤◌, ◌+◌, ◌||◌, ◌⊎◌, ◌↔◌, inl, inr}
 use Rattle.std.specs.Bool.{Decides}
-use Rattle.std.proofs.lemmas.Bool.{eqb-true, eq-eqb, cases_order}
+use Rattle.std.proofs.lemmas.Bool.{eqb-true, eq-eqb, cases_order, and_parts}
 use Rattle.std.proofs.lemmas.List.{map-append, take-map, take-append-drop, drop_all, drop-append-le, length-map, length-append}
 use Rattle.std.proofs.lemmas.List.Elements.{Contains-push, Contains-append_left, Contains-append_right, Contains-append_cases, All-contains}
 use Rattle.std.proofs.lemmas.List.Quantifiers.{all_pairs_push}
 use Rattle.hs_table.specs.Entries.{Env, EntryData, IsEnv}
 use Rattle.hs_table_laws.proofs.Places.{some_same, at_take, member_at, here, later, uncons, none_in}
 use Rattle.hs_table_laws.proofs.Sets.{envs_same}
+use Rattle.hs_table_laws.proofs.Members.{from_map, into_map}
 use Rattle.hs_types.specs.Interned.{InternerData, set_of_id, env_of_id, RowData, Grows}
 use Rattle.hs_types.specs.contracts.ids.RowPartialEq.TheImpl.{eq-value}
 use Rattle.hs_types.proofs.Numbers.{env_within, env_stays, set_within, set_stays, type_within}
@@ -17,18 +18,13 @@ use Rattle.hs_rules.specs.Filling.{fixed_of, IsFilled, AreFilled}
 use Rattle.hs_rules.specs.Joins.{PartialData, FillsBy, ArePlaced, AreJoined}
 use Rattle.hs_rules.specs.Found.{SearchData, HeadData, IsKnown, HaveEnvs, RowsAre, IsRowOf, HasRow, LeadsTo, IsConclusion, IsFound}
 use Rattle.hs_rules.specs.declared.joining.TheConstants.{FEW}
-use Rattle.hs_rules.proofs.Lists.{from_map, into_map, taken_cases}
+use Rattle.hs_rules.proofs.Lists.{taken_cases}
 use Rattle.hs_rules.proofs.SlotLemmas.{slot_of}
-
-both : (b c : Bool) → b && c ≡ true → (b ≡ true) × (c ≡ true)
-both true true h = (refl, refl)
-both true false h = absurd (cc)
-both false c h = absurd (cc)
 
 row_true : (a b : RowData) → eq-value.it a b ≡ true → a ≡ b
 row_true a b h =
-    let p = both (nat_eq a.point b.point) (nat_eq a.env b.env && nat_eq a.ty b.ty) h in
-    let q = both (nat_eq a.env b.env) (nat_eq a.ty b.ty) p.1 in
+    let p = and_parts (nat_eq a.point b.point) (nat_eq a.env b.env && nat_eq a.ty b.ty) h in
+    let q = and_parts (nat_eq a.env b.env) (nat_eq a.ty b.ty) p.1 in
     λ i. record { point = eqb-true a.point b.point p.0 i; env = eqb-true a.env b.env q.0 i; ty = eqb-true a.ty b.ty q.1 i }
 
 row_own : (a : RowData) → eq-value.it a a ≡ true

@@ -7,12 +7,13 @@ use Rattle.hs_table.specs.declared.support.HeadBy.{HeadBy}
 use Rattle.hs_table.specs.Types.{TypeTree, arrows}
 use Rattle.hs_table.specs.Entries.{Env, EntryData}
 use Rattle.hs_table_laws.proofs.Places.{none_in, within_from}
+use Rattle.hs_table_laws.proofs.Members.{taken_next, pushed_cases}
 use Rattle.hs_types.specs.Interned.{InternerData, type_of_id, set_of_id, env_of_id, Grows}
 use Rattle.hs_types.proofs.Numbers.{type_within, type_stays, env_within, env_stays}
 use Rattle.hs_replica.specs.Places.{Question, Answers, ArePlaces}
 use Rattle.hs_rules.specs.Found.{HeadData}
 use Rattle.hs_rules.specs.Heads.{head_type, IsWhole, HasType, GainsHeads, ParamAt, AtSome, AtFlow}
-use Rattle.hs_rules.proofs.Lists.{in_pushed, read_again, taken_next, taken_cases}
+use Rattle.hs_rules.proofs.Lists.{read_again, taken_cases}
 use Rattle.hs_rules.proofs.ArrowLemmas.{arrows_first, arrows_parts}
 use Rattle.hs_rules.proofs.FoundLemmas.{sets_stay, sets_within}
 
@@ -49,7 +50,7 @@ heads_none ids count From heads never = record {
 pub heads_one : (ids : InternerData) (count : ℕ) (From : HeadBy → Env → TypeTree → Type 0) (old new : List HeadData) (h : HeadData) → new ≡ old ++ h ∷ [] → IsWhole ids count h
     → From h.by (env_of_id ids h.own) (head_type ids h) → ((by : HeadBy) (own : Env) (ty : TypeTree) → From by own ty → ty ≡ head_type ids h) → GainsHeads ids count From old new
 heads_one ids count From old new h is whole from only = record {
-  sound = λ x c. elim (in_pushed old h x (subst (λ (hs : List HeadData). Contains hs x) is c)) [
+  sound = λ x c. elim (pushed_cases old h x (subst (λ (hs : List HeadData). Contains hs x) is c)) [
     | inl was ↦ inl was
     | inr e ↦ inr (subst (λ (y : HeadData). IsWhole ids count y × From y.by (env_of_id ids y.own) (head_type ids y)) (sym e) (whole, from))
   ];

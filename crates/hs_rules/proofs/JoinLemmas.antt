@@ -3,16 +3,17 @@ use Rattle.std.proofs.Common.{◌≡◌, refl, sym, ◌∙◌, ap, subst, ℕ, �
 use Rattle.std.specs.Bool.{OnTrue}
 use Rattle.std.specs.List.{list_any}
 use Rattle.std.proofs.lemmas.Map.Made.{is_member-Decides}
-use Rattle.std.proofs.lemmas.List.Elements.{Contains-append_left, Contains-push}
+use Rattle.std.proofs.lemmas.List.Elements.{Contains-append_left, Contains-push, Contains-get_or}
 use Rattle.hs_table.specs.Entries.{Env, EntryData, IsEnv}
+use Rattle.hs_table_laws.proofs.Members.{only}
 use Rattle.hs_types.specs.Interned.{InternerData, env_of_id, RowData, entry_of, Grows, IsUnionEnv}
 use Rattle.hs_types.specs.contracts.ids.EnvIdPartialEq.TheImpl.{eq-value}
 use Rattle.hs_types.proofs.Numbers.{env_within, env_stays}
 use Rattle.hs_table_laws.proofs.Places.{some_same, here, within_from, place_of, member_at, at_take}
 use Rattle.hs_rules.specs.Slots.{FilledData, Picked, none_left, pick, IsJoin}
 use Rattle.hs_rules.specs.Joins.{PartialData, FillsBy, IsPlaced, ArePlaced, SeenAre, IsMade, IsMadeOf, IsCovered, CanExtend, AreJoined}
-use Rattle.hs_rules.proofs.Lists.{read_in, read_other}
-use Rattle.hs_rules.proofs.SetLemmas.{only, env_same}
+use Rattle.hs_rules.proofs.Lists.{read_other}
+use Rattle.hs_rules.proofs.SetLemmas.{env_same}
 use Rattle.hs_rules.proofs.SlotLemmas.{picked_append, last_of, none_of, join_none, join_more}
 
 -- one more is seen, and is in the list
@@ -152,11 +153,11 @@ joined_none I log own found x known is_env is env args = record {
 -- a place of a slot is in the log
 pub place_within : (first log : List EntryData) (f : FilledData) (n k : ℕ) (items : List ℕ) → log ≡ first → items ≡ f.places → k < length items → ArePlaced first n f → get_or items k 0 < length log
 place_within first log f n k items same is lt placed =
-    let p = placed (get_or items k 0) (subst (λ (xs : List ℕ). Contains xs (get_or items k 0)) is (read_in items k 0 lt)) in
+    let p = placed (get_or items k 0) (subst (λ (xs : List ℕ). Contains xs (get_or items k 0)) is (Contains-get_or items k 0 lt)) in
     subst (λ (l : List EntryData). get_or items k 0 < length l) (sym same) (within_from first (get_or items k 0) p.entry p.at)
 
 pub place_placed : (first : List EntryData) (f : FilledData) (n k : ℕ) (items : List ℕ) → items ≡ f.places → k < length items → ArePlaced first n f → IsPlaced first n (get_or items k 0)
-place_placed first f n k items is lt placed = placed (get_or items k 0) (subst (λ (xs : List ℕ). Contains xs (get_or items k 0)) is (read_in items k 0 lt))
+place_placed first f n k items is lt placed = placed (get_or items k 0) (subst (λ (xs : List ℕ). Contains xs (get_or items k 0)) is (Contains-get_or items k 0 lt))
 
 pub record Reached (log : List EntryData) (items : List ℕ) (index : ℕ) (e : EntryData) : Type 0 where
   pub k : ℕ

@@ -13,6 +13,7 @@ use Rattle.hs_table.specs.declared.support.HeadBy.TheVariants.{Terminal, Rule, P
 use Rattle.hs_table.specs.Entries.{EntryData, InShape, IsEnv, params_of}
 use Rattle.hs_table.specs.Follows.{Support, head_premise}
 use Rattle.hs_table_laws.proofs.Places.{some_same, place_of, none_in}
+use Rattle.hs_table_laws.proofs.Members.{into_map, only}
 use Rattle.hs_types.specs.Interned.{InternerData, RowData, entry_of, Grows}
 use Rattle.hs_types.proofs.Numbers.{row_stays}
 use Rattle.hs_replica.specs.Replica.{ReplicaData, KeepsLog}
@@ -22,10 +23,9 @@ use Rattle.hs_rules.specs.declared.joining.TheConstants.{FEW}
 use Rattle.hs_rules.specs.Filling.{CanSearch, IsWithin}
 use Rattle.hs_rules.specs.Found.{HaveEnvs, RowsAre}
 use Rattle.hs_rules.specs.Parts.{ArePart, HasAll, UsesArgument, IsPlaceOf, IsInRule}
-use Rattle.hs_rules.proofs.Lists.{into_map, all_from}
+use Rattle.hs_rules.proofs.Lists.{all_from}
 use Rattle.hs_rules.specs.Heads.{IsHeadWithin}
 use Rattle.hs_rules.proofs.PointLemmas.{params_are}
-use Rattle.hs_rules.proofs.SetLemmas.{only}
 
 -- each row once
 read_map : (found : List DeducedData) (i : ℕ) (d : DeducedData) → get_or (map (λ (x : DeducedData). x.row) found) i d.row ≡ (get_or found i d).row

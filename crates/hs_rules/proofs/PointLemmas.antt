@@ -1,5 +1,5 @@
 -- The arguments of a point stand in its rule, and are fewer than 2^32.
-use Rattle.std.proofs.Common.{◌≡◌, refl, sym, ◌∙◌, ap, subst, ℕ, zero, suc, ◌+◌, ◌^◌, ◌<◌, ◌≤◌, List, [], ◌∷◌, ◌++◌, length, get_or, slice_get, slice_index, Some, arith, All, Contains, ◌⊎◌, inl, inr}
+use Rattle.std.proofs.Common.{◌≡◌, refl, sym, ◌∙◌, ap, subst, ℕ, zero, suc, ◌+◌, ◌^◌, ◌<◌, ◌≤◌, List, [], ◌∷◌, length, get_or, slice_get, slice_index, Some, arith, All, Contains, inl, inr}
 use Rattle.std.proofs.lemmas.Option.{slice_get-get_or}
 use Rattle.std.proofs.lemmas.Bool.{cases_order}
 use Rattle.std.proofs.lemmas.List.Elements.{All-contains}
@@ -12,48 +12,7 @@ use Rattle.hs_scheme.specs.Parameters.{counts_of}
 use Rattle.hs_scheme.proofs.PointLemmas.{length-term_points}
 use Rattle.hs_scheme.proofs.PlaceLemmas.{once}
 use Rattle.hs_table_laws.proofs.Places.{some_same, fewer, here, later}
-
--- ys stands in xs from n on
-record Stands {A : Type 0} (xs : List A) (n : ℕ) (ys : List A) : Type 0 where
-  at : (i : ℕ) (y : A) → slice_get ys i ≡ Some y → slice_get xs (n + i) ≡ Some y
-
-front_at : {A : Type 0} (xs ys : List A) (i : ℕ) (x : A) → slice_get xs i ≡ Some x → slice_get (xs ++ ys) i ≡ Some x
-front_at [] ys i x e = absurd (cc)
-front_at (y ∷ xs) ys zero x e = e
-front_at (y ∷ xs) ys (suc i) x e = front_at xs ys i x e
-
-back_at : {A : Type 0} (xs ys : List A) (i : ℕ) → slice_get (xs ++ ys) (length xs + i) ≡ slice_get ys i
-back_at [] ys i = let e : 0 + i ≡ i = omega arith in ap (λ k. slice_get ys k) e
-back_at (x ∷ xs) ys i = let e : length (x ∷ xs) + i ≡ suc (length xs + i) = omega arith in ap (λ k. slice_get (x ∷ (xs ++ ys)) k) e ∙ back_at xs ys i
-
-record Behind {A : Type 0} (xs ys : List A) (i : ℕ) (x : A) : Type 0 where
-  place : ℕ
-  is : i ≡ length xs + place
-  at : slice_get ys place ≡ Some x
-
-parts : {A : Type 0} (xs ys : List A) (i : ℕ) (x : A) → slice_get (xs ++ ys) i ≡ Some x → (slice_get xs i ≡ Some x) ⊎ Behind xs ys i x
-parts [] ys i x e = inr (record { place = i; is = omega arith; at = e })
-parts (y ∷ xs) ys zero x e = inl e
-parts (y ∷ xs) ys (suc i) x e = elim (parts xs ys i x e) [
-  | inl h ↦ inl h
-  | inr b ↦ inr (record { place = b.place; is = omega (arith, b.is); at = b.at })
-]
-
-stands_front : {A : Type 0} (all : List A) (n : ℕ) (xs ys : List A) → Stands all n (xs ++ ys) → Stands all n xs
-stands_front all n xs ys s = record { at = λ i y e. s.at i y (front_at xs ys i y e) }
-
-stands_back : {A : Type 0} (all : List A) (n m : ℕ) (xs ys : List A) → length xs ≡ m → Stands all n (xs ++ ys) → Stands all (n + m) ys
-stands_back all n m xs ys long s = record {
-  at = λ i y e.
-      let same : n + (length xs + i) ≡ n + m + i = omega (arith, long) in
-      ap (λ k. slice_get all k) (sym same) ∙ s.at (length xs + i) y (back_at xs ys i ∙ e);
-}
-
-stands_tail : {A : Type 0} (all : List A) (n : ℕ) (x : A) (xs : List A) → Stands all n (x ∷ xs) → Stands all (n + 1) xs
-stands_tail all n x xs s = record { at = λ i y e. let same : n + suc i ≡ n + 1 + i = omega arith in ap (λ k. slice_get all k) (sym same) ∙ s.at (suc i) y e }
-
-stands_head : {A : Type 0} (all : List A) (n : ℕ) (x : A) (xs : List A) → Stands all n (x ∷ xs) → slice_get all n ≡ Some x
-stands_head all n x xs s = let same : n + 0 ≡ n = omega arith in ap (λ k. slice_get all k) (sym same) ∙ s.at 0 x refl
+use Rattle.hs_table_laws.proofs.Standing.{StandsFrom, place-append, stands_front, stands_back, stands_tail, stands_head}
 
 module _ (points : List PointData) where
   abbrev InRule : ℕ → ℕ → Type 0
@@ -63,18 +22,18 @@ module _ (points : List PointData) where
     pub in_rule : d.rule ≡ rule
     pub arguments : (j a : ℕ) → slice_get d.args j ≡ Some a → InRule rule a
 
-  front_point : (rule n : ℕ) (t : Tree Head) → Stands points n (term_points rule n t) → InRule rule n
+  front_point : (rule n : ℕ) (t : Tree Head) → StandsFrom points n (term_points rule n t) → InRule rule n
   front_point rule n (node h ts) s =
       let d : PointData = record { rule = rule; head = h; args = numbers (n + 1) ts } in (d, stands_head points n d (terms_points rule (n + 1) ts) s, refl)
 
-  row_points : (rule n : ℕ) (ts : Trees Head) → Stands points n (terms_points rule n ts) → (j a : ℕ) → slice_get (numbers n ts) j ≡ Some a → InRule rule a
+  row_points : (rule n : ℕ) (ts : Trees Head) → StandsFrom points n (terms_points rule n ts) → (j a : ℕ) → slice_get (numbers n ts) j ≡ Some a → InRule rule a
   row_points rule n none s j a e = absurd (cc)
   row_points rule n (more t ts) s zero a e = subst (InRule rule) (some_same n a e) (front_point rule n t (stands_front points n (term_points rule n t) (terms_points rule (n + size t) ts) s))
   row_points rule n (more t ts) s (suc j) a e =
       row_points rule (n + size t) ts (stands_back points n (size t) (term_points rule n t) (terms_points rule (n + size t) ts) (length-term_points rule n t) s) j a e
 
   mutual
-    whole_term : (rule n : ℕ) (t : Tree Head) → Stands points n (term_points rule n t) → (i : ℕ) (d : PointData) → slice_get (term_points rule n t) i ≡ Some d → IsWhole rule d
+    whole_term : (rule n : ℕ) (t : Tree Head) → StandsFrom points n (term_points rule n t) → (i : ℕ) (d : PointData) → slice_get (term_points rule n t) i ≡ Some d → IsWhole rule d
     whole_term rule n (node h ts) s zero d e =
         let own : PointData = record { rule = rule; head = h; args = numbers (n + 1) ts } in
         subst (λ (q : PointData). IsWhole rule q) (some_same own d e) (record { in_rule = refl; arguments = row_points rule (n + 1) ts (stands_tail points n own (terms_points rule (n + 1) ts) s) })
@@ -82,16 +41,16 @@ module _ (points : List PointData) where
         let own : PointData = record { rule = rule; head = h; args = numbers (n + 1) ts } in
         whole_row rule (n + 1) ts (stands_tail points n own (terms_points rule (n + 1) ts) s) i d e
 
-    whole_row : (rule n : ℕ) (ts : Trees Head) → Stands points n (terms_points rule n ts) → (i : ℕ) (d : PointData) → slice_get (terms_points rule n ts) i ≡ Some d → IsWhole rule d
+    whole_row : (rule n : ℕ) (ts : Trees Head) → StandsFrom points n (terms_points rule n ts) → (i : ℕ) (d : PointData) → slice_get (terms_points rule n ts) i ≡ Some d → IsWhole rule d
     whole_row rule n none s i d e = absurd (cc)
-    whole_row rule n (more t ts) s i d e = elim (parts (term_points rule n t) (terms_points rule (n + size t) ts) i d e) [
+    whole_row rule n (more t ts) s i d e = elim (place-append (term_points rule n t) (terms_points rule (n + size t) ts) i d e) [
       | inl h ↦ whole_term rule n t (stands_front points n (term_points rule n t) (terms_points rule (n + size t) ts) s) i d h
       | inr b ↦ whole_row rule (n + size t) ts (stands_back points n (size t) (term_points rule n t) (terms_points rule (n + size t) ts) (length-term_points rule n t) s) b.place d b.at
     ]
 
-  whole_rules : (rule n : ℕ) (rest : List Rule) → Stands points n (rules_points rule n rest) → (i : ℕ) (d : PointData) → slice_get (rules_points rule n rest) i ≡ Some d → (f : ℕ) × IsWhole f d
+  whole_rules : (rule n : ℕ) (rest : List Rule) → StandsFrom points n (rules_points rule n rest) → (i : ℕ) (d : PointData) → slice_get (rules_points rule n rest) i ≡ Some d → (f : ℕ) × IsWhole f d
   whole_rules rule n [] s i d e = absurd (cc)
-  whole_rules rule n (r ∷ rest) s i d e = elim (parts (term_points rule n r.body) (rules_points (rule + 1) (n + size r.body) rest) i d e) [
+  whole_rules rule n (r ∷ rest) s i d e = elim (place-append (term_points rule n r.body) (rules_points (rule + 1) (n + size r.body) rest) i d e) [
     | inl h ↦ (rule, whole_term rule n r.body (stands_front points n (term_points rule n r.body) (rules_points (rule + 1) (n + size r.body) rest) s) i d h)
     | inr b ↦ whole_rules (rule + 1) (n + size r.body) rest
         (stands_back points n (size r.body) (term_points rule n r.body) (rules_points (rule + 1) (n + size r.body) rest) (length-term_points rule n r.body) s) b.place d b.at

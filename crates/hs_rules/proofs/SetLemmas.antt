@@ -1,17 +1,10 @@
 -- Sets that gain a member.
-use Rattle.std.proofs.Common.{◌≡◌, refl, ◌∙◌, ap, ℕ, Bool, true, false, List, [], ◌∷◌, ◌++◌, cond, inl, inr, Contains}
+use Rattle.std.proofs.Common.{◌≡◌, refl, ◌∙◌, ap, ℕ, Bool, true, false, List, [], ◌∷◌, ◌++◌, cond, Contains}
 use Rattle.std.specs.Bool.{Decides}
 use Rattle.std.specs.List.{list_any}
 use Rattle.std.proofs.lemmas.Bool.{eqb-true, eq-eqb}
 use Rattle.std.proofs.lemmas.Map.Made.{is_member-Decides}
 use Rattle.hs_types.specs.contracts.ids.EnvIdPartialEq.TheImpl.{eq-value}
-use Rattle.hs_table_laws.proofs.Places.{none_in, uncons}
-
-pub only : {X : Type 0} (x y : X) → Contains (x ∷ []) y → y ≡ x
-only x y c = elim (uncons x y [] c) [
-  | inl e ↦ e
-  | inr nowhere ↦ absurd (none_in y nowhere)
-]
 
 -- what isn't there comes to the end
 pub set_new : {K : Type 0} (eq : K → K → Bool) (same : (a b : K) → Decides (eq a b) (a ≡ b)) (old new : List K) (b : K) → new ≡ cond (list_any (eq b) old) old (old ++ b ∷ []) → (Contains old b → ⊥) → new ≡ old ++ b ∷ []

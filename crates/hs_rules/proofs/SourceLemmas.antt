@@ -1,6 +1,6 @@
 -- The types of a point's head, as they are wanted.
 use Rattle.std.proofs.Common.{◌≡◌, refl, sym, ◌∙◌, ap, subst, ℕ, ◌+◌, ◌<◌, ◌&&◌, nat_eq, None, Some, List, [], ◌∷◌, length, map, take, filter, replicate, set, slice_get, arith, Contains, inl, inr, ◌↔◌}
-use Rattle.std.proofs.lemmas.Bool.{eqb-true, eq-eqb}
+use Rattle.std.proofs.lemmas.Bool.{eqb-true, eq-eqb, and_parts, and_from}
 use Rattle.std.proofs.lemmas.List.{length-map}
 use Rattle.hs_scheme.specs.declared.term.Head.TheVariants.{Var, Nt, Tm}
 use Rattle.hs_scheme.specs.declared.flow.FlowPair.{FlowPair}
@@ -14,15 +14,16 @@ use Rattle.hs_table.specs.Types.{TypeTree, state, arrows}
 use Rattle.hs_table.specs.Entries.{Env, EntryData, Has, InShape, params_of}
 use Rattle.hs_table.specs.Follows.{rank_of, LacksTransition, RejectsChild, IsAt, FromBody, FromFlow, IsHeadType, head_premise}
 use Rattle.hs_table_laws.proofs.Places.{some_same, member_at, at_take, to_take, within_from, none_in}
+use Rattle.hs_table_laws.proofs.Arrows.{empties_has, one_long, one_has, label_of}
 use Rattle.hs_types.specs.Interned.{InternerData, type_of_id, set_of_id, env_of_id}
 use Rattle.hs_replica.specs.Places.{here as entries_at, takes, asks, Takes, ArePlaces}
 use Rattle.hs_replica.proofs.Firsts.{first_like}
 use Rattle.hs_rules.specs.Slots.{IsOwn}
 use Rattle.hs_rules.specs.Found.{HeadData}
 use Rattle.hs_rules.specs.Heads.{head_type, HasType, GainsHeads, BodyAt, ParamAt, AtSome, AtRange, ChildIn, ReadIn, Lacks, InState, AtFlow, AreHeads, Asks, ComesFrom, AnyHead}
-use Rattle.hs_rules.proofs.Lists.{from_filter, into_filter, and_true, both_true}
-use Rattle.hs_rules.proofs.ArrowLemmas.{arrows_long, takes_has, label_of}
-use Rattle.hs_rules.proofs.OwnLemmas.{own_body, own_terminal, own_param, empties_has, one_long, one_has}
+use Rattle.hs_rules.proofs.Lists.{from_filter, into_filter}
+use Rattle.hs_rules.proofs.ArrowLemmas.{arrows_long, takes_has}
+use Rattle.hs_rules.proofs.OwnLemmas.{own_body, own_terminal, own_param}
 
 -- from a source of types to the wanted types
 module _ (p : ProblemData) (E : List EntryData) (of : PointData) (ids : InternerData) (Wanted : HeadBy → Env → Type 0) (S : HeadBy → Env → TypeTree → Type 0) (heads : List HeadData)
@@ -163,14 +164,14 @@ module _ (p : ProblemData) (log : List EntryData) (limit rule : ℕ) (args : Lis
     flow_in : (f : FlowPair) → Contains pairs f → Contains p.flow.pairs (record { rule = rule; param = x; point = f.point })
     flow_in f c =
         let k = from_filter (λ (g : FlowPair). nat_eq g.rule rule && nat_eq g.param x) p.flow.pairs f (subst (λ (fs : List FlowPair). Contains fs f) are_pairs c) in
-        let t = and_true (nat_eq f.rule rule) (nat_eq f.param x) k.1 in
+        let t = and_parts (nat_eq f.rule rule) (nat_eq f.param x) k.1 in
         subst (λ (g : FlowPair). Contains p.flow.pairs g) (λ i. record { rule = eqb-true f.rule rule t.0 i; param = eqb-true f.param x t.1 i; point = f.point }) k.0
 
     in_flow : (u : ℕ) → Contains p.flow.pairs (record { rule = rule; param = x; point = u }) → Contains pairs (record { rule = rule; param = x; point = u })
     in_flow u c =
         let f : FlowPair = record { rule = rule; param = x; point = u } in
         subst (λ (fs : List FlowPair). Contains fs f) (sym are_pairs)
-        (into_filter (λ (g : FlowPair). nat_eq g.rule rule && nat_eq g.param x) p.flow.pairs f c (both_true (nat_eq rule rule) (nat_eq x x) (eq-eqb rule rule refl) (eq-eqb x x refl)))
+        (into_filter (λ (g : FlowPair). nat_eq g.rule rule && nat_eq g.param x) p.flow.pairs f c (and_from (nat_eq rule rule) (nat_eq x x) (eq-eqb rule rule refl) (eq-eqb x x refl)))
 
     -- those that take an argument of a type
     pub params_taking : (arg : ℕ) (a : TypeTree) → arg < length args → GainsHeads ids (length args) (AtFlow log n x limit (λ u. takes u arg a) pairs) [] heads → AreHeads p E at_parameter ids (Asks arg a) heads

@@ -12,6 +12,7 @@ use crate::deduced::Deduced;
 use crate::found::Found;
 use crate::gathering::{add_all, add_by_argument, add_by_head, add_seeds};
 use crate::search::Search;
+use crate::seeds::starts_nothing;
 use crate::spot::Spot;
 use hs_replica::Replica;
 use hs_scheme::{OutOfMemory, Problem};
@@ -95,7 +96,9 @@ pub fn conclusions(
 /// terminal, those by a state without a transition for it, and those by a child for which the point
 /// has no argument yet. The point is in range.
 ///
-/// Time is in proportion to the states and the children.
+/// Time is in proportion to the states and the children. Where nothing follows it is constant, but for a
+/// terminal, which takes a step for each state, and nothing is allocated; that is found so where the
+/// transitions of the terminal are in the order of their states.
 pub fn seed_conclusions(
     alloc: Global,
     problem: &Problem,
@@ -109,16 +112,19 @@ pub fn seed_conclusions(
     ensures spare { replica.new.spare ≡ replica.old.spare }
     ensures grows { Grows replica.old.ids replica.new.ids }
 {
-    replica.index()?;
     let points = &problem.points;
     let rule = points.rule_of(point);
     let head = points.head_of(point);
+    let args = arguments(problem, point);
+    if starts_nothing(problem, head, args) {
+        return Ok(Vec::new(alloc));
+    }
+    replica.index()?;
     let spot = Spot {
         problem,
         rule,
         params: parameters(problem, rule),
     };
-    let args = arguments(problem, point);
     let mut found = none_found(alloc);
     add_seeds(alloc, &spot, replica, point, args, head, &mut found)?;
     Ok(found.list)

@@ -11,6 +11,7 @@ mod joining;
 mod nonterminals;
 mod parameters;
 mod search;
+mod seeds;
 mod sources;
 mod spot;
 mod terminals;

@@ -3,8 +3,9 @@ use Rattle.std.proofs.lemmas.List.{map-append, length-map}
 use Rattle.std.proofs.lemmas.List.Elements.{All-push}
 use Rattle.hs_table.specs.Types.{arrows}
 use Rattle.hs_table.specs.Entries.{Env}
+use Rattle.hs_table_laws.proofs.Arrows.{arrows-append}
 use Rattle.hs_types.specs.Interned.{type_of_id, set_of_id}
-use Rattle.hs_rules.proofs.ArrowLemmas.{arrows_long, arrows-append}
+use Rattle.hs_rules.proofs.ArrowLemmas.{arrows_long}
 use Rattle.hs_rules.proofs.heads.split.Goals as goal
 
 pub returns-in-State : goal.returns-in-State

@@ -1,11 +1,11 @@
 use Rattle.std.proofs.Common.{◌≡◌, sym, ◌∙◌, ap, subst, ℕ, ◌<◌, ◌++◌, ◌∷◌, [], length, get_or, slice_get, Some, inl, inr, Contains}
+use Rattle.std.proofs.lemmas.List.Elements.{Contains-get_or}
 use borrow.Author.Count.{below_more}
 use Rattle.hs_table.specs.Entries.{EntryData}
 use Rattle.hs_types.specs.Interned.{env_of_id, IsUnionEnv}
 use Rattle.hs_types.proofs.Numbers.{env_within}
 use Rattle.hs_rules.specs.Slots.{FilledData}
 use Rattle.hs_rules.specs.Joins.{PartialData, IsCovered}
-use Rattle.hs_rules.proofs.Lists.{read_in}
 use Rattle.hs_rules.proofs.KeepLemmas.{keeps_then}
 use Rattle.hs_rules.proofs.JoinLemmas.{place_within, place_placed, same_length, made_next, covered_stays, covered_next, reached}
 use Rattle.hs_rules.proofs.joining.extend.Goals as goal
@@ -50,7 +50,7 @@ loop-place-preserved c =
     let arg_is = ap (λ (x : FilledData). x.arg) c.slot.view_is in
     let places_is = c.as_slice-place-items.ensures ∙ ap (λ (x : FilledData). x.places) c.slot.view_is in
     let at = ap (λ l. slice_get l place) (sym c.loop-place.invariant.kept.log) ∙ c.row-candidate.ensures.entry in
-    let there = subst (λ xs. Contains xs place) places_is (read_in items c.loop-place.place-index 0 c.loop-place-test.true) in
+    let there = subst (λ xs. Contains xs place) places_is (Contains-get_or items c.loop-place.place-index 0 c.loop-place-test.true) in
     let within = c.in_ok-joined.ensures.ok.0 in
     let union = subst (λ (n : ℕ). IsUnionEnv (env_of_id J n) (env_of_id J row.env) (env_of_id K id)) env_is c.in_ok-joined.ensures.ok.1 in
     record {

@@ -1,9 +1,9 @@
 use Rattle.std.proofs.Common.{refl, sym, ◌∙◌, ap, subst, ℕ, List, ◌∷◌, [], ◌++◌, length, take, Contains}
 use Rattle.hs_table.specs.Entries.{EntryData}
+use Rattle.hs_table_laws.proofs.Members.{taken_next}
 use Rattle.hs_types.specs.Interned.{env_of_id}
 use Rattle.hs_rules.specs.Slots.{FilledData}
 use Rattle.hs_rules.specs.Joins.{PartialData, FillsBy, CanExtend, IsMadeOf, IsCovered, AreJoined}
-use Rattle.hs_rules.proofs.Lists.{taken_next}
 use Rattle.hs_rules.proofs.KeepLemmas.{keeps_none, keeps_then}
 use Rattle.hs_rules.proofs.JoinLemmas.{joined_none, joined_next, can_extend}
 use Rattle.hs_rules.proofs.joining.joined.Goals as goal

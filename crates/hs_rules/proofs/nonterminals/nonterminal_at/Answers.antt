@@ -6,11 +6,11 @@ use Rattle.hs_scheme.specs.Problem.{ProblemData}
 use Rattle.hs_table.specs.Entries.{Env, EntryData, InShape, params_of}
 use Rattle.hs_scheme.specs.declared.term.Head.TheVariants.{Nt}
 use Rattle.hs_table_laws.proofs.Places.{some_same, none_in, here}
+use Rattle.hs_table_laws.proofs.Members.{only}
 use Rattle.hs_rules.specs.Found.{HeadData}
 use Rattle.hs_types.specs.Interned.{env_of_id, entry_of}
 use Rattle.hs_rules.specs.Heads.{GainsHeads, BodyAt, AtSome, AreHeads, ComesFrom}
 use Rattle.hs_rules.proofs.HeadLemmas.{heads_start}
-use Rattle.hs_rules.proofs.SetLemmas.{only}
 use Rattle.hs_rules.proofs.Lists.{along, all_from}
 use Rattle.hs_rules.proofs.SourceLemmas.{bodies_from_place}
 use Rattle.hs_rules.proofs.nonterminals.nonterminal_at.Goals as goal

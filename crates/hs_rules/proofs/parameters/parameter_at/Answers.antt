@@ -4,12 +4,12 @@ use Rattle.hs_scheme.specs.declared.flow.FlowPair.{FlowPair}
 use Rattle.hs_scheme.specs.Problem.{ProblemData}
 use Rattle.hs_scheme.specs.declared.term.Head.TheVariants.{Var}
 use Rattle.hs_table.specs.Entries.{EntryData, InShape, params_of}
+use Rattle.hs_table_laws.proofs.Members.{only}
 use Rattle.hs_types.specs.Interned.{entry_of}
 use Rattle.hs_table_laws.proofs.Places.{some_same, none_in, here}
 use Rattle.hs_rules.specs.Found.{HeadData}
 use Rattle.hs_rules.specs.Heads.{GainsHeads, ParamAt, AtSome, AreHeads, ComesFrom}
 use Rattle.hs_rules.proofs.HeadLemmas.{heads_start}
-use Rattle.hs_rules.proofs.SetLemmas.{only}
 use Rattle.hs_rules.proofs.Lists.{along, all_from}
 use Rattle.hs_rules.proofs.SourceLemmas.{params_from_place}
 use Rattle.hs_rules.proofs.parameters.parameter_at.Goals as goal

@@ -8,11 +8,11 @@ use Rattle.hs_scheme.specs.Sorted.{SortedData, IsSorted}
 use Rattle.hs_scheme.specs.Problem.{ProblemData}
 use Rattle.hs_table.specs.Types.{TypeTree, state}
 use Rattle.hs_table.specs.Entries.{Env, EntryData, InShape, params_of}
+use Rattle.hs_table_laws.proofs.Arrows.{state_no_arrow}
 use Rattle.hs_types.specs.Interned.{InternerData, type_of_id, set_of_id, env_of_id, IsView}
 use Rattle.hs_types.specs.declared.ids.View.TheVariants.{Arrow}
 use Rattle.hs_rules.specs.Heads.{GainsHeads, AtSome, ReadIn, AreHeads, Asks}
 use Rattle.hs_rules.proofs.Lists.{along}
-use Rattle.hs_rules.proofs.ArrowLemmas.{state_no_arrow}
 use Rattle.hs_rules.proofs.RankLemmas.{ranks_agree}
 use Rattle.hs_rules.proofs.SourceLemmas.{terminals_asking, terminals_asking_none}
 use Rattle.hs_rules.proofs.terminals.terminal_asking.Goals as goal
