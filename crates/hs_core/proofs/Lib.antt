@@ -1,4 +1,5 @@
 pub mod Telling
+pub mod Keeping
 pub mod Stepping
 pub mod Slots
 pub mod Moving

@@ -54,7 +54,7 @@ fields_of a = record {
   pending = a.pending.items;
   flight = under a.tickets;
   past = a.past;
-  journal = a.journal.items;
+  journal = a.journal.steps;
   start = a.start;
 }
 

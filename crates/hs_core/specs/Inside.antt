@@ -64,7 +64,8 @@ pub record KnowsStart (p : ProblemData) (log : List EntryData) (start : Option �
   pub place : (i : ℕ) → start ≡ Some i → StartsAt p log i
   pub none : start ≡ None → HasStart p log → ⊥
 
--- the numbers of a core: events for which there is room, works in flight, and of each list how many items it has and how many it can have
+-- the numbers of a core: events for which there is room, works in flight, and of each list how many items it has and how many it can have; of
+-- the journal for how many more there is room
 pub record Counts : Type 0 where
   pub spare : ℕ
   pub replica : ℕ
@@ -74,7 +75,6 @@ pub record Counts : Type 0 where
   pub supports_room : ℕ
   pub pending : ℕ
   pub pending_room : ℕ
-  pub journal : ℕ
   pub journal_room : ℕ
 
 pub record HasRoom (n : Counts) : Type 0 where
@@ -82,7 +82,7 @@ pub record HasRoom (n : Counts) : Type 0 where
   pub tickets : n.held + n.spare ≤ n.tickets
   pub supports : n.supports + n.spare ≤ n.supports_room
   pub pending : n.pending + n.held + n.spare ≤ n.pending_room
-  pub journal : n.journal + n.held + 2 * n.spare ≤ n.journal_room
+  pub journal : n.held + 2 * n.spare ≤ n.journal_room
 
 pub record IsInside (base : Base) (f : Fields) : Type 0 where
   pub least_budget : 1 ≤ base.budget

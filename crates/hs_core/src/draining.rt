@@ -49,7 +49,7 @@ fn publish_all(
         (All (IsThere core.new) found.items) (IsSome (state_of core.new).kept)) }
 {
     for deduced in found {
-        core.reserve(1)?;
+        core.reserve_some()?;
         if let Published::Over = core.publish(worker, ticket, deduced) {
             return Ok(false);
         }
@@ -130,7 +130,7 @@ fn turn<G: Gate>(
     ensures flight { NothingFlies core.new }
     ensures more { IfOk result (λ more. MatchBool more (weight core.new < weight core.old) (Ends core.new)) }
 {
-    core.reserve(1)?;
+    core.reserve_some()?;
     core.is_core();
     let Taken::Item { work, ticket } = core.take(worker) else {
         return Ok(false);

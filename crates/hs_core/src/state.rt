@@ -10,14 +10,18 @@ ghost use Rattle.hs_core.specs.Core.{state_of, log_of, deduction_of, StartsAt, I
 ghost use Rattle.hs_core.specs.Answers.{IsFound};
 
 use crate::backing::Backing;
+use crate::journal::Journal;
 use crate::tickets::Tickets;
-use hs_history::{Flight, Step, Work};
+use hs_history::{Flight, Work};
 use hs_rules::{Deduced, Replica};
 use hs_scheme::{OutOfMemory, Problem};
 use hs_table::{Entry, HeadBy};
 use std::alloc::Global;
 use std::collections::VecDeque;
 use std::marker::Model;
+
+/// So many events have room at once where room is made ahead.
+const AHEAD: u32 = 64;
 
 /// A log of entries with the support of each, the works that are pending and in flight, perhaps an
 /// entry past the budget, and what has happened so far. It borrows its problem.
@@ -28,8 +32,8 @@ use std::marker::Model;
 /// story leads to.
 ///
 /// Beside what the replica needs, an entry costs a support of some 50 bytes, with 8 more for each
-/// chosen argument where there are more than two, and some four events of 24 bytes; a work is one of
-/// these events more where it is given back.
+/// chosen argument where there are more than two, 8 bytes while its work is pending, and some three
+/// events of the journal, which take 3 bytes each with one worker and mostly 11 with several.
 #[derive(Drop)]
 pub struct Core<'p> {
     pub(crate) problem: &'p Problem,
@@ -42,7 +46,7 @@ pub struct Core<'p> {
     pub(crate) pending: VecDeque<Work>,
     pub(crate) tickets: Tickets,
     pub(crate) past: Option<Deduced>,
-    pub(crate) journal: Vec<Step>,
+    pub(crate) journal: Journal,
     /// The place of the start entry.
     pub(crate) start: Option<u32>,
     pub(crate) spare: u32,
@@ -62,7 +66,7 @@ impl<'p> Model for Core<'p> {
     ghost view = { λ a. record {
       base = record { problem = a.problem.now; budget = a.budget; first = a.first };
       ids = a.replica.ids;
-      story = story_in a.replica.ids a.replica.log a.supports.items a.past a.journal.items;
+      story = story_in a.replica.ids a.replica.log a.supports.items a.past a.journal.steps;
       spare = a.spare;
     } };
 
@@ -74,7 +78,7 @@ impl<'p> Model for Core<'p> {
           pending = a.pending.items;
           flight = under a.tickets;
           past = a.past;
-          journal = a.journal.items;
+          journal = a.journal.steps;
           start = a.start;
         })
         × HasRoom (record {
@@ -86,8 +90,7 @@ impl<'p> Model for Core<'p> {
           supports_room = vec_capacity a.supports;
           pending = deque_len a.pending;
           pending_room = deque_capacity a.pending;
-          journal = vec_len a.journal;
-          journal_room = vec_capacity a.journal;
+          journal_room = a.journal.room;
         }) };
 }
 
@@ -133,7 +136,7 @@ impl<'p> Core<'p> {
             pending,
             tickets: Tickets::new(alloc),
             past: None,
-            journal: Vec::new(alloc),
+            journal: Journal::new(alloc),
             start: None,
             spare: 0,
         })
@@ -163,6 +166,19 @@ impl<'p> Core<'p> {
         self.journal.reserve(held + 2 * k as usize)?;
         self.spare = k;
         Ok(())
+    }
+
+    /// Makes room for an event where there is none, and then for some more behind it, so that most
+    /// calls do nothing. After a refusal of memory nothing has changed.
+    pub fn reserve_some(&mut self) -> Result<(), OutOfMemory>
+        ensures same { OnOk result (self.new ≡ record self.old { spare = self.new.spare }) }
+        ensures some { OnOk result (1 ≤ self.new.spare) }
+        ensures err { OnErr result (self.new ≡ self.old) }
+    {
+        if self.spare != 0 {
+            return Ok(());
+        }
+        self.reserve(AHEAD)
     }
 
     /// Whether nothing is pending, in flight or kept: then the log is the least table. This and the
@@ -231,10 +247,10 @@ impl<'p> Core<'p> {
 
     /// What has happened, the first step first. An entry that was added is told by its place in the
     /// log, and one past the budget is the kept one.
-    pub fn journal(&self) -> &[Step]
-        ensures { told (log_of self.now) (state_of self.now).supports (state_of self.now).kept result.now ≡ self.now.story }
+    pub fn journal(&self) -> &Journal
+        ensures { told (log_of self.now) (state_of self.now).supports (state_of self.now).kept result.now.steps ≡ self.now.story }
     {
-        self.journal.as_slice()
+        &self.journal
     }
 
     /// How many entries the log is to hold at most.

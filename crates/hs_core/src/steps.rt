@@ -40,7 +40,7 @@ impl<'p> Core<'p> {
             };
         };
         let ticket = self.tickets.insert(Flight { worker, work });
-        self.journal.push_reserved(Step {
+        self.journal.push(Step {
             worker,
             event: Event::Take { work, ticket },
         });
@@ -91,7 +91,7 @@ impl<'p> Core<'p> {
         let Deduced { row: _, head, args } = deduced;
         self.supports.push_reserved(Backing::of(head, args));
         self.pending.push_back_reserved(Work::Place(place));
-        self.journal.push_reserved(Step {
+        self.journal.push(Step {
             worker,
             event: Event::Added { ticket, place },
         });
@@ -107,7 +107,7 @@ impl<'p> Core<'p> {
         ensures { self.new ≡ stepped self.old worker (passes ticket (deduction_of self.old.ids deduced)) (self.old.spare - 1) }
     {
         self.past = Some(deduced);
-        self.journal.push_reserved(Step {
+        self.journal.push(Step {
             worker,
             event: Event::PastBudget { ticket },
         });
@@ -145,7 +145,7 @@ impl<'p> Core<'p> {
         ensures { self.new ≡ stepped self.old worker (finishes ticket) self.old.spare }
     {
         let _closed = self.tickets.remove(ticket);
-        self.journal.push_reserved(Step {
+        self.journal.push(Step {
             worker,
             event: Event::Finish { ticket },
         });
@@ -159,7 +159,7 @@ impl<'p> Core<'p> {
     {
         let flight = self.tickets.remove(ticket);
         self.pending.push_back_reserved(flight.work);
-        self.journal.push_reserved(Step {
+        self.journal.push(Step {
             worker,
             event: Event::GiveBack { ticket },
         });

@@ -45,16 +45,16 @@ pub(crate) fn tell<'p>(guard: &mut Guard<'_, Held<'p>>, seat: &mut Seat<Held<'p>
     guard.tell(seat);
 }
 
-/// Makes room for one event, and takes a work.
+/// Makes room for an event, and takes a work.
 pub(crate) fn take_work(core: &mut Core, worker: u32) -> Result<Taken, OutOfMemory>
     ensures ok { IfOk result (λ taken. (spare : ℕ) × Takes (record core.old { spare = spare }) worker taken core.new) }
     ensures err { OnErr result (core.new ≡ core.old) }
 {
-    core.reserve(1)?;
+    core.reserve_some()?;
     Ok(core.take(worker))
 }
 
-/// Makes room for one event, brings the deduction from the replica's interner and publishes it.
+/// Makes room for an event, brings the deduction from the replica's interner and publishes it.
 pub(crate) fn publish_deduction(
     core: &mut Core,
     worker: u32,
@@ -69,7 +69,7 @@ pub(crate) fn publish_deduction(
         × Publishes found worker ticket (deduction_of replica.now.ids deduced.now) published core.new) }
     ensures err { OnErr result ((core.new.base ≡ core.old.base) × (core.new.story ≡ core.old.story)) }
 {
-    core.reserve(1)?;
+    core.reserve_some()?;
     let brought = core.bring(replica.interner(), deduced)?;
     core.is_core();
     Ok(core.publish(worker, ticket, brought))

@@ -9,52 +9,52 @@ use Rattle.hs_core.proofs.draining.publish_all.Goals as goal
 pub publish-requires-clause-follows : goal.publish-requires-clause-follows
 publish-requires-clause-follows c =
     let a = c.args.core.now in
-    let b = c.reserve.new.self in
+    let b = c.reserve_some.new.self in
     let d = c.in-Some.deduced in
     let whole = sym (ap (λ xs. c.loop-deduced.yielded ++ xs) c.in-Some.ensures.steps.0) ∙ c.loop-deduced.invariant.whole in
-    let moves = moves_reserved a c.loop-deduced.core b _ c.loop-deduced.invariant.moves c.in_ok-reserve.ensures.ok in
-    let ids = ap (λ (x : CoreData). x.ids) c.in_ok-reserve.ensures.ok ∙ c.loop-deduced.invariant.ids in
+    let moves = moves_reserved a c.loop-deduced.core b _ c.loop-deduced.invariant.moves c.in_ok-reserve_some.ensures.same in
+    let ids = ap (λ (x : CoreData). x.ids) c.in_ok-reserve_some.ensures.same ∙ c.loop-deduced.invariant.ids in
     (ready_still a b d moves.alone ids (next_ready a c.args.found.items c.loop-deduced.yielded _ d c.requires.ready whole)).follows
 
 pub returns-in-Over-clause-goes : goal.returns-in-Over-clause-goes
 returns-in-Over-clause-goes c =
     let a = c.args.core.now in
-    let b = c.reserve.new.self in
-    (moves_trans a b c.publish.new.self (moves_reserved a c.loop-deduced.core b _ c.loop-deduced.invariant.moves c.in_ok-reserve.ensures.ok)
+    let b = c.reserve_some.new.self in
+    (moves_trans a b c.publish.new.self (moves_reserved a c.loop-deduced.core b _ c.loop-deduced.invariant.moves c.in_ok-reserve_some.ensures.same)
     (publish_moves c.args.worker b c.publish.new.self c.args.ticket (deduction_of b.ids c.in-Some.deduced) Over c.in-Over.ensures)).alone
 
 pub returns-in-Over-clause-flight : goal.returns-in-Over-clause-flight
 returns-in-Over-clause-flight c =
     let a = c.args.core.now in
-    let b = c.reserve.new.self in
-    (moves_trans a b c.publish.new.self (moves_reserved a c.loop-deduced.core b _ c.loop-deduced.invariant.moves c.in_ok-reserve.ensures.ok)
+    let b = c.reserve_some.new.self in
+    (moves_trans a b c.publish.new.self (moves_reserved a c.loop-deduced.core b _ c.loop-deduced.invariant.moves c.in_ok-reserve_some.ensures.same)
     (publish_moves c.args.worker b c.publish.new.self c.args.ticket (deduction_of b.ids c.in-Some.deduced) Over c.in-Over.ensures)).flight
 
 pub returns-in-Over-clause-weight : goal.returns-in-Over-clause-weight
 returns-in-Over-clause-weight c =
     let a = c.args.core.now in
-    let b = c.reserve.new.self in
-    (moves_trans a b c.publish.new.self (moves_reserved a c.loop-deduced.core b _ c.loop-deduced.invariant.moves c.in_ok-reserve.ensures.ok)
+    let b = c.reserve_some.new.self in
+    (moves_trans a b c.publish.new.self (moves_reserved a c.loop-deduced.core b _ c.loop-deduced.invariant.moves c.in_ok-reserve_some.ensures.same)
     (publish_moves c.args.worker b c.publish.new.self c.args.ticket (deduction_of b.ids c.in-Some.deduced) Over c.in-Over.ensures)).lighter
 
 pub returns-in-Over-clause-ids : goal.returns-in-Over-clause-ids
 returns-in-Over-clause-ids c =
-    let b = c.reserve.new.self in
-    publish_ids c.args.worker b c.publish.new.self c.args.ticket (deduction_of b.ids c.in-Some.deduced) Over c.in-Over.ensures ∙ ap (λ (x : CoreData). x.ids) c.in_ok-reserve.ensures.ok ∙ c.loop-deduced.invariant.ids
+    let b = c.reserve_some.new.self in
+    publish_ids c.args.worker b c.publish.new.self c.args.ticket (deduction_of b.ids c.in-Some.deduced) Over c.in-Over.ensures ∙ ap (λ (x : CoreData). x.ids) c.in_ok-reserve_some.ensures.same ∙ c.loop-deduced.invariant.ids
 
 pub returns-in-Over-clause-all : goal.returns-in-Over-clause-all
-returns-in-Over-clause-all c = no_room_kept c.args.worker c.reserve.new.self c.publish.new.self c.args.ticket (deduction_of c.reserve.new.self.ids c.in-Some.deduced) c.in-Over.ensures
+returns-in-Over-clause-all c = no_room_kept c.args.worker c.reserve_some.new.self c.publish.new.self c.args.ticket (deduction_of c.reserve_some.new.self.ids c.in-Some.deduced) c.in-Over.ensures
 
 pub loop-deduced-preserved : goal.loop-deduced-preserved
 loop-deduced-preserved c =
     let a = c.args.core.now in
-    let b = c.reserve.new.self in
+    let b = c.reserve_some.new.self in
     let e = c.publish.new.self in
     let d = c.in-Some.deduced in
     let publishes = publish_moves c.args.worker b e c.args.ticket (deduction_of b.ids d) c.publish.result c.publish.ensures in
-    let moves = moves_reserved a c.loop-deduced.core b _ c.loop-deduced.invariant.moves c.in_ok-reserve.ensures.ok in
-    let after = moves_reserved c.loop-deduced.core c.loop-deduced.core b _ (moves_same c.loop-deduced.core c.loop-deduced.core refl refl) c.in_ok-reserve.ensures.ok in
-    let ids = publish_ids c.args.worker b e c.args.ticket (deduction_of b.ids d) c.publish.result c.publish.ensures ∙ ap (λ (x : CoreData). x.ids) c.in_ok-reserve.ensures.ok in
+    let moves = moves_reserved a c.loop-deduced.core b _ c.loop-deduced.invariant.moves c.in_ok-reserve_some.ensures.same in
+    let after = moves_reserved c.loop-deduced.core c.loop-deduced.core b _ (moves_same c.loop-deduced.core c.loop-deduced.core refl refl) c.in_ok-reserve_some.ensures.same in
+    let ids = publish_ids c.args.worker b e c.args.ticket (deduction_of b.ids d) c.publish.result c.publish.ensures ∙ ap (λ (x : CoreData). x.ids) c.in_ok-reserve_some.ensures.same in
     record {
       moves = moves_trans a b e moves publishes;
       ids = ids ∙ c.loop-deduced.invariant.ids;

@@ -20,7 +20,7 @@ goes : (c : goal.After-self-2-1) → Goes (base_of c.self.inside) (fields_of c.s
   pending = c.push_back_reserved.new.self.items;
   flight = under c.self.inside.tickets;
   past = c.self.inside.past;
-  journal = c.push_reserved-2.new.self.items;
+  journal = c.push.new.self.steps;
   start = c.start_with-self-inside.result;
 })
 goes c =
@@ -41,7 +41,7 @@ goes c =
       pending = (c.push_back_reserved.ensures.items ∙ ap (λ n. f.pending ++ Place n ∷ []) c.len-place.ensures.len) i;
       flight = f.flight;
       past = f.past;
-      journal = (c.push_reserved-2.ensures.items ∙ ap (λ n. f.journal ++ (record { worker = c.args.worker; event = Added c.args.ticket n }) ∷ []) c.len-place.ensures.len) i;
+      journal = (c.push.ensures.steps ∙ ap (λ n. f.journal ++ (record { worker = c.args.worker; event = Added c.args.ticket n }) ∷ []) c.len-place.ensures.len) i;
       start = c.start_with-self-inside.result;
     })
 

@@ -6,14 +6,14 @@ use Rattle.hs_core.specs.Core.{CoreData, state_of}
 use Rattle.hs_core.proofs.Stepping.{base_of, fields_of, Goes, finished, finishes_goes, goes_as, steps_to}
 use Rattle.hs_core.proofs.state.Core.finish.Goals as goal
 
-goes : (c : goal.After-push_reserved) → Goes (base_of c.self.inside) (fields_of c.self.inside) (record { worker = c.args.worker; action = finishes c.args.ticket }) (record {
+goes : (c : goal.After-push) → Goes (base_of c.self.inside) (fields_of c.self.inside) (record { worker = c.args.worker; action = finishes c.args.ticket }) (record {
   ids = c.self.inside.replica.ids;
   log = c.self.inside.replica.log;
   supports = c.self.inside.supports.items;
   pending = c.self.inside.pending.items;
   flight = under c.remove-closed.new.self;
   past = c.self.inside.past;
-  journal = c.push_reserved.new.self.items;
+  journal = c.push.new.self.steps;
   start = c.self.inside.start;
 })
 goes c =
@@ -28,7 +28,7 @@ goes c =
       pending = f.pending;
       flight = λ t. c.remove-closed.ensures.updates t i;
       past = f.past;
-      journal = c.push_reserved.ensures.items i;
+      journal = c.push.ensures.steps i;
       start = f.start;
     })
 

@@ -6,14 +6,14 @@ use Rattle.hs_core.specs.Core.{CoreData, state_of}
 use Rattle.hs_core.proofs.Stepping.{base_of, fields_of, Goes, given_back, gives_back_goes, goes_as, steps_to}
 use Rattle.hs_core.proofs.state.Core.give_back.Goals as goal
 
-goes : (c : goal.After-push_reserved) → Goes (base_of c.self.inside) (fields_of c.self.inside) (record { worker = c.args.worker; action = gives_back c.args.ticket }) (record {
+goes : (c : goal.After-push) → Goes (base_of c.self.inside) (fields_of c.self.inside) (record { worker = c.args.worker; action = gives_back c.args.ticket }) (record {
   ids = c.self.inside.replica.ids;
   log = c.self.inside.replica.log;
   supports = c.self.inside.supports.items;
   pending = c.push_back_reserved.new.self.items;
   flight = under c.remove-flight.new.self;
   past = c.self.inside.past;
-  journal = c.push_reserved.new.self.items;
+  journal = c.push.new.self.steps;
   start = c.self.inside.start;
 })
 goes c =
@@ -29,7 +29,7 @@ goes c =
       pending = c.push_back_reserved.ensures.items i;
       flight = λ t. c.remove-flight.ensures.updates t i;
       past = f.past;
-      journal = c.push_reserved.ensures.items i;
+      journal = c.push.ensures.steps i;
       start = f.start;
     })
 

@@ -14,7 +14,7 @@ goes : (c : goal.After-self-2-1) → Goes (base_of c.self.inside) (fields_of c.s
   pending = c.self.inside.pending.items;
   flight = under c.self.inside.tickets;
   past = Some c.args.deduced;
-  journal = c.push_reserved.new.self.items;
+  journal = c.push.new.self.steps;
   start = c.self.inside.start;
 })
 goes c =
@@ -34,7 +34,7 @@ goes c =
       pending = f.pending;
       flight = f.flight;
       past = Some d;
-      journal = c.push_reserved.ensures.items i;
+      journal = c.push.ensures.steps i;
       start = f.start;
     })
 

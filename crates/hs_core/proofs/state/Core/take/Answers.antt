@@ -58,7 +58,7 @@ goes : (c : goal.After-self-1) → Goes (base_of c.self.inside) (fields_of c.sel
   pending = c.pop_front.new.self.items;
   flight = under c.insert-ticket.new.self;
   past = c.self.inside.past;
-  journal = c.push_reserved.new.self.items;
+  journal = c.push.new.self.steps;
   start = c.self.inside.start;
 })
 goes c =
@@ -76,7 +76,7 @@ goes c =
       pending = rest;
       flight = λ t. c.insert-ticket.ensures.updates t i;
       past = f.past;
-      journal = c.push_reserved.ensures.items i;
+      journal = c.push.ensures.steps i;
       start = f.start;
     })
 

@@ -1,0 +1,120 @@
+-- How a journal keeps steps in few bytes.
+--     JournalData                  what contracts see: the steps, and for how many more there is room
+--     kind_of, ticket_of           what is done at an event, and under which ticket
+--     due_for, due_after           what has to be due at an event; what is due after it
+--     Reader                       who acts and what is due, with the changes of these that are still to come
+--     step_at, beyond              the step that a mark stands for; the reader behind it
+--     steps_read                   the steps that marks stand for
+--     IsKept                       the changes are just those that the marks name, and behind the last mark this is who acted and what is due
+use Rattle.std.specs.Prelude.{◌≡◌, ℕ, ◌+◌, ◌-◌, ◌^◌, min, Bool, true, false, List, [], ◌∷◌}
+use Rattle.hs_history.specs.declared.step.Work.{Work}
+use Rattle.hs_history.specs.declared.step.Work.TheVariants.{Seed, Place}
+use Rattle.hs_history.specs.declared.step.Step.{Step}
+use Rattle.hs_history.specs.declared.step.Event.{Event}
+use Rattle.hs_history.specs.declared.step.Event.TheVariants.{Take, Added, PastBudget, Finish, GiveBack}
+use Rattle.hs_core.specs.declared.journal.Kind.{Kind}
+use Rattle.hs_core.specs.declared.journal.Kind.TheVariants.{Taking, Adding, Passing, Finishing, GivingBack}
+use Rattle.hs_core.specs.declared.journal.Actor.{Actor}
+use Rattle.hs_core.specs.declared.journal.Due.{Due}
+use Rattle.hs_core.specs.declared.journal.Mark.{Mark}
+
+pub record JournalData : Type 0 where
+  pub steps : List Step
+  pub room : ℕ
+
+-- the next number, or the greatest of 32 bits
+abbrev pub following : ℕ → ℕ
+following n = min (n + 1) (2 ^ 32 - 1)
+
+abbrev pub work_after : Work → Work
+work_after (Seed point) = Seed (following point)
+work_after (Place i) = Place (following i)
+
+abbrev pub due_after : Kind → Due → Due
+due_after Taking due = record { work = work_after due.work; place = due.place }
+due_after Adding due = record { work = due.work; place = following due.place }
+due_after Passing due = due
+due_after Finishing due = due
+due_after GivingBack due = due
+
+abbrev pub kind_of : Event → Kind
+kind_of (Take work ticket) = Taking
+kind_of (Added ticket place) = Adding
+kind_of (PastBudget ticket) = Passing
+kind_of (Finish ticket) = Finishing
+kind_of (GiveBack ticket) = GivingBack
+
+abbrev pub ticket_of : Event → ℕ
+ticket_of (Take work ticket) = ticket
+ticket_of (Added ticket place) = ticket
+ticket_of (PastBudget ticket) = ticket
+ticket_of (Finish ticket) = ticket
+ticket_of (GiveBack ticket) = ticket
+
+abbrev pub due_for : Event → Due → Due
+due_for (Take work ticket) due = record { work = work; place = due.place }
+due_for (Added ticket place) due = record { work = due.work; place = place }
+due_for (PastBudget ticket) due = due
+due_for (Finish ticket) due = due
+due_for (GiveBack ticket) due = due
+
+abbrev pub event_of : Kind → ℕ → Due → Event
+event_of Taking ticket due = Take due.work ticket
+event_of Adding ticket due = Added ticket due.place
+event_of Passing ticket due = PastBudget ticket
+event_of Finishing ticket due = Finish ticket
+event_of GivingBack ticket due = GiveBack ticket
+
+-- the first item of a list, where it is asked for and there is one; the items that are left; that there is one; a list of none or one
+abbrev pub pick : {X : Type 0} → Bool → X → List X → X
+pick true x [] = x
+pick true x (y ∷ ys) = y
+pick false x ys = x
+
+abbrev pub left : {X : Type 0} → Bool → List X → List X
+left true [] = []
+left true (y ∷ ys) = ys
+left false ys = ys
+
+abbrev pub Has : {X : Type 0} → Bool → List X → Type 0
+Has true [] = ⊥
+Has true (y ∷ ys) = Unit {0}
+Has false ys = Unit {0}
+
+abbrev pub only : {X : Type 0} → Bool → X → List X
+only true x = x ∷ []
+only false x = []
+
+pub record Reader : Type 0 where
+  pub actor : Actor
+  pub due : Due
+  pub actors : List Actor
+  pub dues : List Due
+
+abbrev pub opened : List Actor → List Due → Reader
+opened actors dues = record { actor = record { worker = 0; ticket = 0 }; due = record { work = Seed 0; place = 0 }; actors = actors; dues = dues }
+
+abbrev pub step_of : Kind → Actor → Due → Step
+step_of kind actor due = record { worker = actor.worker; event = event_of kind actor.ticket due }
+
+abbrev pub step_at : Reader → Mark → Step
+step_at r m = step_of m.kind (pick m.changed r.actor r.actors) (pick m.jumped r.due r.dues)
+
+abbrev pub beyond : Reader → Mark → Reader
+beyond r m = record {
+  actor = pick m.changed r.actor r.actors;
+  due = due_after m.kind (pick m.jumped r.due r.dues);
+  actors = left m.changed r.actors;
+  dues = left m.jumped r.dues;
+}
+
+abbrev pub steps_read : Reader → List Mark → List Step
+steps_read r [] = []
+steps_read r (m ∷ marks) = step_at r m ∷ steps_read (beyond r m) marks
+
+abbrev pub Ends : Reader → List Mark → Actor → Due → Type 0
+Ends r [] actor due = r ≡ record { actor = actor; due = due; actors = []; dues = [] }
+Ends r (m ∷ marks) actor due = Has m.changed r.actors × Has m.jumped r.dues × Ends (beyond r m) marks actor due
+
+abbrev pub IsKept : List Actor → List Due → List Mark → Actor → Due → Type 0
+IsKept actors dues marks actor due = Ends (opened actors dues) marks actor due
