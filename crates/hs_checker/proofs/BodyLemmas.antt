@@ -1,28 +1,29 @@
 -- The instances at a nonterminal, entry by entry of its body.
-use Rattle.std.proofs.Common.{◌≡◌, ◌≢◌, refl, sym, ◌∙◌, ap, subst, ℕ, ◌+◌, ◌<◌, ◌≤◌, ◌&&◌, nat_eq, List, [], ◌∷◌, ◌++◌, Option, length, map, take, get_or, arith, AllPairs, Contains, inl, inr, ◌↔◌, Bor}
+use Rattle.std.proofs.Common.{◌≡◌, ◌≢◌, refl, sym, ◌∙◌, ap, subst, ℕ, ◌+◌, ◌<◌, ◌≤◌, ◌&&◌, nat_eq, List, [], ◌∷◌, ◌++◌, length, map, take, get_or, arith, AllPairs, Contains, inl, inr, ◌↔◌, Bor}
 use Rattle.std.specs.List.{flat_map}
 use Rattle.std.specs.declared.cmp.Ordering.TheVariants.{Less, Equal}
 use Rattle.std.proofs.lemmas.Bool.{cases_lt}
 use Rattle.std.proofs.lemmas.Cmp.{tied_itself}
-use Rattle.std.proofs.lemmas.List.{get_or-take, length-take}
+use Rattle.std.proofs.lemmas.List.{get_or-take, length-take, get_or_default}
 use Rattle.std.proofs.lemmas.Option.{slice_get-get_or}
-use Rattle.hs_scheme.specs.Tree.{node, none, more, children, Trees, children-forest}
 use Rattle.hs_scheme.specs.Flow.{IsAscending}
 use Rattle.hs_scheme.specs.declared.term.Head.TheVariants.{Nt, Tm}
 use Rattle.hs_scheme.specs.Points.{PointData, point_at}
 use Rattle.hs_scheme.specs.Problem.{ProblemData}
-use Rattle.hs_table.specs.Types.{TypeTree, state, arrows}
-use Rattle.hs_table.specs.Entries.{Env, EntryData, params_of}
+use Rattle.hs_table.specs.Types.{TypeTree, arrows}
+use Rattle.hs_table.specs.Entries.{EntryData, params_of}
 use Rattle.hs_table.specs.Follows.{Follows}
 use Rattle.hs_table_laws.proofs.Places.{some_same, within_from}
+use Rattle.hs_table_laws.proofs.Members.{into_map}
+use Rattle.hs_table_laws.proofs.Arrows.{arrows_same}
 use Rattle.hs_table_plain.specs.Enumeration.{is_state, body_type, body_at, head_types, through, opening}
 use Rattle.hs_table_plain.proofs.ChoiceLemmas.{from_cond}
-use Rattle.hs_table_plain.proofs.Members.{in_pushed, into_map, pairs_push}
+use Rattle.hs_table_plain.proofs.Members.{in_pushed, pairs_push}
 use Rattle.hs_table_plain.proofs.TableLemmas.{one_more as one_longer}
 use Rattle.hs_checker.specs.Any.{AnyOf}
 use Rattle.hs_checker.specs.Order.{index_cmp}
 use Rattle.hs_checker.specs.Slots.{Fits, Says, AreInShape, IsCountAt}
-use Rattle.hs_checker.proofs.IndexLemmas.{index_total, get_or-map, same_read, length-map}
+use Rattle.hs_checker.proofs.IndexLemmas.{index_total, get_or-map, length-map}
 use Rattle.hs_checker.proofs.InstanceLemmas.{body_fits, sets_too_few, instance_exact, comes_follows, follows_comes}
 use Rattle.hs_checker.proofs.Steps.{any_step, one_more}
 use Rattle.hs_checker.proofs.TypeLemmas.{or_same, or_nothing, body_types, any_part}
@@ -40,27 +41,6 @@ enough_sets E args x s = elim (cases_lt (length x.env) (length args)) [
   | inr all ↦ all
 ]
 
--- sets before a type are known from the type
-abbrev parts_of : TypeTree → Trees (Option ℕ)
-parts_of (node x ts) = ts
-
-abbrev first_of : Trees (Option ℕ) → TypeTree
-first_of none = state 0
-first_of (more t ts) = t
-
-abbrev others_of : Trees (Option ℕ) → Trees (Option ℕ)
-others_of none = none
-others_of (more t ts) = ts
-
-sets_same : (ss rs : Env) (t u : TypeTree) → length ss ≡ length rs → arrows ss t ≡ arrows rs u → (ss ≡ rs) × (t ≡ u)
-sets_same [] [] t u long e = (refl, e)
-sets_same [] (r ∷ rs) t u long e = absurd (omega arith)
-sets_same (s ∷ ss) [] t u long e = absurd (omega arith)
-sets_same (s ∷ ss) (r ∷ rs) t u long e =
-    let first = sym (children-forest s) ∙ (ap (λ (x : TypeTree). children (others_of (parts_of x))) e ∙ children-forest r) in
-    let rest = sets_same ss rs t u (omega arith) (ap (λ (x : TypeTree). first_of (parts_of x)) e) in
-    (λ i. first i ∷ rest.0 i, rest.1)
-
 -- an earlier row is less
 earlier : (rows : List (Bor EntryData)) (k : ℕ) (r x : Bor EntryData) → k < length rows → r ≡ get_or rows k r → IsAscending index_cmp (map (λ (r : Bor EntryData). r.now) rows) → Contains (take k rows) x → index_cmp x.now r.now ≡ Less
 earlier rows k r x lt read up c =
@@ -68,7 +48,7 @@ earlier rows k r x lt read up c =
     let j = c.0 in
     let low : j < k = omega (arith, length-take k rows, c.1) in
     let left : get_or (map f rows) j x.now ≡ x.now = get_or-map f rows j x ∙ ap f (sym (get_or-take k rows j x low) ∙ c.2) in
-    let right : get_or (map f rows) k x.now ≡ r.now = get_or-map f rows k x ∙ ap f (same_read rows k x r lt ∙ sym read) in
+    let right : get_or (map f rows) k x.now ≡ r.now = get_or-map f rows k x ∙ ap f (get_or_default rows k x r lt ∙ sym read) in
     (λ i. index_cmp (sym left i) (sym right i)) ∙ up j k x.now low (omega (arith, length-map f rows, lt))
 
 -- the types that rows say and that fit are counted
@@ -97,7 +77,7 @@ module _ (E : List EntryData) (args : List ℕ) (b : ℕ) (rows : List (Bor Entr
         let x = a.item in
         let mine : Contains rows x = (a.there.0, omega (arith, length-take k rows, a.there.1), sym (get_or-take k rows a.there.0 x (omega (arith, length-take k rows, a.there.1))) ∙ a.there.2) in
         let test = from_cond (nat_eq x.now.point b && is_state x.now.ty) (arrows x.now.env x.now.ty) (arrows r.now.env r.now.ty) a.holds.0 in
-        let parts = sets_same r.now.env x.now.env r.now.ty x.now.ty (long r here_row ∙ sym (long x mine)) test.1 in
+        let parts = arrows_same r.now.env x.now.env r.now.ty x.now.ty (long r here_row ∙ sym (long x mine)) test.1 in
         let same : r.now ≡ x.now = λ i. record { point = (at r here_row ∙ sym (at x mine)) i; env = parts.0 i; ty = parts.1 i } in
         let less = earlier rows k r x lt read up a.there in
         let tie : Less ≡ Equal = sym less ∙ (ap (λ z. index_cmp x.now z) same ∙ tied_itself index_total x.now) in

@@ -2,16 +2,17 @@
 use Rattle.std.proofs.Common.{◌≡◌, refl, sym, ◌∙◌, ap, subst, ℕ, zero, suc, ◌+◌, ◌<◌, ◌≤◌, Bool, true, false, ◌&&◌, nat_eq, cond, Some, None, List, [], ◌∷◌, ◌++◌, length, get_or, set, slice_get, map, take, drop, arith, Contains, ◌↔◌, Bor}
 use Rattle.std.specs.List.{flat_map}
 use Rattle.std.specs.Ordering.{is_eq}
-use Rattle.std.proofs.lemmas.Bool.{eqb-true, eq-eqb}
+use Rattle.std.proofs.lemmas.Bool.{eqb-true, eq-eqb, and_parts, and_from}
 use Rattle.std.proofs.lemmas.Cmp.{tied_itself}
 use Rattle.hs_scheme.specs.Tree.{node, none, more, children, children-forest}
 use Rattle.hs_table.specs.Types.{TypeTree, arrow, arrows, type_cmp}
 use Rattle.hs_table.specs.Entries.{Env, EntryData, set_at}
 use Rattle.hs_table_laws.proofs.Orders.{type_cmp_total, type_same}
 use Rattle.hs_table_laws.proofs.Places.{here}
+use Rattle.hs_table_laws.proofs.Members.{from_map, into_map, only}
 use Rattle.hs_table_plain.specs.Enumeration.{union, union_from, joined, extended, picks, retyped, through}
-use Rattle.hs_table_plain.proofs.Loops.{and_true, both_true, through_step}
-use Rattle.hs_table_plain.proofs.Members.{from_flat_map, into_flat_map, from_map, into_map, only}
+use Rattle.hs_table_plain.proofs.Loops.{through_step}
+use Rattle.hs_table_plain.proofs.Members.{from_flat_map, into_flat_map}
 use Rattle.hs_table_plain.proofs.ChoiceLemmas.{from_cond, into_cond}
 use Rattle.hs_checker.specs.Any.{AnyOf}
 use Rattle.hs_checker.proofs.Between.{equal_of}
@@ -25,7 +26,7 @@ extended_by E rows u a es exact y = (
       let x = h.item.now in
       let both = (exact x).0 (into_map (λ (r : Bor EntryData). r.now) rows h.item h.there) in
       let e = h.holds.item in
-      let test = both_true (nat_eq x.point u) (is_eq (type_cmp x.ty a)) (eq-eqb x.point u both.1.0) (ap is_eq (ap (type_cmp x.ty) (sym both.1.1) ∙ tied_itself type_cmp_total x.ty)) in
+      let test = and_from (nat_eq x.point u) (is_eq (type_cmp x.ty a)) (eq-eqb x.point u both.1.0) (ap is_eq (ap (type_cmp x.ty) (sym both.1.1) ∙ tied_itself type_cmp_total x.ty)) in
       subst (λ z. Contains (flat_map (λ x. flat_map (extended u a x) E) es) z) (sym h.holds.holds)
       (into_flat_map (λ x. flat_map (extended u a x) E) es e (joined e x) h.holds.there
       (into_flat_map (extended u a e) E x (joined e x) both.0 (into_cond (nat_eq x.point u && is_eq (type_cmp x.ty a)) (joined e x) test))),
@@ -34,7 +35,7 @@ extended_by E rows u a es exact y = (
       let second = from_flat_map (extended u a first.item) E y first.gives in
       let x = second.item in
       let test = from_cond (nat_eq x.point u && is_eq (type_cmp x.ty a)) (joined first.item x) y second.gives in
-      let parts = and_true (nat_eq x.point u) (is_eq (type_cmp x.ty a)) test.0 in
+      let parts = and_parts (nat_eq x.point u) (is_eq (type_cmp x.ty a)) test.0 in
       let row = from_map (λ (r : Bor EntryData). r.now) rows x ((exact x).1 (second.there, (eqb-true x.point u parts.0, type_same x.ty a (equal_of (type_cmp x.ty a) parts.1)))) in
       record { item = row.item; there = row.there; holds = record { item = first.item; there = first.there; holds = test.1 ∙ ap (joined first.item) row.is } },
 )

@@ -1,24 +1,26 @@
 -- What points demand, pair by pair.
-use Rattle.std.proofs.Common.{◌≡◌, refl, sym, ◌∙◌, ap, subst, ℕ, ◌+◌, ◌<◌, ◌≤◌, Bool, ◌&&◌, nat_eq, filter, take, List, [], length, map, get_or, slice_get, Option, Some, None, MatchOption, arith, inl, inr, Contains, ◌↔◌, ◌⊎◌}
+use Rattle.std.proofs.Common.{◌≡◌, refl, sym, ◌∙◌, ap, subst, ℕ, ◌+◌, ◌<◌, ◌≤◌, Bool, ◌&&◌, nat_eq, filter, take, List, [], ◌∷◌, length, map, get_or, slice_get, Option, Some, None, MatchOption, arith, inl, inr, Contains, ◌↔◌, ◌⊎◌}
 use Rattle.std.proofs.Math.Nat.{eq-or-lt_of_le}
 use Rattle.std.specs.Ordering.{nat_cmp, ordering_index}
 use Rattle.std.specs.List.Sorted.{IsNonDecreasingBy}
 use Rattle.std.specs.declared.cmp.Ordering.TheVariants.{Less, Equal}
 use Rattle.std.proofs.lemmas.Bool.Decides.{nat_tests}
-use Rattle.std.proofs.lemmas.List.Elements.{Contains-append_left, Contains-append_right, Contains-append_cases}
+use Rattle.std.proofs.lemmas.List.Elements.{Contains-append_left, Contains-append_right, Contains-append_cases, Contains-get_or}
+use Rattle.std.proofs.lemmas.List.{get_or_default}
 use Rattle.hs_scheme.specs.declared.flow.FlowPair.{FlowPair}
 use Rattle.hs_scheme.specs.declared.flow.HeadPair.{HeadPair}
 use Rattle.hs_scheme.specs.declared.flow.Pair.{Pair}
 use Rattle.hs_scheme.specs.declared.flow.Pair.TheVariants.{OfFlow, OfHead}
 use Rattle.hs_scheme.specs.Flow.{IsAscending, head_cmp, pairs_of}
 use Rattle.hs_scheme.specs.Problem.{ProblemData}
-use Rattle.hs_table_laws.proofs.Places.{some_same, within_from}
-use Rattle.std.proofs.lemmas.Bool.{eqb-true, eq-eqb}
+use Rattle.hs_table_laws.proofs.Places.{none_in, here, uncons, some_same, within_from}
+use Rattle.std.proofs.lemmas.Bool.{eqb-true, eq-eqb, and_parts, and_from}
 use Rattle.hs_scheme.specs.declared.term.Head.TheVariants.{Var, Nt}
-use Rattle.hs_scheme.specs.Flow.{IsBase}
+use Rattle.hs_scheme.specs.Flow.{HasParameter, IsBase}
 use Rattle.hs_scheme.proofs.FlowRowLemmas.{filter_keeps, filter_has}
-use Rattle.hs_table_plain.proofs.Members.{from_map, into_map, next_member}
-use Rattle.hs_table_plain.proofs.Loops.{and_true, both_true}
+use Rattle.hs_table_laws.proofs.Members.{from_map, into_map}
+use Rattle.hs_table_plain.proofs.Members.{next_member}
+use Rattle.hs_table_plain.proofs.TableLemmas.{below_or_last}
 use Rattle.hs_checker.specs.declared.flow.Base.{Base}
 use Rattle.std.proofs.lemmas.Option.{slice_get-get_or}
 use Rattle.hs_scheme.specs.declared.term.Head.{Head}
@@ -27,9 +29,8 @@ use Rattle.hs_scheme.specs.Points.{PointData, PointsData, point_at, points_of}
 use Rattle.hs_checker.specs.declared.flow.Kind.{Kind}
 use Rattle.hs_checker.specs.declared.flow.Kind.TheVariants.{Flow, Heads}
 use Rattle.hs_checker.specs.Gaps.{held, IsDemanded, IsOfKind}
-use Rattle.hs_checker.specs.Passes.{PassesFlow, PassesHead, PassesBy, HoldsBy, LacksBy, DemandsAt}
+use Rattle.hs_checker.specs.Passes.{base_of, PassesArgument, PassesFlow, PassesHead, PassesBy, HoldsBy, LacksBy, DemandsAt}
 use Rattle.hs_checker.proofs.Between.{filter_passes}
-use Rattle.hs_checker.proofs.Steps.{same_read, read_there}
 
 point_le : (t : ℕ) (a b : HeadPair) → head_cmp a b ≡ Less → ordering_index (nat_cmp a.point t) ≤ ordering_index (nat_cmp b.point t)
 point_le t a b h = grind (arith, nat_tests)
@@ -80,11 +81,11 @@ pub row_has : (rule x : ℕ) (pairs : List FlowPair) (f : FlowPair) → Contains
 row_has rule x pairs f = (
   λ c.
       let m : FlowPair → Bool = λ f. nat_eq f.rule rule && nat_eq f.param x in
-      let parts = and_true (nat_eq f.rule rule) (nat_eq f.param x) (filter_passes m pairs f c) in
+      let parts = and_parts (nat_eq f.rule rule) (nat_eq f.param x) (filter_passes m pairs f c) in
       (filter_has m pairs f c, (eqb-true f.rule rule parts.0, eqb-true f.param x parts.1)),
   λ h.
       let m : FlowPair → Bool = λ f. nat_eq f.rule rule && nat_eq f.param x in
-      filter_keeps m pairs f (both_true (nat_eq f.rule rule) (nat_eq f.param x) (eq-eqb f.rule rule h.1.0) (eq-eqb f.param x h.1.1)) h.0,
+      filter_keeps m pairs f (and_from (nat_eq f.rule rule) (nat_eq f.param x) (eq-eqb f.rule rule h.1.0) (eq-eqb f.param x h.1.1)) h.0,
 )
 
 -- a parameter's pairs lead to its bases
@@ -94,13 +95,13 @@ pub record Leads (pairs : List FlowPair) (heads : List HeadPair) (b : Base) : Ty
   pub becomes : Contains heads (record { point = pair.point; rule = b.rule; given = b.given })
 
 pub leads_of : (items : List FlowPair) (heads : List HeadPair) (b : Base) (k : ℕ) (d : FlowPair) → k < length items → Contains heads (record { point = (get_or items k d).point; rule = b.rule; given = b.given }) → Leads items heads b
-leads_of items heads b k d lt becomes = record { pair = get_or items k d; there = read_there items k d lt; becomes = becomes }
+leads_of items heads b k d lt becomes = record { pair = get_or items k d; there = Contains-get_or items k d lt; becomes = becomes }
 
 pub leads_more : (items : List FlowPair) (heads : List HeadPair) (k : ℕ) (d : FlowPair) (b : Base) → k < length items → Leads (take (k + 1) items) heads b
     → Leads (take k items) heads b ⊎ Contains heads (record { point = (get_or items k d).point; rule = b.rule; given = b.given })
 leads_more items heads k d b lt l =
     let own = get_or items k d in
-    elim ((next_member items k own l.pair lt (same_read items k d own lt)).0 l.there) [
+    elim ((next_member items k own l.pair lt (get_or_default items k d own lt)).0 l.there) [
       | inl t ↦ inl (record { pair = l.pair; there = t; becomes = l.becomes })
       | inr same ↦ inr (subst (λ (f : FlowPair). Contains heads (record { point = f.point; rule = b.rule; given = b.given })) same l.becomes)
     ]
@@ -109,7 +110,7 @@ pub leads_base : (rule x : ℕ) (pairs : List FlowPair) (heads : List HeadPair) 
 leads_base rule x pairs heads b = (
   λ l.
       let m : FlowPair → Bool = λ f. nat_eq f.rule rule && nat_eq f.param x in
-      let parts = and_true (nat_eq l.pair.rule rule) (nat_eq l.pair.param x) (filter_passes m pairs l.pair l.there) in
+      let parts = and_parts (nat_eq l.pair.rule rule) (nat_eq l.pair.param x) (filter_passes m pairs l.pair l.there) in
       let same : l.pair ≡ record { rule = rule; param = x; point = l.pair.point } = λ i. record { rule = eqb-true l.pair.rule rule parts.0 i; param = eqb-true l.pair.param x parts.1 i; point = l.pair.point } in (
         l.pair.point,
         (
@@ -122,14 +123,38 @@ leads_base rule x pairs heads b = (
       let f : FlowPair = record { rule = rule; param = x; point = h.0 } in
       record {
         pair = f;
-        there = filter_keeps m pairs f (both_true (nat_eq rule rule) (nat_eq x x) (eq-eqb rule rule refl) (eq-eqb x x refl)) ((flow_held pairs heads f).0 h.1.0);
+        there = filter_keeps m pairs f (and_from (nat_eq rule rule) (nat_eq x x) (eq-eqb rule rule refl) (eq-eqb x x refl)) ((flow_held pairs heads f).0 h.1.0);
         becomes = (head_held pairs heads (record { point = h.0; rule = b.rule; given = b.given })).0 h.1.1;
       },
 )
 
--- the pairs of the first n arguments are held
-abbrev pub Holds : List FlowPair → List ℕ → Base → ℕ → Type 0
-Holds pairs args b n = (i u : ℕ) → i < n → slice_get args i ≡ Some u → Contains pairs (record { rule = b.rule; param = b.given + i; point = u })
+-- what the first n arguments demand by the bases is held
+abbrev pub HoldsArguments : ProblemData → List HeadPair → List ℕ → ℕ → Type 0
+HoldsArguments p bases args n = (h : HeadPair) → Contains bases h → (i u : ℕ) → i < n → slice_get args i ≡ Some u → HasParameter p.sorted.scheme.rules h.rule (h.given + i)
+    → Contains p.flow.pairs (record { rule = h.rule; param = h.given + i; point = u })
+
+pub next_argument : (p : ProblemData) (bases : List HeadPair) (args : List ℕ) (n u : ℕ) → slice_get args n ≡ Some u → HoldsArguments p bases args n
+    → ((h : HeadPair) → Contains bases h → (f : FlowPair) → PassesArgument p (base_of h) n u f → Contains p.flow.pairs f) → HoldsArguments p bases args (n + 1)
+next_argument p bases args n u at before own h there i v lt is has = elim (below_or_last i n lt) [
+  | inl below ↦ before h there i v below is has
+  | inr same ↦
+      let same_point : u ≡ v = some_same u v (sym at ∙ (ap (λ k. slice_get args k) (sym same) ∙ is)) in
+      let f : FlowPair = record { rule = h.rule; param = h.given + n; point = u } in
+      let g : FlowPair = record { rule = h.rule; param = h.given + i; point = v } in
+      let e : f ≡ g = λ j. record { rule = h.rule; param = h.given + (sym same) j; point = same_point j } in
+      subst (λ (x : FlowPair). Contains p.flow.pairs x) e (own h there f (refl, subst (λ k. HasParameter p.sorted.scheme.rules h.rule (h.given + k)) same has))
+]
+
+pub all_arguments : (p : ProblemData) (bases : List HeadPair) (args : List ℕ) → HoldsArguments p bases args (length args)
+    → (h : HeadPair) → Contains bases h → (f : FlowPair) → PassesFlow p args (base_of h) f → Contains p.flow.pairs f
+all_arguments p bases args all h there f passes =
+    let i = passes.0 in
+    let e : record { rule = h.rule; param = h.given + i; point = f.point } ≡ f = λ j. record { rule = (sym passes.1.1) j; param = (sym passes.1.2) j; point = f.point } in
+    subst (λ (x : FlowPair). Contains p.flow.pairs x) e (all h there i f.point (within_from args i f.point passes.1.0) passes.1.0 passes.1.3)
+
+pub argument_passes : (p : ProblemData) (args : List ℕ) (b : Base) (n u : ℕ) (f : FlowPair) → slice_get args n ≡ Some u → PassesArgument p b n u f → PassesFlow p args b f
+argument_passes p args b n u f at passes =
+    (n, (at ∙ ap (λ (x : FlowPair). Some x.point) (sym passes.0), ap (λ (x : FlowPair). x.rule) passes.0, ap (λ (x : FlowPair). x.param) passes.0, passes.1))
 
 pub after_none : (p : ProblemData) (point : ℕ) (args : List ℕ) (b : Base) (kind : Kind) → kind ≡ Flow → ((f : FlowPair) → PassesFlow p args b f → Contains p.flow.pairs f)
     → (pair : Pair) → IsOfKind kind pair → PassesBy p point args b pair → Contains (held p) pair
@@ -148,6 +173,27 @@ after_flow p point args b kind f is both = (subst (λ k. IsOfKind k (OfFlow f)) 
 pub after_head : (p : ProblemData) (point : ℕ) (args : List ℕ) (b : Base) (kind : Kind) (h : HeadPair) → kind ≡ Heads → PassesHead p point args b h × (Contains p.flow.heads h → ⊥)
     → IsOfKind kind (OfHead h) × (PassesBy p point args b (OfHead h) × (Contains (held p) (OfHead h) → ⊥))
 after_head p point args b kind h is both = (subst (λ k. IsOfKind k (OfHead h)) (sym is) tt, (both.0, λ c. both.1 ((head_held p.flow.pairs p.flow.heads h).0 c)))
+
+-- by the head pairs of a point, and by one alone
+pub gap_at_point : (p : ProblemData) (kind : Kind) (point : ℕ) (args : List ℕ) (heads bases : List HeadPair) (from : ℕ) (o : Option Pair)
+    → ((h : HeadPair) → Contains bases h ↔ (Contains heads h × (h.point ≡ from)))
+    → MatchOption o ((h : HeadPair) → Contains bases h → HoldsBy p kind point args (base_of h)) (λ pair. (h : HeadPair) × (Contains bases h × LacksBy p kind point args (base_of h) pair))
+    → MatchOption o ((b : Base) → Contains heads (record { point = from; rule = b.rule; given = b.given }) → HoldsBy p kind point args b)
+    (λ pair. (b : Base) × (Contains heads (record { point = from; rule = b.rule; given = b.given }) × LacksBy p kind point args b pair))
+gap_at_point p kind point args heads bases from None has h = λ b there. h (record { point = from; rule = b.rule; given = b.given }) ((has (record { point = from; rule = b.rule; given = b.given })).1 (there, refl))
+gap_at_point p kind point args heads bases from (Some pair) has h =
+    let x = h.0 in
+    let both = (has x).0 h.1.0 in
+    (base_of x, (subst (λ (n : ℕ). Contains heads (record { point = n; rule = x.rule; given = x.given })) both.1 both.0, h.1.1))
+
+pub gap_by_one : (p : ProblemData) (kind : Kind) (point : ℕ) (args : List ℕ) (own : HeadPair) (o : Option Pair)
+    → MatchOption o ((h : HeadPair) → Contains (own ∷ []) h → HoldsBy p kind point args (base_of h)) (λ pair. (h : HeadPair) × (Contains (own ∷ []) h × LacksBy p kind point args (base_of h) pair))
+    → MatchOption o (HoldsBy p kind point args (base_of own)) (LacksBy p kind point args (base_of own))
+gap_by_one p kind point args own None h = h own (here own [])
+gap_by_one p kind point args own (Some pair) h = elim (uncons own h.0 [] h.1.0) [
+  | inl same ↦ subst (λ (x : HeadPair). LacksBy p kind point args (base_of x) pair) same h.1.1
+  | inr none ↦ absurd (none_in h.0 none)
+]
 
 -- a nonterminal may become itself, without arguments, and nothing else
 pub gap_at_rule : (p : ProblemData) (point rule : ℕ) (head : Head) (args : List ℕ) (kind : Kind) (f : ℕ) (o : Option Pair) → head ≡ Nt f

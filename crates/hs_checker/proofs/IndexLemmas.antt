@@ -9,11 +9,13 @@ use Rattle.std.proofs.lemmas.Cmp.{tied_itself, then_total, on_total, nat_cmp_tot
 use Rattle.std.proofs.lemmas.Bool.{cases_lt}
 use Rattle.std.proofs.lemmas.List.Elements.{Contains-get_or}
 use Rattle.std.proofs.lemmas.List.Sorted.{searchable_from_sorted}
+use Rattle.std.proofs.lemmas.List.{get_or_default}
 use Rattle.hs_table.specs.Types.{TypeTree, type_cmp}
 use Rattle.hs_scheme.specs.Problem.{ProblemData}
 use Rattle.hs_table.specs.Entries.{EntryData, entry_cmp, InShape}
 use Rattle.hs_table_laws.proofs.Orders.{type_cmp_total, type_same, entry_cmp_total, entry_same}
-use Rattle.hs_table_plain.proofs.Members.{from_map, into_map, in_pushed, next_member}
+use Rattle.hs_table_laws.proofs.Members.{from_map, into_map}
+use Rattle.hs_table_plain.proofs.Members.{in_pushed, next_member}
 use Rattle.hs_checker.specs.Order.{key_cmp, index_cmp, IsIndex}
 use Rattle.hs_checker.proofs.GapLemmas.{nat_equal, nat_itself}
 
@@ -47,11 +49,6 @@ get_or-map f [] k d = refl
 get_or-map f (x ∷ xs) zero d = refl
 get_or-map f (x ∷ xs) (suc k) d = get_or-map f xs k d
 
-pub same_read : {X : Type 0} (xs : List X) (k : ℕ) (c d : X) → k < length xs → get_or xs k c ≡ get_or xs k d
-same_read [] k c d h = absurd (omega arith)
-same_read (x ∷ xs) zero c d h = refl
-same_read (x ∷ xs) (suc k) c d h = same_read xs k c d (omega arith)
-
 pub length-map : {X Y : Type 0} (f : X → Y) (xs : List X) → length (map f xs) ≡ length xs
 length-map f [] = refl
 length-map f (x ∷ xs) = ap suc (length-map f xs)
@@ -67,7 +64,7 @@ index_sorted [] h k d low high = absurd (omega arith)
 index_sorted (r ∷ rs) h k d low high =
     let f : Bor EntryData → EntryData = λ x. x.now in
     let long = length-map f (r ∷ rs) in
-    let at : (n : ℕ) → n < length (r ∷ rs) → get_or (map f (r ∷ rs)) n d ≡ (get_or (r ∷ rs) n r).now = λ n lt. same_read (map f (r ∷ rs)) n d r.now (omega (arith, long)) ∙ get_or-map f (r ∷ rs) n r in
+    let at : (n : ℕ) → n < length (r ∷ rs) → get_or (map f (r ∷ rs)) n d ≡ (get_or (r ∷ rs) n r).now = λ n lt. get_or_default (map f (r ∷ rs)) n d r.now (omega (arith, long)) ∙ get_or-map f (r ∷ rs) n r in
     let left = at (k + 1) (omega (arith, long)) in
     let right = at k (omega (arith, long)) in
     (λ i. is_lt (index_cmp (left i) (right i))) ∙ h k r low (omega (arith, long))

@@ -15,9 +15,10 @@ use Rattle.hs_table_laws.proofs.Places.{some_same, none_in, here, later, uncons,
 use Rattle.std.proofs.Math.ListN.{length-set, length-replicate}
 use Rattle.std.proofs.lemmas.List.{get_or-set_same}
 use Rattle.std.proofs.lemmas.List.Elements.{Contains-get_or}
+use Rattle.hs_table_laws.proofs.Members.{from_map}
 use Rattle.hs_table_plain.specs.Enumeration.{through, opening, head_types, retyped, child_type, child_types, types_in, body_type, all_at}
 use Rattle.hs_checker.proofs.TypeLemmas.{pushed_is, body_says}
-use Rattle.hs_table_plain.proofs.Members.{from_flat_map, into_flat_map, from_map, next_member, in_pushed}
+use Rattle.hs_table_plain.proofs.Members.{from_flat_map, into_flat_map, next_member, in_pushed}
 use Rattle.hs_table_plain.proofs.ChoiceLemmas.{choose_all, through_arrows, split_from, at_place, from_all}
 use Rattle.hs_table_plain.proofs.HeadLemmas.{from_heads, into_heads}
 use Rattle.hs_table_plain.proofs.ConclusionLemmas.{all_at_exact}

@@ -9,7 +9,7 @@ use Rattle.hs_table.specs.Types.{TypeTree, arrow, IsSet, IsType, AreTypes}
 use Rattle.hs_table.specs.Entries.{Env, EntryData, Has, set_at, IsEnv, InShape, params_of}
 use Rattle.hs_table_laws.proofs.Places.{some_same, none_in, uncons}
 use Rattle.hs_table_laws.proofs.Shapes.{arrow_shape}
-use Rattle.hs_table_plain.proofs.Members.{taken_next}
+use Rattle.hs_table_laws.proofs.Members.{taken_next}
 use Rattle.hs_checker.specs.Shape.{AreAllTypes}
 
 all_types : (n : ℕ) (s : List TypeTree) → AreTypes n (forest s) → AreAllTypes n s

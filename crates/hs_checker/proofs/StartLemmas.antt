@@ -9,13 +9,13 @@ use Rattle.std.proofs.Math.ListN.{get_or-append}
 use Rattle.std.proofs.Math.Seq.{get_or-append_seam}
 use Rattle.std.proofs.lemmas.Map.Keys.{ge_from_not_lt}
 use Rattle.std.proofs.lemmas.Bool.{cases_lt}
-use Rattle.std.proofs.lemmas.List.{get_or-take, get_or-drop, length-drop, length-take, length-append, drop-map, take-map}
+use Rattle.std.proofs.lemmas.List.{get_or-take, get_or-drop, length-drop, length-take, length-append, drop-map, take-map, get_or_default}
 use Rattle.hs_scheme.specs.Flow.{IsAscending}
 use Rattle.hs_table.specs.Entries.{EntryData}
 use Rattle.hs_table_laws.proofs.Places.{none_in}
 use Rattle.hs_checker.specs.Order.{IsIndex, IsStart, AreStarts, IsStartBy, AreStartsBy, index_cmp}
 use Rattle.hs_checker.proofs.Between.{equal_of}
-use Rattle.hs_checker.proofs.IndexLemmas.{get_or-map, same_read, length-map}
+use Rattle.hs_checker.proofs.IndexLemmas.{get_or-map, length-map}
 
 lt_from : (a b : ℕ) → is_lt (nat_cmp a b) ≡ true → a < b
 lt_from a b h = elim (cases_lt a b) [
@@ -33,7 +33,7 @@ entries rows = map (λ (r : Bor EntryData). r.now) rows
 read_row : (rows : List (Bor EntryData)) (k : ℕ) (d : EntryData) (r : Bor EntryData) → k < length rows → get_or (entries rows) k d ≡ (get_or rows k r).now
 read_row rows k d r lt =
     let f : Bor EntryData → EntryData = λ x. x.now in
-    same_read (entries rows) k d r.now (omega (arith, length-map f rows)) ∙ get_or-map f rows k r
+    get_or_default (entries rows) k d r.now (omega (arith, length-map f rows)) ∙ get_or-map f rows k r
 
 pub start_of : (rows : List (Bor EntryData)) (t n : ℕ) → IsPartitionPoint (λ (y : Bor EntryData). is_lt (nat_cmp y.now.point t) ≡ true) (λ (y : Bor EntryData). is_lt (nat_cmp y.now.point t) ≡ false) rows n → n ≤ length rows → IsStart (entries rows) t n
 start_of [] t n point within = record { within = within; before = λ k d lt. absurd (omega arith); behind = λ k d le lt. absurd (omega arith) }
@@ -67,7 +67,7 @@ module _ {X : Type 0} (at : X → ℕ) where
 
   -- past all, where all are of lesser points
   pub start_past : (xs : List X) (t : ℕ) → ((x : X) → Contains xs x → at x < t) → IsStartBy at xs t (length xs)
-  start_past xs t all = record { within = omega arith; before = λ k d lt. all (get_or xs k d) (k, lt, same_read xs k (get_or xs k d) d lt); behind = λ k d le lt. absurd (omega arith) }
+  start_past xs t all = record { within = omega arith; before = λ k d lt. all (get_or xs k d) (k, lt, get_or_default xs k (get_or xs k d) d lt); behind = λ k d le lt. absurd (omega arith) }
 
   module _ (xs : List X) (p n m : ℕ) (low : IsStartBy at xs p n) (high : IsStartBy at xs (p + 1) m) where
     pub starts_up : n ≤ m

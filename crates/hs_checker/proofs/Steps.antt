@@ -1,5 +1,5 @@
 -- What a step of a loop adds, where a list gains what each item gives.
-use Rattle.std.proofs.Common.{◌≡◌, refl, subst, ℕ, zero, suc, arith, ◌+◌, ◌<◌, List, [], ◌∷◌, length, get_or, take, Contains, inl, inr, ◌⊎◌, ◌↔◌}
+use Rattle.std.proofs.Common.{◌≡◌, refl, subst, ℕ, ◌+◌, ◌<◌, List, length, get_or, take, inl, inr, ◌⊎◌, ◌↔◌}
 use Rattle.hs_table_plain.proofs.Members.{next_member}
 use Rattle.hs_checker.specs.Any.{AnyOf}
 
@@ -45,12 +45,3 @@ module _ {X Y : Type 0} (P : X → Y → Type 0) (xs : List X) (k : ℕ) (x : X)
       ]
     ]),
   )
-
-pub same_read : {X : Type 0} (xs : List X) (k : ℕ) (c d : X) → k < length xs → get_or xs k c ≡ get_or xs k d
-same_read [] k c d h = absurd (omega arith)
-same_read (x ∷ xs) zero c d h = refl
-same_read (x ∷ xs) (suc k) c d h = same_read xs k c d (omega arith)
-
--- what is read at a place is there, whatever stands in its place past the end
-pub read_there : {X : Type 0} (xs : List X) (k : ℕ) (d : X) → k < length xs → Contains xs (get_or xs k d)
-read_there xs k d lt = (k, lt, same_read xs k (get_or xs k d) d lt)

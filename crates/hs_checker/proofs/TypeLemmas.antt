@@ -2,7 +2,7 @@
 use Rattle.std.proofs.Common.{◌≡◌, refl, sym, ◌∙◌, ap, subst, ℕ, suc, ◌+◌, Bool, true, ◌&&◌, nat_eq, replicate, Option, Some, None, List, [], ◌∷◌, ◌++◌, length, map, filter, arith, Contains, inl, inr, ◌⊎◌, ◌↔◌, Bor}
 use Rattle.std.specs.List.{flat_map, list_any}
 use Rattle.std.specs.Bool.{◌==◌}
-use Rattle.std.proofs.lemmas.Bool.{eqb-true, eq-eqb}
+use Rattle.std.proofs.lemmas.Bool.{eqb-true, eq-eqb, and_parts, and_from}
 use Rattle.std.proofs.lemmas.List.Elements.{Contains-append_left, Contains-append_right, Contains-append_cases}
 use Rattle.hs_scheme.specs.declared.flow.FlowPair.{FlowPair}
 use Rattle.hs_scheme.specs.Automaton.{next}
@@ -12,9 +12,10 @@ use Rattle.hs_table.specs.Types.{TypeTree, state, arrows}
 use Rattle.hs_table.specs.Entries.{EntryData}
 use Rattle.hs_table.specs.Follows.{rank_of}
 use Rattle.hs_table_laws.proofs.Places.{here, none_in}
+use Rattle.hs_table_laws.proofs.Members.{from_map, into_map, only}
 use Rattle.hs_table_plain.specs.Enumeration.{child_type, child_types, types_in, terminal_types, is_state, body_type, is_pair, flow_type}
-use Rattle.hs_table_plain.proofs.Loops.{and_true, both_true, pair_there, pair_found}
-use Rattle.hs_table_plain.proofs.Members.{from_flat_map, into_flat_map, from_map, into_map, in_pushed, only}
+use Rattle.hs_table_plain.proofs.Loops.{pair_there, pair_found}
+use Rattle.hs_table_plain.proofs.Members.{from_flat_map, into_flat_map, in_pushed}
 use Rattle.hs_table_plain.proofs.ChoiceLemmas.{from_cond, into_cond}
 use Rattle.hs_checker.specs.Any.{AnyOf}
 use Rattle.hs_checker.specs.Slots.{HasTypeAt}
@@ -37,7 +38,7 @@ terminal_types_more p a q t =
 -- what an entry at the body with a state says
 pub body_says : (b : ℕ) (x : EntryData) (q : ℕ) (t : TypeTree) → x.point ≡ b → x.ty ≡ state q → (t ≡ arrows x.env (state q)) ↔ Contains (body_type b x) t
 body_says b x q t point is =
-    let yes : (nat_eq x.point b && is_state x.ty) ≡ true = both_true (nat_eq x.point b) (is_state x.ty) (eq-eqb x.point b point) (ap is_state is) in (
+    let yes : (nat_eq x.point b && is_state x.ty) ≡ true = and_from (nat_eq x.point b) (is_state x.ty) (eq-eqb x.point b point) (ap is_state is) in (
       λ e. subst (λ z. Contains (body_type b x) z) (ap (arrows x.env) is ∙ sym e) (into_cond (nat_eq x.point b && is_state x.ty) (arrows x.env x.ty) yes),
       λ c. (from_cond (nat_eq x.point b && is_state x.ty) (arrows x.env x.ty) t c).1 ∙ ap (arrows x.env) is,
     )
@@ -49,7 +50,7 @@ body_types E rows b exact t = (
   λ c.
       let s = from_flat_map (body_type b) E t c in
       let test = from_cond (nat_eq s.item.point b && is_state s.item.ty) (arrows s.item.env s.item.ty) t s.gives in
-      let point = eqb-true s.item.point b (and_true (nat_eq s.item.point b) (is_state s.item.ty) test.0).0 in
+      let point = eqb-true s.item.point b (and_parts (nat_eq s.item.point b) (is_state s.item.ty) test.0).0 in
       let row = from_map (λ (r : Bor EntryData). r.now) rows s.item ((exact s.item).1 (s.there, point)) in
       record { item = row.item; there = row.there; holds = subst (λ (e : EntryData). Contains (body_type b e) t) row.is s.gives },
 )
@@ -75,7 +76,7 @@ flow_types E pairs rule x t = (
       let m : FlowPair → Bool = λ f. nat_eq f.rule rule && nat_eq f.param x in
       let f = a.item in
       let h = a.holds in
-      let parts = and_true (nat_eq f.rule rule) (nat_eq f.param x) (filter_passes m pairs f a.there) in
+      let parts = and_parts (nat_eq f.rule rule) (nat_eq f.param x) (filter_passes m pairs f a.there) in
       let same : f ≡ record { rule = rule; param = x; point = h.entry.point } = λ i. record { rule = eqb-true f.rule rule parts.0 i; param = eqb-true f.param x parts.1 i; point = sym h.at i } in
       let there = subst (λ (g : FlowPair). Contains pairs g) same (filter_has m pairs f a.there) in
       into_flat_map (flow_type pairs rule x) E h.entry t h.there
@@ -87,7 +88,7 @@ flow_types E pairs rule x t = (
       let f : FlowPair = record { rule = rule; param = x; point = s.item.point } in
       record {
         item = f;
-        there = filter_keeps m pairs f (both_true (nat_eq rule rule) (nat_eq x x) (eq-eqb rule rule refl) (eq-eqb x x refl)) (pair_found pairs rule x s.item.point test.0);
+        there = filter_keeps m pairs f (and_from (nat_eq rule rule) (nat_eq x x) (eq-eqb rule rule refl) (eq-eqb x x refl)) (pair_found pairs rule x s.item.point test.0);
         holds = record { entry = s.item; there = s.there; at = refl; typed = sym test.1 };
       },
 )

@@ -1,15 +1,19 @@
 -- What a point demands by what its head may become; only private contracts cite it.
-use Rattle.std.specs.Prelude.{◌≡◌, ℕ, List, slice_get, Some, Contains}
+use Rattle.std.specs.Prelude.{◌≡◌, ℕ, ◌+◌, List, slice_get, Some, Contains}
 use Rattle.hs_scheme.specs.declared.flow.FlowPair.{FlowPair}
 use Rattle.hs_scheme.specs.declared.flow.HeadPair.{HeadPair}
 use Rattle.hs_scheme.specs.declared.flow.Pair.{Pair}
 use Rattle.hs_scheme.specs.declared.flow.Pair.TheVariants.{OfFlow, OfHead}
 use Rattle.hs_scheme.specs.Points.{PointData}
-use Rattle.hs_scheme.specs.Flow.{IsBase, Passes}
+use Rattle.hs_scheme.specs.Flow.{HasParameter, IsBase, Passes}
 use Rattle.hs_scheme.specs.Problem.{ProblemData}
 use Rattle.hs_checker.specs.declared.flow.Base.{Base}
 use Rattle.hs_checker.specs.declared.flow.Kind.{Kind}
 use Rattle.hs_checker.specs.Gaps.{held, IsOfKind}
+
+-- what the point of a head pair may become
+abbrev pub base_of : HeadPair → Base
+base_of h = record { rule = h.rule; given = h.given }
 
 abbrev pub PassesBy : ProblemData → ℕ → List ℕ → Base → Pair → Type 0
 PassesBy p point args b pair = Passes p.sorted.scheme.rules point args b.rule b.given pair
@@ -17,6 +21,10 @@ PassesBy p point args b pair = Passes p.sorted.scheme.rules point args b.rule b.
 -- whatever the point is
 abbrev pub PassesFlow : ProblemData → List ℕ → Base → FlowPair → Type 0
 PassesFlow p args b f = PassesBy p 0 args b (OfFlow f)
+
+-- the argument u of this number is one of the base's parameters
+abbrev pub PassesArgument : ProblemData → Base → ℕ → ℕ → FlowPair → Type 0
+PassesArgument p b number u f = (f ≡ record { rule = b.rule; param = b.given + number; point = u }) × HasParameter p.sorted.scheme.rules b.rule (b.given + number)
 
 abbrev pub PassesHead : ProblemData → ℕ → List ℕ → Base → HeadPair → Type 0
 PassesHead p point args b h = PassesBy p point args b (OfHead h)
@@ -28,6 +36,10 @@ HoldsBy p kind point args b = (pair : Pair) → IsOfKind kind pair → PassesBy 
 -- the base demands the pair, which is of the kind and isn't held
 abbrev pub LacksBy : ProblemData → Kind → ℕ → List ℕ → Base → Pair → Type 0
 LacksBy p kind point args b pair = IsOfKind kind pair × (PassesBy p point args b pair × (Contains (held p) pair → ⊥))
+
+-- no pair of the kind is demanded of a point with these arguments
+abbrev pub DemandsNone : ProblemData → Kind → List ℕ → Type 0
+DemandsNone p kind args = (point : ℕ) (b : Base) (pair : Pair) → IsOfKind kind pair → PassesBy p point args b pair → ⊥
 
 -- the pair is demanded at this point
 pub record DemandsAt (p : ProblemData) (point : ℕ) (pair : Pair) : Type 0 where

@@ -1,18 +1,20 @@
 //! Whether a flow holds all that is demanded by the pairs that it holds.
 
-ghost use Rattle.std.specs.Prelude.{◌≡◌, ◌↔◌, ◌+◌, ◌-◌, ◌^◌, ◌<◌, Contains, IsTrue, IfOk, MatchOption, length};
+ghost use Rattle.std.specs.Prelude.{◌≡◌, ◌↔◌, ◌+◌, ◌-◌, ◌^◌, ◌<◌, ◌≤◌, ℕ, Contains, IsTrue, IfOk, MatchOption, MatchResult, Some, length, slice_get};
 ghost use Rattle.hs_scheme.specs.declared.flow.Pair.{Pair as AnyPair};
 ghost use Rattle.hs_scheme.specs.declared.flow.FlowPair.{FlowPair as AnyFlow};
 ghost use Rattle.hs_scheme.specs.declared.flow.HeadPair.{HeadPair as AnyHead};
+ghost use Rattle.hs_scheme.specs.declared.term.Rule.{Rule as AnyRule};
 ghost use Rattle.hs_scheme.specs.Flow.{IsBase};
+ghost use Rattle.hs_scheme.specs.Problem.{ProblemData};
 ghost use Rattle.hs_table.specs.Entries.{params_of};
 ghost use Rattle.hs_checker.specs.declared.flow.Base.{Base as AnyBase};
 ghost use Rattle.hs_checker.specs.declared.flow.Kind.TheVariants.{Flow as OfFlows, Heads as OfHeads};
 ghost use Rattle.hs_checker.specs.Gaps.{held, IsOfKind, HoldsAll, Lacks, IsFirst};
-ghost use Rattle.hs_checker.specs.Passes.{PassesFlow, PassesHead, HoldsBy, LacksBy, DemandsAt};
+ghost use Rattle.hs_checker.specs.Passes.{base_of, PassesArgument, PassesFlow, PassesHead, HoldsBy, LacksBy, DemandsAt, DemandsNone};
 
-use crate::head_pairs::HeadPairs;
-use hs_scheme::{FlowPair, FlowTable, Head, HeadPair, OutOfMemory, Pair, Problem};
+use crate::head_pairs::{HeadPairs, is_head_at};
+use hs_scheme::{FlowPair, FlowTable, Head, HeadPair, OutOfMemory, Pair, Problem, Rule};
 use std::alloc::Global;
 
 /// The two kinds of pairs.
@@ -50,133 +52,223 @@ fn is_at(row: &[FlowPair], place: usize, point: u32) -> bool
     }
 }
 
-/// The place of the pair among those of its parameter, if the flow holds it. It is looked for at the
-/// place that is guessed first.
-fn find(flow: &FlowTable, pair: FlowPair, guess: usize) -> Option<usize>
+/// Whether the base's parameter behind so many others may be the argument, by a pair at this place
+/// among those of the parameter.
+fn is_passed(flow: &FlowTable, base: Base, number: usize, arg: u32, place: usize) -> bool
+    ensures { IsTrue result → Contains flow.now.pairs (record { rule = base.rule; param = base.given + number; point = arg }) }
+{
+    let Ok(number) = u32::try_from(number) else {
+        return false;
+    };
+    match base.given.checked_add(number) {
+        None => false,
+        Some(param) => is_at(flow.flow_of(base.rule, param), place, arg),
+    }
+}
+
+/// The place of the pair among those of its parameter, if the flow holds it.
+fn find(flow: &FlowTable, pair: FlowPair) -> Option<usize>
     ensures { MatchOption result (Contains flow.now.pairs pair → ⊥) (λ _. Contains flow.now.pairs pair) }
 {
     let row = flow.flow_of(pair.rule, pair.param);
-    if is_at(row, guess, pair.point) {
-        return Some(guess);
-    }
     match row.binary_search(&pair) {
         Ok(place) => Some(place),
         Err(_) => None,
     }
 }
 
-/// The first flow pair that a point with these arguments demands and that isn't held. The last that
-/// is held was found at the place `guess`.
-fn flow_gap(problem: &Problem, args: &[u32], base: Base, guess: &mut usize) -> Option<FlowPair>
-    ensures { MatchOption result
-        ((f : AnyFlow) → PassesFlow problem.now args.now base f → Contains problem.now.flow.pairs f)
-        (λ f. PassesFlow problem.now args.now base f × (Contains problem.now.flow.pairs f → ⊥)) }
+/// The place of the flow pair that the argument of this number demands by the base, among those of its
+/// parameter, or the pair where it isn't held. The place `guess` is looked at first, and it is the
+/// answer, too, where nothing is demanded.
+fn flow_place(
+    problem: &Problem,
+    base: Base,
+    number: usize,
+    arg: u32,
+    guess: usize,
+) -> Result<usize, FlowPair>
+    ensures { MatchResult result
+        (λ _. (f : AnyFlow) → PassesArgument problem.now base number arg f → Contains problem.now.flow.pairs f)
+        (λ f. PassesArgument problem.now base number arg f × (Contains problem.now.flow.pairs f → ⊥)) }
 {
-    let missing = missing_parameters(problem, base);
-    for (number, arg) in args.iter().enumerate() {
-        if number >= missing as usize {
-            return None;
-        }
-        let pair = FlowPair {
-            rule: base.rule,
-            param: base.given + number as u32,
-            point: *arg,
+    if is_passed(&problem.flow, base, number, arg, guess) {
+        return Ok(guess);
+    }
+    if number >= missing_parameters(problem, base) as usize {
+        return Ok(guess);
+    }
+    let pair = FlowPair {
+        rule: base.rule,
+        param: base.given + number as u32,
+        point: arg,
+    };
+    match find(&problem.flow, pair) {
+        None => Err(pair),
+        Some(place) => Ok(place),
+    }
+}
+
+/// The first flow pair that the argument of this number demands by one of the bases and that isn't
+/// held, or the place where the last that is held was found.
+fn flow_gap_by(
+    problem: &Problem,
+    bases: &[HeadPair],
+    number: usize,
+    arg: u32,
+    guess: usize,
+) -> Result<usize, FlowPair>
+    ensures { MatchResult result
+        (λ _. (h : AnyHead) → Contains bases.now h → (f : AnyFlow) →
+        PassesArgument problem.now (base_of h) number arg f → Contains problem.now.flow.pairs f)
+        (λ f. (h : AnyHead) × (Contains bases.now h
+        × (PassesArgument problem.now (base_of h) number arg f × (Contains problem.now.flow.pairs f → ⊥)))) }
+{
+    let mut place = guess;
+    for head in bases {
+        let base = Base {
+            rule: head.rule,
+            given: head.given,
         };
-        match find(&problem.flow, pair, *guess) {
-            None => return Some(pair),
-            Some(place) => *guess = place,
+        match flow_place(problem, base, number, arg, place) {
+            Ok(found) => place = found,
+            Err(pair) => return Err(pair),
+        }
+    }
+    Ok(place)
+}
+
+/// The first flow pair that a point with these arguments demands by one of the bases and that isn't
+/// held. The last that is held was found at the place `guess`.
+fn flow_gap(
+    problem: &Problem,
+    args: &[u32],
+    bases: &[HeadPair],
+    guess: &mut usize,
+) -> Option<FlowPair>
+    ensures { MatchOption result
+        ((h : AnyHead) → Contains bases.now h → (f : AnyFlow) →
+        PassesFlow problem.now args.now (base_of h) f → Contains problem.now.flow.pairs f)
+        (λ f. (h : AnyHead) × (Contains bases.now h
+        × (PassesFlow problem.now args.now (base_of h) f × (Contains problem.now.flow.pairs f → ⊥)))) }
+{
+    for (number, arg) in args.iter().enumerate() {
+        match flow_gap_by(problem, bases, number, *arg, *guess) {
+            Ok(place) => *guess = place,
+            Err(pair) => return Some(pair),
         }
     }
     None
 }
 
-/// The head pair that a point with these arguments demands, where it isn't held. The last that is held
-/// was found before the place `guess`.
-fn head_gap(
+/// Whether the point with these head pairs may become the base with so many arguments more, by the
+/// pair at this place.
+fn is_taken(own: &[HeadPair], base: Base, count: usize, place: usize) -> bool
+    ensures { IsTrue result → (h : AnyHead) × (Contains own.now h × ((h.rule ≡ base.rule) × (h.given ≡ base.given + count))) }
+{
+    let Ok(count) = u32::try_from(count) else {
+        return false;
+    };
+    match base.given.checked_add(count) {
+        None => false,
+        Some(given) => is_head_at(own, place, base.rule, given),
+    }
+}
+
+/// The place behind the head pair that a point with these arguments demands by the base, among those
+/// of the point, or the pair where it isn't held. The place `guess` is looked at first, and it is the
+/// answer, too, where nothing is demanded.
+fn head_place(
     problem: &Problem,
     heads: &HeadPairs,
+    own: &[HeadPair],
     point: u32,
     args: &[u32],
     base: Base,
-    guess: &mut usize,
-) -> Option<HeadPair>
-    requires { heads.now ≡ problem.now.flow.heads }
-    ensures { MatchOption result
-        ((h : AnyHead) → PassesHead problem.now point args.now base h → Contains problem.now.flow.heads h)
+    guess: usize,
+) -> Result<usize, HeadPair>
+    requires heads { heads.now ≡ problem.now.flow.heads }
+    requires own { (h : AnyHead) → Contains own.now h → Contains heads.now h × (h.point ≡ point) }
+    ensures { MatchResult result
+        (λ _. (h : AnyHead) → PassesHead problem.now point args.now base h → Contains problem.now.flow.heads h)
         (λ h. PassesHead problem.now point args.now base h × (Contains problem.now.flow.heads h → ⊥)) }
 {
+    if is_taken(own, base, args.len(), guess) {
+        return Ok(guess.saturating_add(1));
+    }
     if args.len() >= missing_parameters(problem, base) as usize {
-        return None;
+        return Ok(guess);
     }
     let pair = HeadPair {
         point,
         rule: base.rule,
         given: base.given + args.len() as u32,
     };
-    match heads.find(pair, *guess) {
-        None => Some(pair),
-        Some(place) => {
-            *guess = place.saturating_add(1);
-            None
-        }
+    match heads.find(pair) {
+        None => Err(pair),
+        Some(place) => Ok(place.saturating_add(1)),
     }
 }
 
-/// The first pair of the kind that a point with these arguments demands by the base and that isn't
-/// held. What is demanded is looked for at the place `guess` first, which is then the one for what
-/// the next base is likely to demand.
+/// The first head pair that a point with these arguments demands by one of the bases and that isn't
+/// held. The last that is held was found before the place `guess`.
+fn head_gap(
+    problem: &Problem,
+    heads: &HeadPairs,
+    point: u32,
+    args: &[u32],
+    bases: &[HeadPair],
+    guess: &mut usize,
+) -> Option<HeadPair>
+    requires { heads.now ≡ problem.now.flow.heads }
+    ensures { MatchOption result
+        ((b : AnyHead) → Contains bases.now b → (h : AnyHead) →
+        PassesHead problem.now point args.now (base_of b) h → Contains problem.now.flow.heads h)
+        (λ h. (b : AnyHead) × (Contains bases.now b
+        × (PassesHead problem.now point args.now (base_of b) h × (Contains problem.now.flow.heads h → ⊥)))) }
+{
+    let own = heads.at_point(point);
+    let mut place = *guess;
+    for head in bases {
+        let base = Base {
+            rule: head.rule,
+            given: head.given,
+        };
+        match head_place(problem, heads, own, point, args, base, place) {
+            Ok(found) => place = found,
+            Err(pair) => return Some(pair),
+        }
+    }
+    *guess = place;
+    None
+}
+
+/// The first pair of the kind that a point with these arguments demands by one of the bases and that
+/// isn't held. What is demanded is looked for at the place `guess` first, which is then the one for
+/// what the next base is likely to demand.
 fn gap_by(
     problem: &Problem,
     heads: &HeadPairs,
     kind: Kind,
     point: u32,
     args: &[u32],
-    base: Base,
+    bases: &[HeadPair],
     guess: &mut usize,
 ) -> Option<Pair>
     requires { heads.now ≡ problem.now.flow.heads }
     ensures { MatchOption result
-        (HoldsBy problem.now kind point args.now base)
-        (LacksBy problem.now kind point args.now base) }
+        ((h : AnyHead) → Contains bases.now h → HoldsBy problem.now kind point args.now (base_of h))
+        (λ pair. (h : AnyHead) × (Contains bases.now h × LacksBy problem.now kind point args.now (base_of h) pair)) }
 {
     match kind {
-        Kind::Flow => match flow_gap(problem, args, base, guess) {
+        Kind::Flow => match flow_gap(problem, args, bases, guess) {
             None => None,
             Some(pair) => Some(Pair::OfFlow(pair)),
         },
-        Kind::Heads => match head_gap(problem, heads, point, args, base, guess) {
+        Kind::Heads => match head_gap(problem, heads, point, args, bases, guess) {
             None => None,
             Some(pair) => Some(Pair::OfHead(pair)),
         },
     }
-}
-
-/// So by what the point `from` may become.
-fn gap_from(
-    problem: &Problem,
-    heads: &HeadPairs,
-    kind: Kind,
-    point: u32,
-    args: &[u32],
-    from: u32,
-    guess: &mut usize,
-) -> Option<Pair>
-    requires { heads.now ≡ problem.now.flow.heads }
-    ensures { MatchOption result
-        ((b : AnyBase) → Contains heads.now (record { point = from; rule = b.rule; given = b.given }) → HoldsBy problem.now kind point args.now b)
-        (λ pair. (b : AnyBase) × (Contains heads.now (record { point = from; rule = b.rule; given = b.given }) × LacksBy problem.now kind point args.now b pair)) }
-{
-    for head in heads.at_point(from) {
-        let base = Base {
-            rule: head.rule,
-            given: head.given,
-        };
-        match gap_by(problem, heads, kind, point, args, base, guess) {
-            Some(pair) => return Some(pair),
-            None => {}
-        }
-    }
-    None
 }
 
 /// So by what this parameter of a rule may become.
@@ -194,14 +286,14 @@ fn gap_through(
         ((b : AnyBase) → IsBase (held problem.now) rule (Head.Var parameter) b.rule b.given → HoldsBy problem.now kind point args.now b)
         (λ pair. (b : AnyBase) × (IsBase (held problem.now) rule (Head.Var parameter) b.rule b.given × LacksBy problem.now kind point args.now b pair)) }
 {
-    if kind == Kind::Flow && args.is_empty() {
-        return None;
-    }
     let mut guess = 0;
     for pair in problem.flow.flow_of(rule, parameter) {
-        match gap_from(problem, heads, kind, point, args, pair.point, &mut guess) {
-            Some(pair) => return Some(pair),
-            None => {}
+        let bases = heads.at_point(pair.point);
+        if !bases.is_empty() {
+            match gap_by(problem, heads, kind, point, args, bases, &mut guess) {
+                Some(pair) => return Some(pair),
+                None => {}
+            }
         }
     }
     None
@@ -225,27 +317,62 @@ fn gap_of(
     match head {
         Head::Tm(_) => None,
         Head::Nt(nonterminal) => {
-            let base = Base {
+            let own = [HeadPair {
+                point,
                 rule: nonterminal,
                 given: 0,
-            };
-            gap_by(problem, heads, kind, point, args, base, &mut 0)
+            }];
+            gap_by(problem, heads, kind, point, args, &own, &mut 0)
         }
         Head::Var(parameter) => gap_through(problem, heads, kind, point, args, rule, parameter),
     }
 }
 
-/// The first pair of the kind that the point demands and that isn't held.
-fn gap_at(problem: &Problem, heads: &HeadPairs, kind: Kind, point: u32) -> Option<Pair>
+/// The most parameters that one of the rules has.
+fn most_of(rules: &[Rule]) -> u32
+    ensures { (k : ℕ) (r : AnyRule) → slice_get rules.now k ≡ Some r → r.params ≤ result }
+{
+    let mut most = 0;
+    for rule in rules {
+        most = rule.params.max(most);
+    }
+    most
+}
+
+/// The most parameters that a rule of the problem has.
+fn most_parameters(problem: &Problem) -> u32
+    ensures { (rule : ℕ) → params_of problem.now rule ≤ result }
+{
+    most_of(problem.sorted.scheme.rules.as_slice())
+}
+
+/// Whether a point with these arguments demands no pair of the kind, whatever its head may become,
+/// where no rule has more than so many parameters.
+fn demands_none(kind: Kind, args: &[u32], most: u32) -> bool
+    ensures { (p : ProblemData) → ((rule : ℕ) → params_of p rule ≤ most) → IsTrue result → DemandsNone p kind args.now }
+{
+    match kind {
+        Kind::Flow => args.is_empty(),
+        Kind::Heads => args.len() >= most as usize,
+    }
+}
+
+/// The first pair of the kind that the point demands and that isn't held. No rule has more than so
+/// many parameters.
+fn gap_at(problem: &Problem, heads: &HeadPairs, kind: Kind, most: u32, point: u32) -> Option<Pair>
     requires point { point < length problem.now.points.points }
     requires heads { heads.now ≡ problem.now.flow.heads }
+    requires most { (rule : ℕ) → params_of problem.now rule ≤ most }
     ensures { MatchOption result
         ((pair : AnyPair) → IsOfKind kind pair → DemandsAt problem.now point pair → Contains (held problem.now) pair)
         (λ pair. IsOfKind kind pair × (DemandsAt problem.now point pair × (Contains (held problem.now) pair → ⊥))) }
 {
+    let args = problem.points.args_of(point);
+    if demands_none(kind, args, most) {
+        return None;
+    }
     let rule = problem.points.rule_of(point);
     let head = problem.points.head_of(point);
-    let args = problem.points.args_of(point);
     gap_of(problem, heads, kind, point, args, rule, head)
 }
 
@@ -254,8 +381,9 @@ fn gap(problem: &Problem, heads: &HeadPairs, kind: Kind) -> Option<Pair>
     requires { heads.now ≡ problem.now.flow.heads }
     ensures { MatchOption result (HoldsAll problem.now kind) (λ pair. IsOfKind kind pair × Lacks problem.now pair) }
 {
+    let most = most_parameters(problem);
     for point in 0..problem.points.count() {
-        match gap_at(problem, heads, kind, point) {
+        match gap_at(problem, heads, kind, most, point) {
             Some(pair) => return Some(pair),
             None => {}
         }

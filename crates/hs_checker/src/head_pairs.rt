@@ -52,7 +52,7 @@ fn starts_of(alloc: Global, pairs: &[HeadPair], points: u32) -> Result<Vec<usize
 }
 
 /// Whether a pair of the rule with so many arguments stands at this place.
-fn is_at(pairs: &[HeadPair], place: usize, rule: u32, given: u32) -> bool
+pub(crate) fn is_head_at(pairs: &[HeadPair], place: usize, rule: u32, given: u32) -> bool
     ensures { IsTrue result → (h : AnyHead) × (Contains pairs.now h × ((h.rule ≡ rule) × (h.given ≡ given))) }
 {
     match pairs.get(place) {
@@ -87,15 +87,12 @@ impl<'a> HeadPairs<'a> {
         &self.pairs[from..to]
     }
 
-    /// The place of the pair among those of its point, if it is there. It is looked for at the place
-    /// that is guessed first, which takes constant time, and then in the logarithm of their number.
-    pub(crate) fn find(&self, pair: HeadPair, guess: usize) -> Option<usize>
+    /// The place of the pair among those of its point, if it is there. Takes time in the logarithm of
+    /// their number.
+    pub(crate) fn find(&self, pair: HeadPair) -> Option<usize>
         ensures { MatchOption result (Contains self.now pair → ⊥) (λ _. Contains self.now pair) }
     {
         let pairs = self.at_point(pair.point);
-        if is_at(pairs, guess, pair.rule, pair.given) {
-            return Some(guess);
-        }
         match pairs.binary_search(&pair) {
             Ok(place) => Some(place),
             Err(_) => None,

@@ -1,10 +1,10 @@
 use Rattle.std.proofs.Common.{◌≡◌, sym, ◌∙◌, ap, subst, true, false, ◌&&◌, nat_eq}
+use Rattle.std.proofs.lemmas.Bool.{and_parts}
 use Rattle.hs_table.specs.Types.{TypeTree, arrows, state}
 use Rattle.hs_table.specs.TypeView.{type_of}
 use Rattle.hs_table.specs.Entries.{Env, EntryData}
 use Rattle.hs_table_plain.specs.Enumeration.{is_state}
 use Rattle.hs_table_plain.proofs.ChoiceLemmas.{from_cond}
-use Rattle.hs_table_plain.proofs.Loops.{and_true}
 use Rattle.hs_checker.specs.Slots.{Fits}
 use Rattle.hs_checker.proofs.bodies.says.Goals as goal
 
@@ -31,6 +31,6 @@ pub returns-in-Arrow-clause-none : goal.returns-in-Arrow-clause-none
 returns-in-Arrow-clause-none c = λ body t said fits.
     let x = c.args.entry.now in
     let is = sym (ap (λ (x : EntryData). x.ty) c.entry.view_is) ∙ (sym (λ i. (c.entry-inside.view_is i).ty) ∙ ap type_of c.in-Arrow.is) in
-    let test = and_true (nat_eq x.point body) (is_state x.ty) (from_cond (nat_eq x.point body && is_state x.ty) (arrows x.env x.ty) t said).0 in
+    let test = and_parts (nat_eq x.point body) (is_state x.ty) (from_cond (nat_eq x.point body && is_state x.ty) (arrows x.env x.ty) t said).0 in
     let f : false ≡ true = ap is_state (sym is) ∙ test.1 in
     absurd (cc)

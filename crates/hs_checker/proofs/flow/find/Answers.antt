@@ -5,16 +5,6 @@ use Rattle.hs_scheme.proofs.FlowLemmas.{flow_cmp_total, flow_cmp-equal, found_th
 use Rattle.hs_checker.proofs.GapLemmas.{row_has}
 use Rattle.hs_checker.proofs.flow.find.Goals as goal
 
-pub returns-then-is_at : goal.returns-then-is_at
-returns-then-is_at c =
-    let row = c.flow_of-row.result.now in
-    let pair = c.args.pair in
-    let found = c.is_at.ensures c.if-is_at.true in
-    let f : FlowPair = found.0 in
-    let there = (row_has pair.rule pair.param c.args.flow.now.pairs f).0 (subst (λ (fs : List FlowPair). Contains fs f) c.flow_of-row.ensures.pairs found.1.0) in
-    let same : f ≡ pair = λ i. record { rule = there.1.0 i; param = there.1.1 i; point = found.1.1 i } in
-    subst (λ (x : FlowPair). Contains c.args.flow.now.pairs x) same there.0
-
 pub returns-in-Ok : goal.returns-in-Ok
 returns-in-Ok c =
     let row = c.flow_of-row.result.now in

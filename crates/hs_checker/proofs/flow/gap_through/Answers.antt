@@ -1,11 +1,17 @@
-use Rattle.std.proofs.Common.{sym, ◌∙◌, ap, subst, ◌&&◌, nat_eq, filter, List, Contains, get_or, inl, inr}
+use Rattle.std.proofs.Common.{sym, ◌∙◌, ap, subst, ◌&&◌, nat_eq, filter, List, Some, Contains, get_or, inl, inr, arith, ◌≡◌, refl, length}
+use Rattle.std.proofs.lemmas.Bool.{eqb-true}
 use Rattle.std.proofs.lemmas.List.{take_all}
 use Rattle.hs_scheme.specs.declared.flow.FlowPair.{FlowPair}
 use Rattle.hs_scheme.specs.declared.flow.HeadPair.{HeadPair}
 use Rattle.hs_scheme.specs.Problem.{ProblemData}
 use Rattle.hs_checker.specs.declared.flow.Base.{Base}
-use Rattle.hs_checker.proofs.GapLemmas.{Leads, leads_of, leads_more, leads_base}
+use Rattle.hs_checker.proofs.GapLemmas.{Leads, leads_of, leads_more, leads_base, gap_at_point}
 use Rattle.hs_checker.proofs.flow.gap_through.Goals as goal
+use Rattle.hs_checker.proofs.flow.gap_through.Goals.{then-not-is_empty+in-None, else-not-is_empty}
+
+-- a list that is found empty has no member
+nothing_in : (hs : List HeadPair) (x : HeadPair) → length hs ≡ 0 → Contains hs x → ⊥
+nothing_in hs x none there = omega (arith, none, there.1)
 
 pub returns-in-Some : goal.returns-in-Some
 returns-in-Some c =
@@ -13,13 +19,14 @@ returns-in-Some c =
     let items = c.flow_of-pair-items.result.now in
     let d : FlowPair = record { rule = 0; param = 0; point = 0 } in
     let own : FlowPair = get_or items c.loop-pair.pair-index d in
-    let b : Base = c.in-Some.ensures.0 in
-    let becomes = subst (λ (hs : List HeadPair). Contains hs (record { point = own.point; rule = b.rule; given = b.given })) c.requires c.in-Some.ensures.1.0 in
+    let found = gap_at_point p c.args.kind c.args.point c.args.args.now c.args.heads.now c.at_point-bases.result.now own.point (Some c.in-Some.pair) c.at_point-bases.ensures.has c.in-Some.ensures in
+    let b : Base = found.0 in
+    let becomes = subst (λ (hs : List HeadPair). Contains hs (record { point = own.point; rule = b.rule; given = b.given })) c.requires found.1.0 in
     let l = leads_of items p.flow.heads b c.loop-pair.pair-index d c.loop-pair-test.true becomes in
     let own_pairs : List FlowPair → List FlowPair = λ fs. filter (λ f. nat_eq f.rule c.args.rule && nat_eq f.param c.args.parameter) fs in
     let pairs = c.flow_of-pair-items.ensures.pairs ∙ ap (λ (q : ProblemData). own_pairs q.flow.pairs) c.problem.view_is in
     let mine = subst (λ (fs : List FlowPair). Leads fs p.flow.heads b) pairs l in
-    (b, ((leads_base c.args.rule c.args.parameter p.flow.pairs p.flow.heads b).0 mine, c.in-Some.ensures.1.1))
+    (b, ((leads_base c.args.rule c.args.parameter p.flow.pairs p.flow.heads b).0 mine, found.1.1))
 
 pub loop-pair-preserved : goal.loop-pair-preserved
 loop-pair-preserved c = λ b l.
@@ -29,7 +36,13 @@ loop-pair-preserved c = λ b l.
     let own : FlowPair = get_or items c.loop-pair.pair-index d in
     elim (leads_more items p.flow.heads c.loop-pair.pair-index d b c.loop-pair-test.true l) [
       | inl before ↦ c.loop-pair.invariant b before
-      | inr becomes ↦ c.in-None.ensures b (subst (λ (hs : List HeadPair). Contains hs (record { point = own.point; rule = b.rule; given = b.given })) (sym c.requires) becomes)
+      | inr becomes ↦
+          let x : HeadPair = record { point = own.point; rule = b.rule; given = b.given } in
+          let among = (c.at_point-bases.ensures.has x).1 (subst (λ (hs : List HeadPair). Contains hs x) (sym c.requires) becomes, refl) in
+          elim c.if-not-is_empty.branch [
+            | then-not-is_empty+in-None w ↦ w.in-None.ensures x among
+            | else-not-is_empty w ↦ absurd (nothing_in c.at_point-bases.result.now x (eqb-true (length c.at_point-bases.result.now) 0 (sym c.is_empty.ensures ∙ w.if-not-is_empty.false)) among)
+          ]
     ]
 
 pub returns : goal.returns

@@ -1,11 +1,11 @@
 use Rattle.std.proofs.Common.{◌∙◌, ap, subst, List, filter, nat_eq, ◌&&◌, get_or, Contains, ◌↔◌}
-use Rattle.std.proofs.lemmas.List.{take_all}
+use Rattle.std.proofs.lemmas.List.{take_all, get_or_default}
 use Rattle.hs_scheme.specs.declared.flow.FlowPair.{FlowPair}
 use Rattle.hs_scheme.specs.Problem.{ProblemData}
 use Rattle.hs_table.specs.Types.{TypeTree}
 use Rattle.hs_checker.specs.Any.{AnyOf}
 use Rattle.hs_checker.specs.Slots.{HasTypeAt}
-use Rattle.hs_checker.proofs.Steps.{any_step, same_read}
+use Rattle.hs_checker.proofs.Steps.{any_step}
 use Rattle.hs_checker.proofs.TypeLemmas.{flow_types}
 use Rattle.hs_checker.proofs.heads.parameter_types.Goals as goal
 
@@ -15,7 +15,7 @@ loop-pair-preserved c =
     let k = c.loop-pair.pair-index in
     let d : FlowPair = record { rule = 0; param = 0; point = 0 } in
     let pair : FlowPair = get_or items k d in
-    any_step (λ (f : FlowPair) (t : TypeTree). HasTypeAt c.args.index.now f.point t) items k pair c.loop-pair-test.true (same_read items k d pair c.loop-pair-test.true)
+    any_step (λ (f : FlowPair) (t : TypeTree). HasTypeAt c.args.index.now f.point t) items k pair c.loop-pair-test.true (get_or_default items k d pair c.loop-pair-test.true)
     (λ t. Contains c.loop-pair.found.items t) (λ t. Contains c.add_types_at.new.found.items t) c.in_ok-add_types_at.ensures c.loop-pair.invariant
 
 pub returns : goal.returns

@@ -3,7 +3,7 @@ use Rattle.std.proofs.lemmas.Bool.{eqb-true, ltb-true}
 use Rattle.std.specs.Ordering.{ordering_index}
 use Rattle.std.specs.declared.cmp.Ordering.TheVariants.{Equal}
 use Rattle.hs_table.specs.Entries.{EntryData}
-use Rattle.hs_table_plain.proofs.Members.{into_map}
+use Rattle.hs_table_laws.proofs.Members.{into_map}
 use Rattle.hs_checker.specs.Order.{index_cmp}
 use Rattle.hs_checker.proofs.Once.{index_tied}
 use Rattle.hs_checker.proofs.IndexLemmas.{index_same}

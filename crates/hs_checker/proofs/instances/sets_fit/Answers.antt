@@ -1,8 +1,8 @@
 use Rattle.std.proofs.Common.{◌≡◌, refl, sym, ◌∙◌, subst, ◌<◌, true, false, List, [], length, get_or, arith}
 use Rattle.std.proofs.lemmas.Option.{slice_get-get_or}
+use Rattle.std.proofs.lemmas.List.{get_or_default}
 use Rattle.hs_table.specs.Types.{TypeTree, state}
 use Rattle.hs_checker.specs.Slots.{HasTypesAt}
-use Rattle.hs_checker.proofs.Steps.{same_read}
 use Rattle.hs_checker.proofs.InstanceLemmas.{fits_set, sets_fit, sets_more, sets_too_few}
 use Rattle.hs_checker.proofs.instances.sets_fit.Goals as goal
 
@@ -19,7 +19,7 @@ returns-then-not-have_entries c = λ q.
     let ss = c.args.sets.now in
     let k = c.loop-place.place in
     let lt : k < length ss = omega (arith, c.loop-place-test.true, c.if-args-sets.false) in
-    let read : c.as_slice.result.now ≡ get_or ss k [] = c.as_slice.ensures.value ∙ (c.set.view_is ∙ (c.index-sets-place.is ∙ same_read ss k c.index-sets-place.result [] lt)) in (
+    let read : c.as_slice.result.now ≡ get_or ss k [] = c.as_slice.ensures.value ∙ (c.set.view_is ∙ (c.index-sets-place.is ∙ get_or_default ss k c.index-sets-place.result [] lt)) in (
       λ e. let f : false ≡ true = e in absurd (cc),
       λ h.
           let has = fits_set E us ss (state q) k (get_or us k 0) (slice_get-get_or us k 0 c.loop-place-test.true) lt h in
@@ -34,7 +34,7 @@ loop-place-preserved c =
     let ss = c.args.sets.now in
     let k = c.loop-place.place in
     let lt : k < length ss = omega (arith, c.loop-place-test.true, c.if-args-sets.false) in
-    let read : c.as_slice.result.now ≡ get_or ss k [] = c.as_slice.ensures.value ∙ (c.set.view_is ∙ (c.index-sets-place.is ∙ same_read ss k c.index-sets-place.result [] lt)) in
+    let read : c.as_slice.result.now ≡ get_or ss k [] = c.as_slice.ensures.value ∙ (c.set.view_is ∙ (c.index-sets-place.is ∙ get_or_default ss k c.index-sets-place.result [] lt)) in
     sets_more E us ss k c.loop-place-test.true c.loop-place.invariant (subst (λ (s : List TypeTree). HasTypesAt E (get_or us k 0) s) read (c.have_entries.ensures.0 c.if-not-have_entries.false))
 
 pub returns : goal.returns

@@ -3,9 +3,9 @@ use Rattle.std.specs.Bool.{◌==◌}
 use Rattle.std.specs.Ordering.{ordering_index}
 use Rattle.std.specs.declared.cmp.Ordering.{Ordering}
 use Rattle.std.specs.declared.cmp.Ordering.TheVariants.{Less, Equal, Greater}
+use Rattle.std.proofs.lemmas.List.{get_or_default}
 use Rattle.hs_table.specs.Types.{type_cmp}
 use Rattle.hs_table_laws.proofs.Orders.{type_cmp_total, type_same}
-use Rattle.hs_checker.proofs.Steps.{same_read}
 use Rattle.hs_checker.proofs.Ordered.{ascending_from}
 use Rattle.hs_checker.proofs.shape.is_set.Goals as goal
 
@@ -22,7 +22,7 @@ returns-then-ne c = (
       let k = c.loop-place.place in
       let a = c.index-types-place.result in
       let b = c.index-types-place-in-loop-place.result in
-      let left : get_or xs (k - 1) b ≡ a = same_read xs (k - 1) b a (omega arith) ∙ sym c.index-types-place.is in
+      let left : get_or xs (k - 1) b ≡ a = get_or_default xs (k - 1) b a (omega arith) ∙ sym c.index-types-place.is in
       let less : type_cmp a b ≡ Less = (λ i. type_cmp (sym left i) (c.index-types-place-in-loop-place.is i)) ∙ set (k - 1) k b (omega arith) c.loop-place-test.true in
       absurd (not_less c.compare.result c.if-ne.ensures (c.compare.ensures ∙ less)),
 )

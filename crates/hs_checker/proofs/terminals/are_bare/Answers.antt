@@ -1,8 +1,7 @@
 use Rattle.std.proofs.Common.{subst, ℕ, List, get_or}
-use Rattle.std.proofs.lemmas.List.{take_all}
+use Rattle.std.proofs.lemmas.List.{take_all, get_or_default}
 use Rattle.hs_checker.specs.Slots.{AreBare}
 use Rattle.hs_checker.proofs.TypeLemmas.{nothing_at}
-use Rattle.hs_checker.proofs.Steps.{same_read}
 use Rattle.hs_checker.proofs.InstanceLemmas.{bare_more}
 use Rattle.hs_checker.proofs.terminals.are_bare.Goals as goal
 
@@ -11,7 +10,7 @@ loop-arg-preserved c =
     let us = c.args.args.now in
     let k = c.loop-arg.arg-index in
     let u = get_or us k 0 in
-    bare_more c.args.index.now us k u c.loop-arg-test.true (same_read us k 0 u c.loop-arg-test.true) c.loop-arg.invariant
+    bare_more c.args.index.now us k u c.loop-arg-test.true (get_or_default us k 0 u c.loop-arg-test.true) c.loop-arg.invariant
     (nothing_at c.args.index.now c.at_point.result.now u c.at_point.ensures.has c.if-not-is_empty.ensures)
 
 pub returns : goal.returns

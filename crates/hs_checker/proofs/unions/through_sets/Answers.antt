@@ -1,10 +1,9 @@
 use Rattle.std.proofs.Common.{◌≡◌, sym, ◌∙◌, ap, subst, ◌-◌, ◌<◌, List, length, length-drop, take, drop, get_or, Contains, ◌↔◌, arith}
-use Rattle.std.proofs.lemmas.List.{take_all}
+use Rattle.std.proofs.lemmas.List.{take_all, get_or_default}
 use Rattle.hs_table.specs.Types.{arrows}
 use Rattle.hs_table.specs.Entries.{EntryData}
 use Rattle.hs_table_plain.specs.Enumeration as plain
 use Rattle.hs_table_plain.proofs.ConclusionLemmas.{if_ok_map}
-use Rattle.hs_checker.proofs.Steps.{same_read}
 use Rattle.hs_checker.proofs.EnvLemmas.{sets_step, sets_done}
 use Rattle.hs_checker.proofs.unions.through_sets.Goals as goal
 
@@ -17,8 +16,8 @@ loop-place-preserved c = λ e.
     let lt : k < length ss = omega (arith, c.loop-place-test.true, c.requires) in
     let u = get_or us k 0 in
     let s = c.as_slice.result.now in
-    let read : s ≡ get_or ss k s = c.as_slice.ensures.value ∙ (c.set.view_is ∙ (c.index-sets-place.is ∙ same_read ss k c.index-sets-place.result s lt)) in
-    sets_step E us ss c.args.ty.now k u s c.loop-place.found.items c.in_ok-found.found.items c.args.entries.items c.loop-place-test.true lt (same_read us k 0 u c.loop-place-test.true) read c.in_ok-found.ensures e (c.loop-place.invariant e)
+    let read : s ≡ get_or ss k s = c.as_slice.ensures.value ∙ (c.set.view_is ∙ (c.index-sets-place.is ∙ get_or_default ss k c.index-sets-place.result s lt)) in
+    sets_step E us ss c.args.ty.now k u s c.loop-place.found.items c.in_ok-found.found.items c.args.entries.items c.loop-place-test.true lt (get_or_default us k 0 u c.loop-place-test.true) read c.in_ok-found.ensures e (c.loop-place.invariant e)
 
 pub returns : goal.returns
 returns c =

@@ -1,16 +1,7 @@
-use Rattle.std.proofs.Common.{◌≡◌, sym, ◌∙◌, ap, subst, ℕ, true, false, Result, is_ok, Contains, refl}
-use Rattle.hs_scheme.specs.declared.flow.HeadPair.{HeadPair}
+use Rattle.std.proofs.Common.{◌≡◌, sym, ◌∙◌, ap, true, false, Result, ℕ, is_ok, refl}
 use Rattle.hs_scheme.specs.Flow.{head_cmp}
 use Rattle.hs_scheme.proofs.FlowLemmas.{head_cmp_total, head_cmp-equal, found_there, there_found}
 use Rattle.hs_checker.proofs.head_pairs.HeadPairs.find.Goals as goal
-
-pub returns-then-is_at : goal.returns-then-is_at
-returns-then-is_at c =
-    let found = c.is_at.ensures c.if-is_at.true in
-    let h : HeadPair = found.0 in
-    let has = (c.at_point-pairs.ensures.has h).0 found.1.0 in
-    let same : h ≡ c.args.pair = λ i. record { point = has.1 i; rule = found.1.1.0 i; given = found.1.1.1 i } in
-    subst (λ (x : HeadPair). Contains c.args.self.now x) same has.0
 
 pub returns-in-Ok : goal.returns-in-Ok
 returns-in-Ok c =

@@ -1,0 +1,30 @@
+use Rattle.std.proofs.Common.{sym, subst, List, Contains, get_or, inl, inr}
+use Rattle.std.proofs.lemmas.List.{take_all, get_or_default}
+use Rattle.std.proofs.lemmas.List.Elements.{Contains-get_or}
+use Rattle.hs_scheme.specs.declared.flow.HeadPair.{HeadPair}
+use Rattle.hs_table_plain.proofs.Members.{next_member}
+use Rattle.hs_checker.specs.Passes.{base_of, PassesArgument}
+use Rattle.hs_checker.proofs.flow.flow_gap_by.Goals as goal
+
+pub returns-in-Err : goal.returns-in-Err
+returns-in-Err c =
+    let items = c.args.bases.now in
+    let d : HeadPair = record { point = 0; rule = 0; given = 0 } in
+    let k = c.loop-head.head-index in
+    (get_or items k d, (Contains-get_or items k d c.loop-head-test.true, c.in-Err.ensures))
+
+pub loop-head-preserved : goal.loop-head-preserved
+loop-head-preserved c = λ h there f passes.
+    let items = c.args.bases.now in
+    let d : HeadPair = record { point = 0; rule = 0; given = 0 } in
+    let k = c.loop-head.head-index in
+    let own : HeadPair = get_or items k d in
+    elim ((next_member items k own h c.loop-head-test.true (get_or_default items k d own c.loop-head-test.true)).0 there) [
+      | inl before ↦ c.loop-head.invariant h before f passes
+      | inr same ↦ c.in-Ok.ensures f (subst (λ (x : HeadPair). PassesArgument c.args.problem.now (base_of x) c.args.number c.args.arg f) same passes)
+    ]
+
+pub returns : goal.returns
+returns c = λ h there f passes.
+    let items = c.args.bases.now in
+    c.loop-head.invariant h (subst (λ (hs : List HeadPair). Contains hs h) (sym (take_all c.loop-head.head-index items c.loop-head-test.false)) there) f passes

@@ -1,0 +1,33 @@
+use Rattle.std.proofs.Common.{sym, subst, List, Contains, get_or, inl, inr}
+use Rattle.std.proofs.lemmas.List.{take_all, get_or_default}
+use Rattle.std.proofs.lemmas.List.Elements.{Contains-get_or}
+use Rattle.hs_scheme.specs.declared.flow.HeadPair.{HeadPair}
+use Rattle.hs_table_plain.proofs.Members.{next_member}
+use Rattle.hs_checker.specs.Passes.{base_of, PassesHead}
+use Rattle.hs_checker.proofs.flow.head_gap.Goals as goal
+
+pub head_place-requires-clause-own : goal.head_place-requires-clause-own
+head_place-requires-clause-own c = λ h k. (c.at_point-own.ensures.has h).0 k
+
+pub returns-in-Err : goal.returns-in-Err
+returns-in-Err c =
+    let items = c.args.bases.now in
+    let d : HeadPair = record { point = 0; rule = 0; given = 0 } in
+    let k = c.loop-head.head-index in
+    (get_or items k d, (Contains-get_or items k d c.loop-head-test.true, c.in-Err.ensures))
+
+pub loop-head-preserved : goal.loop-head-preserved
+loop-head-preserved c = λ b there h passes.
+    let items = c.args.bases.now in
+    let d : HeadPair = record { point = 0; rule = 0; given = 0 } in
+    let k = c.loop-head.head-index in
+    let own : HeadPair = get_or items k d in
+    elim ((next_member items k own b c.loop-head-test.true (get_or_default items k d own c.loop-head-test.true)).0 there) [
+      | inl before ↦ c.loop-head.invariant b before h passes
+      | inr same ↦ c.in-Ok.ensures h (subst (λ (x : HeadPair). PassesHead c.args.problem.now c.args.point c.args.args.now (base_of x) h) same passes)
+    ]
+
+pub returns : goal.returns
+returns c = λ b there h passes.
+    let items = c.args.bases.now in
+    c.loop-head.invariant b (subst (λ (hs : List HeadPair). Contains hs b) (sym (take_all c.loop-head.head-index items c.loop-head-test.false)) there) h passes
