@@ -25,7 +25,7 @@ use Rattle.hs_app.specs.declared.verdict.Verdict.{Verdict}
 use Rattle.hs_app.specs.declared.verdict.Verdict.TheVariants.{Accepted, Rejected, Long}
 use Rattle.hs_app.specs.declared.verdict.Decided.{Decided}
 use Rattle.hs_app.specs.Problems.{Asked, IsProblemOf, HasManyPoints, HasMuchFlow, IsReportedTable}
-use Rattle.hs_app.specs.Verdict.{max_bytes, Has, IsScheme, IsSound, Reports, IsOverBudget, Decides, Refused, Answers, HasDecision, IsWithinBudget, IsBoundToExceed, WarrantsOnScheme, HasWarrant, Warrants, IsReadable}
+use Rattle.hs_app.specs.Verdict.{max_bytes, HasAnswer, IsSchemeOf, IsSortable, Reports, IsOverBudget, Decides, Refused, IsAnsweredWith, HasDecision, IsWithinBudget, IsBoundToExceed, WarrantsOnScheme, HasWarrant, Warrants, IsWithinLimits}
 use Rattle.hs_app.proofs.OneProblem.{one_problem, not_many_points, not_much_flow, many_not_much}
 
 -- ---- what comes of a file, layer by layer: a refusal, of which R holds, or a scheme with sorts, of which S holds
@@ -66,10 +66,10 @@ record Layered (R : Refusal → Type 0) (S : UnsortedData → Type 0) (bytes : L
   at : AtBytes R S answer
 
 module _ (R : Refusal → Type 0) (S : UnsortedData → Type 0) (bytes : List ℕ) where
-  of_scheme : (u : UnsortedData) → IsScheme bytes u → AtScheme R S u → Layered R S bytes
+  of_scheme : (u : UnsortedData) → IsSchemeOf bytes u → AtScheme R S u → Layered R S bytes
   of_scheme u s h = record { answer = Ok s.file; is = s.reads; at = inr (s.faultless, subst (λ (v : UnsortedData). AtScheme R S v) s.is h) }
 
-  of_sound : (u : UnsortedData) → IsSound bytes u → S u → Layered R S bytes
+  of_sound : (u : UnsortedData) → IsSortable bytes u → S u → Layered R S bytes
   of_sound u s h = of_scheme u s.of_bytes (inr (inferred_inferable u s.sorted s.inferred, h))
 
   -- the refusals of what comes before a scheme has its sorts
@@ -313,7 +313,7 @@ module _ (asked : Asked) (u : UnsortedData) where
 -- ---- an answer and a warrant on the bytes of a file
 
 module _ (asked : Asked) (bytes : List ℕ) where
-  answer_layers : (a : Result Decided Refusal) → Answers asked bytes a → Wants a ⊎ Layered (λ r. a ≡ Err r) (λ u. Decides asked u a) bytes
+  answer_layers : (a : Result Decided Refusal) → IsAnsweredWith asked bytes a → Wants a ⊎ Layered (λ r. a ≡ Err r) (λ u. Decides asked u a) bytes
   answer_layers (Ok d) h = inr (of_sound (λ r. Ok d ≡ Err r) (λ u. Decides asked u (Ok d)) bytes h.scheme h.sound h.decides)
   answer_layers (Err r) h =
       elim (of_refusal (λ s. Err r ≡ Err s) (λ u. Decides asked u (Err r)) bytes asked r h refl) [
@@ -332,7 +332,7 @@ module _ (asked : Asked) (bytes : List ℕ) where
     abbrev Layers : Type 0
     Layers = Layered IsRefusal OnScheme bytes
 
-    at_scheme : (u : UnsortedData) → IsScheme bytes u → (f : SortFault) → IsFaultOf u.rules u.ranks f → (r : Refusal) → TellsSort u f r → d ≡ Err r → Layers
+    at_scheme : (u : UnsortedData) → IsSchemeOf bytes u → (f : SortFault) → IsFaultOf u.rules u.ranks f → (r : Refusal) → TellsSort u f r → d ≡ Err r → Layers
     at_scheme u of f fault r tells e = of_scheme IsRefusal OnScheme bytes u of (inl (f, (fault, (r, (tells, e)))))
 
     of_warrant : HasWarrant asked bytes d → Layers
@@ -362,7 +362,7 @@ module _ (asked : Asked) (bytes : List ℕ) where
   warrant_layers (Err EntryLimit) h = inr (h.0, of_warrant (Err EntryLimit) h.1)
 
   -- what the file warrants is answered, want of memory aside
-  pub answer_meets : (d : Result Verdict Refusal) (a : Result Decided Refusal) → Warrants asked d bytes → Has asked a bytes → Right d a
+  pub answer_meets : (d : Result Verdict Refusal) (a : Result Decided Refusal) → Warrants asked d bytes → HasAnswer asked a bytes → Right d a
   answer_meets d a w h =
       elim (answer_layers a h.1) [
         | inl wants ↦ inl wants
@@ -390,7 +390,7 @@ module _ (asked : Asked) (bytes : List ℕ) where
       ]
 
   -- a file with a problem gets a verdict, unless memory is refused or there are too many entries
-  pub readable_comes : (a : Result Decided Refusal) → IsReadable asked bytes → Has asked a bytes → Comes a
+  pub readable_comes : (a : Result Decided Refusal) → IsWithinLimits asked bytes → HasAnswer asked a bytes → Comes a
   readable_comes a r h =
       elim (answer_layers a h.1) [
         | inl wants ↦ inl wants

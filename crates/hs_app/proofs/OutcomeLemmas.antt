@@ -12,9 +12,9 @@ use Rattle.hs_app.specs.declared.verdict.Decided.{Decided}
 use Rattle.hs_app.specs.declared.top.Ending.{Ending}
 use Rattle.hs_app.specs.declared.top.Ending.TheVariants.{Reported, CutOff, Refused}
 use Rattle.hs_app.specs.Refusal.{HasFixedLine, status_of}
-use Rattle.hs_app.specs.Verdict.{max_bytes, Has, Warrants, Answers, IsReadable}
-use Rattle.hs_app.specs.Order.{Job, read_file, generate, Order, SourceRun, IsUntouched, IsRead, bytes_of, IsWhole, IsPart, OfTold}
-use Rattle.hs_app.specs.Outcome.{SinkRun, IsCalm, HasCause, IsOfBytes, IsAnswer, IsReadFault, IsDue, IsStatusOf, status_of_verdict, status_at, Ends, Complies, Rows}
+use Rattle.hs_app.specs.Verdict.{max_bytes, HasAnswer, Warrants, IsAnsweredWith, IsWithinLimits}
+use Rattle.hs_app.specs.Order.{Job, read_file, generate, Order, SourceRun, IsUntouched, IsReadFromFront, bytes_of, IsReadToEnd, IsPart, OfTold}
+use Rattle.hs_app.specs.Outcome.{SinkRun, IsCalm, HasCause, IsOfBytes, IsAnswerOfRun, IsReadFault, IsDue, IsStatusOf, status_of_verdict, status_at, Ends, Complies, Rows}
 use Rattle.hs_app.proofs.AnswerLemmas.{Wants, Matches, answer_meets, readable_comes}
 
 -- ---- facts about the bytes of a job's file
@@ -56,25 +56,25 @@ part_bytes limit given told (Some l) is p =
     subst (λ (o : Option (List ℕ)). IfSome o (λ bytes. limit < length bytes)) (sym is) (rw (length-append given l) (omega (arith, p)))
 
 -- What was handed out says of these files what it says itself.
-record Shows (job : Job) (source : SourceRun) (file : List ℕ → Option (List ℕ)) : Type 1 where
-  whole : (P : List ℕ → Type 0) → P (bytes_of job source.after.given) → IsWhole job source → OfFile job file P
+record IsShownBy (job : Job) (source : SourceRun) (file : List ℕ → Option (List ℕ)) : Type 1 where
+  whole : (P : List ℕ → Type 0) → P (bytes_of job source.after.given) → IsReadToEnd job source → OfFile job file P
   part : max_bytes < length source.after.given → IsPart job source → OfFile job file (λ bytes. max_bytes < length bytes)
 
-shows_told : (job : Job) (source : SourceRun) → Shows job source source.file
+shows_told : (job : Job) (source : SourceRun) → IsShownBy job source source.file
 shows_told (read_file n) source = record {
   whole = λ P h read. whole_bytes P source.after.given (source.file n) source.left read.told (read.all refl) h;
   part = λ h read. part_bytes max_bytes source.after.given (source.file n) source.left read.told h;
 }
 shows_told (generate k) source = record { whole = λ P h read. h; part = λ h read. absurd read }
 
-shows_handed : (job : Job) (source : SourceRun) → Shows job source (λ _. Some source.after.given)
+shows_handed : (job : Job) (source : SourceRun) → IsShownBy job source (λ _. Some source.after.given)
 shows_handed (read_file n) source = record { whole = λ P h read. h; part = λ h read. h }
 shows_handed (generate k) source = record { whole = λ P h read. h; part = λ h read. absurd read }
 
 -- ---- the answer of the words and the bytes
 
 -- the answer on the bytes of a job that was read up to its end
-pub of_bytes : (o : Order) (source : SourceRun) (r : Result Decided Refusal) → Has o.asked r (bytes_of o.job source.after.given) → IsWhole o.job source → IsAnswer (Some o) source r
+pub of_bytes : (o : Order) (source : SourceRun) (r : Result Decided Refusal) → HasAnswer o.asked r (bytes_of o.job source.after.given) → IsReadToEnd o.job source → IsAnswerOfRun (Some o) source r
 of_bytes o source (Ok d) h whole = (h, whole)
 of_bytes o source (Err Usage) h whole = absurd h.1
 of_bytes o source (Err Source) h whole = absurd h.1
@@ -93,12 +93,12 @@ of_bytes o source (Err Sink) h whole = absurd h.1
 of_bytes o source (Err OutOfMemory) h whole = inr (inr whole)
 
 -- the answer on the bytes of a slice
-pub has_of : (asked : Asked) (r : Result Decided Refusal) (slice bytes given : List ℕ) → slice ≡ bytes → bytes ≡ given → length bytes ≤ max_bytes → Answers asked slice r → Has asked r given
-has_of asked r slice bytes given e f short h = subst (λ (b : List ℕ). Has asked r b) (e ∙ f) (subst (λ (b : List ℕ). length b ≤ max_bytes) (sym e) short, h)
+pub has_of : (asked : Asked) (r : Result Decided Refusal) (slice bytes given : List ℕ) → slice ≡ bytes → bytes ≡ given → length bytes ≤ max_bytes → IsAnsweredWith asked slice r → HasAnswer asked r given
+has_of asked r slice bytes given e f short h = subst (λ (b : List ℕ). HasAnswer asked r b) (e ∙ f) (subst (λ (b : List ℕ). length b ≤ max_bytes) (sym e) short, h)
 
 -- a file that wasn't read whole
 pub of_fault : (name : List ℕ) (asked : Asked) (source : SourceRun) (r : Refusal) → IsReadFault name source r
-    → IsAnswer (Some (record { job = read_file name; asked = asked })) source (Err r)
+    → IsAnswerOfRun (Some (record { job = read_file name; asked = asked })) source (Err r)
 of_fault name asked source Source h = h
 of_fault name asked source FileTooLong h = h
 of_fault name asked source OutOfMemory h = inr (inl h)
@@ -116,13 +116,13 @@ of_fault name asked source EntryLimit h = absurd h
 of_fault name asked source Sink h = absurd h
 
 -- a file that was
-pub of_whole : (name : List ℕ) (asked : Asked) (source : SourceRun) (r : Result Decided Refusal) → Has asked r source.after.given → IsRead source true name
-    → IsAnswer (Some (record { job = read_file name; asked = asked })) source r
+pub of_whole : (name : List ℕ) (asked : Asked) (source : SourceRun) (r : Result Decided Refusal) → HasAnswer asked r source.after.given → IsReadFromFront source true name
+    → IsAnswerOfRun (Some (record { job = read_file name; asked = asked })) source r
 of_whole name asked source r h read = of_bytes (record { job = read_file name; asked = asked }) source r h read
 
 -- the answer on the bytes of a generated file, of which the source knows nothing
-pub of_cycle : (k : ℕ) (asked : Asked) (source : SourceRun) (r : Result Decided Refusal) → IsUntouched source → Has asked r (cycle_file_text k)
-    → IsAnswer (Some (record { job = generate k; asked = asked })) source r
+pub of_cycle : (k : ℕ) (asked : Asked) (source : SourceRun) (r : Result Decided Refusal) → IsUntouched source → HasAnswer asked r (cycle_file_text k)
+    → IsAnswerOfRun (Some (record { job = generate k; asked = asked })) source r
 of_cycle k asked source r same h = of_bytes (record { job = generate k; asked = asked }) source r h same
 
 -- want of memory in the place of a refusal on bytes
@@ -151,8 +151,8 @@ any_cause order source OutOfMemory h changes = h
 -- ---- what is due, and what is answered
 
 -- a failure, which nothing of the words and the bytes brings
-abbrev Fails : Result Decided Refusal → Type 0
-Fails b = (b ≡ Err Source) ⊎ Wants b
+abbrev IsFailure : Result Decided Refusal → Type 0
+IsFailure b = (b ≡ Err Source) ⊎ Wants b
 
 abbrev status_due : Result Decided Refusal → ℕ
 status_due (Ok decided) = status_of_verdict decided.verdict
@@ -198,13 +198,13 @@ verdict_status Accepted = omega arith
 verdict_status Rejected = omega arith
 verdict_status Long = omega arith
 
-abbrev Follows : ℕ → Result Verdict Refusal → Type 0
-Follows status d = IsStatusOf d status ⊎ ((status ≡ 8) ⊎ (((status ≡ 9) × (v : Verdict) × (d ≡ Ok v)) ⊎ (status ≡ 10)))
+abbrev IsDueStatus : ℕ → Result Verdict Refusal → Type 0
+IsDueStatus status d = IsStatusOf d status ⊎ ((status ≡ 8) ⊎ (((status ≡ 9) × (v : Verdict) × (d ≡ Ok v)) ⊎ (status ≡ 10)))
 
 abbrev Completes : ℕ → Type 0
 Completes status = (status ≤ 3) ⊎ ((status ≡ 8) ⊎ ((status ≡ 9) ⊎ (status ≡ 10)))
 
-module _ (o : Order) (source : SourceRun) (file : List ℕ → Option (List ℕ)) (shows : Shows o.job source file) where
+module _ (o : Order) (source : SourceRun) (file : List ℕ → Option (List ℕ)) (shows : IsShownBy o.job source file) where
   abbrev Told : (List ℕ → Type 0) → Type 0
   Told P = OfTold o.job file P
 
@@ -212,7 +212,7 @@ module _ (o : Order) (source : SourceRun) (file : List ℕ → Option (List ℕ)
   InFile P = OfFile o.job file P
 
   abbrev Is : Result Decided Refusal → Type 0
-  Is b = IsAnswer (Some o) source b
+  Is b = IsAnswerOfRun (Some o) source b
 
   due_told : (d : Result Verdict Refusal) → IsDue (Some o) file d → Told (Warrants o.asked d)
   due_told (Ok v) h = h
@@ -234,10 +234,10 @@ module _ (o : Order) (source : SourceRun) (file : List ℕ → Option (List ℕ)
 
   -- why something is answered
   abbrev Why : Result Decided Refusal → Type 0
-  Why b = Fails b ⊎ (((b ≡ Err FileTooLong) × InFile (λ bytes. max_bytes < length bytes)) ⊎ InFile (Has o.asked b))
+  Why b = IsFailure b ⊎ (((b ≡ Err FileTooLong) × InFile (λ bytes. max_bytes < length bytes)) ⊎ InFile (HasAnswer o.asked b))
 
-  by_bytes : (b : Result Decided Refusal) → Has o.asked b (bytes_of o.job source.after.given) × IsWhole o.job source → Why b
-  by_bytes b h = inr (inr (shows.whole (Has o.asked b) h.0 h.1))
+  by_bytes : (b : Result Decided Refusal) → HasAnswer o.asked b (bytes_of o.job source.after.given) × IsReadToEnd o.job source → Why b
+  by_bytes b h = inr (inr (shows.whole (HasAnswer o.asked b) h.0 h.1))
 
   why : (b : Result Decided Refusal) → Is b → Why b
   why (Ok x) h = by_bytes (Ok x) h
@@ -258,14 +258,14 @@ module _ (o : Order) (source : SourceRun) (file : List ℕ → Option (List ℕ)
   why (Err OutOfMemory) h = inl (inr refl)
 
   abbrev Meet : Result Verdict Refusal → Result Decided Refusal → Type 0
-  Meet d b = Fails b ⊎ Matches d b
+  Meet d b = IsFailure b ⊎ Matches d b
 
   meet_long : (d : Result Verdict Refusal) (b : Result Decided Refusal) → b ≡ Err FileTooLong → (bytes : List ℕ) → Warrants o.asked d bytes → max_bytes < length bytes → Meet d b
   meet_long d b e bytes w l =
       inr (subst (λ (x : Result Decided Refusal). Matches d x) (sym e)
       (subst (λ (x : Result Verdict Refusal). Matches x (Err FileTooLong)) (sym (long_only o.asked bytes d l w)) refl))
 
-  meet_bytes : (d : Result Verdict Refusal) (b : Result Decided Refusal) (bytes : List ℕ) → Warrants o.asked d bytes → Has o.asked b bytes → Meet d b
+  meet_bytes : (d : Result Verdict Refusal) (b : Result Decided Refusal) (bytes : List ℕ) → Warrants o.asked d bytes → HasAnswer o.asked b bytes → Meet d b
   meet_bytes d b bytes w h =
       elim (answer_meets o.asked bytes d b w h) [
         | inl wants ↦ inl (inr wants)
@@ -281,11 +281,11 @@ module _ (o : Order) (source : SourceRun) (file : List ℕ → Option (List ℕ)
         | inr (inl (e, long)) ↦
             always_of_job (Meet d b) o.job file (both_of_job (Warrants o.asked d) (λ bytes. max_bytes < length bytes) (λ _. Meet d b) (meet_long d b e) o.job file w long)
         | inr (inr has) ↦
-            always_of_job (Meet d b) o.job file (both_of_job (Warrants o.asked d) (Has o.asked b) (λ _. Meet d b) (meet_bytes d b) o.job file w has)
+            always_of_job (Meet d b) o.job file (both_of_job (Warrants o.asked d) (HasAnswer o.asked b) (λ _. Meet d b) (meet_bytes d b) o.job file w has)
       ]
 
   -- from the answer to its status
-  follows : (d : Result Verdict Refusal) (b : Result Decided Refusal) → IsDue (Some o) file d → Is b → Follows (status_due b) d
+  follows : (d : Result Verdict Refusal) (b : Result Decided Refusal) → IsDue (Some o) file d → Is b → IsDueStatus (status_due b) d
   follows d b due h =
       elim (meets d b due h) [
         | inl (inl e) ↦ inr (inl (ap status_due e))
@@ -293,7 +293,7 @@ module _ (o : Order) (source : SourceRun) (file : List ℕ → Option (List ℕ)
         | inr matches ↦ inl (status_matches d b matches)
       ]
 
-  cut_off : (d : Result Verdict Refusal) (x : Decided) → IsDue (Some o) file d → Is (Ok x) → Follows 9 d
+  cut_off : (d : Result Verdict Refusal) (x : Decided) → IsDue (Some o) file d → Is (Ok x) → IsDueStatus 9 d
   cut_off d x due h =
       elim (meets d (Ok x) due h) [
         | inl (inl e) ↦ absurd (cc)
@@ -303,26 +303,26 @@ module _ (o : Order) (source : SourceRun) (file : List ℕ → Option (List ℕ)
 
   -- a readable file has a verdict, or too many entries
   abbrev Comes_to : Result Decided Refusal → Type 0
-  Comes_to b = Fails b ⊎ (((x : Decided) × (b ≡ Ok x)) ⊎ (b ≡ Err EntryLimit))
+  Comes_to b = IsFailure b ⊎ (((x : Decided) × (b ≡ Ok x)) ⊎ (b ≡ Err EntryLimit))
 
-  of_readable : (b : Result Decided Refusal) (bytes : List ℕ) → IsReadable o.asked bytes → Has o.asked b bytes → Comes_to b
+  of_readable : (b : Result Decided Refusal) (bytes : List ℕ) → IsWithinLimits o.asked bytes → HasAnswer o.asked b bytes → Comes_to b
   of_readable b bytes r h =
       elim (readable_comes o.asked bytes b r h) [
         | inl wants ↦ inl (inr wants)
         | inr comes ↦ inr comes
       ]
 
-  readable_has : (b : Result Decided Refusal) → Told (IsReadable o.asked) → Is b → Comes_to b
+  readable_has : (b : Result Decided Refusal) → Told (IsWithinLimits o.asked) → Is b → Comes_to b
   readable_has b r h =
       elim (why b h) [
         | inl fails ↦ inl fails
         | inr (inl (e, long)) ↦
-            absurd (always_of_job ⊥ o.job file (both_of_job (IsReadable o.asked) (λ bytes. max_bytes < length bytes) (λ _. ⊥) (λ bytes q l. omega (arith, q.within, l)) o.job file r long))
+            absurd (always_of_job ⊥ o.job file (both_of_job (IsWithinLimits o.asked) (λ bytes. max_bytes < length bytes) (λ _. ⊥) (λ bytes q l. omega (arith, q.within, l)) o.job file r long))
         | inr (inr has) ↦
-            always_of_job (Comes_to b) o.job file (both_of_job (IsReadable o.asked) (Has o.asked b) (λ _. Comes_to b) (of_readable b) o.job file r has)
+            always_of_job (Comes_to b) o.job file (both_of_job (IsWithinLimits o.asked) (HasAnswer o.asked b) (λ _. Comes_to b) (of_readable b) o.job file r has)
       ]
 
-  completes : (b : Result Decided Refusal) → Told (IsReadable o.asked) → Is b → Completes (status_due b)
+  completes : (b : Result Decided Refusal) → Told (IsWithinLimits o.asked) → Is b → Completes (status_due b)
   completes b r h =
       elim (readable_has b r h) [
         | inl (inl e) ↦ inr (inl (ap status_due e))
@@ -340,7 +340,7 @@ module _ (o : Order) (source : SourceRun) (file : List ℕ → Option (List ℕ)
 -- ---- words that are refused
 
 module _ (source : SourceRun) where
-  no_order : (b : Result Decided Refusal) → IsAnswer None source b → (b ≡ Err Usage) ⊎ Wants b
+  no_order : (b : Result Decided Refusal) → IsAnswerOfRun None source b → (b ≡ Err Usage) ⊎ Wants b
   no_order (Ok x) h = absurd h
   no_order (Err Usage) h = inl refl
   no_order (Err Source) h = absurd h
@@ -388,7 +388,7 @@ module _ (source : SourceRun) where
 
     no_order_complies : (file : List ℕ → Option (List ℕ)) (e : Ending) → Ends None source out err e → Complies None file (status_at e)
     no_order_complies file e h = record {
-      due = λ d due. subst (λ (x : Result Verdict Refusal). Follows (status_at e) x) (sym (usage_only file d due)) (elim (refused_status e h) [
+      due = λ d due. subst (λ (x : Result Verdict Refusal). IsDueStatus (status_at e) x) (sym (usage_only file d due)) (elim (refused_status e h) [
         | inl is ↦ inl is
         | inr is ↦ inr (inr (inr is))
       ]);
@@ -397,10 +397,10 @@ module _ (source : SourceRun) where
 
 -- ---- all rows
 
-abbrev Claims : Option Order → SourceRun → SinkRun → SinkRun → Ending → Type 0
-Claims order source out err e = Rows order source out err (status_at e)
+abbrev HasRows : Option Order → SourceRun → SinkRun → SinkRun → Ending → Type 0
+HasRows order source out err e = Rows order source out err (status_at e)
 
-rows_of : (order : Option Order) (source : SourceRun) (out err : SinkRun) (e : Ending) → Ends order source out err e → (status_at e ≢ 8 → IsCalm source) → Claims order source out err e
+rows_of : (order : Option Order) (source : SourceRun) (out err : SinkRun) (e : Ending) → Ends order source out err e → (status_at e ≢ 8 → IsCalm source) → HasRows order source out err e
 rows_of None source out err e h calm = record {
   ending = e;
   ends = h;

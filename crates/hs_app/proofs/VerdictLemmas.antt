@@ -37,7 +37,7 @@ use Rattle.hs_app.specs.declared.verdict.Verdict.{Verdict}
 use Rattle.hs_app.specs.declared.verdict.Verdict.TheVariants.{Accepted, Rejected, Long}
 use Rattle.hs_app.specs.declared.verdict.Decided.{Decided}
 use Rattle.hs_app.specs.Problems.{Asked, IsSimplified, IsRemoved, IsSortedFormOf, IsProblemOf, IsProblemWithin, HasManyPoints, HasMuchFlow, HasLongOrder}
-use Rattle.hs_app.specs.Verdict.{IsScheme, IsSound, IsSortRefusal, FailsAlong, ReportsBy, DecidesProblem, DecidesForm, DecidesSimplified, DecidesSorted, Refused, Answers}
+use Rattle.hs_app.specs.Verdict.{IsSchemeOf, IsSortable, IsSortRefusal, FailsAlong, ReportsBy, DecidesProblem, DecidesForm, DecidesSimplified, DecidesSorted, Refused, IsAnsweredWith}
 
 -- a path to a terminal without transition fails
 ends_fail : (rules : List Rule) (ts : List TransitionData) (path : PathData) → IsFailingPath rules ts path → Fails rules ts path.used 0 start path.steps
@@ -199,7 +199,7 @@ of_problem settings form p removed (Err (RuleTooLong rule)) w h = absurd h
 of_problem settings form p removed (Err Sink) w h = absurd h
 
 module _ (asked : Asked) (bytes : List ℕ) (file : File) (reads : IsFileWithin bytes file) (faultless : IsFaultless file) where
-  of_file : IsScheme bytes (unsorted_of file)
+  of_file : IsSchemeOf bytes (unsorted_of file)
   of_file = record { file = file; reads = reads; faultless = faultless; is = refl }
 
   pub refused : (r : Refusal) → IsSortRefusal (unsorted_of file) r → Refused asked bytes r
@@ -220,7 +220,7 @@ module _ (asked : Asked) (bytes : List ℕ) (file : File) (reads : IsFileWithin 
   refused OutOfMemory h = tt
 
   module _ (sorted : SortedData) (inferred : IsInferred (unsorted_of file) sorted) (unsorted : IsUnsorted (unsorted_of file)) where
-    sound : IsSound bytes (unsorted_of file)
+    sound : IsSortable bytes (unsorted_of file)
     sound = record { of_bytes = of_file; sorted = sorted; inferred = inferred }
 
     form_of : IsSorted sorted → IsSortedFormOf (unsorted_of file) sorted
@@ -259,7 +259,7 @@ module _ (asked : Asked) (bytes : List ℕ) (file : File) (reads : IsFileWithin 
         many = h.many;
       }
 
-      verdict : (d : Decided) (p : ProblemData) → IsProblemWithin form p → DecidesProblem asked.settings p removed (Ok d) → Answers asked bytes (Ok d)
+      verdict : (d : Decided) (p : ProblemData) → IsProblemWithin form p → DecidesProblem asked.settings p removed (Ok d) → IsAnsweredWith asked bytes (Ok d)
       unfolding problem
       verdict d p w h = record {
         scheme = unsorted_of file;
@@ -277,7 +277,7 @@ module _ (asked : Asked) (bytes : List ℕ) (file : File) (reads : IsFileWithin 
         };
       }
 
-      of_form_decided : (r : Result Decided Refusal) → DecidesForm asked.settings form removed r → Answers asked bytes r
+      of_form_decided : (r : Result Decided Refusal) → DecidesForm asked.settings form removed r → IsAnsweredWith asked bytes r
       of_form_decided (Ok d) h = verdict d h.0 h.1.0 h.1.1
       of_form_decided (Err EntryLimit) h = record { scheme = unsorted_of file; sound = sound; decides = (h.0, (problem h.0 h.1.0, h.1.1)) }
       of_form_decided (Err PointLimit) h = record { scheme = unsorted_of file; sound = sound; decides = many_points h.1 }
@@ -295,10 +295,10 @@ module _ (asked : Asked) (bytes : List ℕ) (file : File) (reads : IsFileWithin 
       of_form_decided (Err (RuleTooLong rule)) h = absurd h
       of_form_decided (Err Sink) h = absurd h
 
-    simplified_decided : (r : Result Decided Refusal) → DecidesSimplified asked sorted r → Answers asked bytes r
+    simplified_decided : (r : Result Decided Refusal) → DecidesSimplified asked sorted r → IsAnsweredWith asked bytes r
     simplified_decided r h = of_form_decided h.is_sorted h.form h.simplified h.removed h.lighter r h.decides
 
-    pub decided : (r : Result Decided Refusal) → DecidesSorted asked sorted r → Answers asked bytes r
+    pub decided : (r : Result Decided Refusal) → DecidesSorted asked sorted r → IsAnsweredWith asked bytes r
     decided (Ok d) h = simplified_decided (Ok d) h
     decided (Err OutOfMemory) h = tt
     decided (Err EntryLimit) h = simplified_decided (Err EntryLimit) h

@@ -38,23 +38,23 @@ abbrev Children : List Transition → Type 0
 Children us = AllByRecursion (λ t. length t.to ≤ 64) us
 
 -- what was read so far is within the limits, with what is begun
-abbrev Fits : Stage → Type 0
-Fits start = Unit {0}
-Fits (in_rules rs) = Fit rs
-Fits (in_head rs n ps) = (length rs < 20000) × AllByRecursion RuleFits rs × (length ps ≤ 64)
-Fits (in_body rs n ps outer top) = (length rs < 20000) × AllByRecursion RuleFits rs × (length ps ≤ 64) × AllByRecursion Room outer × Few top
-Fits (between rs) = Fit rs
-Fits (in_transitions rs us) = Fit rs × (length us ≤ 200000) × Children us
-Fits (in_transition rs us q) = Fit rs × (length us < 200000) × Children us
-Fits (before_arrow rs us q a) = Fit rs × (length us < 200000) × Children us
-Fits (in_children rs us q a to) = Fit rs × (length us < 200000) × Children us × (length to ≤ 64)
-Fits (closed rs us) = Fit rs × (length us ≤ 200000) × Children us
-Fits (finished f) = Fit f.rules × (length f.transitions ≤ 200000) × Children f.transitions
+abbrev StageFits : Stage → Type 0
+StageFits start = Unit {0}
+StageFits (in_rules rs) = Fit rs
+StageFits (in_head rs n ps) = (length rs < 20000) × AllByRecursion RuleFits rs × (length ps ≤ 64)
+StageFits (in_body rs n ps outer top) = (length rs < 20000) × AllByRecursion RuleFits rs × (length ps ≤ 64) × AllByRecursion Room outer × Few top
+StageFits (between rs) = Fit rs
+StageFits (in_transitions rs us) = Fit rs × (length us ≤ 200000) × Children us
+StageFits (in_transition rs us q) = Fit rs × (length us < 200000) × Children us
+StageFits (before_arrow rs us q a) = Fit rs × (length us < 200000) × Children us
+StageFits (in_children rs us q a to) = Fit rs × (length us < 200000) × Children us × (length to ≤ 64)
+StageFits (closed rs us) = Fit rs × (length us ≤ 200000) × Children us
+StageFits (finished f) = Fit f.rules × (length f.transitions ≤ 200000) × Children f.transitions
 
-came : (s next : Stage) → Some s ≡ Some next → Fits next → Fits s
-came s next e h = subst Fits (sym (same_Some s next e)) h
+came : (s next : Stage) → Some s ≡ Some next → StageFits next → StageFits s
+came s next e h = subst StageFits (sym (same_Some s next e)) h
 
-came_when : (b : Bool) (s next : Stage) → when b s ≡ Some next → Fits next → Fits s
+came_when : (b : Bool) (s next : Stage) → when b s ≡ Some next → StageFits next → StageFits s
 came_when true s next e h = came s next e h
 came_when false s next e h = absurd (cc)
 
@@ -77,7 +77,7 @@ room-few None h = tt
 room-few (Some t) h = h.0
 
 closes-back : (rs : List Rule) (n : RawName) (ps : List RawName) (outer : List (Option (Tree RawName))) (top : Option (Tree RawName)) (next : Stage)
-    → closes rs n ps outer top ≡ Some next → Fits next → Fits (in_body rs n ps outer top)
+    → closes rs n ps outer top ≡ Some next → StageFits next → StageFits (in_body rs n ps outer top)
 closes-back rs n ps outer None next e h = absurd (cc)
 closes-back rs n ps [] (Some t) next e h = absurd (cc)
 closes-back rs n ps (below ∷ outer) (Some t) next e h =
@@ -85,7 +85,7 @@ closes-back rs n ps (below ∷ outer) (Some t) next e h =
     let r = few-before below t g.4 in (g.0, g.1, g.2, (r.0, g.3), r.1)
 
 ends-back : (rs : List Rule) (n : RawName) (ps : List RawName) (outer : List (Option (Tree RawName))) (top : Option (Tree RawName)) (next : Stage)
-    → ends rs n ps outer top ≡ Some next → Fits next → Fits (in_body rs n ps outer top)
+    → ends rs n ps outer top ≡ Some next → StageFits next → StageFits (in_body rs n ps outer top)
 ends-back rs n ps outer None next e h = absurd (cc)
 ends-back rs n ps (below ∷ outer) (Some t) next e h = absurd (cc)
 ends-back rs n ps [] (Some t) next e h =
@@ -94,7 +94,7 @@ ends-back rs n ps [] (Some t) next e h =
     let r = all-append RuleFits rs (rule ∷ []) g.1 in
     (omega (arith, g.0, length-append rs (rule ∷ [])), r.0, r.1.0.0, tt, r.1.0.1)
 
-fits-back : (s : Stage) (t : Token) (next : Stage) → step s t ≡ Some next → Fits next → Fits s
+fits-back : (s : Stage) (t : Token) (next : Stage) → step s t ≡ Some next → StageFits next → StageFits s
 fits-back start t next e h = tt
 fits-back (in_rules rs) (word n) next e h = let g = came_when (begins_upper n.text) (in_head rs n []) next e h in (omega (arith, g.0), g.1)
 fits-back (in_rules rs) rules_end next e h = came_when (any rs) (between rs) next e h
@@ -130,7 +130,7 @@ fits-back (closed rs us) end_of_file next e h = came (finished (record { rules =
 fits-back (closed rs us) t next e h = absurd (cc)
 fits-back (finished f) t next e h = absurd (cc)
 
-fits-all : (ts : List Token) (s : Stage) (f : File) → steps s ts ≡ Some (finished f) → Fits (finished f) → Fits s
+fits-all : (ts : List Token) (s : Stage) (f : File) → steps s ts ≡ Some (finished f) → StageFits (finished f) → StageFits s
 unfolding steps
 fits-all [] s f e h = came s (finished f) e h
 fits-all (t ∷ ts) s f e h =
@@ -145,7 +145,7 @@ not-full None h e = (cc)
 not-full (Some t) h e = let same = eqb-true (arguments t) 64 e in omega (arith, same, h.1)
 
 -- a name passes no limit at a stage from which all is within the limits
-no-pass_word : (s : Stage) (n : RawName) (next : Stage) → step s (word n) ≡ Some next → Fits next → (w : Which) → at_word s ≡ Some w → ⊥
+no-pass_word : (s : Stage) (n : RawName) (next : Stage) → step s (word n) ≡ Some next → StageFits next → (w : Which) → at_word s ≡ Some w → ⊥
 no-pass_word start n next e h w p = (cc)
 no-pass_word (in_rules rs) n next e h w p =
     let g = came_when (begins_upper n.text) (in_head rs n []) next e h in
@@ -173,7 +173,7 @@ left-pass : (b c : Bool) (w : Which) → (c ≡ true → ⊥) → first_of (whic
 left-pass true c w off e = sym (same_Some which.Depth w e)
 left-pass false c w off e = absurd (if-off c which.Arguments w off e)
 
-no-pass_left : (s next : Stage) → step s left ≡ Some next → Fits next → (w : Which) → at_left s ≡ Some w → w ≡ which.Depth
+no-pass_left : (s next : Stage) → step s left ≡ Some next → StageFits next → (w : Which) → at_left s ≡ Some w → w ≡ which.Depth
 no-pass_left (in_body rs m ps outer top) next e h w p =
     let g = came (in_body rs m ps (top ∷ outer) None) next e h in left-pass (nat_eq (length outer) 200) (is_full top) w (not-full top g.3.0) p
 no-pass_left s next e h w p = absurd (cc)
@@ -182,7 +182,7 @@ abbrev ShortWord : Token → Type 0
 ShortWord (word n) = IsShort n
 ShortWord t = Unit {0}
 
-no-pass : (s : Stage) (t : Token) (next : Stage) → step s t ≡ Some next → Fits next → ShortWord t → (w : Which) → passed s t ≡ Some w → w ≡ which.Depth
+no-pass : (s : Stage) (t : Token) (next : Stage) → step s t ≡ Some next → StageFits next → ShortWord t → (w : Which) → passed s t ≡ Some w → w ≡ which.Depth
 no-pass s (word n) next e h short w p =
     let short_name : is_long n.text ≡ false = le-ltb 200 (length n.text) short in
     absurd (no-pass_word s n next e h w (sym (ap (λ b. first_of (which_if b which.Name) (at_word s)) short_name) ∙ p))
@@ -193,7 +193,7 @@ short-word : (before : List Token) (t : Token) (after : List Token) → AllByRec
 short-word before (word n) after h = (all-append IsShort (words before) (n ∷ words after) (subst (AllByRecursion IsShort) (words_append before (word n ∷ after)) h)).1.0
 short-word before t after h = tt
 
-finished-fits : (f : File) → IsRaw f → Fits (finished f)
+finished-fits : (f : File) → IsRaw f → StageFits (finished f)
 finished-fits f inside = ((inside.within.rules, each f.rules inside.within.parameters inside.within.arguments), inside.within.transitions, inside.within.children)
   where
     each : (rs : List Rule) → AllByRecursion (λ r. length r.params ≤ 64) rs → AllByRecursion (λ r. HasFewArguments r.body) rs → AllByRecursion RuleFits rs

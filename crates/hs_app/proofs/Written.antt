@@ -25,8 +25,8 @@ use Rattle.hs_app.proofs.Pieces.{opened, closed, term_pieces, args_pieces, param
 
 module _ (ns : NamesData) (ps : List (List ℕ)) (head : RawName → Head) where
   -- the head of a name is written as the name
-  abbrev Named : RawName → Type 0
-  Named n = head_text ns ps (head n) ≡ n.text
+  abbrev IsWrittenAsNamed : RawName → Type 0
+  IsWrittenAsNamed n = head_text ns ps (head n) ≡ n.text
 
   opening-spelled : (t : Tree RawName) (after : List Piece) → opening (numbered head t) ++ spelled after ≡ spelled (blank 32 ∷ opened t after)
   opening-spelled (node n none) after = refl
@@ -37,15 +37,15 @@ module _ (ns : NamesData) (ps : List (List ℕ)) (head : RawName → Head) where
   closing-spelled (node n (more t ts)) after = refl
 
   mutual
-    term-spelled : (t : Tree RawName) (after : List Piece) → AllByRecursion Named (term_names t) → term_text ns ps (numbered head t) ++ spelled after ≡ spelled (term_pieces t after)
+    term-spelled : (t : Tree RawName) (after : List Piece) → AllByRecursion IsWrittenAsNamed (term_names t) → term_text ns ps (numbered head t) ++ spelled after ≡ spelled (term_pieces t after)
     term-spelled (node n args) after are =
         append_assoc (head_text ns ps (head n)) (args_text ns ps (numbered_each head args)) (spelled after)
         ∙ (λ i. are.0 i ++ args-spelled args after are.1 i)
 
-    args-spelled : (ts : Trees RawName) (after : List Piece) → AllByRecursion Named (terms_names ts) → args_text ns ps (numbered_each head ts) ++ spelled after ≡ spelled (args_pieces ts after)
+    args-spelled : (ts : Trees RawName) (after : List Piece) → AllByRecursion IsWrittenAsNamed (terms_names ts) → args_text ns ps (numbered_each head ts) ++ spelled after ≡ spelled (args_pieces ts after)
     args-spelled none after are = refl
     args-spelled (more t ts) after are =
-        let parts = all-append Named (term_names t) (terms_names ts) are in
+        let parts = all-append IsWrittenAsNamed (term_names t) (terms_names ts) are in
         let own = numbered head t in
         let rest = args_pieces ts after in
         append_assoc (opening own ++ (term_text ns ps own ++ closing own)) (args_text ns ps (numbered_each head ts)) (spelled after)
@@ -127,7 +127,7 @@ module _ (raw : File) (inside : IsRaw raw) (clean : IsFaultless raw) where
       let params : params_at ns.params i ≡ ps = ap (λ o. unwrap_or o []) (at_map (λ (s : Rule). texts s.params) raw.rules i r at) in
       let written : (body ++ codes ".\n") ++ spelled after ≡ spelled (term_pieces r.body end) =
       append_assoc body (codes ".\n") (spelled after)
-      ∙ term-spelled ns ps head r.body end (all-same (Named ns ps head) (term_names r.body) (λ k n at_name. head-named i k r n at at_name)) in
+      ∙ term-spelled ns ps head r.body end (all-same (IsWrittenAsNamed ns ps head) (term_names r.body) (λ k n at_name. head-named i k r n at at_name)) in
       let rest = token arrow ∷ (blank 32 ∷ term_pieces r.body end) in
       ap (λ qs. rule_text ns i qs (rule_of (left_names raw) (terminal_names raw) r) ++ spelled after) params
       ∙ (append_assoc (name_at ns.rules i) (codes " " ++ (params_text ps ++ (codes "-> " ++ (body ++ codes ".\n")))) (spelled after)

@@ -3,7 +3,7 @@
 --     Order           a job with what is asked for
 --     ordered         what the words order, where they are taken
 --     bytes_of        the bytes of a job, where these were handed out
---     IsWhole, IsPart the job's file was read up to its end, or not so far; for a generated file nothing is read
+--     IsReadToEnd, IsPart the job's file was read up to its end, or not so far; for a generated file nothing is read
 --     OfTold          a fact about the bytes of the job's file, where they are told
 use Rattle.std.specs.Prelude.{◌≡◌, ℕ, ◌+◌, Bool, true, false, List, [], Option, Some, option_map, unwrap_or, codes, IfSome, IsSomeAnd}
 use Rattle.std.specs.Option.{option_map_or}
@@ -68,7 +68,7 @@ IsUntouched source = source.after ≡ source.before
 -- The file of this name was started, and nothing else, and it was read from its front on: up to its
 -- end and not past it, where the end was met. Where the file is told, what was handed out and what is
 -- left make it up.
-pub record IsRead (source : SourceRun) (met : Bool) (name : List ℕ) : Type 0 where
+pub record IsReadFromFront (source : SourceRun) (met : Bool) (name : List ℕ) : Type 0 where
   pub begun : source.after.begun ≡ Some name
   pub once : source.after.starts ≡ source.before.starts + 1
   pub ended : source.after.ended ≡ met
@@ -80,12 +80,12 @@ abbrev pub bytes_of : Job → List ℕ → List ℕ
 bytes_of (read_file name) given = given
 bytes_of (generate k) given = cycle_file_text k
 
-abbrev pub IsWhole : Job → SourceRun → Type 0
-IsWhole (read_file name) source = IsRead source true name
-IsWhole (generate k) source = IsUntouched source
+abbrev pub IsReadToEnd : Job → SourceRun → Type 0
+IsReadToEnd (read_file name) source = IsReadFromFront source true name
+IsReadToEnd (generate k) source = IsUntouched source
 
 abbrev pub IsPart : Job → SourceRun → Type 0
-IsPart (read_file name) source = IsRead source false name
+IsPart (read_file name) source = IsReadFromFront source false name
 IsPart (generate k) source = ⊥
 
 -- the count of the job's file rose

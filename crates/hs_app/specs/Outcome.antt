@@ -1,6 +1,6 @@
 -- What a run comes to.
 --     SinkRun               a sink as a run found it and left it
---     IsAnswer              the verdict with its report, or why there is none, by the order and by what the source handed out
+--     IsAnswerOfRun         the verdict with its report, or why there is none, by the order and by what the source handed out
 --     Ends, status_at       how a run ends, with what comes with it; its exit status
 --     Due                   what has to be answered, by the order and by the bytes
 --     Rows                  all that is claimed of a run
@@ -15,8 +15,8 @@ use Rattle.hs_app.specs.declared.top.Ending.TheVariants.{Reported, CutOff, Refus
 use Rattle.hs_app.specs.declared.verdict.Decided.{Decided}
 use Rattle.hs_app.specs.declared.verdict.Verdict.{Verdict}
 use Rattle.hs_app.specs.declared.verdict.Verdict.TheVariants.{Accepted, Rejected, Long}
-use Rattle.hs_app.specs.Order.{Order, SourceRun, IsUntouched, IsRead, bytes_of, IsWhole, IsPart, HasFault, OfTold}
-use Rattle.hs_app.specs.Verdict.{max_bytes, Has, Warrants, IsReadable}
+use Rattle.hs_app.specs.Order.{Order, SourceRun, IsUntouched, IsReadFromFront, bytes_of, IsReadToEnd, IsPart, HasFault, OfTold}
+use Rattle.hs_app.specs.Verdict.{max_bytes, HasAnswer, Warrants, IsWithinLimits}
 
 -- ---- the outside
 
@@ -49,7 +49,7 @@ pub record KeepsSource (source : SourceRun) : Type 0 where
 module _ (order : Option Order) (source : SourceRun) where
   -- the answer on the bytes of the job, which was read up to its end
   abbrev pub IsOfBytes : Result Decided Refusal → Type 0
-  IsOfBytes answer = IsSomeAnd order (λ o. Has o.asked answer (bytes_of o.job source.after.given) × IsWhole o.job source)
+  IsOfBytes answer = IsSomeAnd order (λ o. HasAnswer o.asked answer (bytes_of o.job source.after.given) × IsReadToEnd o.job source)
 
   -- why there is no verdict: the words, a count that rose, or the bytes that were handed out
   abbrev pub HasCause : Refusal → Type 0
@@ -57,32 +57,32 @@ module _ (order : Option Order) (source : SourceRun) where
   HasCause Source = IsSomeAnd order (λ o. HasFault o.job source × (IsUntouched source ⊎ IsPart o.job source))
   HasCause FileTooLong = IsSomeAnd order (λ o. (max_bytes < length source.after.given) × IsPart o.job source)
   HasCause Sink = ⊥
-  HasCause OutOfMemory = IsUntouched source ⊎ IsSomeAnd order (λ o. IsPart o.job source ⊎ IsWhole o.job source)
+  HasCause OutOfMemory = IsUntouched source ⊎ IsSomeAnd order (λ o. IsPart o.job source ⊎ IsReadToEnd o.job source)
   HasCause refusal = IsOfBytes (Err refusal)
 
   -- the verdict is that on the bytes that were handed out up to the end, or the reason has its cause
-  abbrev pub IsAnswer : Result Decided Refusal → Type 0
-  IsAnswer (Ok decided) = IsOfBytes (Ok decided)
-  IsAnswer (Err refusal) = HasCause refusal
+  abbrev pub IsAnswerOfRun : Result Decided Refusal → Type 0
+  IsAnswerOfRun (Ok decided) = IsOfBytes (Ok decided)
+  IsAnswerOfRun (Err refusal) = HasCause refusal
 
 -- a file was read whole: these are its bytes, which were handed out
 pub record IsReadWhole (name : List ℕ) (source : SourceRun) (bytes : List ℕ) : Type 0 where
   pub given : bytes ≡ source.after.given
   pub within : length bytes ≤ max_bytes
-  pub read : IsRead source true name
+  pub read : IsReadFromFront source true name
 
 -- why it wasn't
 abbrev pub IsReadFault : List ℕ → SourceRun → Refusal → Type 0
-IsReadFault name source Source = Rose (source.faults name) (source.faults_after name) × (IsUntouched source ⊎ IsRead source false name)
-IsReadFault name source FileTooLong = (max_bytes < length source.after.given) × IsRead source false name
-IsReadFault name source OutOfMemory = IsRead source false name
+IsReadFault name source Source = Rose (source.faults name) (source.faults_after name) × (IsUntouched source ⊎ IsReadFromFront source false name)
+IsReadFault name source FileTooLong = (max_bytes < length source.after.given) × IsReadFromFront source false name
+IsReadFault name source OutOfMemory = IsReadFromFront source false name
 IsReadFault name source refusal = ⊥
 
 -- ---- how a run ends
 
 -- the bytes were taken, or a part of them beside a fault
-abbrev pub Gains : SinkRun → List ℕ → Type 0
-Gains sink text = (sink.taken_after ≡ sink.taken ++ text) ⊎ (AddsPart sink.taken sink.taken_after text × Rose sink.faults sink.faults_after)
+abbrev pub HasTakenOrFailed : SinkRun → List ℕ → Type 0
+HasTakenOrFailed sink text = (sink.taken_after ≡ sink.taken ++ text) ⊎ (AddsPart sink.taken sink.taken_after text × Rose sink.faults sink.faults_after)
 
 -- nothing was taken, and nothing failed
 pub record IsSilent (sink : SinkRun) : Type 0 where
@@ -90,31 +90,31 @@ pub record IsSilent (sink : SinkRun) : Type 0 where
   pub same_faults : sink.faults_after ≡ sink.faults
 
 -- the refusal is told, or want of memory in its place where its line isn't a fixed one
-abbrev pub Tells : Refusal → SinkRun → Refusal → Type 0
-Tells refusal err told =
-    ((told ≡ refusal) × Gains err (line_of refusal))
-    ⊎ ((HasFixedLine refusal → ⊥) × (told ≡ OutOfMemory) × Gains err (line_of OutOfMemory))
+abbrev pub TellsRefusal : Refusal → SinkRun → Refusal → Type 0
+TellsRefusal refusal err told =
+    ((told ≡ refusal) × HasTakenOrFailed err (line_of refusal))
+    ⊎ ((HasFixedLine refusal → ⊥) × (told ≡ OutOfMemory) × HasTakenOrFailed err (line_of OutOfMemory))
 
 module _ (order : Option Order) (source : SourceRun) (out err : SinkRun) where
   -- the verdict was reported whole
   pub record IsReported (decided : Decided) : Type 0 where
-    pub answer : IsAnswer order source (Ok decided)
+    pub answer : IsAnswerOfRun order source (Ok decided)
     pub taken : out.taken_after ≡ out.taken ++ decided.report.items
     pub same_faults : out.faults_after ≡ out.faults
     pub silent : IsSilent err
 
   -- the report met a fault
   pub record IsCutOff (decided : Decided) : Type 0 where
-    pub answer : IsAnswer order source (Ok decided)
+    pub answer : IsAnswerOfRun order source (Ok decided)
     pub part : AddsPart out.taken out.taken_after decided.report.items
     pub cause : Rose out.faults out.faults_after
-    pub told : Gains err (line_of Sink)
+    pub told : HasTakenOrFailed err (line_of Sink)
 
   -- there is no verdict
   pub record Refuses (refusal : Refusal) : Type 0 where
     pub cause : HasCause order source refusal
     pub silent : IsSilent out
-    pub told : Gains err (line_of refusal)
+    pub told : HasTakenOrFailed err (line_of refusal)
 
   abbrev pub Ends : Ending → Type 0
   Ends (Reported decided) = IsReported decided
@@ -151,7 +151,7 @@ IsStatusOf (Err refusal) status = status ≡ status_of refusal
 pub record Complies (order : Option Order) (file : List ℕ → Option (List ℕ)) (status : ℕ) : Type 0 where
   pub due : (answer : Result Verdict Refusal) → IsDue order file answer
       → IsStatusOf answer status ⊎ ((status ≡ 8) ⊎ (((status ≡ 9) × (verdict : Verdict) × (answer ≡ Ok verdict)) ⊎ (status ≡ 10)))
-  pub complete : IsSomeAnd order (λ o. OfTold o.job file (IsReadable o.asked)) → (status ≤ 3) ⊎ ((status ≡ 8) ⊎ ((status ≡ 9) ⊎ (status ≡ 10)))
+  pub complete : IsSomeAnd order (λ o. OfTold o.job file (IsWithinLimits o.asked)) → (status ≤ 3) ⊎ ((status ≡ 8) ⊎ ((status ≡ 9) ⊎ (status ≡ 10)))
 
 -- ---- the run
 

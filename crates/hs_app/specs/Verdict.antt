@@ -1,12 +1,12 @@
 -- What the bytes of a file are answered with.
---     IsScheme, IsSound         the bytes are a file without faults in its names, and this is its scheme; it has sorts within the limits
+--     IsSchemeOf, IsSortable    the bytes are a file without faults in its names, and this is its scheme; it has sorts within the limits
 --     IsFailingPath             the path leads to a terminal without transition, which it names with its state
 --     FailsAlong                so it does after some number of steps
 --     Reports                   the text is the report of the verdict on a scheme
---     Answers                   the verdict with its report, or the reason why there is none
---     max_bytes, Has            the most bytes of a file; the answer of a file that isn't longer
+--     IsAnsweredWith            the verdict with its report, or the reason why there is none
+--     max_bytes, HasAnswer      the most bytes of a file; the answer of a file that isn't longer
 --     Warrants                  the verdict that the bytes come to, or the reason why there is none, whatever is answered
---     IsReadable                the bytes have a scheme with a problem
+--     IsWithinLimits            the bytes have a scheme with a problem
 use Rattle.std.specs.Prelude.{◌≡◌, ◌≤◌, ◌<◌, ◌⊎◌, ℕ, Bool, true, false, List, ◌++◌, length, slice_get, Option, Some, None, Result, Ok, Err, if◌then◌else◌}
 use Rattle.hs_scheme.specs.declared.term.Head.{Head}
 use Rattle.hs_scheme.specs.declared.term.Rule.{Rule}
@@ -49,15 +49,15 @@ abbrev pub max_bytes : ℕ
 max_bytes = 16777216
 
 -- the bytes are a file without faults in its names, and this is its scheme
-pub record IsScheme (bytes : List ℕ) (scheme : UnsortedData) : Type 0 where
+pub record IsSchemeOf (bytes : List ℕ) (scheme : UnsortedData) : Type 0 where
   pub file : File
   pub reads : IsFileWithin bytes file
   pub faultless : IsFaultless file
   pub is : scheme ≡ unsorted_of file
 
 -- the scheme has sorts, none of them too large, and no rule that is too long
-pub record IsSound (bytes : List ℕ) (scheme : UnsortedData) : Type 0 where
-  pub of_bytes : IsScheme bytes scheme
+pub record IsSortable (bytes : List ℕ) (scheme : UnsortedData) : Type 0 where
+  pub of_bytes : IsSchemeOf bytes scheme
   pub sorted : SortedData
   pub inferred : IsInferred scheme sorted
 
@@ -83,8 +83,8 @@ FailsAlong rules ts path = (used : ℕ) × IsFailingPath rules ts (record path {
 -- The rules whose tree is judged, with their transitions, the problem that was saturated, how much weight was taken off before, and the
 -- text of the report.
 module _ (settings : Settings) (rules : List Rule) (ts : List TransitionData) (p : ProblemData) (removed : Option ℕ) (text : List ℕ) where
-  abbrev pub Tells : shown.Verdict → List EntryData → Type 0
-  Tells verdict log = IsShown p settings.table verdict log removed text
+  abbrev pub IsReportOf : shown.Verdict → List EntryData → Type 0
+  IsReportOf verdict log = IsShown p settings.table verdict log removed text
 
   -- the rules along which steps are counted: where the scheme was simplified, those that came of it
   abbrev pub rules_walked : List Rule
@@ -99,7 +99,7 @@ module _ (settings : Settings) (rules : List Rule) (ts : List TransitionData) (p
     pub within : length table ≤ settings.entries
     pub checked : ℕ
     pub count : IsCount p table checked
-    pub tells : Tells (shown_as.Accepted (length table) (Some checked)) table
+    pub tells : IsReportOf (shown_as.Accepted (length table) (Some checked)) table
 
   -- it isn't, and the path that the table names leads to its last terminal, which has no transition in its state
   pub record ReportsRejected : Type 0 where
@@ -114,7 +114,7 @@ module _ (settings : Settings) (rules : List Rule) (ts : List TransitionData) (p
     pub supports : List Support
     pub supported : HasSupports p table supports
     pub names : NamesPath p table supports path.used path.steps
-    pub tells : Tells (shown_as.Rejected (length table) path) table
+    pub tells : IsReportOf (shown_as.Rejected (length table) path) table
 
   -- it isn't, and so many steps lead along a prefix, not to a terminal without transition; the path that the table names needs more
   pub record ReportsLong : Type 0 where
@@ -136,7 +136,7 @@ module _ (settings : Settings) (rules : List Rule) (ts : List TransitionData) (p
     pub rest : Path
     pub begins : whole ≡ prefix ++ rest
     pub fails : FailsFromStart rules ts 0 whole
-    pub tells : Tells (shown_as.Long (length table) settings.steps) table
+    pub tells : IsReportOf (shown_as.Long (length table) settings.steps) table
 
 abbrev pub ReportsBy : Settings → List Rule → List TransitionData → ProblemData → Option ℕ → Verdict → List ℕ → Type 0
 ReportsBy settings rules ts p removed Accepted text = ReportsAccepted settings rules ts p removed text
@@ -221,13 +221,13 @@ IsSortRefusal scheme refusal = ⊥
 
 pub record HasSortFault (bytes : List ℕ) (refusal : Refusal) : Type 0 where
   pub scheme : UnsortedData
-  pub of_bytes : IsScheme bytes scheme
+  pub of_bytes : IsSchemeOf bytes scheme
   pub fault : IsSortRefusal scheme refusal
 
 -- a scheme that has its sorts comes to no verdict
 pub record HasDecision (asked : Asked) (bytes : List ℕ) (answer : Result Decided Refusal) : Type 0 where
   pub scheme : UnsortedData
-  pub sound : IsSound bytes scheme
+  pub sound : IsSortable bytes scheme
   pub decides : Decides asked scheme answer
 
 abbrev pub Refused : Asked → List ℕ → Refusal → Type 0
@@ -247,12 +247,12 @@ Refused asked bytes EntryLimit = HasDecision asked bytes (Err EntryLimit)
 Refused asked bytes Sink = ⊥
 Refused asked bytes OutOfMemory = Unit {0}
 
-abbrev pub Answers : Asked → List ℕ → Result Decided Refusal → Type 0
-Answers asked bytes (Ok decided) = HasDecision asked bytes (Ok decided)
-Answers asked bytes (Err refusal) = Refused asked bytes refusal
+abbrev pub IsAnsweredWith : Asked → List ℕ → Result Decided Refusal → Type 0
+IsAnsweredWith asked bytes (Ok decided) = HasDecision asked bytes (Ok decided)
+IsAnsweredWith asked bytes (Err refusal) = Refused asked bytes refusal
 
-abbrev pub Has : Asked → Result Decided Refusal → List ℕ → Type 0
-Has asked answer bytes = (length bytes ≤ max_bytes) × Answers asked bytes answer
+abbrev pub HasAnswer : Asked → Result Decided Refusal → List ℕ → Type 0
+HasAnswer asked answer bytes = (length bytes ≤ max_bytes) × IsAnsweredWith asked bytes answer
 
 -- ---- what a file comes to, whatever is answered
 
@@ -279,7 +279,7 @@ WarrantsOnScheme asked u answer = ⊥
 
 pub record HasWarrant (asked : Asked) (bytes : List ℕ) (answer : Result Verdict Refusal) : Type 0 where
   pub scheme : UnsortedData
-  pub sound : IsSound bytes scheme
+  pub sound : IsSortable bytes scheme
   pub warrants : WarrantsOnScheme asked scheme answer
 
 -- the verdict of a file, or its refusal
@@ -296,9 +296,9 @@ Warrants asked (Err refusal) bytes = (length bytes ≤ max_bytes) × Refused ask
 Warrants asked (Ok verdict) bytes = (length bytes ≤ max_bytes) × HasWarrant asked bytes (Ok verdict)
 
 -- a file within the size, without faults, whose scheme has a problem within the limits
-pub record IsReadable (asked : Asked) (bytes : List ℕ) : Type 0 where
+pub record IsWithinLimits (asked : Asked) (bytes : List ℕ) : Type 0 where
   pub within : length bytes ≤ max_bytes
   pub scheme : UnsortedData
-  pub sound : IsSound bytes scheme
+  pub sound : IsSortable bytes scheme
   pub problem : ProblemData
   pub of : IsProblemOf asked scheme problem

@@ -6,7 +6,7 @@ ghost use Rattle.hs_app.specs.Order.{read_file, ordered, settings_of, source_run
 ghost use Rattle.hs_app.specs.Problems.{asked_of};
 ghost use Rattle.hs_app.specs.Outcome.{sink_run};
 ghost use Rattle.hs_app.specs.Outcome as outcome;
-ghost use Rattle.hs_app.specs.Verdict.{AreWithin, Has};
+ghost use Rattle.hs_app.specs.Verdict.{AreWithin, HasAnswer};
 ghost use Rattle.hs_gen.specs.Cycle.{cycle_file_text};
 
 use crate::line::OUT_OF_MEMORY;
@@ -56,7 +56,7 @@ fn verdict_on<R: Threads + Wait + Sync, S: Source, G: Gate + Sync>(
 ) -> Result<Decided, Refusal>
     requires settings { AreWithin settings }
     requires tallies { All (λ p. taken p ≡ 0) passes.old.items }
-    ensures answer { outcome.IsAnswer (Some (record { job = read_file name.now; asked = asked_of settings (map (λ p. image p) passes.old.items) })) (source_run S.file S.left S.reading S.faults source.old source.new) result }
+    ensures answer { outcome.IsAnswerOfRun (Some (record { job = read_file name.now; asked = asked_of settings (map (λ p. image p) passes.old.items) })) (source_run S.file S.left S.reading S.faults source.old source.new) result }
     ensures calm { result ≢ Err Refusal.Source → outcome.IsCalm (source_run S.file S.left S.reading S.faults source.old source.new) }
     ensures keeps { outcome.KeepsSource (source_run S.file S.left S.reading S.faults source.old source.new) }
 {
@@ -79,7 +79,7 @@ fn verdict_on_cycle<R: Threads + Wait + Sync, G: Gate + Sync>(
     requires most { k ≤ 300 }
     requires settings { AreWithin settings }
     requires tallies { All (λ p. taken p ≡ 0) passes.old.items }
-    ensures { Has (asked_of settings (map (λ p. image p) passes.old.items)) result (cycle_file_text k) }
+    ensures { HasAnswer (asked_of settings (map (λ p. image p) passes.old.items)) result (cycle_file_text k) }
 {
     match cycle_file(alloc, k) {
         Ok(bytes) => decide(rt, alloc, bytes.as_slice(), settings, passes, gate),
@@ -111,7 +111,7 @@ fn answer<R: Threads + Wait + Sync, S: Source, G: Gate + Sync>(
     gate: &G,
 ) -> Result<Decided, Refusal>
     requires { All (λ p. taken p ≡ 0) passes.old.items }
-    ensures answer { outcome.IsAnswer (ordered (map (λ p. image p) passes.old.items) (texts words.now)) (source_run S.file S.left S.reading S.faults source.old source.new) result }
+    ensures answer { outcome.IsAnswerOfRun (ordered (map (λ p. image p) passes.old.items) (texts words.now)) (source_run S.file S.left S.reading S.faults source.old source.new) result }
     ensures calm { result ≢ Err Refusal.Source → outcome.IsCalm (source_run S.file S.left S.reading S.faults source.old source.new) }
     ensures keeps { outcome.KeepsSource (source_run S.file S.left S.reading S.faults source.old source.new) }
     ensures untouched { ordered (map (λ p. image p) passes.old.items) (texts words.now) ≡ None → source.new ≡ source.old }
@@ -138,7 +138,7 @@ fn answer<R: Threads + Wait + Sync, S: Source, G: Gate + Sync>(
 
 /// Writes a line to standard error. A fault there changes nothing else.
 fn tell<E: Sink>(err: &mut E, text: &[u8])
-    ensures gains { outcome.Gains (sink_run E.writing E.faults err.old err.new) text.now }
+    ensures gains { outcome.HasTakenOrFailed (sink_run E.writing E.faults err.old err.new) text.now }
     ensures never_falls { E.faults err.old ≤ E.faults err.new }
 {
     let _ = write_all(err, text);
@@ -147,7 +147,7 @@ fn tell<E: Sink>(err: &mut E, text: &[u8])
 /// Writes the line of a refusal, and answers the refusal that was told: want of memory, where it is
 /// refused while the line is formed.
 fn refuse<E: Sink>(alloc: Global, err: &mut E, refusal: Refusal) -> Refusal
-    ensures tells { outcome.Tells refusal (sink_run E.writing E.faults err.old err.new) result }
+    ensures tells { outcome.TellsRefusal refusal (sink_run E.writing E.faults err.old err.new) result }
     ensures never_falls { E.faults err.old ≤ E.faults err.new }
 {
     match line(alloc, &refusal) {

@@ -5,14 +5,14 @@ ghost use Rattle.hs_scheme.specs.Sorted.{IsSorted};
 ghost use Rattle.hs_scheme.specs.Unsorted.{UnsortedData, IsUnsorted};
 ghost use Rattle.hs_sorts.specs.Inference.{IsFaultOf};
 ghost use Rattle.hs_app.specs.Problems.{Asked, asked_of};
-ghost use Rattle.hs_app.specs.Verdict.{AreWithin, IsScheme, DecidesForm, DecidesSorted, Refused, Answers, IsSortRefusal};
+ghost use Rattle.hs_app.specs.Verdict.{AreWithin, IsSchemeOf, DecidesForm, DecidesSorted, Refused, IsAnsweredWith, IsSortRefusal};
 
 use crate::deciding::decide_problem;
 use crate::problem::problem_of;
 use crate::refusal::Refusal;
 use hs_passes::{Pass, simplify, weight_of};
 use hs_reader::{MAX_BYTES, read_file};
-use hs_resolve::resolve;
+use hs_resolve::resolve_owned;
 use hs_scheme::{Name, OutOfMemory, Sorted, Unsorted};
 use hs_sorts::{SortFault, infer};
 use hs_workers::Gate;
@@ -54,14 +54,14 @@ pub(crate) struct Decided {
     pub(crate) report: Vec<u8>,
 }
 
-/// The scheme of the bytes of a file. What the file says is given back before it is returned.
+/// The scheme of the bytes of a file. What the file says is given back as soon as it is numbered.
 fn scheme_of(alloc: Global, bytes: &[u8]) -> Result<Unsorted, Refusal>
     requires { length bytes.now ≤ MAX_BYTES }
-    ensures scheme { IfOk result (λ u. IsScheme bytes.now u) }
+    ensures scheme { IfOk result (λ u. IsSchemeOf bytes.now u) }
     ensures refused { IfErr result (λ r. (asked : Asked) → Refused asked bytes.now r) }
 {
     let raw = read_file(alloc, bytes)?;
-    Ok(resolve(alloc, &raw)?)
+    Ok(resolve_owned(alloc, raw)?)
 }
 
 /// The name of a terminal of a scheme.
@@ -77,8 +77,8 @@ fn name_in(alloc: Global, unsorted: Unsorted, terminal: u32) -> Result<Name, Out
 /// The name of a terminal. Inference consumes the names, so the file is read anew for it.
 fn terminal_name(alloc: Global, bytes: &[u8], terminal: u32) -> Result<Name, OutOfMemory>
     requires length { length bytes.now ≤ MAX_BYTES }
-    requires in_range { (u : UnsortedData) → IsScheme bytes.now u → terminal < length u.ranks }
-    ensures { IfOk result (λ name. (u : UnsortedData) → IsScheme bytes.now u
+    requires in_range { (u : UnsortedData) → IsSchemeOf bytes.now u → terminal < length u.ranks }
+    ensures { IfOk result (λ name. (u : UnsortedData) → IsSchemeOf bytes.now u
         → slice_get u.names.terminals terminal ≡ Some name) }
 {
     let Ok(unsorted) = scheme_of(alloc, bytes) else {
@@ -90,8 +90,8 @@ fn terminal_name(alloc: Global, bytes: &[u8], terminal: u32) -> Result<Name, Out
 /// The refusal of a fault in the sorts.
 fn sort_refusal(alloc: Global, bytes: &[u8], fault: SortFault) -> Refusal
     requires length { length bytes.now ≤ MAX_BYTES }
-    requires fault { (u : UnsortedData) → IsScheme bytes.now u → IsFaultOf u.rules u.ranks fault }
-    ensures { (u : UnsortedData) → IsScheme bytes.now u → IsSortRefusal u result }
+    requires fault { (u : UnsortedData) → IsSchemeOf bytes.now u → IsFaultOf u.rules u.ranks fault }
+    ensures { (u : UnsortedData) → IsSchemeOf bytes.now u → IsSortRefusal u result }
 {
     match fault {
         SortFault::IllSorted { rule } => Refusal::IllSorted { rule },
@@ -191,7 +191,7 @@ pub(crate) fn decide<R: Threads + Wait + Sync, G: Gate + Sync>(
     requires length { length bytes.now ≤ MAX_BYTES }
     requires settings { AreWithin settings }
     requires tallies { All (λ p. taken p ≡ 0) passes.old.items }
-    ensures { Answers (asked_of settings (map (λ p. image p) passes.old.items)) bytes.now result }
+    ensures { IsAnsweredWith (asked_of settings (map (λ p. image p) passes.old.items)) bytes.now result }
 {
     let unsorted = scheme_of(alloc, bytes)?;
     know_unsorted(&unsorted);

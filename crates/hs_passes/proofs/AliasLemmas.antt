@@ -3,7 +3,7 @@ use Rattle.std.proofs.Common.{◌≡◌, refl, sym, ◌∙◌, ap, ℕ, zero, su
 use Rattle.std.proofs.Common.{subst as along}
 use Rattle.std.specs.Prelude.{◌&&◌, nat_eq, not}
 use Rattle.std.proofs.Math.Numerals.{one-add}
-use Rattle.std.proofs.lemmas.Bool.{or_left, eq-eqb, eqb-true}
+use Rattle.std.proofs.lemmas.Bool.{or_left, eq-eqb, eqb-true, and_parts, not-true}
 use Rattle.std.proofs.lemmas.List.{take-append-drop, length-take-le}
 use Rattle.std.proofs.lemmas.Option.{slice_get-map, slice_get_within, slice_get_cases}
 use Rattle.hs_scheme.specs.declared.term.Head.{Head}
@@ -21,10 +21,10 @@ use Rattle.hs_scheme.specs.Sorted.{SortedData, IsSorted, sort_at, sorts_of}
 use Rattle.hs_scheme.specs.SameTree.{HaveSameTree}
 use Rattle.hs_steps.proofs.Terms.{same_some, substs-parameters, unfolding_of, unfolds}
 use Rattle.hs_passes.specs.Occurrences.{mentions}
-use Rattle.hs_passes.specs.Selection.{place, renamed, renamed_rule, StandsFor, IsSelection}
+use Rattle.hs_passes.specs.Selection.{place, renamed, renamed_rule, HasStandIn, IsSelection}
 use Rattle.hs_passes.specs.Aliases.{is_parameter, are_parameters, target_in, alias_target, or_later, alias_from, first_alias, without_alias}
 use Rattle.hs_passes.proofs.Choosing.{chosen-at}
-use Rattle.hs_passes.proofs.Reaching.{both, mention_in_range}
+use Rattle.hs_passes.proofs.Reaching.{mention_in_range}
 use Rattle.hs_passes.proofs.Renaming.{NamesIn, of_mentions}
 use Rattle.hs_passes.proofs.Simulation.{Alike, Alias, over, back}
 
@@ -39,7 +39,7 @@ parameters_are first zero none e = refl
 parameters_are first zero (more t ts) e = absurd (cc)
 parameters_are first (suc d) none e = absurd (cc)
 parameters_are first (suc d) (more t ts) e =
-    let p = both (is_parameter first t) (are_parameters (first + 1) d ts) e in
+    let p = and_parts (is_parameter first t) (are_parameters (first + 1) d ts) e in
     λ i. more (parameter_is first t p.0 i) (parameters_are (first + 1) d ts p.1 i)
 
 -- what makes f an alias of g
@@ -50,26 +50,22 @@ pub record IsAlias (rules : List Rule) (f g : ℕ) : Type 0 where
   pub other : g ≡ f → ⊥
   pub body : rule.body ≡ node (Nt g) (parameters 0 rule.params)
 
-record Passes (f params : ℕ) (t : Tree Head) (g : ℕ) : Type 0 where
+record IsAliasBody (f params : ℕ) (t : Tree Head) (g : ℕ) : Type 0 where
   pub other : g ≡ f → ⊥
   pub is : t ≡ node (Nt g) (parameters 0 params)
 
-not_true : (b : Bool) → not b ≡ true → b ≡ false
-not_true true e = absurd (cc)
-not_true false e = refl
-
-passes : (f params : ℕ) (t : Tree Head) (g : ℕ) → target_in f params t ≡ Some g → Passes f params t g
+passes : (f params : ℕ) (t : Tree Head) (g : ℕ) → target_in f params t ≡ Some g → IsAliasBody f params t g
 passes f params (node (Var j) ts) g e = absurd (cc)
 passes f params (node (Tm a) ts) g e = absurd (cc)
 passes f params (node (Nt h) ts) g e = by (not (nat_eq h f) && are_parameters 0 params ts) refl e
   where
-    by : (b : Bool) → (not (nat_eq h f) && are_parameters 0 params ts) ≡ b → cond b (Some h) None ≡ Some g → Passes f params (node (Nt h) ts) g
+    by : (b : Bool) → (not (nat_eq h f) && are_parameters 0 params ts) ≡ b → cond b (Some h) None ≡ Some g → IsAliasBody f params (node (Nt h) ts) g
     by false p q = absurd (cc)
     by true p q =
         let is : h ≡ g = same_some h g q in
-        let pair = both (not (nat_eq h f)) (are_parameters 0 params ts) p in
-        along (Passes f params (node (Nt h) ts)) is record {
-          other = λ same. let t = sym (not_true (nat_eq h f) pair.0) ∙ eq-eqb h f same in absurd (cc);
+        let pair = and_parts (not (nat_eq h f)) (are_parameters 0 params ts) p in
+        along (IsAliasBody f params (node (Nt h) ts)) is record {
+          other = λ same. let t = sym (not-true (nat_eq h f) pair.0) ∙ eq-eqb h f same in absurd (cc);
           is = ap (node (Nt h)) (parameters_are 0 params ts pair.1);
         }
 
@@ -165,10 +161,10 @@ module _ (s : SortedData) (scheme : IsScheme s.scheme) (sorted : IsSorted s) (f 
       params_sort (heads (sorts_of s.sorts s.scheme.ranks) f) 0 n (sort_at s.sorts g) left of
       ∙ ((λ q. arrows n (λ m. sort_at (arguments (sort_at s.sorts f)) (zero-add m q)) left) ∙ sym (sorted.sorting.nonterminals f is.rule is.at))
 
-  stands : (h : ℕ) → h < length rules → StandsFor keep to s h
+  stands : (h : ℕ) → h < length rules → HasStandIn keep to s h
   stands h lt = by (nat_eq h f) refl
     where
-      by : (b : Bool) → nat_eq h f ≡ b → StandsFor keep to s h
+      by : (b : Bool) → nat_eq h f ≡ b → HasStandIn keep to s h
       by true e = record {
         rule = g;
         in_range = target_in_range;

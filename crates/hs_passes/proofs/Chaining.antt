@@ -65,7 +65,7 @@ pub record Chained {A : Type 0} (image : A → Image) (taken : A → ℕ) (old n
   pub lighter : weight t ≤ weight s
 
 -- a pass was applied, became another and made t of s
-pub record Applied {A : Type 0} (image : A → Image) (taken : A → ℕ) (p q : A) (s t : SortedData) : Type 0 where
+pub record AppliedPass {A : Type 0} (image : A → Image) (taken : A → ℕ) (p q : A) (s t : SortedData) : Type 0 where
   pub made : t ≡ image p s
   pub same_image : image q ≡ image p
   pub rest : KeepsRest s t
@@ -118,7 +118,7 @@ module _ {A : Type 0} (image : A → Image) (taken : A → ℕ) (old : List A) (
     map_more : {B : Type 0} (f : A → B) → map f (take (suc i) old) ≡ map f (take i old) ++ f p ∷ []
     map_more f = ap (map f) one_more ∙ map-append f (take i old) (p ∷ [])
 
-    pub one_applied : (q : A) (u : SortedData) → Applied image taken p q t u → Chained image taken old (set new i q) (suc i) s u
+    pub one_applied : (q : A) (u : SortedData) → AppliedPass image taken p q t u → Chained image taken old (set new i q) (suc i) s u
     one_applied q u a = record {
       done = h.done ++ q ∷ [];
       long = length-append h.done (q ∷ []) ∙ omega (arith, h.long);

@@ -1,7 +1,7 @@
 -- What the pass that drops unused parameters makes has the same tree, and is no heavier.
 use Rattle.std.proofs.Common.{◌≡◌, refl, sym, ◌∙◌, ap, subst, ℕ, ◌≤◌, true, List, slice_get, inl, inr, arith}
 use Rattle.std.specs.Prelude.{◌||◌, nat_eq}
-use Rattle.std.proofs.lemmas.Bool.{or_left, or_right, eq-eqb, eqb-true}
+use Rattle.std.proofs.lemmas.Bool.{or_left, or_right, eq-eqb, eqb-true, or_cases}
 use Rattle.hs_scheme.specs.declared.term.Rule.{Rule}
 use Rattle.hs_scheme.specs.Scheme.{IsScheme}
 use Rattle.hs_scheme.specs.Sorted.{SortedData, IsSorted}
@@ -11,8 +11,7 @@ use Rattle.hs_passes.specs.Passing.{KeepsRest}
 use Rattle.hs_passes.specs.Weight.{weight}
 use Rattle.hs_passes.specs.Leaving.{Keep}
 use Rattle.hs_passes.specs.Unused.{without_unused}
-use Rattle.hs_passes.specs.Needing.{IsSupported}
-use Rattle.hs_passes.proofs.Renaming.{either}
+use Rattle.hs_passes.specs.Needing.{KeepsOnlyLive}
 use Rattle.hs_passes.proofs.Lockstep.{left_same_tree}
 use Rattle.hs_passes.proofs.LeftSorted.{left_lighter}
 use Rattle.hs_passes.proofs.Needs.{is_live-mono}
@@ -28,7 +27,7 @@ module _ (s : SortedData) (scheme : IsScheme s.scheme) (sorted : IsSorted s) whe
   rules = s.scheme.rules
 
   -- nothing goes that the start doesn't have
-  module _ (keep : Keep) (reached : Reached s keep) (supported : IsSupported rules keep) where
+  module _ (keep : Keep) (reached : Reached s keep) (supported : KeepsOnlyLive rules keep) where
     with_start : Keep
     with_start f j = nat_eq f 0 || keep f j
 
@@ -36,9 +35,9 @@ module _ (s : SortedData) (scheme : IsScheme s.scheme) (sorted : IsSorted s) whe
     unfolding with_start
     above_keep f j on = or_right (nat_eq f 0) (keep f j) on
 
-    start_supported : IsSupported rules with_start
+    start_supported : KeepsOnlyLive rules with_start
     unfolding with_start
-    start_supported f j r at lt on = elim (either (nat_eq f 0) (keep f j) on) [
+    start_supported f j r at lt on = elim (or_cases (nat_eq f 0) (keep f j) on) [
       | inl e ↦
           let is : f ≡ 0 = eqb-true f 0 e in
           let same : scheme.start.0 ≡ r = same_some scheme.start.0 r (sym scheme.start.1.0 ∙ (ap (slice_get rules) (sym is) ∙ at)) in

@@ -74,7 +74,7 @@ unfolding without_aliases
 folds_all s scheme sorted = folds_each (length s.scheme.rules) s scheme sorted
 
 -- what stands for a nonterminal is one of the same sort
-record Sorts (s : SortedData) (rep : ℕ → ℕ) : Type 0 where
+record KeepsSorts (s : SortedData) (rep : ℕ → ℕ) : Type 0 where
   pub in_range : (h : ℕ) → h < length s.scheme.rules → rep h < length s.scheme.rules
   pub sort : (h : ℕ) → h < length s.scheme.rules → sort_at s.sorts (rep h) ≡ sort_at s.sorts h
 
@@ -82,7 +82,7 @@ module _ (s : SortedData) (scheme : IsScheme s.scheme) (sorted : IsSorted s) whe
   abbrev rules : List Rule
   rules = s.scheme.rules
 
-  sorts_on : (rep : ℕ → ℕ) (k : ℕ) → Sorts s rep → (o : Option ℕ) → target_of (suc k) (slice_get rules (suc k)) ≡ o → Sorts s (λ h. stood rep (suc k) o h)
+  sorts_on : (rep : ℕ → ℕ) (k : ℕ) → KeepsSorts s rep → (o : Option ℕ) → target_of (suc k) (slice_get rules (suc k)) ≡ o → KeepsSorts s (λ h. stood rep (suc k) o h)
   sorts_on rep k h None e = record { in_range = h.in_range; sort = h.sort }
   sorts_on rep k h (Some g) e =
       let t = targeted (suc k) (slice_get rules (suc k)) g e in
@@ -104,7 +104,7 @@ module _ (s : SortedData) (scheme : IsScheme s.scheme) (sorted : IsSorted s) whe
       kept false true i d p q = q ∙ (ap (sort_at s.sorts) (sym (eqb-true (rep i) (suc k) d)) ∙ p)
       kept false false i d p q = p
 
-  sorts_to : (k : ℕ) → Sorts s (scanned rules k)
+  sorts_to : (k : ℕ) → KeepsSorts s (scanned rules k)
   sorts_to zero = record { in_range = λ h lt. lt; sort = λ h lt. refl }
   sorts_to (suc k) = sorts_on (scanned rules k) k (sorts_to k) (target_of (suc k) (slice_get rules (suc k))) refl
 

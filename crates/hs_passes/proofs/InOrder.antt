@@ -2,7 +2,7 @@
 use Rattle.std.proofs.Common.{◌≡◌, refl, sym, ◌∙◌, ap, subst, ℕ, zero, suc, ◌+◌, ◌<◌, ◌≤◌, true, false, cond, List, length, take, get_or, map, slice_get, Some, inl, inr, arith}
 use Rattle.std.specs.Prelude.{◌||◌, ◌&&◌, nat_lt, nat_le, sum, slice_index}
 use Rattle.std.proofs.Math.Nat.{eq-or-lt_of_le}
-use Rattle.std.proofs.lemmas.Bool.{cases_lt, le-leb, lt-ltb, ltb-true}
+use Rattle.std.proofs.lemmas.Bool.{cases_lt, le-leb, lt-ltb, ltb-true, and_parts, or_cases, false_from_ne_true}
 use Rattle.std.proofs.lemmas.Option.{slice_get-get_or, slice_get_within}
 use Rattle.std.proofs.lemmas.List.{get_or-map}
 use Rattle.hs_scheme.specs.declared.term.Head.{Head}
@@ -14,11 +14,10 @@ use Rattle.hs_scheme.proofs.ParameterLemmas.{number_within}
 use Rattle.hs_steps.proofs.Terms.{same_some}
 use Rattle.hs_passes.specs.Leaving.{Keep, keeps}
 use Rattle.hs_passes.specs.Unused.{needs_at}
-use Rattle.hs_passes.specs.Needing.{live, live_in, kept, IsSupported, IsAbove}
+use Rattle.hs_passes.specs.Needing.{live, live_in, kept, KeepsOnlyLive, IsAbove}
 use Rattle.hs_passes.specs.Order.{never, rank_of, rank_behind, IsLater, IsHeadInOrder, IsInOrder, AreInOrder, AllInOrder}
-use Rattle.hs_passes.proofs.Renaming.{either}
-use Rattle.hs_passes.proofs.Needs.{both_true, some_of}
-use Rattle.hs_passes.proofs.Marks.{not_so, live_in-more, whole}
+use Rattle.hs_passes.proofs.Needs.{some_of}
+use Rattle.hs_passes.proofs.Marks.{live_in-more, whole}
 use Rattle.hs_passes.proofs.Settling.{its, kept_from}
 
 module _ (rank : ℕ → ℕ → ℕ) where
@@ -36,18 +35,18 @@ module _ (rank : ℕ → ℕ → ℕ) where
         → ((n : ℕ) → n ≤ low → n ≤ rank_behind rank h i → n ≤ least)
         → AreInOrder rank g low h (forest (take i us)) → IsInOrder rank g least u → AreInOrder rank g low h (forest (take (i + 1) us))
     args_more us i least u lt long is le before it keep n low_n some later f j e r =
-        elim (either (live_in keep g f j (keeps keep h) (forest (take i us))) (keeps keep h i && live keep g f j u)
+        elim (or_cases (live_in keep g f j (keeps keep h) (forest (take i us))) (keeps keep h i && live keep g f j u)
         (ap (λ v. live_in keep g f j (keeps keep h) (forest (take i us)) || (keeps keep h i && live keep g f j v)) is
         ∙ (sym (live_in-more keep g f j (keeps keep h) us i u lt long) ∙ e))) [
           | inl p ↦ before keep n low_n some later f j p r
           | inr p ↦
-              let b = both_true (keeps keep h i) (live keep g f j u) p in
+              let b = and_parts (keeps keep h i) (live keep g f j u) p in
               it keep n (le n low_n (not_gone keep n some later h i b.0)) some later f j b.1 r
         ]
 
     pub term_in_order : (us : List (Tree Head)) → IsHeadInOrder rank g low h (length us) → AreInOrder rank g low h (forest us) → IsInOrder rank g low (node h (forest us))
     term_in_order us here below keep n low_n some later f j e r =
-        elim (either (needs_at g f j h (length us)) (live_in keep g f j (keeps keep h) (forest us)) (whole keep g f j h us ∙ e)) [
+        elim (or_cases (needs_at g f j h (length us)) (live_in keep g f j (keeps keep h) (forest us)) (whole keep g f j h us ∙ e)) [
           | inl p ↦ here n low_n some f j p r
           | inr p ↦ below keep n low_n some later f j p r
         ]
@@ -66,7 +65,7 @@ module _ (rank : ℕ → ℕ → ℕ) where
 
   -- all that goes, by its rank, is in no set of needed parameters
   module _ (rules : List Rule) (ordered : AllInOrder rank rules (length rules)) (real : (f j : ℕ) → rank f j < never → IsParameter (counts_of rules) f j)
-      (other : Keep) (supported : IsSupported rules other) where
+      (other : Keep) (supported : KeepsOnlyLive rules other) where
     gone_below : (m : ℕ) → m < never → IsLater rank m other
     gone_below zero some f j lt = absurd (omega arith)
     gone_below (suc m) some f j lt = by (gone_below m (omega (arith, some)))
@@ -74,7 +73,7 @@ module _ (rank : ℕ → ℕ → ℕ) where
         by : IsLater rank m other → other f j ≡ false
         by below = elim (eq-or-lt_of_le (at_most m (rank f j) (omega (arith, lt)))) [
           | inr less ↦ below f j less
-          | inl e ↦ not_so (other f j) (λ on.
+          | inl e ↦ false_from_ne_true (other f j) (λ on.
               let r = its rules f j (real f j (omega (arith, lt, some))) in
               let h = some_of (λ g (q : Rule). live other g f j q.body) rules (supported f j r.rule r.at r.within on) in
               ordered h.number h.rule (slice_get_within rules h.number h.rule h.at) h.at other m (omega (arith, some)) (omega (arith, some)) below f j h.holds e)
@@ -95,7 +94,7 @@ module _ (rules : List Rule) (counts : List ℕ) (are : counts ≡ counts_of rul
   ranked f j lt = subst (λ cs. IsParameter cs f j) are (elim (cases_lt j (slice_index counts f)) [
     | inl less ↦ less
     | inr ge ↦
-        let no_less : nat_lt j (slice_index counts f) ≡ false = not_so (nat_lt j (slice_index counts f)) (λ e. absurd (omega (arith, ltb-true j (slice_index counts f) e, ge))) in
+        let no_less : nat_lt j (slice_index counts f) ≡ false = false_from_ne_true (nat_lt j (slice_index counts f)) (λ e. absurd (omega (arith, ltb-true j (slice_index counts f) e, ge))) in
         let none : rank_of counts ranks f j ≡ never = ap (λ b. cond b (get_or ranks (parameter_of counts f j) never) never) no_less in
         absurd (omega (arith, lt, none))
   ])

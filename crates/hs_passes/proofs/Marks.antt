@@ -1,8 +1,7 @@
 -- Marks of parameters, by their numbers.
-use Rattle.std.proofs.Common.{◌≡◌, refl, sym, ◌∙◌, ap, subst, ℕ, zero, suc, ◌+◌, ◌<◌, ◌≤◌, Bool, true, false, List, [], ◌∷◌, ◌++◌, length, take, get_or, sum, replicate, inl, inr, arith, add-one}
+use Rattle.std.proofs.Common.{◌≡◌, refl, sym, ◌∙◌, ap, subst, ℕ, zero, suc, ◌+◌, ◌<◌, ◌≤◌, Bool, true, false, List, [], ◌∷◌, ◌++◌, length, take, get_or, sum, inl, inr, arith, add-one}
 use Rattle.std.specs.Prelude.{◌||◌, ◌&&◌, nat_eq, nat_le, nat_lt, slice_set, slice_index}
-use Rattle.std.proofs.lemmas.Bool.{eq-eqb, eqb-true, lt-ltb, ltb-true, le-leb, leb-true, and_from, or_left, or_right, cases_lt}
-use Rattle.hs_passes.proofs.Renaming.{either}
+use Rattle.std.proofs.lemmas.Bool.{eq-eqb, eqb-true, lt-ltb, ltb-true, le-leb, leb-true, and_from, or_left, or_right, cases_lt, and_parts, or_cases, false_from_ne_true}
 use Rattle.std.proofs.Math.Seq.{take-suc}
 use Rattle.hs_scheme.specs.Parameters.{IsParameter, parameter_of}
 use Rattle.hs_scheme.proofs.ParameterLemmas.{number_once, number_within}
@@ -11,9 +10,9 @@ use Rattle.hs_scheme.specs.declared.term.Rule.{Rule}
 use Rattle.hs_scheme.specs.Tree.{Tree, node, forest, children-forest}
 use Rattle.hs_passes.specs.Leaving.{Keep, keeps}
 use Rattle.hs_passes.specs.Unused.{needs_at, of_some}
-use Rattle.hs_passes.specs.Needing.{live, live_in, Gains}
+use Rattle.hs_passes.specs.Needing.{live, live_in, GainsFlags}
 use Rattle.hs_passes.specs.Selection.{stays}
-use Rattle.hs_passes.proofs.Needs.{both_true, same_bool}
+use Rattle.hs_passes.proofs.Needs.{same_bool}
 
 pub or_nothing : (b : Bool) → (b || false) ≡ b
 or_nothing true = refl
@@ -23,15 +22,11 @@ pub or_assoc : (a b c : Bool) → ((a || b) || c) ≡ (a || (b || c))
 or_assoc true b c = refl
 or_assoc false b c = refl
 
-pub not_so : (b : Bool) → (b ≡ true → ⊥) → b ≡ false
-not_so true h = absurd (h refl)
-not_so false h = refl
-
 later_not_first : (m : ℕ) → nat_eq (suc m) 0 ≡ false
-later_not_first m = not_so (nat_eq (suc m) 0) (λ e. let is : suc m ≡ 0 = eqb-true (suc m) 0 e in absurd (omega arith))
+later_not_first m = false_from_ne_true (nat_eq (suc m) 0) (λ e. let is : suc m ≡ 0 = eqb-true (suc m) 0 e in absurd (omega arith))
 
 first_not_later : (n : ℕ) → nat_eq 0 (suc n) ≡ false
-first_not_later n = not_so (nat_eq 0 (suc n)) (λ e. let is : 0 ≡ suc n = eqb-true 0 (suc n) e in absurd (omega arith))
+first_not_later n = false_from_ne_true (nat_eq 0 (suc n)) (λ e. let is : 0 ≡ suc n = eqb-true 0 (suc n) e in absurd (omega arith))
 
 both_later : (m n : ℕ) → nat_eq (suc m) (suc n) ≡ nat_eq m n
 both_later m n =
@@ -51,14 +46,14 @@ stays-set (b ∷ flags) (suc n) zero lt = sym (ap (λ e. b || e) (first_not_late
 stays-set (b ∷ flags) (suc n) (suc m) lt = stays-set flags n m (omega arith) ∙ ap (λ e. stays flags m || e) (sym (both_later m n))
 
 module _ (counts : List ℕ) where
-  pub gains_nothing : (flags : List Bool) → Gains counts flags flags (λ f j. false)
+  pub gains_nothing : (flags : List Bool) → GainsFlags counts flags flags (λ f j. false)
   gains_nothing flags f j is = sym (or_nothing (stays flags (parameter_of counts f j)))
 
-  pub gains_both : (old mid new : List Bool) (one two : ℕ → ℕ → Bool) → Gains counts old mid one → Gains counts mid new two → Gains counts old new (λ f j. one f j || two f j)
+  pub gains_both : (old mid new : List Bool) (one two : ℕ → ℕ → Bool) → GainsFlags counts old mid one → GainsFlags counts mid new two → GainsFlags counts old new (λ f j. one f j || two f j)
   gains_both old mid new one two g h f j is =
       h f j is ∙ (ap (λ b. b || two f j) (g f j is) ∙ or_assoc (stays old (parameter_of counts f j)) (one f j) (two f j))
 
-  pub gains_same : (old new : List Bool) (one two : ℕ → ℕ → Bool) → ((f j : ℕ) → IsParameter counts f j → one f j ≡ two f j) → Gains counts old new one → Gains counts old new two
+  pub gains_same : (old new : List Bool) (one two : ℕ → ℕ → Bool) → ((f j : ℕ) → IsParameter counts f j → one f j ≡ two f j) → GainsFlags counts old new one → GainsFlags counts old new two
   gains_same old new one two same g f j is = g f j is ∙ ap (λ b. stays old (parameter_of counts f j) || b) (same f j is)
 
   module _ (rule param : ℕ) where
@@ -69,20 +64,20 @@ module _ (counts : List ℕ) where
         let once = number_once counts rule param f j p q (sym (eqb-true (parameter_of counts f j) (parameter_of counts rule param) e)) in
         and_from (nat_eq rule f) (nat_eq param j) (eq-eqb rule f once.0) (eq-eqb param j once.1))
         (λ e.
-        let b = both_true (nat_eq rule f) (nat_eq param j) e in
+        let b = and_parts (nat_eq rule f) (nat_eq param j) e in
         eq-eqb (parameter_of counts f j) (parameter_of counts rule param) (λ i. parameter_of counts (sym (eqb-true rule f b.0) i) (sym (eqb-true param j b.1) i)))
 
     pub marked_one : (old : List Bool) → length old ≡ sum counts → IsParameter counts rule param
-        → Gains counts old (slice_set old (parameter_of counts rule param) true) (λ f j. nat_eq rule f && nat_eq param j)
+        → GainsFlags counts old (slice_set old (parameter_of counts rule param) true) (λ f j. nat_eq rule f && nat_eq param j)
     marked_one old long p f j q =
         stays-set old (parameter_of counts rule param) (parameter_of counts f j) (omega (arith, long, number_within counts rule param p))
         ∙ ap (λ b. stays old (parameter_of counts f j) || b) (same_number f j p q)
 
-    pub marked_none : (old : List Bool) → (IsParameter counts rule param → ⊥) → Gains counts old old (λ f j. nat_eq rule f && nat_eq param j)
+    pub marked_none : (old : List Bool) → (IsParameter counts rule param → ⊥) → GainsFlags counts old old (λ f j. nat_eq rule f && nat_eq param j)
     marked_none old lacks =
         gains_same old old (λ f j. false) (λ f j. nat_eq rule f && nat_eq param j)
-        (λ f j q. sym (not_so (nat_eq rule f && nat_eq param j) (λ e.
-        let b = both_true (nat_eq rule f) (nat_eq param j) e in
+        (λ f j q. sym (false_from_ne_true (nat_eq rule f && nat_eq param j) (λ e.
+        let b = and_parts (nat_eq rule f) (nat_eq param j) e in
         lacks (subst (λ k. IsParameter counts rule k) (sym (eqb-true param j b.1)) (subst (λ g. IsParameter counts g j) (sym (eqb-true rule f b.0)) q)))))
         (gains_nothing old)
 
@@ -92,34 +87,34 @@ module _ (counts : List ℕ) where
     Missing k f j = nat_eq rule f && (nat_le given j && nat_lt j k)
 
     no_less : (j : ℕ) → nat_lt j 0 ≡ false
-    no_less j = not_so (nat_lt j 0) (λ e. absurd (omega (arith, ltb-true j 0 e)))
+    no_less j = false_from_ne_true (nat_lt j 0) (λ e. absurd (omega (arith, ltb-true j 0 e)))
 
     and_false : (b : Bool) → (b && false) ≡ false
     and_false true = refl
     and_false false = refl
 
-    pub missing_none : (old : List Bool) → Gains counts old old (Missing 0)
+    pub missing_none : (old : List Bool) → GainsFlags counts old old (Missing 0)
     missing_none old =
         gains_same old old (λ f j. false) (Missing 0)
         (λ f j q. sym (ap (λ b. nat_eq rule f && (nat_le given j && b)) (no_less j) ∙ (ap (λ b. nat_eq rule f && b) (and_false (nat_le given j)) ∙ and_false (nat_eq rule f)))) (gains_nothing old)
 
     parts : (f j k : ℕ) → Missing k f j ≡ true → (rule ≡ f) × (given ≤ j) × (j < k)
     parts f j k e =
-        let a = both_true (nat_eq rule f) (nat_le given j && nat_lt j k) e in
-        let b = both_true (nat_le given j) (nat_lt j k) a.1 in
+        let a = and_parts (nat_eq rule f) (nat_le given j && nat_lt j k) e in
+        let b = and_parts (nat_le given j) (nat_lt j k) a.1 in
         (eqb-true rule f a.0, leb-true given j b.0, ltb-true j k b.1)
 
     is_missing : (f j k : ℕ) → rule ≡ f → given ≤ j → j < k → Missing k f j ≡ true
     is_missing f j k p q r = and_from (nat_eq rule f) (nat_le given j && nat_lt j k) (eq-eqb rule f p) (and_from (nat_le given j) (nat_lt j k) (le-leb given j q) (lt-ltb j k r))
 
     -- the next one is marked, where it isn't given
-    pub missing_more : (old mid new : List Bool) (k : ℕ) → given ≤ k → Gains counts old mid (Missing k) → Gains counts mid new (λ f j. nat_eq rule f && nat_eq k j) → Gains counts old new (Missing (k + 1))
+    pub missing_more : (old mid new : List Bool) (k : ℕ) → given ≤ k → GainsFlags counts old mid (Missing k) → GainsFlags counts mid new (λ f j. nat_eq rule f && nat_eq k j) → GainsFlags counts old new (Missing (k + 1))
     missing_more old mid new k le g h =
         gains_same old new (λ f j. Missing k f j || (nat_eq rule f && nat_eq k j)) (Missing (k + 1))
         (λ f j q. same_bool (Missing k f j || (nat_eq rule f && nat_eq k j)) (Missing (k + 1) f j)
-        (λ e. elim (either (Missing k f j) (nat_eq rule f && nat_eq k j) e) [
+        (λ e. elim (or_cases (Missing k f j) (nat_eq rule f && nat_eq k j) e) [
           | inl a ↦ let p = parts f j k a in is_missing f j (k + 1) p.0 p.1 (omega (arith, p.2))
-          | inr a ↦ let b = both_true (nat_eq rule f) (nat_eq k j) a in let is : k ≡ j = eqb-true k j b.1 in is_missing f j (k + 1) (eqb-true rule f b.0) (omega (arith, is, le)) (omega (arith, is))
+          | inr a ↦ let b = and_parts (nat_eq rule f) (nat_eq k j) a in let is : k ≡ j = eqb-true k j b.1 in is_missing f j (k + 1) (eqb-true rule f b.0) (omega (arith, is, le)) (omega (arith, is))
         ])
         (λ e.
         let p = parts f j (k + 1) e in
@@ -129,7 +124,7 @@ module _ (counts : List ℕ) where
         ]))
         (gains_both old mid new (Missing k) (λ f j. nat_eq rule f && nat_eq k j) g h)
 
-    pub missing_skipped : (old new : List Bool) (k : ℕ) → k < given → Gains counts old new (Missing k) → Gains counts old new (Missing (k + 1))
+    pub missing_skipped : (old new : List Bool) (k : ℕ) → k < given → GainsFlags counts old new (Missing k) → GainsFlags counts old new (Missing (k + 1))
     missing_skipped old new k lt g =
         gains_same old new (Missing k) (Missing (k + 1))
         (λ f j q. same_bool (Missing k f j) (Missing (k + 1) f j)
@@ -137,13 +132,13 @@ module _ (counts : List ℕ) where
         (λ e. let p = parts f j (k + 1) e in is_missing f j k p.0 p.1 (omega (arith, p.1, p.2, lt))))
         g
 
-    pub missing_all : (old new : List Bool) (k : ℕ) → slice_index counts rule ≤ k → Gains counts old new (Missing k) → Gains counts old new (λ f j. nat_eq rule f && nat_le given j)
+    pub missing_all : (old new : List Bool) (k : ℕ) → slice_index counts rule ≤ k → GainsFlags counts old new (Missing k) → GainsFlags counts old new (λ f j. nat_eq rule f && nat_le given j)
     missing_all old new k all g =
         gains_same old new (Missing k) (λ f j. nat_eq rule f && nat_le given j)
         (λ f j q. same_bool (Missing k f j) (nat_eq rule f && nat_le given j)
         (λ e. let p = parts f j k e in and_from (nat_eq rule f) (nat_le given j) (eq-eqb rule f p.0) (le-leb given j p.1))
         (λ e.
-        let b = both_true (nat_eq rule f) (nat_le given j) e in
+        let b = and_parts (nat_eq rule f) (nat_le given j) e in
         let is : rule ≡ f = eqb-true rule f b.0 in
         let lt : j < slice_index counts rule = subst (λ h. j < slice_index counts h) (sym is) q in
         is_missing f j k is (leb-true given j b.1) (omega (arith, lt, all))))
@@ -179,8 +174,3 @@ of_some-more test rules i d lt long =
     ap (λ n. of_some test (take n rules)) (add-one i)
     ∙ (ap (of_some test) (take-suc rules i d lt)
     ∙ (of_some-append test (take i rules) (get_or rules i d) ∙ ap (λ n. of_some test (take i rules) || test n (get_or rules i d)) long))
-
-pub none_set : (n m : ℕ) → stays (replicate n false) m ≡ false
-none_set zero m = refl
-none_set (suc n) zero = refl
-none_set (suc n) (suc m) = none_set n m

@@ -1,7 +1,7 @@
 -- What is needed where some parameters go: less than before, and just what is needed in what is left.
 use Rattle.std.proofs.Common.{◌≡◌, refl, sym, ◌∙◌, ap, subst, ℕ, zero, suc, Bool, true, false, cond, List, [], ◌∷◌, length, slice_get, Some, inl, inr}
 use Rattle.std.specs.Prelude.{◌||◌, ◌&&◌, nat_eq, nat_le}
-use Rattle.std.proofs.lemmas.Bool.{or_left, or_right, and_from, eq-eqb, eqb-true, le-leb}
+use Rattle.std.proofs.lemmas.Bool.{or_left, or_right, and_from, eq-eqb, eqb-true, le-leb, and_parts, or_cases}
 use Rattle.hs_scheme.specs.declared.term.Head.{Head}
 use Rattle.hs_scheme.specs.declared.term.Head.TheVariants.{Var, Nt, Tm}
 use Rattle.hs_scheme.specs.declared.term.Rule.{Rule}
@@ -12,13 +12,8 @@ use Rattle.hs_passes.specs.Unused.{needs_at, needs, needed_in, of_some}
 use Rattle.hs_passes.specs.Needing.{live, live_in, is_live}
 use Rattle.hs_passes.proofs.Choosing.{place-eq}
 use Rattle.hs_passes.proofs.Places.{place-leb}
-use Rattle.hs_passes.proofs.Renaming.{either}
 use Rattle.hs_passes.proofs.Remaining.{length-left}
 use Rattle.hs_passes.proofs.Fitting.{HeadFits, Fits, FitsIn}
-
-pub both_true : (a b : Bool) → (a && b) ≡ true → (a ≡ true) × (b ≡ true)
-both_true true b e = (refl, e)
-both_true false b e = absurd (cc)
 
 pub same_bool : (a b : Bool) → (a ≡ true → b ≡ true) → (b ≡ true → a ≡ true) → a ≡ b
 same_bool true b p q = sym (p refl)
@@ -34,7 +29,7 @@ pub record OfSome (test : ℕ → Rule → Bool) (rules : List Rule) : Type 0 wh
 
 pub some_of : (test : ℕ → Rule → Bool) (rules : List Rule) → of_some test rules ≡ true → OfSome test rules
 some_of test [] e = absurd (cc)
-some_of test (r ∷ rules) e = elim (either (test 0 r) (of_some (λ g. test (suc g)) rules) e) [
+some_of test (r ∷ rules) e = elim (or_cases (test 0 r) (of_some (λ g. test (suc g)) rules) e) [
   | inl p ↦ record { number = 0; rule = r; at = refl; holds = p }
   | inr p ↦ let h = some_of (λ g. test (suc g)) rules p in record { number = suc h.number; rule = h.rule; at = h.at; holds = h.holds }
 ]
@@ -65,7 +60,7 @@ module _ (low high : Keep) (le : (f j : ℕ) → low f j ≡ true → high f j �
       pub live-mono : (t : Tree Head) → live low g f j t ≡ true → live high g f j t ≡ true
       live-mono (node h ts) e =
           let here = needs_at g f j h (length (children ts)) in
-          elim (either here (live_in low g f j (keeps low h) ts) e) [
+          elim (or_cases here (live_in low g f j (keeps low h) ts) e) [
             | inl p ↦ or_left here (live_in high g f j (keeps high h) ts) p
             | inr p ↦ or_right here (live_in high g f j (keeps high h) ts) (live_in-mono (keeps low h) (keeps high h) (keeps-mono h) ts p)
           ]
@@ -74,9 +69,9 @@ module _ (low high : Keep) (le : (f j : ℕ) → low f j ≡ true → high f j �
       live_in-mono p q to none e = absurd (cc)
       live_in-mono p q to (more t ts) e =
           let rest = live_in high g f j (λ i. q (suc i)) ts in
-          elim (either (p 0 && live low g f j t) (live_in low g f j (λ i. p (suc i)) ts) e) [
+          elim (or_cases (p 0 && live low g f j t) (live_in low g f j (λ i. p (suc i)) ts) e) [
             | inl h ↦
-                let b = both_true (p 0) (live low g f j t) h in
+                let b = and_parts (p 0) (live low g f j t) h in
                 or_left (q 0 && live high g f j t) rest (and_from (q 0) (live high g f j t) (to 0 b.0) (live-mono t b.1))
             | inr h ↦ or_right (q 0 && live high g f j t) rest (live_in-mono (λ i. p (suc i)) (λ i. q (suc i)) (λ i. to (suc i)) ts h)
           ]

@@ -1,7 +1,7 @@
 -- Rounds of reaching rules come to an end.
 use Rattle.std.proofs.Common.{◌≡◌, refl, sym, ◌∙◌, ap, subst, ℕ, zero, suc, ◌+◌, ◌<◌, ◌≤◌, Bool, true, false, cond, List, [], ◌∷◌, length, slice_get, Some, ◌⊎◌, inl, inr, arith}
 use Rattle.std.specs.Prelude.{◌||◌, ◌&&◌, nat_le}
-use Rattle.std.proofs.lemmas.Bool.{or_left, or_right, eqb-true, leb-true, leb-false}
+use Rattle.std.proofs.lemmas.Bool.{or_left, or_right, eqb-true, leb-true, leb-false, and_parts, and_from, or_cases}
 use Rattle.std.proofs.lemmas.Option.{slice_get_within, get_or_from_slice_get}
 use Rattle.hs_scheme.specs.declared.term.Rule.{Rule}
 use Rattle.hs_scheme.specs.Scheme.{AreRules, TermInRange}
@@ -9,15 +9,7 @@ use Rattle.hs_passes.specs.Occurrences.{mentions}
 use Rattle.hs_passes.specs.Selection.{place}
 use Rattle.hs_passes.specs.Reachable.{IsReachable, from_start, from_body, mentioned_by, reached, is_reachable}
 use Rattle.hs_passes.proofs.Choosing.{place-le, place-lt}
-use Rattle.hs_passes.proofs.Renaming.{either, mention_below}
-
-pub both : (a b : Bool) → (a && b) ≡ true → (a ≡ true) × (b ≡ true)
-both true b e = (refl, e)
-both false b e = absurd (cc)
-
-pub and_true : (a b : Bool) → a ≡ true → b ≡ true → (a && b) ≡ true
-and_true true b p q = q
-and_true false b p q = absurd (cc)
+use Rattle.hs_passes.proofs.Renaming.{mention_below}
 
 -- a rule of the set in whose body g occurs
 record Mentioned (g : ℕ) (set : ℕ → Bool) (rules : List Rule) : Type 0 where
@@ -29,8 +21,8 @@ record Mentioned (g : ℕ) (set : ℕ → Bool) (rules : List Rule) : Type 0 whe
 
 mentioned_rule : (g : ℕ) (set : ℕ → Bool) (rules : List Rule) → mentioned_by g set rules ≡ true → Mentioned g set rules
 mentioned_rule g set [] e = absurd (cc)
-mentioned_rule g set (r ∷ rules) e = elim (either (set 0 && mentions g r.body) (mentioned_by g (λ f. set (suc f)) rules) e) [
-  | inl p ↦ let q = both (set 0) (mentions g r.body) p in record { by = 0; rule = r; inside = q.0; at = refl; occurs = q.1 }
+mentioned_rule g set (r ∷ rules) e = elim (or_cases (set 0 && mentions g r.body) (mentioned_by g (λ f. set (suc f)) rules) e) [
+  | inl p ↦ let q = and_parts (set 0) (mentions g r.body) p in record { by = 0; rule = r; inside = q.0; at = refl; occurs = q.1 }
   | inr p ↦ let m = mentioned_rule g (λ f. set (suc f)) rules p in record { by = suc m.by; rule = m.rule; inside = m.inside; at = m.at; occurs = m.occurs }
 ]
 
@@ -38,7 +30,7 @@ is_mentioned : (g : ℕ) (set : ℕ → Bool) (rules : List Rule) (f : ℕ) (r :
 is_mentioned g set [] f r inside at occurs = absurd (cc)
 is_mentioned g set (s ∷ rules) zero r inside at occurs =
     let e : s ≡ r = (cc) in
-    or_left (set 0 && mentions g s.body) (mentioned_by g (λ f. set (suc f)) rules) (and_true (set 0) (mentions g s.body) inside (ap (λ (k : Rule). mentions g k.body) e ∙ occurs))
+    or_left (set 0 && mentions g s.body) (mentioned_by g (λ f. set (suc f)) rules) (and_from (set 0) (mentions g s.body) inside (ap (λ (k : Rule). mentions g k.body) e ∙ occurs))
 is_mentioned g set (s ∷ rules) (suc f) r inside at occurs =
     or_right (set 0 && mentions g s.body) (mentioned_by g (λ f. set (suc f)) rules) (is_mentioned g (λ f. set (suc f)) rules f r inside at occurs)
 
@@ -63,7 +55,7 @@ same_from_0 : (n : ℕ) (set other : ℕ → Bool) → set 0 ≡ other 0 → ((f
 same_from_0 n set other first rest zero lt = first
 same_from_0 n set other first rest (suc f) lt = rest f (omega arith)
 
--- Of a set and one that has it within, either both are equal below n, or the other has more.
+-- Of a set and one that has it within, or_cases and_parts are equal below n, or the other has more.
 grown : (n : ℕ) (set other : ℕ → Bool) → ((f : ℕ) → set f ≡ true → other f ≡ true) → ((f : ℕ) → f < n → set f ≡ other f) ⊎ (place set n < place other n)
 grown zero set other within = inl (λ f lt. absurd (omega arith))
 grown (suc n) set other within =
@@ -97,7 +89,7 @@ same_bool false false p q = refl
 module _ (rules : List Rule) where
   is_reached : (n g : ℕ) → reached rules n g ≡ true → IsReachable rules g
   is_reached zero g e = let is : g ≡ 0 = eqb-true g 0 e in subst (IsReachable rules) (sym is) from_start
-  is_reached (suc n) g e = elim (either (reached rules n g) (mentioned_by g (reached rules n) rules) e) [
+  is_reached (suc n) g e = elim (or_cases (reached rules n g) (mentioned_by g (reached rules n) rules) e) [
     | inl p ↦ is_reached n g p
     | inr p ↦ let m = mentioned_rule g (reached rules n) rules p in from_body m.by g m.rule (is_reached n m.by m.inside) m.at m.occurs
   ]

@@ -83,14 +83,6 @@ pub length-by_number : {A B : Type 0} (g : ℕ → A → B) (xs : List A) → le
 length-by_number g [] = refl
 length-by_number g (x ∷ xs) = ap suc (length-by_number (λ i. g (suc i)) xs)
 
-pub map-by_number : {A B C : Type 0} (h : B → C) (g : ℕ → A → B) (xs : List A) → map h (by_number g xs) ≡ by_number (λ f x. h (g f x)) xs
-map-by_number h g [] = refl
-map-by_number h g (x ∷ xs) = ap (λ ys. h (g 0 x) ∷ ys) (map-by_number h (λ f. g (suc f)) xs)
-
-pub by_number-map : {A B C : Type 0} (h : A → B) (g : ℕ → B → C) (xs : List A) → by_number g (map h xs) ≡ by_number (λ f x. g f (h x)) xs
-by_number-map h g [] = refl
-by_number-map h g (x ∷ xs) = ap (λ ys. g 0 (h x) ∷ ys) (by_number-map h (λ f. g (suc f)) xs)
-
 pub by_number-twice : {A B C : Type 0} (h : ℕ → B → C) (g : ℕ → A → B) (xs : List A) → by_number h (by_number g xs) ≡ by_number (λ f x. h f (g f x)) xs
 by_number-twice h g [] = refl
 by_number-twice h g (x ∷ xs) = ap (λ ys. h 0 (g 0 x) ∷ ys) (by_number-twice (λ f. h (suc f)) (λ f. g (suc f)) xs)

@@ -1,8 +1,7 @@
 -- Terms under new names of their nonterminals: replacements, sorts and steps.
-use Rattle.std.proofs.Common.{◌≡◌, refl, sym, ◌∙◌, ap, ℕ, zero, suc, ◌<◌, ◌≤◌, Bool, true, false, cond, nat_le, List, [], ◌∷◌, length, map, take, drop, slice_get, option_map, Option, Some, None, unwrap_or, ◌⊎◌, inl, inr, arith}
+use Rattle.std.proofs.Common.{◌≡◌, refl, sym, ◌∙◌, ap, ℕ, zero, suc, ◌<◌, ◌≤◌, Bool, true, false, cond, nat_le, List, [], ◌∷◌, length, map, take, drop, slice_get, option_map, Option, Some, None, unwrap_or, inl, inr, arith}
 use Rattle.std.proofs.Common.{subst as along}
-use Rattle.std.specs.Prelude.{◌||◌}
-use Rattle.std.proofs.lemmas.Bool.{or_left, or_right, eq-eqb, eqb-true}
+use Rattle.std.proofs.lemmas.Bool.{or_left, or_right, eq-eqb, eqb-true, or_cases}
 use Rattle.std.proofs.lemmas.Option.{slice_get-map}
 use Rattle.std.proofs.lemmas.List.{take-map, drop-map, length-map}
 use Rattle.hs_scheme.specs.declared.term.Head.{Head}
@@ -102,20 +101,16 @@ head_below f params n terminals (Var j) r e = absurd (cc)
 head_below f params n terminals (Nt g) r e = let is : g ≡ f = eqb-true g f e in omega arith
 head_below f params n terminals (Tm a) r e = absurd (cc)
 
-pub either : (a b : Bool) → (a || b) ≡ true → (a ≡ true) ⊎ (b ≡ true)
-either true b e = inl refl
-either false b e = inr e
-
 mutual
   pub mention_below : (f params n terminals : ℕ) (t : Tree Head) → TermInRange params n terminals t → mentions f t ≡ true → f < n
-  mention_below f params n terminals (node h ts) r e = elim (either (is_nonterminal f h) (mentioned_in f ts) e) [
+  mention_below f params n terminals (node h ts) r e = elim (or_cases (is_nonterminal f h) (mentioned_in f ts) e) [
     | inl p ↦ head_below f params n terminals h r.0 p
     | inr p ↦ mentioned_below f params n terminals ts r.2 p
   ]
 
   mentioned_below : (f params n terminals : ℕ) (ts : Trees Head) → TermsInRange params n terminals ts → mentioned_in f ts ≡ true → f < n
   mentioned_below f params n terminals none r e = absurd (cc)
-  mentioned_below f params n terminals (more t ts) r e = elim (either (mentions f t) (mentioned_in f ts) e) [
+  mentioned_below f params n terminals (more t ts) r e = elim (or_cases (mentions f t) (mentioned_in f ts) e) [
     | inl p ↦ mention_below f params n terminals t r.0 p
     | inr p ↦ mentioned_below f params n terminals ts r.1 p
   ]

@@ -3,7 +3,7 @@ use Rattle.std.proofs.Common.{◌≡◌, refl, sym, ◌∙◌, ap, subst, ℕ, z
 use Rattle.std.proofs.Math.Seq.{take-suc}
 use Rattle.std.specs.Prelude.{All, flat_map, replicate}
 use Rattle.std.proofs.Math.ListN.{set}
-use Rattle.std.proofs.lemmas.Bool.{or_left, or_right, eq-eqb, eqb-true}
+use Rattle.std.proofs.lemmas.Bool.{or_left, or_right, eq-eqb, eqb-true, or_cases}
 use Rattle.std.proofs.lemmas.List.{get_or-set_same, set-get_or}
 use Rattle.hs_scheme.specs.declared.term.Head.{Head}
 use Rattle.hs_scheme.specs.declared.term.Head.TheVariants.{Var, Nt, Tm}
@@ -16,7 +16,6 @@ use Rattle.hs_passes.specs.Occurrences.{is_nonterminal, mentions, mentioned_in, 
 use Rattle.hs_passes.specs.Marking.{marked, newly}
 use Rattle.hs_passes.specs.Reachable.{IsReachable, from_start, from_body, is_reachable}
 use Rattle.hs_passes.specs.Selection.{stays}
-use Rattle.hs_passes.proofs.Renaming.{either}
 use Rattle.hs_passes.proofs.Reaching.{decides, mention_in_range}
 
 -- f is an element of the list
@@ -52,14 +51,14 @@ in_own f (Tm a) h = absurd h
 
 mutual
   mention_in : (f : ℕ) (t : Tree Head) → mentions f t ≡ true → In f (nonterminals t)
-  mention_in f (node h ts) e = elim (either (is_nonterminal f h) (mentioned_in f ts) e) [
+  mention_in f (node h ts) e = elim (or_cases (is_nonterminal f h) (mentioned_in f ts) e) [
     | inl p ↦ in_left f (own_nonterminal h) (nonterminals_of ts) (own_in f h p)
     | inr p ↦ in_right f (own_nonterminal h) (nonterminals_of ts) (mentions_in f ts p)
   ]
 
   mentions_in : (f : ℕ) (ts : Trees Head) → mentioned_in f ts ≡ true → In f (nonterminals_of ts)
   mentions_in f none e = absurd (cc)
-  mentions_in f (more t ts) e = elim (either (mentions f t) (mentioned_in f ts) e) [
+  mentions_in f (more t ts) e = elim (or_cases (mentions f t) (mentioned_in f ts) e) [
     | inl p ↦ in_left f (nonterminals t) (nonterminals_of ts) (mention_in f t p)
     | inr p ↦ in_right f (nonterminals t) (nonterminals_of ts) (mentions_in f ts p)
   ]

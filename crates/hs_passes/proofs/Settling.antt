@@ -1,18 +1,18 @@
 -- Flags that are narrowed to what is needed.
-use Rattle.std.proofs.Common.{◌≡◌, refl, sym, ◌∙◌, ap, subst, ℕ, zero, suc, ◌+◌, ◌<◌, ◌≤◌, Bool, true, false, cond, List, [], ◌∷◌, length, replicate, slice_get, Some, inl, inr, arith}
+use Rattle.std.proofs.Common.{◌≡◌, refl, sym, ◌∙◌, ap, subst, ℕ, zero, suc, ◌+◌, ◌<◌, ◌≤◌, Bool, true, false, cond, List, [], ◌∷◌, length, slice_get, Some, inl, inr, arith}
 use Rattle.std.specs.Prelude.{◌&&◌, nat_lt, slice_set, slice_index, sum}
-use Rattle.std.proofs.lemmas.Bool.{and_from, lt-ltb, ltb-true, cases_lt}
+use Rattle.std.proofs.lemmas.Bool.{and_from, lt-ltb, ltb-true, cases_lt, and_parts}
 use Rattle.std.proofs.lemmas.Option.{slice_get_cases}
 use Rattle.std.proofs.lemmas.List.{get_or-map, get_or_past, length-map}
 use Rattle.std.proofs.Math.Nat.{eq-or-lt_of_le}
 use Rattle.hs_scheme.specs.Parameters.{counts_of, IsParameter, parameter_of}
-use Rattle.hs_scheme.proofs.ParameterLemmas.{sum_few, there, number_within}
+use Rattle.hs_scheme.proofs.ParameterLemmas.{sum_few, there}
 use Rattle.hs_scheme.specs.Scheme.{AreRules}
 use Rattle.hs_scheme.specs.declared.term.Rule.{Rule}
 use Rattle.hs_passes.specs.Selection.{stays}
 use Rattle.hs_passes.specs.Narrowing.{count_true}
-use Rattle.hs_passes.specs.Needing.{is_live, kept, IsSupported, IsAbove}
-use Rattle.hs_passes.proofs.Needs.{both_true, is_live-mono}
+use Rattle.hs_passes.specs.Needing.{is_live, kept, KeepsOnlyLive, IsAbove}
+use Rattle.hs_passes.proofs.Needs.{is_live-mono}
 
 -- the parameters of a scheme are few
 pub sum_of_few : (rules : List Rule) (terminals : ℕ) → AreRules rules terminals → (others : List Rule) → others ≡ rules → sum (counts_of others) < 4294967296
@@ -59,21 +59,12 @@ module _ (rules : List Rule) (counts : List ℕ) (are : counts ≡ counts_of rul
         ∙ and_from (stays old n) (stays marks n) (sym (kept_at old f j is) ∙ above other supported f j on)
         (needed f j is ∙ is_live-mono other (kept counts old) (above other supported) rules f j (supported f j r.rule r.at r.within on)))
 
-    pub then_supported : new ≡ old → IsSupported rules (kept counts new)
+    pub then_supported : new ≡ old → KeepsOnlyLive rules (kept counts new)
     then_supported same f j r at lt on =
         let n = parameter_of counts f j in
         let is : IsParameter counts f j = subst (λ cs. IsParameter cs f j) (sym are) (is_its rules f j r at lt) in
         subst (λ flags. is_live (kept counts flags) rules f j ≡ true) (sym same)
-        (sym (needed f j is) ∙ (both_true (stays old n) (stays marks n) (sym (each n) ∙ (sym (kept_at new f j is) ∙ on))).1)
-
-  all_set : (n m : ℕ) → m < n → stays (replicate n true) m ≡ true
-  all_set zero m lt = absurd (omega arith)
-  all_set (suc n) zero lt = refl
-  all_set (suc n) (suc m) lt = all_set n m (omega arith)
-
-  pub all_above : (flags : List Bool) → flags ≡ replicate (sum counts) true → IsAbove rules (kept counts flags)
-  all_above flags e other supported f j on =
-      kept_from flags f j (λ is. ap (λ fs. stays fs (parameter_of counts f j)) e ∙ all_set (sum counts) (parameter_of counts f j) (number_within counts f j is))
+        (sym (needed f j is) ∙ (and_parts (stays old n) (stays marks n) (sym (each n) ∙ (sym (kept_at new f j is) ∙ on))).1)
 
 -- a flag that is cleared
 pub cleared_here : (flags : List Bool) (i : ℕ) → stays (slice_set flags i false) i ≡ false

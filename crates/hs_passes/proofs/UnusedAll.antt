@@ -1,7 +1,7 @@
 -- Dropping one unused parameter after another comes to the greatest set of needed ones.
 use Rattle.std.proofs.Common.{◌≡◌, refl, sym, ◌∙◌, ap, subst, ℕ, zero, suc, ◌<◌, ◌≤◌, Bool, true, false, cond, List, [], ◌∷◌, slice_get, Option, Some, None, option_map, arith}
 use Rattle.std.specs.Prelude.{◌&&◌, not, nat_eq, sum_by}
-use Rattle.std.proofs.lemmas.Bool.{and_from, eq-eqb, eqb-true}
+use Rattle.std.proofs.lemmas.Bool.{and_from, eq-eqb, eqb-true, and_parts}
 use Rattle.hs_scheme.specs.declared.term.Rule.{Rule}
 use Rattle.hs_scheme.specs.Sorted.{SortedData}
 use Rattle.hs_steps.proofs.Terms.{same_some}
@@ -9,14 +9,14 @@ use Rattle.hs_passes.specs.Selection.{place}
 use Rattle.hs_passes.specs.Weight.{params_of}
 use Rattle.hs_passes.specs.Leaving.{Keep, rule_left, with_parameters}
 use Rattle.hs_passes.specs.Unused.{needs, is_needed, first_below, here_or_later, first_parameter, first_unused, without_parameter, dropped_by, dropped, without_unused}
-use Rattle.hs_passes.specs.Needing.{live, is_live, IsSupported, IsAbove, IsGreatest}
+use Rattle.hs_passes.specs.Needing.{live, is_live, KeepsOnlyLive, IsAbove, IsGreatest}
 use Rattle.hs_passes.proofs.Choosing.{place-lt, place-eq}
 use Rattle.hs_passes.proofs.Places.{kept_place}
 use Rattle.hs_passes.proofs.Remaining.{all, left-all, then, left-twice, at_number}
 use Rattle.hs_passes.proofs.Fitting.{Fits}
 use Rattle.hs_passes.proofs.LeftSorted.{left_fewer}
 use Rattle.hs_passes.proofs.Simulation.{before}
-use Rattle.hs_passes.proofs.Needs.{both_true, same_bool, of_one, of_some-by_number, of_some-same, live-mono, is_live-mono, fits_of, needs-left}
+use Rattle.hs_passes.proofs.Needs.{same_bool, of_one, of_some-by_number, of_some-same, live-mono, is_live-mono, fits_of, needs-left}
 
 -- what the search for a number finds
 record Below (test : ℕ → Bool) (n k : ℕ) : Type 0 where
@@ -167,7 +167,7 @@ module _ (s : SortedData) where
             absurd (other (same, k_is))
 
     less : (g k : ℕ) → next g k ≡ true → keep g k ≡ true
-    less g k e = (both_true (keep g k) (gone g (place (keep g) k)) e).0
+    less g k e = (and_parts (keep g k) (gone g (place (keep g) k)) e).0
 
     pub next_reached : Reached next
     next_reached = record {
@@ -197,11 +197,11 @@ module _ (s : SortedData) where
   pub record End (n : ℕ) (keep : Keep) : Type 0 where
     pub last : Keep
     pub reached : Reached last
-    pub supported : IsSupported rules last
+    pub supported : KeepsOnlyLive rules last
     pub none_left : first_unused (new last) ≡ None
     pub is : dropped n (with_parameters keep s) ≡ with_parameters last s
 
-  at_end : (keep : Keep) → Reached keep → first_unused (new keep) ≡ None → IsSupported rules keep
+  at_end : (keep : Keep) → Reached keep → first_unused (new keep) ≡ None → KeepsOnlyLive rules keep
   at_end keep h e f j r at lt on =
       let there : slice_get (new keep) f ≡ Some (rule_left keep (keep f) r) = at_number (λ g. rule_left keep (keep g)) rules f ∙ ap (option_map (rule_left keep (keep f))) at in
       sym (needed-left keep h f j on)

@@ -62,7 +62,7 @@ selected keep to s = record {
 }
 
 -- the rule that stands for the nonterminal g
-pub record StandsFor (keep : ℕ → Bool) (to : ℕ → ℕ) (s : SortedData) (g : ℕ) : Type 0 where
+pub record HasStandIn (keep : ℕ → Bool) (to : ℕ → ℕ) (s : SortedData) (g : ℕ) : Type 0 where
   pub rule : ℕ
   pub in_range : rule < length s.scheme.rules
   pub stays : keep rule ≡ true
@@ -71,4 +71,4 @@ pub record StandsFor (keep : ℕ → Bool) (to : ℕ → ℕ) (s : SortedData) (
 
 pub record IsSelection (keep : ℕ → Bool) (to : ℕ → ℕ) (s : SortedData) : Type 0 where
   pub start : keep 0 ≡ true
-  pub bodies : (f : ℕ) (r : Rule) (g : ℕ) → slice_get s.scheme.rules f ≡ Some r → keep f ≡ true → mentions g r.body ≡ true → StandsFor keep to s g
+  pub bodies : (f : ℕ) (r : Rule) (g : ℕ) → slice_get s.scheme.rules f ≡ Some r → keep f ≡ true → mentions g r.body ≡ true → HasStandIn keep to s g

@@ -3,7 +3,7 @@
 ghost use Rattle.std.specs.Prelude.{◌≡◌, ◌≤◌, ◌<◌, ℕ, ◌&&◌, ◌||◌, false, true, nat_eq, nat_le, length, sum, replicate, vec_len, IfOk, IsTrue};
 ghost use Rattle.hs_scheme.specs.Parameters.{counts_of, IsParameter, parameter_of};
 ghost use Rattle.hs_passes.specs.Unused.{needs_at};
-ghost use Rattle.hs_passes.specs.Needing.{live, is_live, kept, Gains, IsAbove, IsGreatest};
+ghost use Rattle.hs_passes.specs.Needing.{live, is_live, kept, GainsFlags, IsAbove, IsGreatest};
 ghost use Rattle.hs_passes.specs.Narrowing.{count_true};
 ghost use Rattle.hs_passes.specs.Selection.{stays};
 
@@ -14,7 +14,7 @@ use std::alloc::Global;
 /// Marks the parameter, where the rule has it.
 fn mark(parameters: &Parameters, rule: u32, param: u32, needed: &mut [bool])
     requires { length needed.old ≡ sum parameters.now }
-    ensures { Gains parameters.now needed.old needed.new (λ f j. nat_eq rule f && nat_eq param j) }
+    ensures { GainsFlags parameters.now needed.old needed.new (λ f j. nat_eq rule f && nat_eq param j) }
 {
     if let Some(number) = parameters.number(rule, param) {
         needed[number as usize] = true;
@@ -24,7 +24,7 @@ fn mark(parameters: &Parameters, rule: u32, param: u32, needed: &mut [bool])
 /// Marks the rule's parameters behind the first ones, as many as are given.
 fn mark_missing(parameters: &Parameters, rule: u32, given: usize, needed: &mut [bool])
     requires { length needed.old ≡ sum parameters.now }
-    ensures { Gains parameters.now needed.old needed.new (λ f j. nat_eq rule f && nat_le given j) }
+    ensures { GainsFlags parameters.now needed.old needed.new (λ f j. nat_eq rule f && nat_le given j) }
 {
     for param in 0..parameters.count_of(rule) {
         if param as usize >= given {
@@ -36,7 +36,7 @@ fn mark_missing(parameters: &Parameters, rule: u32, given: usize, needed: &mut [
 /// Marks the parameters that a head with this many arguments needs in the rule's body.
 fn mark_head(parameters: &Parameters, rule: u32, head: Head, given: usize, needed: &mut [bool])
     requires { length needed.old ≡ sum parameters.now }
-    ensures { Gains parameters.now needed.old needed.new (λ f j. needs_at rule f j head given) }
+    ensures { GainsFlags parameters.now needed.old needed.new (λ f j. needs_at rule f j head given) }
 {
     match head {
         Head::Var(param) => mark(parameters, rule, param, needed),
@@ -48,7 +48,7 @@ fn mark_head(parameters: &Parameters, rule: u32, head: Head, given: usize, neede
 /// Marks the parameters that what is left of the term needs. Recurses as deep as the term.
 fn mark_term(parameters: &Parameters, flags: &[bool], rule: u32, term: &Term, needed: &mut [bool])
     requires { length needed.old ≡ sum parameters.now }
-    ensures { Gains parameters.now needed.old needed.new (λ f j. live (kept parameters.now flags.now) rule f j term.now) }
+    ensures { GainsFlags parameters.now needed.old needed.new (λ f j. live (kept parameters.now flags.now) rule f j term.now) }
 {
     mark_head(parameters, rule, term.head, term.args.len(), needed);
     for (i, arg) in term.args.iter().enumerate() {

@@ -9,10 +9,10 @@ use Rattle.hs_naming.specs.Evidence.{Evidence, Packs, Pack, evidence, no_packs, 
 use Rattle.hs_naming.specs.Naming.{chosen_pack, argument_packs}
 use Rattle.hs_path.specs.declared.evidence.Node.{Node}
 use Rattle.hs_path.specs.declared.evidence.Store.{Store}
-use Rattle.hs_path.specs.Stored.{Stands, Piled, Members, IsPack, Grows, Knows, ArePremises}
+use Rattle.hs_path.specs.Stored.{Stands, Piled, Members, IsPack, Grows, KnowsCurrent, ArePremises}
 use Rattle.hs_path.proofs.StoredLemmas.{stands_grow, piled_grow, members_grow, begins_pushed, pushed_at}
 
-pub knows_grow : (bound : ℕ) (old new : Store) (g : Grows old new) (below more_ : ℕ) (n : Node) (own : Packs) → below ≤ more_ → Knows bound old below n own → Knows bound new more_ n own
+pub knows_grow : (bound : ℕ) (old new : Store) (g : Grows old new) (below more_ : ℕ) (n : Node) (own : Packs) → below ≤ more_ → KnowsCurrent bound old below n own → KnowsCurrent bound new more_ n own
 knows_grow bound old new g below more_ n own le k = record {
   nothing = stands_grow bound old new g 0 (evidence 0 no_packs) k.nothing;
   some = omega (arith, k.some);

@@ -20,12 +20,12 @@ use Rattle.hs_path.specs.declared.evidence.Spot.{Spot}
 use Rattle.hs_path.specs.declared.evidence.Store.{Store}
 use Rattle.hs_path.specs.declared.turning.Turn.{Turn}
 use Rattle.hs_path.specs.declared.turning.Turn.TheVariants.{End, Silent, Step}
-use Rattle.hs_path.specs.Stored.{Piled, Grows, Nothing, Knows}
-use Rattle.hs_path.specs.Turned.{HeadWithin, PremisesWithin, IsSpot, Turns}
+use Rattle.hs_path.specs.Stored.{Piled, Grows, Nothing, KnowsCurrent}
+use Rattle.hs_path.specs.Turned.{HeadBefore, PremisesWithin, IsSpotAt, Turns}
 use Rattle.hs_path.proofs.StoredLemmas.{piled_grow}
 
 module _ (p : ProblemData) (T : List EntryData) (i : ℕ) where
-  head_within : (rule : ℕ) (h : Head) (by : HeadBy) (ty : TypeTree) → IsHeadType p (take i T) rule h by ty → HeadWithin i by
+  head_within : (rule : ℕ) (h : Head) (by : HeadBy) (ty : TypeTree) → IsHeadType p (take i T) rule h by ty → HeadBefore i by
   head_within rule h (Terminal q child) ty is = tt
   head_within rule (Nt f) (Rule place) ty is = (at_take i T place is.entry is.holds.at).0
   head_within rule (Var x) (Rule place) ty is = absurd is
@@ -54,7 +54,7 @@ pub begins_longer : {X : Type 0} (xs ys : List X) → Begins xs ys → length xs
 begins_longer [] ys b = omega arith
 begins_longer (x ∷ xs) ys b = let r = slice_get_within ys (length xs) (get_or (x ∷ xs) (length xs) x) (b (length xs) _ (slice_get-get_or (x ∷ xs) (length xs) x (omega arith))) in omega (arith, r)
 
-pub spot_grows : (bound : ℕ) (old new : Store) (g : Grows old new) (spot : Spot) (e : Evidence) → IsSpot bound old spot e → IsSpot bound new spot e
+pub spot_grows : (bound : ℕ) (old new : Store) (g : Grows old new) (spot : Spot) (e : Evidence) → IsSpotAt bound old spot e → IsSpotAt bound new spot e
 spot_grows bound old new g spot e at = record {
   node = record {
     own = at.node.own;
@@ -66,14 +66,14 @@ spot_grows bound old new g spot e at = record {
   lowest = at.lowest;
 }
 
-module _ (bound : ℕ) (s : Store) (spot : Spot) (own : Packs) (nothing : Nothing bound s) (at : IsSpot bound s spot (evidence spot.node.place own)) where
+module _ (bound : ℕ) (s : Store) (spot : Spot) (own : Packs) (nothing : Nothing bound s) (at : IsSpotAt bound s spot (evidence spot.node.place own)) where
   own_packs : Piled bound s spot.number s.owns.items spot.node.own.from spot.node.own.to own
   own_packs =
       let same : at.node.own ≡ own = (let e = at.node.is in cc) in
       along (λ (x : Packs). Piled bound s spot.number s.owns.items spot.node.own.from spot.node.own.to x) same at.node.packs
 
   -- what is known by any bound from the spot's number on
-  pub spot_knows : (below : ℕ) → spot.number ≤ below → 0 < below → Knows bound s below spot.node own
+  pub spot_knows : (below : ℕ) → spot.number ≤ below → 0 < below → KnowsCurrent bound s below spot.node own
   spot_knows below le some = record {
     nothing = nothing;
     some = some;
@@ -85,23 +85,23 @@ module _ (bound : ℕ) (s : Store) (spot : Spot) (own : Packs) (nothing : Nothin
   some_nodes = slice_get_within s.nodes.items 0 nothing.0 nothing.1
 
   module _ (new : Store) (head : HeadBy) (terminal : ℕ) (of : ℕ → ℕ → Evidence) (packs : Packs) (items : List ℕ) where
-    no_silent : (below lower : ℕ) (turn : Turn) → HeadWithin 0 head → Turns bound new below head terminal of packs items turn → Turns bound new lower head terminal of packs items turn
+    no_silent : (below lower : ℕ) (turn : Turn) → HeadBefore 0 head → Turns bound new below head terminal of packs items turn → Turns bound new lower head terminal of packs items turn
     no_silent below lower (End a q) within t = t
     no_silent below lower (Step label next) within t = t
-    no_silent below lower (Silent next) within t = let none : t.m < 0 = along (HeadWithin 0) t.is within in absurd (omega (arith, none))
+    no_silent below lower (Silent next) within t = let none : t.m < 0 = along (HeadBefore 0) t.is within in absurd (omega (arith, none))
 
     -- at the lowest number no parameter is in front
-    pub turned_at : (turn : Turn) → HeadWithin spot.node.place head → ((below : ℕ) → Knows bound s below spot.node own → Turns bound new below head terminal of packs items turn)
+    pub turned_at : (turn : Turn) → HeadBefore spot.node.place head → ((below : ℕ) → KnowsCurrent bound s below spot.node own → Turns bound new below head terminal of packs items turn)
         → Turns bound new spot.number head terminal of packs items turn
     turned_at turn within turns = by_number spot.number refl
       where
         by_number : (n : ℕ) → spot.number ≡ n → Turns bound new spot.number head terminal of packs items turn
         by_number zero e =
-            no_silent (length s.nodes.items) spot.number turn (along (λ (i : ℕ). HeadWithin i head) (at.lowest e) within)
+            no_silent (length s.nodes.items) spot.number turn (along (λ (i : ℕ). HeadBefore i head) (at.lowest e) within)
             (turns (length s.nodes.items) (spot_knows (length s.nodes.items) at.within some_nodes))
         by_number (suc n) e = turns spot.number (spot_knows spot.number (omega arith) (omega (arith, e)))
 
-pub head_weaker : (i n : ℕ) (head : HeadBy) → i ≤ n → HeadWithin i head → HeadWithin n head
+pub head_weaker : (i n : ℕ) (head : HeadBy) → i ≤ n → HeadBefore i head → HeadBefore n head
 head_weaker i n (Terminal q child) le within = tt
 head_weaker i n (Rule place) le within = omega (arith, le, within)
 head_weaker i n (Param x place) le within = omega (arith, le, within)

@@ -24,7 +24,7 @@ use Rattle.hs_trace.specs.Path.{PathData}
 use Rattle.hs_path.specs.declared.evidence.Store.{Store}
 use Rattle.hs_path.specs.declared.evidence.Spot.{Spot}
 use Rattle.hs_path.specs.Stored.{Piled, Grows, Nothing}
-use Rattle.hs_path.specs.Turned.{IsSpot, owns, stack_at, terminal_at, IsStep, IsSilent, IsStepTo}
+use Rattle.hs_path.specs.Turned.{IsSpotAt, owns, stack_at, terminal_at, IsStepBy, IsSilentTo, IsStepTo}
 use Rattle.hs_path.specs.Walked.{IsNamedPath, IsLongerPath}
 use Rattle.hs_path.specs.Walking.{listed, IsWalking}
 use Rattle.hs_path.proofs.StoredLemmas.{stands_grow}
@@ -93,7 +93,7 @@ module _ (p : ProblemData) (T : List EntryData) (supports : List Support) where
   }
 
   module _ (by : HeadBy) (terminal : ℕ) (own : ℕ → ℕ → Evidence) (q : ℕ) (t : Tree Head) (packs : Packs) (steps : ℕ) (rest : Path) (o : Opened by terminal own q t packs steps rest) where
-    stepped : (label : Option (ℕ × ℕ)) (e : Evidence) → IsStep by terminal packs label e → Stepped label q t e steps rest
+    stepped : (label : Option (ℕ × ℕ)) (e : Evidence) → IsStepBy by terminal packs label e → Stepped label q t e steps rest
     stepped None e (m, is, same) =
         along (λ (x : Evidence). Stepped None q t x steps rest) (sym same)
         (by_rule m terminal own q t packs steps rest (along (λ (h : HeadBy). Opened h terminal own q t packs steps rest) is o))
@@ -145,11 +145,11 @@ module _ (p : ProblemData) (T : List EntryData) (supports : List Support) where
     Stack = stack_at p T supports spot.node.place w.at.node.own w.packs
 
     -- the evidence of the spot, as the moves from it want it
-    pub at_place : IsSpot (length T) s spot (evidence spot.node.place w.at.node.own)
-    at_place = along (λ (e : Evidence). IsSpot (length T) s spot e) w.at.node.is w.at
+    pub at_place : IsSpotAt (length T) s spot (evidence spot.node.place w.at.node.own)
+    at_place = along (λ (e : Evidence). IsSpotAt (length T) s spot e) w.at.node.is w.at
 
     pub walk_silent : (new : Store) (others : List ℕ) (next : Spot) → Grows s new
-        → IsSilent (length T) new spot.number Here (owns T spot.node.place w.at.node.own) Stack others next → IsWalking p T supports new others next trail used
+        → IsSilentTo (length T) new spot.number Here (owns T spot.node.place w.at.node.own) Stack others next → IsWalking p T supports new others next trail used
     walk_silent new others next g is =
         let k = silenced Here (terminal_at p T spot.node.place) (owns T spot.node.place w.at.node.own) w.state w.term Stack w.steps w.rest open_ is.x is.m is.is in
         record {

@@ -7,7 +7,7 @@
 --     IsPack        the pack stands under this number
 --     Grows         what stood under a number still does
 --     Nothing       what look-ups that find nothing give stands under number 0
---     Knows         what is known of the current evidence, beside its place
+--     KnowsCurrent  what is known of the current evidence, beside its place
 --     premise       the evidence of a place that is made of the packs of another
 --     ArePremises   from a number on stand the evidences of chosen places
 use Rattle.std.specs.Prelude.{◌≡◌, ℕ, ◌+◌, ◌<◌, List, slice_get, Some}
@@ -56,7 +56,7 @@ pub record Grows (old new : Store) : Type 0 where
 abbrev pub Nothing : ℕ → Store → Type 0
 Nothing bound s = Stands bound s 0 no_evidence
 
-pub record Knows (bound : ℕ) (s : Store) (below : ℕ) (n : Node) (own : Packs) : Type 0 where
+pub record KnowsCurrent (bound : ℕ) (s : Store) (below : ℕ) (n : Node) (own : Packs) : Type 0 where
   pub nothing : Nothing bound s
   pub some : 0 < below
   pub packs : Piled bound s below s.owns.items n.own.from n.own.to own

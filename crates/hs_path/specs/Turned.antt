@@ -1,9 +1,9 @@
 -- What a move of the naming comes to; only private contracts cite it.
 --     PremisesWithin    a place's point is in range, and what its support names stands before it
---     IsSpot            a spot is at this evidence
+--     IsSpotAt          a spot is at this evidence
 --     owns              the evidence of a parameter for the type at a place, of the packs of the evidence at another
 --     stack_at          the stack with the packs of the arguments there
---     IsStep            a step by this head leads to this evidence
+--     IsStepBy          a step by this head leads to this evidence
 --     Turns             a move by this head, with what is on the stack then
 --     TurnsAt           so by the support of a place
 use Rattle.std.specs.Prelude.{◌≡◌, ℕ, ◌<◌, ◌≤◌, List, [], length, All, Option, Some, None}
@@ -20,17 +20,17 @@ use Rattle.hs_path.specs.declared.turning.Turn.{Turn}
 use Rattle.hs_path.specs.declared.turning.Turn.TheVariants.{End, Silent, Step}
 use Rattle.hs_path.specs.Stored.{IsNode, Piled, premise}
 
-abbrev pub HeadWithin : ℕ → HeadBy → Type 0
-HeadWithin i (Terminal q child) = Unit {0}
-HeadWithin i (Rule place) = place < i
-HeadWithin i (Param x place) = place < i
+abbrev pub HeadBefore : ℕ → HeadBy → Type 0
+HeadBefore i (Terminal q child) = Unit {0}
+HeadBefore i (Rule place) = place < i
+HeadBefore i (Param x place) = place < i
 
 pub record PremisesWithin (p : ProblemData) (T : List EntryData) (i : ℕ) (s : Support) : Type 0 where
   pub point : (entry_at T i).point < length p.points.points
-  pub head : HeadWithin i s.head
+  pub head : HeadBefore i s.head
   pub args : All (λ c. c.1 < i) s.args
 
-pub record IsSpot (bound : ℕ) (s : Store) (spot : Spot) (e : Evidence) : Type 0 where
+pub record IsSpotAt (bound : ℕ) (s : Store) (spot : Spot) (e : Evidence) : Type 0 where
   pub node : IsNode bound s spot.number spot.node e
   pub within : spot.number ≤ length s.nodes.items
   pub lowest : spot.number ≡ 0 → spot.node.place ≡ 0
@@ -45,27 +45,27 @@ stack_at p T supports place own packs =
 abbrev pub terminal_at : ProblemData → List EntryData → ℕ → ℕ
 terminal_at p T place = terminal_of (point_at p (entry_at T place).point).head
 
-abbrev pub IsStep : HeadBy → ℕ → Packs → Option (ℕ × ℕ) → Evidence → Type 0
-IsStep head terminal packs None e = (m : ℕ) × (head ≡ Rule m) × (e ≡ evidence m packs)
-IsStep head terminal packs (Some (a, child)) e = (q : ℕ) × (head ≡ Terminal q (Some child)) × (a ≡ terminal) × (e ≡ first (child_pack packs child))
+abbrev pub IsStepBy : HeadBy → ℕ → Packs → Option (ℕ × ℕ) → Evidence → Type 0
+IsStepBy head terminal packs None e = (m : ℕ) × (head ≡ Rule m) × (e ≡ evidence m packs)
+IsStepBy head terminal packs (Some (a, child)) e = (q : ℕ) × (head ≡ Terminal q (Some child)) × (a ≡ terminal) × (e ≡ first (child_pack packs child))
 
-pub record IsSilent (bound : ℕ) (s : Store) (below : ℕ) (head : HeadBy) (own : ℕ → ℕ → Evidence) (packs : Packs) (items : List ℕ) (spot : Spot) : Type 0 where
+pub record IsSilentTo (bound : ℕ) (s : Store) (below : ℕ) (head : HeadBy) (own : ℕ → ℕ → Evidence) (packs : Packs) (items : List ℕ) (spot : Spot) : Type 0 where
   pub x : ℕ
   pub m : ℕ
   pub is : head ≡ Param x m
-  pub at : IsSpot bound s spot (own x m)
+  pub at : IsSpotAt bound s spot (own x m)
   pub lower : spot.number < below
   pub stack : Piled bound s (length s.nodes.items) items 0 (length items) packs
 
 pub record IsStepTo (bound : ℕ) (s : Store) (head : HeadBy) (terminal : ℕ) (packs : Packs) (items : List ℕ) (label : Option (ℕ × ℕ)) (spot : Spot) : Type 0 where
   pub e : Evidence
-  pub at : IsSpot bound s spot e
+  pub at : IsSpotAt bound s spot e
   pub cleared : items ≡ []
-  pub is : IsStep head terminal packs label e
+  pub is : IsStepBy head terminal packs label e
 
 abbrev pub Turns : ℕ → Store → ℕ → HeadBy → ℕ → (ℕ → ℕ → Evidence) → Packs → List ℕ → Turn → Type 0
 Turns bound s below head terminal own packs items (End a q) = (a ≡ terminal) × (head ≡ Terminal q None)
-Turns bound s below head terminal own packs items (Silent spot) = IsSilent bound s below head own packs items spot
+Turns bound s below head terminal own packs items (Silent spot) = IsSilentTo bound s below head own packs items spot
 Turns bound s below head terminal own packs items (Step label spot) = IsStepTo bound s head terminal packs items label spot
 
 abbrev pub TurnsAt : ProblemData → List EntryData → List Support → Store → List ℕ → Spot → Packs → Packs → Turn → Type 0

@@ -16,7 +16,7 @@ use Rattle.hs_naming.specs.Leading.{Leads}
 use Rattle.hs_path.specs.declared.evidence.Store.{Store}
 use Rattle.hs_path.specs.declared.evidence.Spot.{Spot}
 use Rattle.hs_path.specs.Stored.{Nothing, Piled}
-use Rattle.hs_path.specs.Turned.{IsSpot}
+use Rattle.hs_path.specs.Turned.{IsSpotAt}
 
 abbrev pub listed : Option (ℕ × ℕ) → Path
 listed None = []
@@ -25,7 +25,7 @@ listed (Some label) = label ∷ []
 pub record IsWalking (p : ProblemData) (T : List EntryData) (supports : List Support) (s : Store) (items : List ℕ) (spot : Spot) (trail : Path) (used : ℕ) : Type 0 where
   pub nothing : Nothing (length T) s
   pub evidence : Evidence
-  pub at : IsSpot (length T) s spot evidence
+  pub at : IsSpotAt (length T) s spot evidence
   pub packs : Packs
   pub stack : Piled (length T) s (length s.nodes.items) items 0 (length items) packs
   pub need : ℕ

@@ -6,8 +6,8 @@ ghost use Rattle.hs_types.specs.Interned.{type_of_id};
 ghost use Rattle.hs_naming.specs.Evidence.{Evidence, Packs, evidence, stacked, own_evidence, pack_for};
 ghost use Rattle.hs_naming.specs.Naming.{entry_at, chosen_pack, argument_packs};
 ghost use Rattle.hs_core.specs.Core.{log_of};
-ghost use Rattle.hs_path.specs.Stored.{Stands, Piled, IsPack, Grows, Nothing, Knows, premise, ArePremises};
-ghost use Rattle.hs_path.specs.Turned.{IsSpot};
+ghost use Rattle.hs_path.specs.Stored.{Stands, Piled, IsPack, Grows, Nothing, KnowsCurrent, premise, ArePremises};
+ghost use Rattle.hs_path.specs.Turned.{IsSpotAt};
 
 use crate::asking::{asked, asked_params};
 use crate::evidence::{Node, Span, Spot, Store, number};
@@ -19,7 +19,7 @@ use hs_types::TyId;
 pub(crate) fn own_evidence(store: &Store, core: &Core, node: Node, param: usize, ty: TyId) -> u32
     requires node { node.place < length (log_of core.now) }
     requires ty { ty < length core.now.ids.types }
-    ensures { (below : ℕ) (own : Packs) → Knows (length (log_of core.now)) store.now below node own →
+    ensures { (below : ℕ) (own : Packs) → KnowsCurrent (length (log_of core.now)) store.now below node own →
         (result < below) × Stands (length (log_of core.now)) store.now result
         (own_evidence (entry_at (log_of core.now) node.place).env own param (type_of_id core.now.ids ty)) }
 {
@@ -43,7 +43,7 @@ fn add_own_pack(
     ensures owns { IfOk result (λ pack. store.new.owns.items ≡ store.old.owns.items) }
     ensures nodes { IfOk result (λ pack. store.new.nodes.items ≡ store.old.nodes.items) }
     ensures pack { IfOk result (λ pack. (below : ℕ) (own : Packs) →
-        Knows (length (log_of core.now)) store.old below node own →
+        KnowsCurrent (length (log_of core.now)) store.old below node own →
         IsPack (length (log_of core.now)) store.new below pack
         (pack_for (own_evidence (entry_at (log_of core.now) node.place).env own param)
         (set_at (entry_at (log_of core.now) place).env param))) }
@@ -65,7 +65,7 @@ fn add(store: &mut Store, core: &Core, node: Node, place: u32) -> Result<(), Out
     ensures grows { OnOk result (Grows store.old store.new) }
     ensures one { OnOk result (length store.new.nodes.items ≡ length store.old.nodes.items + 1) }
     ensures evidence { OnOk result ((own : Packs) →
-        Knows (length (log_of core.now)) store.old (length store.old.nodes.items) node own →
+        KnowsCurrent (length (log_of core.now)) store.old (length store.old.nodes.items) node own →
         Stands (length (log_of core.now)) store.new (length store.old.nodes.items)
         (premise (log_of core.now) node.place own place)) }
 {
@@ -94,7 +94,7 @@ fn add_chosen(
     ensures grows { IfOk result (λ first. Grows store.old store.new) }
     ensures count { IfOk result (λ first. first + length chosen.now ≡ length store.new.nodes.items) }
     ensures premises { IfOk result (λ first. (own : Packs) →
-        Knows (length (log_of core.now)) store.old (length store.old.nodes.items) node own →
+        KnowsCurrent (length (log_of core.now)) store.old (length store.old.nodes.items) node own →
         ArePremises (length (log_of core.now)) store.new first
         (premise (log_of core.now) node.place own) chosen.now) }
 {
@@ -143,7 +143,7 @@ pub(crate) fn put_arguments(
     requires places { All (λ c. c.1 < length (log_of core.now)) chosen.now }
     ensures grows { OnOk result (Grows store.old store.new) }
     ensures stack { OnOk result ((own packs : Packs) →
-        Knows (length (log_of core.now)) store.old (length store.old.nodes.items) node own →
+        KnowsCurrent (length (log_of core.now)) store.old (length store.old.nodes.items) node own →
         Piled (length (log_of core.now)) store.old (length store.old.nodes.items)
         stack.old.items 0 (length stack.old.items) packs →
         Piled (length (log_of core.now)) store.new (length store.new.nodes.items)
@@ -171,7 +171,7 @@ pub(crate) fn of_stack(
         Nothing bound store.old → place < bound →
         Piled bound store.old (length store.old.nodes.items)
         stack.old.items 0 (length stack.old.items) packs →
-        IsSpot bound store.new spot (evidence place packs)) }
+        IsSpotAt bound store.new spot (evidence place packs)) }
 {
     let from = number(store.owns.len())?;
     store.owns.extend_from_slice(stack.as_slice())?;

@@ -5,8 +5,8 @@ ghost use Rattle.hs_table.specs.Tables.{HasSupports};
 ghost use Rattle.hs_naming.specs.Evidence.{Evidence, Packs, evidence, first, child_pack};
 ghost use Rattle.hs_naming.specs.Naming.{point_at, terminal_of};
 ghost use Rattle.hs_core.specs.Core.{log_of, state_of};
-ghost use Rattle.hs_path.specs.Stored.{Stands, Piled, Knows, Grows, Nothing};
-ghost use Rattle.hs_path.specs.Turned.{HeadWithin, IsSpot, owns, Turns, TurnsAt};
+ghost use Rattle.hs_path.specs.Stored.{Stands, Piled, KnowsCurrent, Grows, Nothing};
+ghost use Rattle.hs_path.specs.Turned.{HeadBefore, IsSpotAt, owns, Turns, TurnsAt};
 
 use crate::adding::{of_stack, own_evidence, put_arguments};
 use crate::asking::row_at;
@@ -41,7 +41,7 @@ fn terminal_at(problem: &Problem, point: u32) -> u32
 fn spot_of(store: &Store, number: u32) -> Spot
     ensures number { result.number ≡ number }
     ensures spot { (bound : ℕ) (e : Evidence) → Nothing bound store.now → Stands bound store.now number e →
-        IsSpot bound store.now result e }
+        IsSpotAt bound store.now result e }
 {
     Spot {
         node: store.get(number),
@@ -73,10 +73,10 @@ fn by_head(
     terminal: u32,
 ) -> Result<Turn, OutOfMemory>
     requires node { node.place < length (log_of core.now) }
-    requires head { HeadWithin (length (log_of core.now)) head }
+    requires head { HeadBefore (length (log_of core.now)) head }
     ensures grows { IfOk result (λ turn. Grows store.old store.new) }
     ensures turn { IfOk result (λ turn. (below : ℕ) (own packs : Packs) →
-        Knows (length (log_of core.now)) store.old below node own →
+        KnowsCurrent (length (log_of core.now)) store.old below node own →
         Piled (length (log_of core.now)) store.old (length store.old.nodes.items)
         stack.old.items 0 (length stack.old.items) packs →
         Turns (length (log_of core.now)) store.new below head terminal
@@ -116,7 +116,7 @@ pub(crate) fn next_turn(
     requires place { spot.node.place < length (log_of core.now) }
     ensures grows { IfOk result (λ turn. Grows store.old store.new) }
     ensures turn { IfOk result (λ turn. (own packs : Packs) → Nothing (length (log_of core.now)) store.old →
-        IsSpot (length (log_of core.now)) store.old spot (evidence spot.node.place own) →
+        IsSpotAt (length (log_of core.now)) store.old spot (evidence spot.node.place own) →
         Piled (length (log_of core.now)) store.old (length store.old.nodes.items)
         stack.old.items 0 (length stack.old.items) packs →
         TurnsAt problem.now (log_of core.now) (state_of core.now).supports

@@ -21,10 +21,10 @@ use Rattle.hs_scheme.proofs.PlainLemmas.{cut-Nt_some, cut-Tm}
 use Rattle.hs_steps.proofs.Sorted.{step_sorted}
 use Rattle.hs_steps.proofs.Failing.{within_refused}
 use Rattle.hs_steps.proofs.PathLemmas.{after_replacement, after_descent}
-use Rattle.hs_reduce.specs.Graph.{term_at, terms_at, head_of, arguments_of, Name}
+use Rattle.hs_reduce.specs.Graph.{term_at, terms_at, head_of, arguments_of, NamesTerms}
 use Rattle.hs_trace.specs.Path.{PathData}
 use Rattle.hs_reduce.specs.Path.{IsErrorFrom}
-use Rattle.hs_reduce.specs.Advances.{HasSorting}
+use Rattle.hs_reduce.specs.Advances.{HasKnownSorts}
 use Rattle.hs_reduce.specs.Bounds.{ReadsCut, IsErrorWithin}
 use Rattle.hs_reduce.proofs.ReplacementLemmas.{whole}
 use Rattle.hs_reduce.proofs.ReplayLemmas.{arguments_by_rank, states_by_rank}
@@ -65,7 +65,7 @@ module _ (s : SortedData) where
             (after_replacement rules ts (λ r v. (r ≡ path.state) × (v ≡ node (Tm path.last) error.arguments)) path.used q f us u path.steps goes_to error.reaches);
       })
 
-  module _ (sorted : HasSorting s) where
+  module _ (sorted : HasKnownSorts s) where
     pub refused : (n q : ℕ) (t : Tree Head) (path : PathData) → IsErrorWithin s n q t path → run ts q (cut rules n t) ≡ false
     refused zero q t path e = absurd (omega (arith, e.within))
     refused (suc n) q t path e =
@@ -80,7 +80,7 @@ module _ (s : SortedData) where
 
     -- a terminal with a transition
     module _ (n q a : ℕ) (t : Tree Head) (typed : IsTreeTerm sorts t) (front : head_of t ≡ Tm a) (to : List ℕ) (e : next ts q a ≡ Some to)
-        (trees : List (Tree Head)) (places : List ℕ) (named : Name trees places (arguments_of t)) where
+        (trees : List (Tree Head)) (places : List ℕ) (named : NamesTerms trees places (arguments_of t)) where
       abbrev us : Trees Head
       us = forest (arguments_of t)
 

@@ -9,7 +9,7 @@ use Rattle.hs_scheme.specs.declared.term.Head.{Head}
 use Rattle.hs_scheme.specs.declared.term.Head.TheVariants.{Nt}
 use Rattle.hs_scheme.specs.Tree.{Tree, node, none, forest, children-forest}
 use Rattle.hs_reduce.specs.declared.graph.Node.{Node}
-use Rattle.hs_reduce.specs.Graph.{term_at, terms_at, head_of, arguments_of, places_of, tree_of, trees_of, IsNode, AreNodes, Name, Adds}
+use Rattle.hs_reduce.specs.Graph.{term_at, terms_at, head_of, arguments_of, places_of, tree_of, trees_of, IsNode, AreNodes, NamesTerms, AddsTerm}
 
 -- the same terms at places that have them
 pub terms_same : (old new : List (Tree Head)) (n : ℕ) (places : List ℕ) → ((i : ℕ) → i < n → term_at new i ≡ term_at old i) → All (λ i. i < n) places → terms_at new places ≡ terms_at old places
@@ -119,8 +119,8 @@ module _ (links : List ℕ) (ns : List Node) (are : AreNodes links ns) (head : H
       ∙ (λ i. trees_stay links args ns are i ++ node (last.0 i) (forest (terms_at (trees_stay links args ns are i) (places_last n last i))) ∷ [])
 
 -- one further term
-pub Adds-push : (old : List (Tree Head)) (t : Tree Head) → Adds old (old ++ t ∷ []) (length old) t
-Adds-push old t = record {
+pub AddsTerm-push : (old : List (Tree Head)) (t : Tree Head) → AddsTerm old (old ++ t ∷ []) (length old) t
+AddsTerm-push old t = record {
   grows = record { longer = omega (arith, length_push old t); same = λ i lt. get_or_append_left old (t ∷ []) (node (Nt 0) none) i lt };
   within = omega (arith, length_push old t);
   term = get_or_push old t (node (Nt 0) none) (length old) refl;
@@ -141,7 +141,7 @@ module _ (links : List ℕ) (nodes : List Node) (trees : List (Tree Head)) (view
     before_all : All (λ i. i < length trees) (places_of links n)
     before_all k d lt = omega (arith, (are place n at).before k d lt, slice_get_within nodes place n at, count links nodes, ap length view)
 
-    pub arguments_are : Name trees (places_of links n) (arguments_of (term_at trees place))
+    pub arguments_are : NamesTerms trees (places_of links n) (arguments_of (term_at trees place))
     arguments_are = record {
       within = before_all;
       terms = sym (children-forest (terms_at trees (places_of links n))) ∙ ap arguments_of (sym whole);

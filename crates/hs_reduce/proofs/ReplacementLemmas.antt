@@ -13,7 +13,7 @@ use Rattle.hs_scheme.specs.Replacement.{replaced, subst, applied}
 use Rattle.hs_scheme.specs.Cut.{unfolded, body_of}
 use Rattle.hs_scheme.proofs.PlainLemmas.{subst-node}
 use Rattle.hs_steps.proofs.Terms.{applied-none, unfolds}
-use Rattle.hs_reduce.specs.Graph.{term_at, terms_at, head_of, arguments_of, Grows, Adds, Unfolds}
+use Rattle.hs_reduce.specs.Graph.{term_at, terms_at, head_of, arguments_of, Grows, AddsTerm, Unfolds}
 use Rattle.hs_reduce.proofs.GraphLemmas.{terms_same}
 
 -- what `get` reads
@@ -36,12 +36,12 @@ Grows-then old mid new g h = record {
   same = λ i lt. let there : i < length mid = omega (arith, g.longer) in h.same i there ∙ g.same i lt;
 }
 
-pub Adds-after : (old mid new : List (Tree Head)) (place : ℕ) (t u : Tree Head) → Grows old mid → t ≡ u → Adds mid new place t → Adds old new place u
-Adds-after old mid new place t u g e a = record { grows = Grows-then old mid new g a.grows; within = a.within; term = a.term ∙ e }
+pub AddsTerm-after : (old mid new : List (Tree Head)) (place : ℕ) (t u : Tree Head) → Grows old mid → t ≡ u → AddsTerm mid new place t → AddsTerm old new place u
+AddsTerm-after old mid new place t u g e a = record { grows = Grows-then old mid new g a.grows; within = a.within; term = a.term ∙ e }
 
 -- what is there already
-pub Adds-there : (trees : List (Tree Head)) (place : ℕ) (t : Tree Head) → place < length trees → term_at trees place ≡ t → Adds trees trees place t
-Adds-there trees place t lt e = record { grows = Grows-refl trees; within = lt; term = e }
+pub AddsTerm-there : (trees : List (Tree Head)) (place : ℕ) (t : Tree Head) → place < length trees → term_at trees place ≡ t → AddsTerm trees trees place t
+AddsTerm-there trees place t lt e = record { grows = Grows-refl trees; within = lt; term = e }
 
 pub All-grows : (old new : List (Tree Head)) (places : List ℕ) → Grows old new → All (λ i. i < length old) places → All (λ i. i < length new) places
 All-grows old new places g within k d lt = omega (arith, within k d lt, g.longer)
@@ -66,11 +66,11 @@ other_head trees with (Tm a) not_there = refl
 
 -- a parameter without arguments
 pub alone : (trees : List (Tree Head)) (with : List ℕ) (term : Tree Head) (j place : ℕ) → term ≡ node (Var j) none → slice_get with j ≡ Some place → All (λ i. i < length trees) with
-    → Adds trees trees place (subst term (terms_at trees with))
+    → AddsTerm trees trees place (subst term (terms_at trees with))
 alone trees with term j place is e within =
     let lt : j < length with = slice_get_within with j place e in
     let there : place < length trees = along (λ i. i < length trees) (get_or_from_slice_get with j place 0 e) (within j 0 lt) in
-    Adds-there trees place _ there
+    AddsTerm-there trees place _ there
     (parameter trees with (Var j) j place refl e ∙ (sym (applied-none (replaced (Var j) (terms_at trees with))) ∙ ap (λ t. subst t (terms_at trees with)) (sym is)))
 
 -- further arguments
@@ -84,7 +84,7 @@ All-one_more n place places more e within lt = along (λ (ps : List ℕ). All (�
 module _ (old mid new : List (Tree Head)) (with : List ℕ) (within : All (λ i. i < length old) with) (grown : Grows old mid) (own us : List (Tree Head)) (i : ℕ) (args : List ℕ)
     (terms : terms_at mid args ≡ own ++ map (λ t. subst t (terms_at old with)) (take i us)) where
   pub one_more_argument : (d : Tree Head) (place : ℕ) (arg : Tree Head) (more : List ℕ) → All (λ j. j < length mid) args → i < length us → arg ≡ get_or us i d → more ≡ args ++ place ∷ []
-      → Adds mid new place (subst arg (terms_at mid with)) → terms_at new more ≡ own ++ map (λ t. subst t (terms_at old with)) (take (i + 1) us)
+      → AddsTerm mid new place (subst arg (terms_at mid with)) → terms_at new more ≡ own ++ map (λ t. subst t (terms_at old with)) (take (i + 1) us)
   one_more_argument d place arg more there lt is e a =
       let same : terms_at new args ≡ own ++ map (λ t. subst t (terms_at old with)) (take i us) = terms-grow mid new args a.grows there ∙ terms in
       let last : term_at new place ≡ subst (get_or us i d) (terms_at old with) = a.term ∙ (λ k. subst (is k) (terms-grow old mid with grown within k)) in
@@ -94,16 +94,16 @@ module _ (old mid new : List (Tree Head)) (with : List ℕ) (within : All (λ i.
       ∙ ap (λ ts. own ++ ts) (sym (map_more (λ t. subst t (terms_at old with)) us i d lt)))))
 
   pub all_arguments : (h top : Head) (term : Tree Head) (place : ℕ) (places : List ℕ) → places ≡ args → length us ≤ i → node h (forest us) ≡ term → node top (forest own) ≡ replaced h (terms_at old with)
-      → Adds mid new place (node top (forest (terms_at mid places))) → Adds old new place (subst term (terms_at old with))
+      → AddsTerm mid new place (node top (forest (terms_at mid places))) → AddsTerm old new place (subst term (terms_at old with))
   all_arguments h top term place places same end is stands a =
       let all : terms_at mid args ≡ own ++ map (λ t. subst t (terms_at old with)) us = terms ∙ ap (λ ts. own ++ map (λ t. subst t (terms_at old with)) ts) (take_all i us end) in
-      Adds-after old mid new place _ (subst term (terms_at old with)) grown
+      AddsTerm-after old mid new place _ (subst term (terms_at old with)) grown
       (ap (λ ps. node top (forest (terms_at mid ps))) same ∙ (ap (λ ts. node top (forest ts)) all ∙ (subst-node h top us own (terms_at old with) stands ∙ ap (λ t. subst t (terms_at old with)) is))) a
 
 -- a rule's body with the first of the arguments for its parameters, and the rest behind it
 pub unfolding_adds : (old mid new : List (Tree Head)) (rules : List Rule) (f : ℕ) (rule : Rule) (args : List ℕ) (body place : ℕ) → slice_get rules f ≡ Some rule → rule.params ≤ length args
-    → All (λ i. i < length old) args → Adds old mid body (subst rule.body (terms_at old (take rule.params args)))
-    → Adds mid new place (applied (term_at mid body) (forest (terms_at mid (take (length args - rule.params) (drop rule.params args))))) → Unfolds old new (Some place) (unfolded rules f (terms_at old args))
+    → All (λ i. i < length old) args → AddsTerm old mid body (subst rule.body (terms_at old (take rule.params args)))
+    → AddsTerm mid new place (applied (term_at mid body) (forest (terms_at mid (take (length args - rule.params) (drop rule.params args))))) → Unfolds old new (Some place) (unfolded rules f (terms_at old args))
 unfolding_adds old mid new rules f rule args body place at enough within a b =
     let ts = terms_at old args in
     let many : rule.params ≤ length ts = omega (arith, length-map args (term_at old)) in
@@ -111,4 +111,4 @@ unfolding_adds old mid new rules f rule args body place at enough within a b =
     let rest : terms_at mid (take (length args - rule.params) (drop rule.params args)) ≡ drop rule.params ts =
     ap (terms_at mid) (take_rest args rule.params)
     ∙ (terms-grow old mid (drop rule.params args) a.grows (All-drop (λ i. i < length old) rule.params args within) ∙ sym (drop-map (term_at old) rule.params args)) in
-    (body_of rule ts, unfolds rules f rule ts at many, Adds-after old mid new place _ (body_of rule ts) a.grows (λ i. applied ((a.term ∙ first) i) (forest (rest i))) b)
+    (body_of rule ts, unfolds rules f rule ts at many, AddsTerm-after old mid new place _ (body_of rule ts) a.grows (λ i. applied ((a.term ∙ first) i) (forest (rest i))) b)

@@ -23,10 +23,10 @@ use Rattle.hs_steps.proofs.Sorted.{count, as_many, start_sorted, step_sorted}
 use Rattle.hs_steps.proofs.PathLemmas.{one_more}
 use Rattle.hs_reduce.specs.declared.answers.Replay.{Replay}
 use Rattle.hs_reduce.specs.declared.answers.Replay.TheVariants.{Stuck, Ended, NoChild, Runs}
-use Rattle.hs_reduce.specs.Replays.{IsMet, HasTransition, IsNoChild, IsEnd, IsOffPath, Meets, IsAnswer}
+use Rattle.hs_reduce.specs.Replays.{IsMet, HasTransition, IsNoChild, IsEndOfPath, IsOffPath, MeetsAlong, IsReplayAnswer}
 use Rattle.hs_reduce.specs.declared.replaying.Spot.{Spot}
-use Rattle.hs_reduce.specs.Graph.{term_at, head_of, arguments_of, Name}
-use Rattle.hs_reduce.specs.Advances.{HasSorting, HasNoStep, IsAt}
+use Rattle.hs_reduce.specs.Graph.{term_at, head_of, arguments_of, NamesTerms}
+use Rattle.hs_reduce.specs.Advances.{HasKnownSorts, HasNoStep, IsReachedSpot}
 use Rattle.hs_reduce.proofs.ReplacementLemmas.{whole}
 use Rattle.hs_reduce.proofs.Walks.{Config, config, goes, after, walked, last, stops_without_transition, stops_without_child, stops_without_step}
 
@@ -38,10 +38,10 @@ length-ranked zero = refl
 length-ranked (suc n) = more_arguments o (ranked n) ∙ ap suc (length-ranked n)
 
 -- what the types of a sorted scheme and of its scheme keep
-pub has_sorting : (s : SortedData) → IsSorted s → IsScheme s.scheme → HasSorting s
+pub has_sorting : (s : SortedData) → IsSorted s → IsScheme s.scheme → HasKnownSorts s
 has_sorting s is scheme = record { are_rules = scheme; sorting = is.sorting; agree = is.ranks }
 
-module _ (s : SortedData) (sorted : HasSorting s) where
+module _ (s : SortedData) (sorted : HasKnownSorts s) where
   abbrev rules : List Rule
   rules = s.scheme.rules
 
@@ -91,7 +91,7 @@ module _ (s : SortedData) (sorted : HasSorting s) where
     stuck_last : (steps at used q a : ℕ) (m : IsMet s path steps at used q a) → next ts q a ≡ None → IsLast used at q a m.arguments
     stuck_last steps at used q a m e = last_of steps at used q a m (stops_without_transition rules ts q a m.arguments (drop at path) e)
 
-    end_last : (steps used : ℕ) (m : IsEnd s path steps used) → IsLast used (length path) m.state m.terminal m.met.arguments
+    end_last : (steps used : ℕ) (m : IsEndOfPath s path steps used) → IsLast used (length path) m.state m.terminal m.met.arguments
     end_last steps used m =
         last_of steps (length path) used m.state m.terminal m.met
         (ap (goes rules ts m.state (node (Tm m.terminal) m.met.arguments)) (drop_all (length path) path (omega arith)))
@@ -145,7 +145,7 @@ module _ (s : SortedData) (sorted : HasSorting s) where
       within : (at : ℕ) (m : IsOffPath s path steps at) → at ≡ length path → ⊥
       within at m e = absurd (omega (arith, slice_get_within path at m.number m.next))
 
-      pub same_answer : (r other : Replay) → Meets s path steps r → Meets s path steps other → r ≡ other
+      pub same_answer : (r other : Replay) → MeetsAlong s path steps r → MeetsAlong s path steps other → r ≡ other
       same_answer Runs other h k = absurd h
       same_answer (Stuck a q at used) Runs h k = absurd k
       same_answer (Ended used) Runs h k = absurd k
@@ -171,22 +171,22 @@ module _ (s : SortedData) (sorted : HasSorting s) where
           absurd (within i k (sym (one n k.used (length path) i h.state k.state h.terminal k.terminal h.met.arguments k.met.arguments (end_last steps n h) (off_last steps i k)).children))
 
       -- an answer is met, or nothing is
-      kind : (r : Replay) → IsAnswer s path steps r → Meets s path steps r ⊎ ((r ≡ Runs) × ((met : Replay) → Meets s path steps met → ⊥))
+      kind : (r : Replay) → IsReplayAnswer s path steps r → MeetsAlong s path steps r ⊎ ((r ≡ Runs) × ((met : Replay) → MeetsAlong s path steps met → ⊥))
       kind (Stuck a q at used) h = inl h
       kind (Ended used) h = inl h
       kind (NoChild at) h = inl h
       kind Runs h = inr (refl, h)
 
-      pub one_answer : (r other : Replay) → IsAnswer s path steps r → IsAnswer s path steps other → r ≡ other
+      pub one_answer : (r other : Replay) → IsReplayAnswer s path steps r → IsReplayAnswer s path steps other → r ≡ other
       one_answer r other h k = elim (kind r h) [
         | inl m ↦ elim (kind other k) [ inl l ↦ same_answer r other m l | inr (e, nothing) ↦ absurd (nothing r m) ]
         | inr (e, nothing) ↦ elim (kind other k) [ inl l ↦ absurd (nothing other l) | inr (f, z) ↦ e ∙ sym f ]
       ]
 
-      pub exactly : (r : Replay) → IsAnswer s path steps r → (answer : Replay) → (r ≡ answer) ↔ IsAnswer s path steps answer
-      exactly r h answer = (λ e. along (λ (x : Replay). IsAnswer s path steps x) e h, one_answer r answer h)
+      pub exactly : (r : Replay) → IsReplayAnswer s path steps r → (answer : Replay) → (r ≡ answer) ↔ IsReplayAnswer s path steps answer
+      exactly r h answer = (λ e. along (λ (x : Replay). IsReplayAnswer s path steps x) e h, one_answer r answer h)
 
-      pub met_answer : (r : Replay) → Meets s path steps r → IsAnswer s path steps r
+      pub met_answer : (r : Replay) → MeetsAlong s path steps r → IsReplayAnswer s path steps r
       met_answer (Stuck a q at used) h = h
       met_answer (Ended used) h = h
       met_answer (NoChild at) h = h
@@ -202,7 +202,7 @@ module _ (s : SortedData) (sorted : HasSorting s) where
         pub in_time : used ≤ steps
         pub is : IsLast used at state terminal arguments
 
-      meets_last : (r : Replay) → Meets s path steps r → MeetsLast
+      meets_last : (r : Replay) → MeetsAlong s path steps r → MeetsLast
       meets_last (Stuck a q at used) (m, e) = record { used = used; at = at; state = q; terminal = a; arguments = m.arguments; in_time = m.in_time; is = stuck_last steps at used q a m e }
       meets_last (Ended used) m =
           record { used = used; at = length path; state = m.state; terminal = m.terminal; arguments = m.met.arguments; in_time = m.met.in_time; is = end_last steps used m }
@@ -211,7 +211,7 @@ module _ (s : SortedData) (sorted : HasSorting s) where
       meets_last Runs h = absurd h
 
       -- nothing is met where a term without a step and without a terminal in front is reached, or one after more steps
-      pub nothing_at_rest : (used at q : ℕ) (t : Tree Head) → ReachesByChildren rules ts used 0 start (take at path) q t → HasNoStep s q t → (r : Replay) → Meets s path steps r → ⊥
+      pub nothing_at_rest : (used at q : ℕ) (t : Tree Head) → ReachesByChildren rules ts used 0 start (take at path) q t → HasNoStep s q t → (r : Replay) → MeetsAlong s path steps r → ⊥
       nothing_at_rest used at q t reached rests r h =
           let m = meets_last r h in
           let here = walked rules ts used 0 q at start t path reached in
@@ -223,7 +223,7 @@ module _ (s : SortedData) (sorted : HasSorting s) where
             | inr le ↦ absurd (rests.no_terminal m.terminal m.arguments (sym (ap (λ (c : Config). c.term) (last rules ts m.used used from there (config q t (drop at path)) m.is.there m.is.final here le).1)))
           ]
 
-      pub nothing_in_time : (used at q : ℕ) (t : Tree Head) → ReachesByChildren rules ts used 0 start (take at path) q t → steps < used → (r : Replay) → Meets s path steps r → ⊥
+      pub nothing_in_time : (used at q : ℕ) (t : Tree Head) → ReachesByChildren rules ts used 0 start (take at path) q t → steps < used → (r : Replay) → MeetsAlong s path steps r → ⊥
       nothing_in_time used at q t reached late r h =
           let m = meets_last r h in
           let same : m.used ≡ used =
@@ -238,7 +238,7 @@ module _ (s : SortedData) (sorted : HasSorting s) where
         (labels ++ label, map-append (λ (x : ℕ × ℕ). x.1) labels label ∙ (ap (λ cs. cs ++ child_numbers label) numbers ∙ sym e), one_more rules ts used 0 q p start t u labels label reaches step)
 
     -- what is met at a spot
-    module _ (spot : Spot) (t : Tree Head) (a : ℕ) (is : IsAt s path spot t) (front : head_of t ≡ Tm a) where
+    module _ (spot : Spot) (t : Tree Head) (a : ℕ) (is : IsReachedSpot s path spot t) (front : head_of t ≡ Tm a) where
       fronted : t ≡ node (Tm a) (forest (arguments_of t))
       fronted = sym (whole t) ∙ ap (λ h. node h (forest (arguments_of t))) front
 
@@ -248,7 +248,7 @@ module _ (s : SortedData) (sorted : HasSorting s) where
       met_at : (steps : ℕ) → spot.used ≤ steps → IsMet s path steps spot.at spot.used spot.state a
       met_at steps le = record { in_time = le; on_path = is.on_path; arguments = forest (arguments_of t); reached = in_front }
 
-      pub ends_at : (steps : ℕ) (to : List ℕ) → spot.used ≤ steps → length path ≤ spot.at → next ts spot.state a ≡ Some to → IsEnd s path steps spot.used
+      pub ends_at : (steps : ℕ) (to : List ℕ) → spot.used ≤ steps → length path ≤ spot.at → next ts spot.state a ≡ Some to → IsEndOfPath s path steps spot.used
       ends_at steps to le over e =
           let all : spot.at ≡ length path = omega (arith, is.on_path) in
           record { state = spot.state; terminal = a; met = along (λ i. IsMet s path steps i spot.used spot.state a) all (met_at steps le); goes_on = (to, e) }
@@ -259,7 +259,7 @@ module _ (s : SortedData) (sorted : HasSorting s) where
       own_arguments : children (forest (arguments_of t)) ≡ arguments_of t
       own_arguments = children-forest (arguments_of t)
 
-      module _ (trees : List (Tree Head)) (places : List ℕ) (named : Name trees places (arguments_of t)) (to : List ℕ) (e : next ts spot.state a ≡ Some to) (c : ℕ) (at : slice_get path spot.at ≡ Some c) where
+      module _ (trees : List (Tree Head)) (places : List ℕ) (named : NamesTerms trees places (arguments_of t)) (to : List ℕ) (e : next ts spot.state a ≡ Some to) (c : ℕ) (at : slice_get path spot.at ≡ Some c) where
         as_many_places : length places ≡ length (arguments_of t)
         as_many_places = sym (length-map places (term_at trees)) ∙ ap length named.terms
 
@@ -285,7 +285,7 @@ module _ (s : SortedData) (sorted : HasSorting s) where
             ap (λ us. slice_get us i) (own_arguments ∙ sym named.terms) ∙ (slice_get-map (term_at trees) places i ∙ ap (option_map (term_at trees)) there)
 
         pub goes_down : (i place q : ℕ) → c ≡ i + 1 → slice_get places i ≡ Some place → slice_get to i ≡ Some q
-            → IsAt s path (record { place = place; state = q; at = spot.at + 1; used = spot.used + 1 }) (term_at trees place)
+            → IsReachedSpot s path (record { place = place; state = q; at = spot.at + 1; used = spot.used + 1 }) (term_at trees place)
         goes_down i place q is_number there in_state =
             let step : StepsTo rules ts spot.state (node (Tm a) (forest (arguments_of t))) ((a, i + 1) ∷ []) q (term_at trees place) =
             (to, e, record { place = i; labelled = refl; state = in_state; term = child_term i place there }) in
@@ -298,8 +298,8 @@ module _ (s : SortedData) (sorted : HasSorting s) where
             }
 
     -- a replacement in front
-    pub replaces : (spot : Spot) (t u : Tree Head) (f place : ℕ) → IsAt s path spot t → head_of t ≡ Nt f → unfolded rules f (arguments_of t) ≡ Some u
-        → IsAt s path (record { place = place; state = spot.state; at = spot.at; used = spot.used + 1 }) u
+    pub replaces : (spot : Spot) (t u : Tree Head) (f place : ℕ) → IsReachedSpot s path spot t → head_of t ≡ Nt f → unfolded rules f (arguments_of t) ≡ Some u
+        → IsReachedSpot s path (record { place = place; state = spot.state; at = spot.at; used = spot.used + 1 }) u
     replaces spot t u f place is front e =
         let fronted : node (Nt f) (forest (arguments_of t)) ≡ t = sym (ap (λ h. node h (forest (arguments_of t))) front) ∙ whole t in
         let goes_to : unfolded rules f (children (forest (arguments_of t))) ≡ Some u = ap (unfolded rules f) (children-forest (arguments_of t)) ∙ e in

@@ -1,7 +1,7 @@
 -- What reduction along every path, up to n steps, finds.
---     IsErrorWithin     a path to an error in fewer than n steps
---     IsFound           no path, and the cut at n is read to its end; or such a path
---     IsVerdict         so for the start
+--     IsErrorWithin           a path to an error in fewer than n steps
+--     IsFoundWithin           no path, and the cut at n is read to its end; or such a path
+--     IsBoundedAnswer         so for the start
 use Rattle.std.specs.Prelude.{◌≡◌, ℕ, ◌<◌, false, IsTrue, Option, Some, None}
 use Rattle.hs_scheme.specs.declared.term.Head.{Head}
 use Rattle.hs_scheme.specs.Tree.{Tree}
@@ -21,10 +21,10 @@ pub record IsErrorWithin (s : SortedData) (n q : ℕ) (t : Tree Head) (path : Pa
   pub within : path.used < n
   pub error : IsErrorFrom s.scheme.rules s.automaton.transitions q t path
 
-abbrev pub IsFound : SortedData → ℕ → ℕ → Tree Head → Option PathData → Type 0
-IsFound s n q t None = ReadsCut s n q t
-IsFound s n q t (Some path) = IsErrorWithin s n q t path
+abbrev pub IsFoundWithin : SortedData → ℕ → ℕ → Tree Head → Option PathData → Type 0
+IsFoundWithin s n q t None = ReadsCut s n q t
+IsFoundWithin s n q t (Some path) = IsErrorWithin s n q t path
 
-abbrev pub IsVerdict : SortedData → ℕ → Bounded → Type 0
-IsVerdict s n NoError = ReadsCut s n 0 start
-IsVerdict s n (Error path) = (run s.automaton.transitions 0 (cut s.scheme.rules n start) ≡ false) × IsErrorWithin s n 0 start path
+abbrev pub IsBoundedAnswer : SortedData → ℕ → Bounded → Type 0
+IsBoundedAnswer s n NoError = ReadsCut s n 0 start
+IsBoundedAnswer s n (Error path) = (run s.automaton.transitions 0 (cut s.scheme.rules n start) ≡ false) × IsErrorWithin s n 0 start path

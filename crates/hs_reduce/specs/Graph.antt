@@ -2,8 +2,8 @@
 --     trees_of                  the terms of all nodes, in their order
 --     term_at, terms_at         the term at a place, the terms at some places
 --     head_of, arguments_of     the parts of a term
---     Name                      places in range, and their terms
---     Grows, Adds               further terms, one of which stands at this place
+--     NamesTerms                places in range, and their terms
+--     Grows, AddsTerm           further terms, one of which stands at this place
 --     Unfolds                   so where there is a term, and nothing where there is none
 use Rattle.std.specs.Prelude.{◌≡◌, ℕ, ◌<◌, ◌≤◌, List, [], ◌∷◌, ◌++◌, All, length, map, slice_get, slice_index_or, slice_range, Option, Some, None}
 use Rattle.hs_scheme.specs.declared.term.Head.{Head}
@@ -45,7 +45,7 @@ pub record IsNode (links : List ℕ) (place : ℕ) (n : Node) : Type 0 where
 abbrev pub AreNodes : List ℕ → List Node → Type 0
 AreNodes links nodes = (i : ℕ) (n : Node) → slice_get nodes i ≡ Some n → IsNode links i n
 
-pub record Name (trees : List (Tree Head)) (places : List ℕ) (ts : List (Tree Head)) : Type 0 where
+pub record NamesTerms (trees : List (Tree Head)) (places : List ℕ) (ts : List (Tree Head)) : Type 0 where
   pub within : All (λ i. i < length trees) places
   pub terms : terms_at trees places ≡ ts
 
@@ -53,7 +53,7 @@ pub record Grows (old new : List (Tree Head)) : Type 0 where
   pub longer : length old ≤ length new
   pub same : (i : ℕ) → i < length old → term_at new i ≡ term_at old i
 
-pub record Adds (old new : List (Tree Head)) (place : ℕ) (t : Tree Head) : Type 0 where
+pub record AddsTerm (old new : List (Tree Head)) (place : ℕ) (t : Tree Head) : Type 0 where
   pub grows : Grows old new
   pub within : place < length new
   pub term : term_at new place ≡ t
@@ -61,4 +61,4 @@ pub record Adds (old new : List (Tree Head)) (place : ℕ) (t : Tree Head) : Typ
 -- nothing where there is no term, and otherwise the place at which it has been added, or was
 abbrev pub Unfolds : List (Tree Head) → List (Tree Head) → Option ℕ → Option (Tree Head) → Type 0
 Unfolds old new None t = (t ≡ None) × Grows old new
-Unfolds old new (Some place) t = (u : Tree Head) × (t ≡ Some u) × Adds old new place u
+Unfolds old new (Some place) t = (u : Tree Head) × (t ≡ Some u) × AddsTerm old new place u

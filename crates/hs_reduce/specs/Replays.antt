@@ -1,7 +1,7 @@
 -- What the reduction of the start along the child numbers of a path comes to.
---     IsMet         after the first children of the path, in at most so many steps, this terminal is met in this state
---     Meets         what is met there
---     IsAnswer      that, or that nothing is met
+--     IsMet              after the first children of the path, in at most so many steps, this terminal is met in this state
+--     MeetsAlong         what is met there
+--     IsReplayAnswer     that, or that nothing is met
 use Rattle.std.specs.Prelude.{◌≡◌, ℕ, ◌<◌, ◌≤◌, ◌⊎◌, List, length, take, slice_get, slice_index, Some, None}
 use Rattle.hs_scheme.specs.declared.term.Head.{Head}
 use Rattle.hs_scheme.specs.declared.term.Head.TheVariants.{Tm}
@@ -29,7 +29,7 @@ abbrev pub IsNoChild : List ℕ → ℕ → ℕ → Type 0
 IsNoChild ranks a c = (c ≡ 0) ⊎ (slice_index ranks a < c)
 
 -- all children were followed to a terminal with a transition
-pub record IsEnd (s : SortedData) (path : List ℕ) (steps used : ℕ) : Type 0 where
+pub record IsEndOfPath (s : SortedData) (path : List ℕ) (steps used : ℕ) : Type 0 where
   pub state : ℕ
   pub terminal : ℕ
   pub met : IsMet s path steps (length path) used state terminal
@@ -46,14 +46,14 @@ pub record IsOffPath (s : SortedData) (path : List ℕ) (steps at : ℕ) : Type 
   pub next : slice_get path at ≡ Some number
   pub no_child : IsNoChild s.scheme.ranks terminal number
 
-abbrev pub Meets : SortedData → List ℕ → ℕ → Replay → Type 0
-Meets s path steps (Stuck a q at used) = IsMet s path steps at used q a × (next s.automaton.transitions q a ≡ None)
-Meets s path steps (Ended used) = IsEnd s path steps used
-Meets s path steps (NoChild at) = IsOffPath s path steps at
-Meets s path steps Runs = ⊥
+abbrev pub MeetsAlong : SortedData → List ℕ → ℕ → Replay → Type 0
+MeetsAlong s path steps (Stuck a q at used) = IsMet s path steps at used q a × (next s.automaton.transitions q a ≡ None)
+MeetsAlong s path steps (Ended used) = IsEndOfPath s path steps used
+MeetsAlong s path steps (NoChild at) = IsOffPath s path steps at
+MeetsAlong s path steps Runs = ⊥
 
-abbrev pub IsAnswer : SortedData → List ℕ → ℕ → Replay → Type 0
-IsAnswer s path steps (Stuck a q at used) = Meets s path steps (Stuck a q at used)
-IsAnswer s path steps (Ended used) = Meets s path steps (Ended used)
-IsAnswer s path steps (NoChild at) = Meets s path steps (NoChild at)
-IsAnswer s path steps Runs = (met : Replay) → Meets s path steps met → ⊥
+abbrev pub IsReplayAnswer : SortedData → List ℕ → ℕ → Replay → Type 0
+IsReplayAnswer s path steps (Stuck a q at used) = MeetsAlong s path steps (Stuck a q at used)
+IsReplayAnswer s path steps (Ended used) = MeetsAlong s path steps (Ended used)
+IsReplayAnswer s path steps (NoChild at) = MeetsAlong s path steps (NoChild at)
+IsReplayAnswer s path steps Runs = (met : Replay) → MeetsAlong s path steps met → ⊥

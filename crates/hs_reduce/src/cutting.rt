@@ -5,8 +5,8 @@ ghost use Rattle.hs_scheme.specs.TreeTerms.{IsTreeTerm};
 ghost use Rattle.hs_scheme.specs.Sorted.{sorts_of};
 ghost use Rattle.hs_trace.specs.Path.{PathData};
 ghost use Rattle.hs_reduce.specs.Graph.{term_at, Grows};
-ghost use Rattle.hs_reduce.specs.Advances.{HasSorting};
-ghost use Rattle.hs_reduce.specs.Bounds.{IsFound, IsVerdict};
+ghost use Rattle.hs_reduce.specs.Advances.{HasKnownSorts};
+ghost use Rattle.hs_reduce.specs.Bounds.{IsFoundWithin, IsBoundedAnswer};
 
 use crate::answers::Bounded;
 use crate::graph::Graph;
@@ -61,12 +61,12 @@ fn first_error(
     state: u32,
     place: usize,
 ) -> Result<Option<Path>, OutOfMemory>
-    requires sorted { HasSorting sorted.now }
+    requires sorted { HasKnownSorts sorted.now }
     requires few { n ≤ MAX_CUT }
     requires place { place < length graph.old }
     requires tree { IsTreeTerm (sorts_of sorted.now.sorts sorted.now.scheme.ranks) (term_at graph.old place) }
     ensures grows { OnOk result (Grows graph.old graph.new) }
-    ensures found { IfOk result (IsFound sorted.now n state (term_at graph.old place)) }
+    ensures found { IfOk result (IsFoundWithin sorted.now n state (term_at graph.old place)) }
 {
     if n == 0 {
         return Ok(None);
@@ -111,7 +111,7 @@ fn first_error(
 /// grow: the nodes of all paths are kept to the end. Recurses n deep.
 pub fn bounded(alloc: Global, sorted: &Sorted, n: u32) -> Result<Bounded, OutOfMemory>
     requires { n ≤ MAX_CUT }
-    ensures { IfOk result (IsVerdict sorted.now n) }
+    ensures { IfOk result (IsBoundedAnswer sorted.now n) }
 {
     // What the types of `sorted` and of its scheme keep is known where their fields are read.
     let scheme = &sorted.scheme;

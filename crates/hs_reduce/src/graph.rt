@@ -6,7 +6,7 @@
 
 ghost use Rattle.std.specs.Prelude.{◌≡◌, ◌<◌, ◌≤◌, [], All, length, IfOk};
 ghost use Rattle.hs_scheme.specs.Tree.{node, forest};
-ghost use Rattle.hs_reduce.specs.Graph.{term_at, terms_at, head_of, arguments_of, places_of, Name, Adds};
+ghost use Rattle.hs_reduce.specs.Graph.{term_at, terms_at, head_of, arguments_of, places_of, NamesTerms, AddsTerm};
 
 use hs_scheme::{Head, OutOfMemory};
 use std::alloc::Global;
@@ -78,7 +78,7 @@ impl Graph {
     /// The places of the arguments of the term at this place.
     pub fn arguments(&self, place: usize) -> &[usize]
         requires { place < length self.now }
-        ensures { Name self.now result.now (arguments_of (term_at self.now place)) }
+        ensures { NamesTerms self.now result.now (arguments_of (term_at self.now place)) }
     {
         let node = self.nodes[place];
         part(self.links.as_slice(), node)
@@ -88,7 +88,7 @@ impl Graph {
     /// place.
     pub fn add(&mut self, head: Head, args: &[usize]) -> Result<usize, OutOfMemory>
         requires { All (λ i. i < length self.old) args.now }
-        ensures { IfOk result (λ place. Adds self.old self.new place (node head (forest (terms_at self.old args.now)))) }
+        ensures { IfOk result (λ place. AddsTerm self.old self.new place (node head (forest (terms_at self.old args.now)))) }
     {
         let from = self.links.len();
         self.links.extend_from_slice(args)?;

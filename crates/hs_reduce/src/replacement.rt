@@ -5,7 +5,7 @@ ghost use Rattle.hs_scheme.specs.declared.term.Head.TheVariants.{Var};
 ghost use Rattle.hs_scheme.specs.Tree.{node, none, forest};
 ghost use Rattle.hs_scheme.specs.Replacement.{replaced, subst, applied};
 ghost use Rattle.hs_scheme.specs.Cut.{unfolded};
-ghost use Rattle.hs_reduce.specs.Graph.{term_at, terms_at, arguments_of, Adds, Unfolds};
+ghost use Rattle.hs_reduce.specs.Graph.{term_at, terms_at, arguments_of, AddsTerm, Unfolds};
 
 use crate::graph::Graph;
 use hs_scheme::{Head, OutOfMemory, Rule, Sorted, Term};
@@ -61,7 +61,7 @@ pub fn substitute(
     with: &[usize],
 ) -> Result<usize, OutOfMemory>
     requires { All (λ i. i < length graph.old) with.now }
-    ensures { IfOk result (λ place. Adds graph.old graph.new place (subst term.now (terms_at graph.old with.now))) }
+    ensures { IfOk result (λ place. AddsTerm graph.old graph.new place (subst term.now (terms_at graph.old with.now))) }
 {
     if let Some(place) = shared(term, with) {
         return Ok(place);
@@ -83,7 +83,7 @@ fn applied(
 ) -> Result<usize, OutOfMemory>
     requires place { place < length graph.old }
     requires rest { All (λ i. i < length graph.old) rest.now }
-    ensures { IfOk result (λ made. Adds graph.old graph.new made (applied (term_at graph.old place) (forest (terms_at graph.old rest.now)))) }
+    ensures { IfOk result (λ made. AddsTerm graph.old graph.new made (applied (term_at graph.old place) (forest (terms_at graph.old rest.now)))) }
 {
     if rest.is_empty() {
         return Ok(place);

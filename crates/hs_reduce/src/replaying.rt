@@ -4,8 +4,8 @@ ghost use Rattle.std.specs.Prelude.{◌≡◌, ℕ, ◌<◌, ◌≤◌, ◌+◌,
 ghost use Rattle.hs_scheme.specs.declared.term.Head.TheVariants.{Tm};
 ghost use Rattle.hs_reduce.specs.declared.answers.Replay.{Replay};
 ghost use Rattle.hs_reduce.specs.Graph.{term_at, head_of};
-ghost use Rattle.hs_reduce.specs.Replays.{IsAnswer};
-ghost use Rattle.hs_reduce.specs.Advances.{HasSorting, IsAt, Advances};
+ghost use Rattle.hs_reduce.specs.Replays.{IsReplayAnswer};
+ghost use Rattle.hs_reduce.specs.Advances.{HasKnownSorts, IsReachedSpot, Advances};
 
 use crate::answers::Replay;
 use crate::graph::Graph;
@@ -49,9 +49,9 @@ fn child_at(to: &[u32], args: &[usize], number: u32) -> Option<(usize, u32)>
 
 /// From a terminal: what is met there, or the descent to the path's next child.
 fn descend(sorted: &Sorted, graph: &Graph, spot: Spot, path: &[u32], terminal: u32) -> Advance
-    requires sorted { HasSorting sorted.now }
+    requires sorted { HasKnownSorts sorted.now }
     requires place { spot.place < length graph.now }
-    requires at { IsAt sorted.now path.now spot (term_at graph.now spot.place) }
+    requires at { IsReachedSpot sorted.now path.now spot (term_at graph.now spot.place) }
     requires few { spot.used ≤ MAX_STEPS }
     requires short { length path.now ≤ MAX_STEPS }
     requires head { head_of (term_at graph.now spot.place) ≡ Tm terminal }
@@ -88,9 +88,9 @@ fn next_step(
     spot: Spot,
     path: &[u32],
 ) -> Result<Advance, OutOfMemory>
-    requires sorted { HasSorting sorted.now }
+    requires sorted { HasKnownSorts sorted.now }
     requires place { spot.place < length graph.old }
-    requires at { IsAt sorted.now path.now spot (term_at graph.old spot.place) }
+    requires at { IsReachedSpot sorted.now path.now spot (term_at graph.old spot.place) }
     requires few { spot.used ≤ MAX_STEPS }
     requires short { length path.now ≤ MAX_STEPS }
     ensures { IfOk result (λ advance. Advances sorted.now path.now spot (term_at graph.old spot.place) graph.new advance) }
@@ -123,7 +123,7 @@ pub fn replay(
 ) -> Result<Replay, OutOfMemory>
     requires few { steps ≤ MAX_STEPS }
     requires short { length path.now ≤ MAX_STEPS }
-    ensures { IfOk result (λ found. (answer : Replay) → (found ≡ answer) ↔ IsAnswer sorted.now path.now steps answer) }
+    ensures { IfOk result (λ found. (answer : Replay) → (found ≡ answer) ↔ IsReplayAnswer sorted.now path.now steps answer) }
 {
     // What the types of `sorted` and of its scheme keep is known where their fields are read.
     let scheme = &sorted.scheme;

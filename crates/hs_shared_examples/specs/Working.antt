@@ -4,7 +4,7 @@
 --     IsHolder           its seat holds the table, and so it is in the core
 --     IsSameSeat         a seat has the number, the splits and the joins that it had
 --     IsFresh            a seat of the table, upon this problem, that has seen nothing
---     IsFirst            seat 0, with so many splits and joins
+--     IsFirstSeat        seat 0, with so many splits and joins
 --     held_after         what a worker holds after this answer to its taking
 --     AreFollowing       just the entries at a point that follow by the work
 --     IsClosedAt         the log has all that follows at a point by the work
@@ -62,7 +62,7 @@ pub record IsFresh (table : TableId) (p : ProblemData) (s : SeatData) : Type 0 w
   pub problem : base.problem ≡ p
   pub knows : s.known.base ≡ Some base
 
-pub record IsFirst (splits joins : ℕ) (s : SeatData) : Type 0 where
+pub record IsFirstSeat (splits joins : ℕ) (s : SeatData) : Type 0 where
   pub number : s.known.number ≡ 0
   pub splits_are : s.known.splits ≡ splits
   pub joins_are : s.known.joins ≡ joins

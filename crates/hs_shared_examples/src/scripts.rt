@@ -2,7 +2,7 @@
 
 ghost use Rattle.std.specs.Prelude.{◌≡◌, ◌≤◌};
 ghost use Rattle.hs_shared.specs.Seats.{IsSeatOf};
-ghost use Rattle.hs_shared_examples.specs.Working.{IsWorker, IsHolder, IsSameSeat, IsFresh, IsFirst};
+ghost use Rattle.hs_shared_examples.specs.Working.{IsWorker, IsHolder, IsSameSeat, IsFresh, IsFirstSeat};
 
 use crate::holder;
 use crate::making::problem_of;
@@ -180,7 +180,7 @@ fn share<'p, R: Abort>(
     requires least { 1 ≤ budget }
     requires greatest { budget ≤ 1000000 }
     ensures fresh { IsFresh result.0 problem.now result.1 }
-    ensures first { IsFirst 0 0 result.1 }
+    ensures first { IsFirstSeat 0 0 result.1 }
 {
     let core = Core::new(alloc, problem, budget, false).expect(rt, "memory");
     let Ok(made) = SharedTable::new(alloc, core) else {
@@ -215,11 +215,11 @@ fn three_workers<'p>(
     first: Seat<Held<'p>>,
 ) -> (Worker<'p>, Worker<'p>, Worker<'p>)
     requires fresh { IsFresh table.now problem.now first }
-    requires first { IsFirst 0 0 first }
+    requires first { IsFirstSeat 0 0 first }
     ensures zero { IsWorker table.now problem.now result.0.seat result.0.replica.log result.0.held }
     ensures one { IsWorker table.now problem.now result.1.seat result.1.replica.log result.1.held }
     ensures two { IsWorker table.now problem.now result.2.seat result.2.replica.log result.2.held }
-    ensures first { IsFirst 2 0 result.0.seat }
+    ensures first { IsFirstSeat 2 0 result.0.seat }
 {
     let mut first = first;
     let one = table.split(&mut first);
@@ -254,7 +254,7 @@ fn close<'p>(
     requires zero { IsSeatOf table first }
     requires one { IsSeatOf table one }
     requires two { IsSeatOf table two }
-    requires first { IsFirst 2 0 first }
+    requires first { IsFirstSeat 2 0 first }
 {
     let mut first = first;
     table.join(&mut first, one);

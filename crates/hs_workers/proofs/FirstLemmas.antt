@@ -14,26 +14,26 @@ use Rattle.hs_turn.specs.Story.{told_by}
 use Rattle.hs_turn.specs.Seats.{RestsIn}
 use Rattle.hs_turn.specs.Views.{first_seat, having_split, split_off, having_joined}
 use Rattle.hs_shared.specs.Seats.{SeatData, worker_of, HasSeenOwn}
-use Rattle.hs_workers.specs.Working.{IsFree, IsFirst, IsBased, HasSeenNothing, RestsSeated}
+use Rattle.hs_workers.specs.Working.{IsFree, IsFirstSeat, IsBased, HasSeenNothing, RestsSeated}
 use Rattle.hs_workers.specs.Answers.{IsOfWorkers}
 use Rattle.hs_workers.proofs.SeatLemmas.{see, none_by}
 
 abbrev with_known : SeatData → Known Base CoreStep → SeatData
 with_known s known = record { turn = s.turn; known = known }
 
-pub first_split : (table : TableId) (old new : SeatData) (n : ℕ) → IsFirst table n 0 old → new ≡ with_known old (having_split old.known) → IsFirst table (n + 1) 0 new
+pub first_split : (table : TableId) (old new : SeatData) (n : ℕ) → IsFirstSeat table n 0 old → new ≡ with_known old (having_split old.known) → IsFirstSeat table (n + 1) 0 new
 first_split table old new n first is =
-    subst (IsFirst table (n + 1) 0) (sym is) (record { seat = record { turn = first.seat.turn; free = first.seat.free }; number = first.number; own = first.own; splits_are = ap (λ k. k + 1) first.splits_are; joins_are = first.joins_are })
+    subst (IsFirstSeat table (n + 1) 0) (sym is) (record { seat = record { turn = first.seat.turn; free = first.seat.free }; number = first.number; own = first.own; splits_are = ap (λ k. k + 1) first.splits_are; joins_are = first.joins_are })
 
 pub nothing_split : (old new : SeatData) → HasSeenNothing old → new ≡ with_known old (having_split old.known) → HasSeenNothing new
 nothing_split old new nothing is = ap (λ (s : SeatData). s.known.seen) is ∙ nothing
 
-pub first_joined : (table : TableId) (old new : SeatData) (known : Known Base CoreStep) (n k : ℕ) → IsFirst table n k old → new ≡ with_known old (having_joined old.known known) → IsFirst table n (k + 1) new
+pub first_joined : (table : TableId) (old new : SeatData) (known : Known Base CoreStep) (n k : ℕ) → IsFirstSeat table n k old → new ≡ with_known old (having_joined old.known known) → IsFirstSeat table n (k + 1) new
 first_joined table old new known n k first is =
-    subst (IsFirst table n (k + 1)) (sym is) (record { seat = record { turn = first.seat.turn; free = first.seat.free }; number = first.number; own = first.own; splits_are = first.splits_are; joins_are = ap (λ j. j + 1) first.joins_are })
+    subst (IsFirstSeat table n (k + 1)) (sym is) (record { seat = record { turn = first.seat.turn; free = first.seat.free }; number = first.number; own = first.own; splits_are = first.splits_are; joins_are = ap (λ j. j + 1) first.joins_are })
 
 -- a seat that is split off at the beginning is a worker's
-module _ (table : TableId) (p : ProblemData) (start old : SeatData) (n : ℕ) (first : IsFirst table n 0 old) (nothing : HasSeenNothing old) (same : old.known.base ≡ start.known.base) (based : IsBased p start) where
+module _ (table : TableId) (p : ProblemData) (start old : SeatData) (n : ℕ) (first : IsFirstSeat table n 0 old) (nothing : HasSeenNothing old) (same : old.known.base ≡ start.known.base) (based : IsBased p start) where
   abbrev new_seat : SeatData
   new_seat = with_known old (split_off old.known)
 
@@ -82,7 +82,7 @@ rested_turn table rested seat r is = let same : seat ≡ r.0 = one seat r.0 (sym
     one x y h = (cc)
 
 -- the first seat of a table
-pub first_new : (table : TableId) (s : SeatData) (base : Base) → s.turn ≡ table → s.known ≡ first_seat base → IsFirst table 0 0 s
+pub first_new : (table : TableId) (s : SeatData) (base : Base) → s.turn ≡ table → s.known ≡ first_seat base → IsFirstSeat table 0 0 s
 first_new table s base turn known = record {
   seat = record { turn = turn; free = ap (λ (k : Known Base CoreStep). k.holds) known };
   number = ap (λ (k : Known Base CoreStep). k.number) known;

@@ -21,7 +21,7 @@ use Rattle.hs_core.proofs.Moving.{place_closed}
 use Rattle.hs_history.specs.declared.step.Work.{Work}
 use Rattle.hs_workers.specs.declared.job.Job.{Job}
 use Rattle.hs_workers.specs.Jobs.{IsFormed}
-use Rattle.hs_workers.specs.Forming.{entries_of, IsKnown, KeepsNew, Demands, AreAllAt, HasAll, AreFormed}
+use Rattle.hs_workers.specs.Forming.{entries_of, IsLoggedOrFound, KeepsNew, FollowsThere, AreAllAt, HasFound, AreFormed}
 
 abbrev RowsOf : InternerData → List DeducedData → Type 0
 RowsOf ids found = All (λ (d : DeducedData). IsRow ids d.row) found
@@ -46,17 +46,17 @@ module _ (I J : InternerData) (g : Grows I J) where
   entries_grown (d ∷ ds) h = λ i.
       row_stays I J g d.row (All-head (λ (x : DeducedData). IsRow I x.row) d ds h) i ∷ entries_grown ds (All-tail (λ (x : DeducedData). IsRow I x.row) d ds h) i
 
-  known_grown : (log : List EntryData) (found : List DeducedData) (e : EntryData) → RowsOf I found → IsKnown I log found e → IsKnown J log found e
+  known_grown : (log : List EntryData) (found : List DeducedData) (e : EntryData) → RowsOf I found → IsLoggedOrFound I log found e → IsLoggedOrFound J log found e
   known_grown log found e rows (inl c) = inl c
   known_grown log found e rows (inr c) = inr (subst (λ es. Contains es e) (sym (entries_grown found rows)) c)
 
 -- what is found grows
 module _ (ids : InternerData) (log : List EntryData) where
-  known_more : (found more : List DeducedData) (e : EntryData) → IsKnown ids log found e → IsKnown ids log (found ++ more) e
+  known_more : (found more : List DeducedData) (e : EntryData) → IsLoggedOrFound ids log found e → IsLoggedOrFound ids log (found ++ more) e
   known_more found more e (inl c) = inl c
   known_more found more e (inr c) = inr (subst (λ es. Contains es e) (sym (entries_append ids found more)) (Contains-append_left (entries_of ids found) (entries_of ids more) e c))
 
-  known_new : (found : List DeducedData) (d : DeducedData) → IsKnown ids log (found ++ d ∷ []) (entry_of ids d.row)
+  known_new : (found : List DeducedData) (d : DeducedData) → IsLoggedOrFound ids log (found ++ d ∷ []) (entry_of ids d.row)
   known_new found d = inr (subst (λ es. Contains es (entry_of ids d.row)) (sym (entries_append ids found (d ∷ []))) (Contains-append_right (entries_of ids found) (entry_of ids d.row ∷ []) (entry_of ids d.row) (here (entry_of ids d.row) [])))
 
   module _ (ys old new : List DeducedData) (k : KeepsNew ids log ys old new) (d : DeducedData) where
@@ -68,8 +68,8 @@ module _ (ids : InternerData) (log : List EntryData) where
       more = k.more ++ d ∷ [];
       is = ap (λ xs. xs ++ d ∷ []) k.is ∙ append_assoc old k.more (d ∷ []);
       among = All-push (λ (x : DeducedData). Contains (ys ++ d ∷ []) x) k.more d still_among (Contains-push ys d);
-      each = All-push (λ (x : DeducedData). IsKnown ids log (new ++ d ∷ []) (entry_of ids x.row)) ys d
-          (All-weaker (λ (x : DeducedData). IsKnown ids log new (entry_of ids x.row)) (λ (x : DeducedData). IsKnown ids log (new ++ d ∷ []) (entry_of ids x.row)) (λ x h. known_more new (d ∷ []) (entry_of ids x.row) h) ys k.each)
+      each = All-push (λ (x : DeducedData). IsLoggedOrFound ids log (new ++ d ∷ []) (entry_of ids x.row)) ys d
+          (All-weaker (λ (x : DeducedData). IsLoggedOrFound ids log new (entry_of ids x.row)) (λ (x : DeducedData). IsLoggedOrFound ids log (new ++ d ∷ []) (entry_of ids x.row)) (λ x h. known_more new (d ∷ []) (entry_of ids x.row) h) ys k.each)
           (known_new new d);
     }
 
@@ -78,7 +78,7 @@ module _ (ids : InternerData) (log : List EntryData) where
       more = k.more;
       is = k.is;
       among = still_among;
-      each = All-push (λ (x : DeducedData). IsKnown ids log new (entry_of ids x.row)) ys d k.each (inl there);
+      each = All-push (λ (x : DeducedData). IsLoggedOrFound ids log new (entry_of ids x.row)) ys d k.each (inl there);
     }
 
 -- a list is gone through
@@ -91,9 +91,9 @@ all_through ys [] whole none is = sym (append_none ys) ∙ is
 all_through ys (x ∷ rest) whole none is = absurd (omega arith)
 
 -- what was formed is found or in the log
-among_known : (ids : InternerData) (log : List EntryData) (formed old new : List DeducedData) → KeepsNew ids log formed old new → (e : EntryData) → Contains (entries_of ids formed) e → IsKnown ids log new e
+among_known : (ids : InternerData) (log : List EntryData) (formed old new : List DeducedData) → KeepsNew ids log formed old new → (e : EntryData) → Contains (entries_of ids formed) e → IsLoggedOrFound ids log new e
 among_known ids log formed old new k e c =
-    All-contains (λ x. IsKnown ids log new x) (entries_of ids formed) e (All-map (λ x. IsKnown ids log new x) (λ (d : DeducedData). entry_of ids d.row) formed k.each) c
+    All-contains (λ x. IsLoggedOrFound ids log new x) (entries_of ids formed) e (All-map (λ x. IsLoggedOrFound ids log new x) (λ (d : DeducedData). entry_of ids d.row) formed k.each) c
 
 kept_deduced : (p : ProblemData) (ids : InternerData) (log : List EntryData) (formed old new : List DeducedData) → KeepsNew ids log formed old new
     → All (IsDeduced p ids log) formed → All (IsDeduced p ids log) old → All (IsDeduced p ids log) new
@@ -108,18 +108,18 @@ deduced_within p ids log n found le h = All-weaker (IsDeduced p ids (take n log)
 }) found h
 
 -- one point more
-pub record SoFar (p : ProblemData) (ids : InternerData) (log : List EntryData) (points : List ℕ) (n place : ℕ) (found : List DeducedData) : Type 0 where
+pub record AreAllBefore (p : ProblemData) (ids : InternerData) (log : List EntryData) (points : List ℕ) (n place : ℕ) (found : List DeducedData) : Type 0 where
   pub deduced : All (IsDeduced p ids log) found
-  pub all : (k : ℕ) → k < n → (e : EntryData) → Demands p log place (get_or points k 0) e → IsKnown ids log found e
+  pub all : (k : ℕ) → k < n → (e : EntryData) → FollowsThere p log place (get_or points k 0) e → IsLoggedOrFound ids log found e
 
 pub point_more : (p : ProblemData) (I J : InternerData) (log : List EntryData) (points : List ℕ) (n place : ℕ) (formed old new : List DeducedData) → Grows I J → place < length log
-    → AreConclusions p J (take (place + 1) log) (get_or points n 0) (Uses place) formed → KeepsNew J log formed old new → SoFar p I log points n place old → SoFar p J log points (n + 1) place new
+    → AreConclusions p J (take (place + 1) log) (get_or points n 0) (Uses place) formed → KeepsNew J log formed old new → AreAllBefore p I log points n place old → AreAllBefore p J log points (n + 1) place new
 point_more p I J log points n place formed old new g within are k so_far =
     let rows = rows_of p I log old so_far.deduced in
     record {
       deduced = kept_deduced p J log formed old new k (deduced_within p J log (place + 1) formed (omega (arith, within)) are.deduced) (deduced_grown I J g p log old so_far.deduced);
       all = λ j lt e demands. elim (cases_lt j n) [
-        | inl below ↦ subst (λ xs. IsKnown J log xs e) (sym k.is) (known_more J log old k.more e (known_grown I J g log old e rows (so_far.all j below e demands)))
+        | inl below ↦ subst (λ xs. IsLoggedOrFound J log xs e) (sym k.is) (known_more J log old k.more e (known_grown I J g log old e rows (so_far.all j below e demands)))
         | inr above ↦
             let same : j ≡ n = omega arith in
             let at : e.point ≡ get_or points n 0 = demands.at ∙ ap (λ i. get_or points i 0) same in
@@ -127,11 +127,11 @@ point_more p I J log points n place formed old new g within are k so_far =
       ];
     }
 
-pub whole_so_far : (p : ProblemData) (ids : InternerData) (log : List EntryData) (points : List ℕ) (n place : ℕ) (found : List DeducedData) → length points ≤ n → SoFar p ids log points n place found → AreAllAt p ids log points place found
+pub whole_so_far : (p : ProblemData) (ids : InternerData) (log : List EntryData) (points : List ℕ) (n place : ℕ) (found : List DeducedData) → length points ≤ n → AreAllBefore p ids log points n place found → AreAllAt p ids log points place found
 whole_so_far p ids log points n place found le so_far = record { deduced = so_far.deduced; all = λ k lt. so_far.all k (omega (arith, le, lt)) }
 
 -- what is found closes the work
-has_known : (ids : InternerData) (log more : List EntryData) (found : List DeducedData) → HasAll ids found (log ++ more) → (e : EntryData) → IsKnown ids log found e → Contains (log ++ more) e
+has_known : (ids : InternerData) (log more : List EntryData) (found : List DeducedData) → HasFound ids found (log ++ more) → (e : EntryData) → IsLoggedOrFound ids log found e → Contains (log ++ more) e
 has_known ids log more found has e (inl c) = Contains-append_left log more e c
 has_known ids log more found has e (inr c) = All-contains (λ x. Contains (log ++ more) x) (entries_of ids found) e (All-map (λ x. Contains (log ++ more) x) (λ (d : DeducedData). entry_of ids d.row) found has) c
 

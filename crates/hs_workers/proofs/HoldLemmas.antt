@@ -33,13 +33,13 @@ use Rattle.hs_shared.specs.Holding.{HoldData, having_left, HasTold, IsHolding}
 use Rattle.hs_shared.proofs.Seen.{sees, replica_begins, others}
 use Rattle.hs_workers.specs.declared.job.Job.{Job}
 use Rattle.hs_workers.specs.Jobs.{keys, Carries, IsFormed}
-use Rattle.hs_workers.specs.Working.{IsSeated, Goes, IsFree, IsLoaded}
+use Rattle.hs_workers.specs.Working.{IsSeated, StepsInHold, IsFree, IsLoaded}
 use Rattle.hs_workers.proofs.SeatLemmas.{see, seen}
 use Rattle.hs_workers.proofs.JobLemmas.{carries_kept}
 use Rattle.hs_workers.proofs.WorkingLemmas.{shapes}
 
 -- what one call tells
-pub goes_by : (old new : SeatData) (before after : HoldData) → IsHolding old before → after.turn ≡ before.turn → HasTold old after.core.story new → IsHolding new after → Goes old new before after
+pub goes_by : (old new : SeatData) (before after : HoldData) → IsHolding old before → after.turn ≡ before.turn → HasTold old after.core.story new → IsHolding new after → StepsInHold old new before after
 goes_by old new before after h turn t h' =
     let base : after.core.base ≡ before.core.base = some_same after.core.base before.core.base (sym h'.base ∙ ap (λ (s : SeatData). s.known.base) t.2 ∙ h.base) in
     let story : after.core.story ≡ before.core.story ++ t.0 = t.1 ∙ ap (λ (xs : Story). xs ++ t.0) h.seen in
@@ -47,13 +47,13 @@ goes_by old new before after h turn t h' =
     let log : log_of after.core ≡ log_of before.core ++ g.entries = (λ i. (state_after (base i) (story i)).log) ∙ g.log in
     record { holds = h'; number = ap (λ (s : SeatData). s.known.number) t.2; turn = turn; base = base; log = (g.entries, sym log) }
 
-pub goes_none : (s : SeatData) (h : HoldData) → IsHolding s h → Goes s s h h
+pub goes_none : (s : SeatData) (h : HoldData) → IsHolding s h → StepsInHold s s h h
 goes_none s h is = record { holds = is; number = refl; turn = refl; base = refl; log = ([], append-nil (log_of h.core)) }
 
 pub prefix_trans : (a b c : List EntryData) → IsPrefix a b → IsPrefix b c → IsPrefix a c
 prefix_trans a b c p q = (p.0 ++ q.0, sym (append_assoc a p.0 q.0) ∙ ap (λ xs. xs ++ q.0) p.1 ∙ q.1)
 
-pub goes_trans : (s1 s2 s3 : SeatData) (h1 h2 h3 : HoldData) → Goes s1 s2 h1 h2 → Goes s2 s3 h2 h3 → Goes s1 s3 h1 h3
+pub goes_trans : (s1 s2 s3 : SeatData) (h1 h2 h3 : HoldData) → StepsInHold s1 s2 h1 h2 → StepsInHold s2 s3 h2 h3 → StepsInHold s1 s3 h1 h3
 goes_trans s1 s2 s3 h1 h2 h3 f g = record {
   holds = g.holds;
   number = g.number ∙ f.number;
@@ -62,7 +62,7 @@ goes_trans s1 s2 s3 h1 h2 h3 f g = record {
   log = prefix_trans (log_of h1.core) (log_of h2.core) (log_of h3.core) f.log g.log;
 }
 
-pub still_holds : (old new : SeatData) (before after : HoldData) → Goes old new before after → SameFlight before.core after.core → (ticket : ℕ) → Holds (state_of before.core) old.known.number ticket
+pub still_holds : (old new : SeatData) (before after : HoldData) → StepsInHold old new before after → SameFlight before.core after.core → (ticket : ℕ) → Holds (state_of before.core) old.known.number ticket
     → Holds (state_of after.core) new.known.number ticket
 still_holds old new before after g f ticket h = subst (λ n. Holds (state_of after.core) n ticket) (sym g.number) (h.0, f ticket ∙ h.1)
 

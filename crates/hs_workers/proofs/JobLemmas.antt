@@ -16,16 +16,16 @@ use Rattle.hs_workers.specs.Forming.{AreFormed}
 use Rattle.hs_workers.specs.Jobs.{key, keys, Carries, IsUnformed, IsFormed}
 
 -- what is in flight for the worker still is
-abbrev pub Keeps : ℕ → (ℕ → Option Flight) → (ℕ → Option Flight) → Type 0
-Keeps worker f g = (t : ℕ) (w : Work) → f t ≡ Some (record { worker = worker; work = w }) → g t ≡ Some (record { worker = worker; work = w })
+abbrev pub KeepsFlights : ℕ → (ℕ → Option Flight) → (ℕ → Option Flight) → Type 0
+KeepsFlights worker f g = (t : ℕ) (w : Work) → f t ≡ Some (record { worker = worker; work = w }) → g t ≡ Some (record { worker = worker; work = w })
 
-put_keeps : (worker ticket : ℕ) (f g : ℕ → Option Flight) → Keeps worker f g → Keeps worker (put ticket None f) (put ticket None g)
+put_keeps : (worker ticket : ℕ) (f g : ℕ → Option Flight) → KeepsFlights worker f g → KeepsFlights worker (put ticket None f) (put ticket None g)
 put_keeps worker ticket f g keeps t w h = elim (put_cases ticket t None f (Some (record { worker = worker; work = w })) h) [
   | inl c ↦ absurd (let e = c.1 in cc)
   | inr c ↦ put_other ticket t None g c.0 ∙ keeps t w c.1
 ]
 
-pub carries_kept : (worker : ℕ) (f g : ℕ → Option Flight) (ks : List (ℕ × Work)) → Keeps worker f g → Carries worker f ks → Carries worker g ks
+pub carries_kept : (worker : ℕ) (f g : ℕ → Option Flight) (ks : List (ℕ × Work)) → KeepsFlights worker f g → Carries worker f ks → Carries worker g ks
 carries_kept worker f g [] keeps c = tt
 carries_kept worker f g (k ∷ ks) keeps c = (keeps k.0 k.1 c.0, carries_kept worker (put k.0 None f) (put k.0 None g) ks (put_keeps worker k.0 f g keeps) c.1)
 

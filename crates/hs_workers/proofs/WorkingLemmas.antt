@@ -16,7 +16,7 @@ use Rattle.hs_history.specs.Story.{Base, Story}
 use Rattle.hs_history.specs.CoreStep.{IsClosedWork}
 use Rattle.hs_history.specs.History.{state_after, IsLegal}
 use Rattle.hs_history.proofs.Histories.{holds_after}
-use Rattle.hs_workers.specs.Forming.{HasAll, AreFormed}
+use Rattle.hs_workers.specs.Forming.{HasFound, AreFormed}
 
 abbrev pub log_after : Base → Story → List EntryData
 log_after base story = (state_after base story).log
@@ -39,5 +39,5 @@ shapes base story log automaton legal p =
     table_shape p T automaton table e c = let at = place_of T e c in follows_shape p (take at.0 T) automaton.to e (table.follows at.0 e at.1)
 
 -- what was formed is there: the work is closed
-pub formed_closed : (p : ProblemData) (ids : InternerData) (log whole : List EntryData) (work : Work) (found : List DeducedData) → IsPrefix log whole → AreFormed p ids log work found → HasAll ids found whole → IsClosedWork p whole work
-formed_closed p ids log whole work found q are has = subst (λ xs. IsClosedWork p xs work) q.1 (are.closes q.0 (subst (λ xs. HasAll ids found xs) (sym q.1) has))
+pub formed_closed : (p : ProblemData) (ids : InternerData) (log whole : List EntryData) (work : Work) (found : List DeducedData) → IsPrefix log whole → AreFormed p ids log work found → HasFound ids found whole → IsClosedWork p whole work
+formed_closed p ids log whole work found q are has = subst (λ xs. IsClosedWork p xs work) q.1 (are.closes q.0 (subst (λ xs. HasFound ids found xs) (sym q.1) has))

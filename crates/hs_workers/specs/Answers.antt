@@ -2,7 +2,7 @@
 --     IsShared          a core for this, in which these many workers did everything, numbered from 1
 --     IsSharedDone      of a new core
 --     IsEnd             what has come of a core
---     IsAnswered        what is answered of it
+--     IsDoneOf          what is answered of it
 use Rattle.std.specs.Prelude.{◌≡◌, ℕ, ◌≤◌, All}
 use Rattle.hs_history.specs.Story.{Base, CoreStep}
 use Rattle.hs_core.specs.declared.answers.Done.{Done}
@@ -31,7 +31,7 @@ IsEnd c PastBudget = IsOverAnswer c
 IsEnd c Found = IsFirstAnswer c
 IsEnd c Unfinished = Unit {0}
 
-abbrev pub IsAnswered : CoreData → Done → Type 0
-IsAnswered c (Least d) = (d ≡ c) × IsLeastAnswer c
-IsAnswered c (Over d) = (d ≡ c) × IsOverAnswer c
-IsAnswered c (First d) = (d ≡ c) × IsFirstAnswer c
+abbrev pub IsDoneOf : CoreData → Done → Type 0
+IsDoneOf c (Least d) = (d ≡ c) × IsLeastAnswer c
+IsDoneOf c (Over d) = (d ≡ c) × IsOverAnswer c
+IsDoneOf c (First d) = (d ≡ c) × IsFirstAnswer c

@@ -1,11 +1,11 @@
 -- What a worker knows between two holds of the table, and while it holds it.
 --     IsSeated            its seat is one of the table's, and what it has seen is a history
 --     IsUpon              the table's problem is this one
---     Begins              a replica's log begins the log that the seat has seen
---     Goes                the seat has done steps in one hold
+--     BeginsSeen          a replica's log begins the log that the seat has seen
+--     StepsInHold         the seat has done steps in one hold
 --     IsFree              a worker with a replica that begins what it has seen
 --     IsLoaded            it carries works
---     IsFirst             seat 0, which has told of nothing
+--     IsFirstSeat         seat 0, which has told of nothing
 --     RestsSeated         a seat rests there
 use Rattle.std.specs.Prelude.{◌≡◌, ℕ, List, [], ◌∷◌, Some, All}
 use mathlib.Core.List.{IsPrefix}
@@ -31,11 +31,11 @@ pub record IsSeated (table : TableId) (s : SeatData) : Type 0 where
 abbrev pub IsUpon : ProblemData → SeatData → Type 0
 IsUpon p s = Sees s (λ base state. base.problem ≡ p)
 
-abbrev pub Begins : List EntryData → SeatData → Type 0
-Begins log s = Sees s (λ base state. IsPrefix log state.log)
+abbrev pub BeginsSeen : List EntryData → SeatData → Type 0
+BeginsSeen log s = Sees s (λ base state. IsPrefix log state.log)
 
 -- steps of the seat in one hold: it holds the table still, which has the same base and a log that has grown
-pub record Goes (old new : SeatData) (before after : HoldData) : Type 0 where
+pub record StepsInHold (old new : SeatData) (before after : HoldData) : Type 0 where
   pub holds : IsHolding new after
   pub number : new.known.number ≡ old.known.number
   pub turn : after.turn ≡ before.turn
@@ -46,7 +46,7 @@ pub record Goes (old new : SeatData) (before after : HoldData) : Type 0 where
 pub record IsFree (table : TableId) (p : ProblemData) (s : SeatData) (log : List EntryData) : Type 0 where
   pub seated : IsSeated table s
   pub upon : IsUpon p s
-  pub begins : Begins log s
+  pub begins : BeginsSeen log s
 
 -- a worker that carries these works, for which perhaps something was formed
 pub record IsLoaded (table : TableId) (p : ProblemData) (s : SeatData) (ids : InternerData) (log : List EntryData) (jobs : List Job) : Type 0 where
@@ -55,7 +55,7 @@ pub record IsLoaded (table : TableId) (p : ProblemData) (s : SeatData) (ids : In
   pub formed : All (IsFormed p ids log) jobs
 
 -- seat 0, which has split off and joined so many seats
-pub record IsFirst (table : TableId) (splits joins : ℕ) (s : SeatData) : Type 0 where
+pub record IsFirstSeat (table : TableId) (splits joins : ℕ) (s : SeatData) : Type 0 where
   pub seat : IsSeatOf table s
   pub number : s.known.number ≡ 0
   pub own : s.known.own ≡ []

@@ -10,9 +10,9 @@ ghost use Rattle.hs_history.specs.History.{IsWork};
 ghost use Rattle.hs_core.specs.Core.{state_of, log_of};
 ghost use Rattle.hs_core.specs.Draining.{SameFlight};
 ghost use Rattle.hs_shared.specs.Holding.{IsHolding};
-ghost use Rattle.hs_workers.specs.Forming.{HasAll};
+ghost use Rattle.hs_workers.specs.Forming.{HasFound};
 ghost use Rattle.hs_workers.specs.Jobs.{key, keys, Carries, IsUnformed, IsFormed};
-ghost use Rattle.hs_workers.specs.Working.{Goes};
+ghost use Rattle.hs_workers.specs.Working.{StepsInHold};
 
 use crate::job::Job;
 use hs_core::{Published, Taken};
@@ -49,7 +49,7 @@ fn publish_one<'p>(
     requires ticket { Holds (state_of hold.old.core) seat.old.known.number ticket }
     requires begins { IsPrefix replica.now.log (log_of hold.old.core) }
     requires deduced { IsDeduced hold.old.core.base.problem replica.now.ids replica.now.log deduced.now }
-    ensures goes { Goes seat.old seat.new hold.old hold.new }
+    ensures goes { StepsInHold seat.old seat.new hold.old hold.new }
     ensures flight { SameFlight hold.old.core hold.new.core }
     ensures there { IfOk result (λ room. IsTrue room →
         Contains (log_of hold.new.core) (entry_of replica.now.ids deduced.now.row)) }
@@ -73,9 +73,10 @@ fn publish_all<'p>(
     requires ticket { Holds (state_of hold.old.core) seat.old.known.number ticket }
     requires begins { IsPrefix replica.now.log (log_of hold.old.core) }
     requires found { All (IsDeduced hold.old.core.base.problem replica.now.ids replica.now.log) found.now }
-    ensures goes { Goes seat.old seat.new hold.old hold.new }
+    ensures goes { StepsInHold seat.old seat.new hold.old hold.new }
     ensures flight { SameFlight hold.old.core hold.new.core }
-    ensures all { IfOk result (λ all. IsTrue all → HasAll replica.now.ids found.now (log_of hold.new.core)) }
+    ensures all { IfOk result (λ all. IsTrue all
+        → HasFound replica.now.ids found.now (log_of hold.new.core)) }
 {
     for deduced in found {
         if !publish_one(hold, seat, ticket, replica, deduced)? {
@@ -98,7 +99,7 @@ fn publish_job<'p>(
     requires ticket { Holds (state_of hold.old.core) seat.old.known.number job.now.ticket }
     requires begins { IsPrefix replica.now.log (log_of hold.old.core) }
     requires formed { IsFormed hold.old.core.base.problem replica.now.ids replica.now.log job.now }
-    ensures goes { Goes seat.old seat.new hold.old hold.new }
+    ensures goes { StepsInHold seat.old seat.new hold.old hold.new }
     ensures flight { SameFlight hold.old.core hold.new.core }
     ensures closed { IsTrue result → IsClosedWork hold.new.core.base.problem (log_of hold.new.core) job.now.work }
 {
@@ -127,7 +128,7 @@ fn settle<'p>(
     requires flies { (state_of hold.old.core).flight job.now.ticket ≡ Some (record { worker = seat.old.known.number; work = job.now.work }) }
     requires begins { IsPrefix replica.now.log (log_of hold.old.core) }
     requires formed { IsFormed hold.old.core.base.problem replica.now.ids replica.now.log job.now }
-    ensures goes { Goes seat.old seat.new hold.old hold.new }
+    ensures goes { StepsInHold seat.old seat.new hold.old hold.new }
     ensures flight { (ticket : ℕ) → (state_of hold.new.core).flight ticket ≡ put job.now.ticket None (state_of hold.old.core).flight ticket }
 {
     if publish_job(hold, seat, replica, job, going) {
@@ -150,7 +151,7 @@ fn hand_in<'p>(
     requires carries { Carries seat.old.known.number (state_of hold.old.core).flight (keys jobs.items) }
     requires begins { IsPrefix replica.now.log (log_of hold.old.core) }
     requires formed { All (IsFormed hold.old.core.base.problem replica.now.ids replica.now.log) jobs.items }
-    ensures goes { Goes seat.old seat.new hold.old hold.new }
+    ensures goes { StepsInHold seat.old seat.new hold.old hold.new }
 {
     let mut going = true;
     for job in jobs {
@@ -168,7 +169,7 @@ fn take_one<'p>(
     requires holds { IsHolding seat.old hold.old }
     requires carries { Carries seat.old.known.number (state_of hold.old.core).flight (keys jobs.old.items) }
     requires unformed { All IsUnformed jobs.old.items }
-    ensures goes { Goes seat.old seat.new hold.old hold.new }
+    ensures goes { StepsInHold seat.old seat.new hold.old hold.new }
     ensures log { log_of hold.new.core ≡ log_of hold.old.core }
     ensures carries { Carries seat.new.known.number (state_of hold.new.core).flight (keys jobs.new.items) }
     ensures unformed { All IsUnformed jobs.new.items }
@@ -195,7 +196,7 @@ fn take_some<'p>(
     requires holds { IsHolding seat.old hold.old }
     requires carries { Carries seat.old.known.number (state_of hold.old.core).flight (keys jobs.old.items) }
     requires unformed { All IsUnformed jobs.old.items }
-    ensures goes { Goes seat.old seat.new hold.old hold.new }
+    ensures goes { StepsInHold seat.old seat.new hold.old hold.new }
     ensures log { log_of hold.new.core ≡ log_of hold.old.core }
     ensures carries { Carries seat.new.known.number (state_of hold.new.core).flight (keys jobs.new.items) }
     ensures unformed { All IsUnformed jobs.new.items }
@@ -236,7 +237,7 @@ pub(crate) fn turn<'p>(
     requires begins { IsPrefix replica.old.log (log_of hold.old.core) }
     requires formed { All (IsFormed hold.old.core.base.problem replica.old.ids replica.old.log) jobs.old.items }
     requires none { rows.old.items ≡ [] }
-    ensures goes { Goes seat.old seat.new hold.old hold.new }
+    ensures goes { StepsInHold seat.old seat.new hold.old hold.new }
     ensures fits { CanExtend replica.new rows.new.items }
     ensures begins { IsPrefix (extended replica.new rows.new.items) (log_of hold.new.core) }
     ensures carries { Carries seat.new.known.number (state_of hold.new.core).flight (keys jobs.new.items) }

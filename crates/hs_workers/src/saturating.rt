@@ -6,8 +6,8 @@ ghost use Rattle.hs_turn.specs.Seats.{RestsIn};
 ghost use Rattle.hs_verdict.specs.Premises.{HasClosedFlow};
 ghost use Rattle.hs_core.specs.Core.{IsCore};
 ghost use Rattle.hs_core.specs.Saturation.{IsVerdict};
-ghost use Rattle.hs_workers.specs.Working.{IsFirst, HasSeenNothing, IsBased, RestsSeated};
-ghost use Rattle.hs_workers.specs.Answers.{IsOfWorkers, IsSharedDone, IsEnd, IsAnswered};
+ghost use Rattle.hs_workers.specs.Working.{IsFirstSeat, HasSeenNothing, IsBased, RestsSeated};
+ghost use Rattle.hs_workers.specs.Answers.{IsOfWorkers, IsSharedDone, IsEnd, IsDoneOf};
 
 use crate::bell::Bell;
 use crate::worker::run_worker;
@@ -30,10 +30,10 @@ fn seats_for<'p>(
     workers: u32,
 ) -> Result<Vec<RestedSeat>, OutOfMemory>
     requires few { workers ≤ 16 }
-    requires first { IsFirst table.now 0 0 first.old }
+    requires first { IsFirstSeat table.now 0 0 first.old }
     requires nothing { HasSeenNothing first.old }
     requires based { IsBased problem.now first.old }
-    ensures first { IfOk result (λ _. IsFirst table.now workers 0 first.new) }
+    ensures first { IfOk result (λ _. IsFirstSeat table.now workers 0 first.new) }
     ensures base { first.new.known.base ≡ first.old.known.base }
     ensures count { IfOk result (λ seats. length seats.items ≡ workers) }
     ensures seats { IfOk result (λ seats. All (RestsSeated table.now problem.now) seats.items) }
@@ -76,9 +76,9 @@ fn work_each<'p, R: Threads + Wait + Sync, G: Gate + Sync>(
 
 /// Joins the workers' seats.
 fn join_all<'p>(table: &SharedTable<'p>, first: &mut Seat<Held<'p>>, seats: Vec<RestedSeat>)
-    requires first { IsFirst table.now (length seats.items) 0 first.old }
+    requires first { IsFirstSeat table.now (length seats.items) 0 first.old }
     requires seats { All (RestsIn table.now) seats.items }
-    ensures first { IsFirst table.now (length seats.items) (length seats.items) first.new }
+    ensures first { IsFirstSeat table.now (length seats.items) (length seats.items) first.new }
     ensures base { first.new.known.base ≡ first.old.known.base }
 {
     for seat in seats {
@@ -118,7 +118,7 @@ fn end_of(core: &Core) -> End
 
 /// The answer that the core of the workers gives, or that memory was refused where works are left.
 fn answer<'p>(core: Core<'p>) -> Result<Done<'p>, OutOfMemory>
-    ensures { IfOk result (IsAnswered core.entry) }
+    ensures { IfOk result (IsDoneOf core.entry) }
 {
     match end_of(&core) {
         End::Least => Ok(Done::Least(core)),
@@ -134,7 +134,7 @@ fn share<'p>(
     core: Core<'p>,
 ) -> Result<(SharedTable<'p>, Seat<Held<'p>>), OutOfMemory>
     requires { core.story ≡ [] }
-    ensures first { IfOk result (λ made. IsFirst made.0 0 0 made.1) }
+    ensures first { IfOk result (λ made. IsFirstSeat made.0 0 0 made.1) }
     ensures nothing { IfOk result (λ made. HasSeenNothing made.1) }
     ensures base { IfOk result (λ made. made.1.known.base ≡ Some core.entry.base) }
 {
@@ -159,7 +159,7 @@ fn work_together<'p, R: Threads + Wait + Sync, G: Gate + Sync>(
     requires some { 1 ≤ workers }
     requires few { workers ≤ 16 }
     requires dependents { HasDependents problem.now.points problem.now.flow.pairs dependents.now }
-    requires first { IsFirst table 0 0 first }
+    requires first { IsFirstSeat table 0 0 first }
     requires nothing { HasSeenNothing first }
     requires based { IsBased problem.now first }
     ensures base { IfOk result (λ core. first.entry.known.base ≡ Some core.base) }

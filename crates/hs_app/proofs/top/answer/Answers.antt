@@ -7,7 +7,7 @@ use Rattle.hs_app.specs.declared.verdict.Settings.{Settings}
 use Rattle.hs_passes.specs.Passing.{Image}
 use Rattle.hs_app.specs.Problems.{asked_of}
 use Rattle.hs_app.specs.Order.{Order, Job, generate, read_file, job_of, order_of, ordered, settings_of, source_run}
-use Rattle.hs_app.specs.Outcome.{IsAnswer}
+use Rattle.hs_app.specs.Outcome.{IsAnswerOfRun}
 use Rattle.hs_app.specs.Verdict.{AreWithin}
 use Rattle.hs_app.proofs.OrderLemmas.{options_in}
 use Rattle.hs_app.proofs.OutcomeLemmas.{of_cycle}
@@ -38,7 +38,7 @@ returns-in-Some-clause-answer g c =
     let source = source_run g.S.Source.file g.S.Source.left g.S.Source.reading g.S.Source.faults c.args.source.now c.args.source.now in
     let o : OptionsData = said_by c.in-Ok.options in
     let job : job_of o ≡ generate c.in-Some.k = ap (λ (x : Option ℕ). option_map_or (λ k. generate k) x (read_file (unwrap_or o.file (codes "-")))) c.in-Some.is in
-    subst (λ (x : Option Order). IsAnswer x source c.verdict_on_cycle.result)
+    subst (λ (x : Option Order). IsAnswerOfRun x source c.verdict_on_cycle.result)
     (sym (order_is _ (texts c.args.words.now) o (generate c.in-Some.k) c.settings_of-settings.result c.in-Ok.ensures.ok job c.settings_of-settings.ensures))
     (of_cycle c.in-Some.k _ source c.verdict_on_cycle.result refl c.verdict_on_cycle.ensures)
 
@@ -54,6 +54,6 @@ returns-in-None-clause-answer g c =
     let name : c.unwrap_or.result.now ≡ unwrap_or o.file (codes "-") = ap (λ (b : Bor (List ℕ)). b.now) c.unwrap_or.ensures ∙ name_is c.in-Ok.options.file _ refl in
     let job : job_of o ≡ read_file c.unwrap_or.result.now =
     ap (λ (x : Option ℕ). option_map_or (λ k. generate k) x (read_file (unwrap_or o.file (codes "-")))) c.in-None.is ∙ ap (λ (n : List ℕ). read_file n) (sym name) in
-    subst (λ (x : Option Order). IsAnswer x source c.verdict_on.result)
+    subst (λ (x : Option Order). IsAnswerOfRun x source c.verdict_on.result)
     (sym (order_is _ (texts c.args.words.now) o (read_file c.unwrap_or.result.now) c.settings_of-settings.result c.in-Ok.ensures.ok job c.settings_of-settings.ensures))
     c.verdict_on.ensures.answer

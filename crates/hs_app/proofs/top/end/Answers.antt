@@ -3,7 +3,7 @@ use Rattle.hs_app.specs.declared.refusal.Refusal.{Refusal}
 use Rattle.hs_app.specs.Refusal.{line_of}
 use Rattle.hs_words.specs.Words.{texts}
 use Rattle.hs_app.specs.Order.{ordered, source_run}
-use Rattle.hs_app.specs.Outcome.{sink_run, HasCause, Gains, Refuses}
+use Rattle.hs_app.specs.Outcome.{sink_run, HasCause, HasTakenOrFailed, Refuses}
 use Rattle.hs_app.proofs.OutcomeLemmas.{any_cause}
 use Rattle.hs_app.proofs.top.end.Goals as goal
 
@@ -17,11 +17,11 @@ returns-in-Err-clause-ends g c =
       | inl (is, gains) ↦ record {
         cause = subst (HasCause name source) (sym is) c.in-Err.ensures.answer;
         silent = record { same_taken = refl; same_faults = refl };
-        told = subst (λ (r : Refusal). Gains err (line_of r)) (sym is) gains;
+        told = subst (λ (r : Refusal). HasTakenOrFailed err (line_of r)) (sym is) gains;
       }
       | inr (changes, is, gains) ↦ record {
         cause = subst (HasCause name source) (sym is) (any_cause name source c.in-Err.refusal c.in-Err.ensures.answer changes);
         silent = record { same_taken = refl; same_faults = refl };
-        told = subst (λ (r : Refusal). Gains err (line_of r)) (sym is) gains;
+        told = subst (λ (r : Refusal). HasTakenOrFailed err (line_of r)) (sym is) gains;
       }
     ]

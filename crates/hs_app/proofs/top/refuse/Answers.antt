@@ -1,5 +1,5 @@
 use Rattle.std.proofs.Common.{◌≡◌, refl, subst, List, ℕ, true, false, inr}
-use Rattle.hs_app.specs.Outcome.{Gains, sink_run}
+use Rattle.hs_app.specs.Outcome.{HasTakenOrFailed, sink_run}
 use Rattle.hs_app.proofs.top.refuse.Goals as goal
 
 false_true : false ≡ true → ⊥
@@ -9,5 +9,5 @@ pub returns-in-Err-clause-tells : goal.returns-in-Err-clause-tells
 returns-in-Err-clause-tells g c = inr (
   (λ constant. false_true (c.in-Err.ensures.fixed constant)),
   refl,
-  subst (λ (text : List ℕ). Gains (sink_run g.E.Sink.writing g.E.Sink.faults c.args.err.now c.tell-in-Err.new.err) text) c.as_bytes.ensures.value c.tell-in-Err.ensures.gains,
+  subst (λ (text : List ℕ). HasTakenOrFailed (sink_run g.E.Sink.writing g.E.Sink.faults c.args.err.now c.tell-in-Err.new.err) text) c.as_bytes.ensures.value c.tell-in-Err.ensures.gains,
 )

@@ -4,7 +4,7 @@ use Rattle.std.proofs.lemmas.List.{take_all, length-take-le}
 use Rattle.hs_scheme.specs.Tree.{node, forest}
 use Rattle.hs_passes.specs.Leaving.{keeps}
 use Rattle.hs_passes.specs.Unused.{needs_at}
-use Rattle.hs_passes.specs.Needing.{live, live_in, kept, Gains}
+use Rattle.hs_passes.specs.Needing.{live, live_in, kept, GainsFlags}
 use Rattle.hs_passes.proofs.Marks.{gains_both, gains_same, live_in-more, or_assoc, or_nothing, whole}
 use Rattle.hs_passes.proofs.needing.+mark_term.Goals as goal
 use Rattle.hs_passes.proofs.needing.+mark_term.Goals.{then-stays_behind, else-stays_behind}
@@ -29,14 +29,14 @@ loop-i-preserved t c =
     elim c.if-stays_behind.branch [
       | then-stays_behind w ↦
           let on : p i ≡ true = sym c.stays_behind.ensures ∙ w.if-stays_behind.true in
-          subst (λ ns. Gains counts old ns after) (sym w.needed-is)
+          subst (λ ns. GainsFlags counts old ns after) (sym w.needed-is)
           (gains_same counts old w.mark_term.new.needed (λ f j. before f j || live keep g f j u) after
           (λ f j q. or_assoc (here f j) (live_in keep g f j p (forest (take i us))) (live keep g f j u)
           ∙ ap (λ b. here f j || b) (ap (λ b. live_in keep g f j p (forest (take i us)) || (b && live keep g f j u)) (sym on) ∙ sym (more f j)))
           (gains_both counts old c.loop-i.needed w.mark_term.new.needed before (λ f j. live keep g f j u) c.loop-i.invariant w.mark_term.ensures))
       | else-stays_behind w ↦
           let off : p i ≡ false = sym c.stays_behind.ensures ∙ w.if-stays_behind.false in
-          subst (λ ns. Gains counts old ns after) (sym w.needed-is)
+          subst (λ ns. GainsFlags counts old ns after) (sym w.needed-is)
           (gains_same counts old c.loop-i.needed before after
           (λ f j q. ap (λ b. here f j || b) (sym (more f j ∙ (ap (λ b. live_in keep g f j p (forest (take i us)) || (b && live keep g f j u)) off ∙ or_nothing (live_in keep g f j p (forest (take i us)))))))
           c.loop-i.invariant)

@@ -2,7 +2,7 @@ use Rattle.std.proofs.Common.{◌≡◌, ◌++◌, sym, ◌∙◌, ap, subst, �
 use Rattle.std.specs.Prelude.{◌&&◌}
 use Rattle.hs_scheme.specs.Parameters.{IsParameter, parameter_of}
 use Rattle.hs_passes.specs.Selection.{stays}
-use Rattle.hs_passes.specs.Needing.{is_live, kept, IsSupported, IsAbove}
+use Rattle.hs_passes.specs.Needing.{is_live, kept, KeepsOnlyLive, IsAbove}
 use Rattle.hs_passes.proofs.Chaining.{written_back}
 use Rattle.hs_passes.proofs.Settling.{still_above, then_supported}
 use Rattle.hs_passes.proofs.needing.settled.Goals as goal
@@ -23,6 +23,6 @@ loop-changed-preserved c =
     record {
       long = c.loop-changed.invariant.long;
       above = subst (λ fs. IsAbove rules (kept counts fs)) (sym items) (still_above rules counts c.requires.counted old new marks each needed c.loop-changed.invariant.above);
-      supported = λ e. subst (λ fs. IsSupported rules (kept counts fs)) (sym items)
+      supported = λ e. subst (λ fs. KeepsOnlyLive rules (kept counts fs)) (sym items)
           (then_supported rules counts c.requires.counted old new marks each needed (c.narrow-changed.ensures.same e ∙ c.as_mut_slice.ensures.value));
     }

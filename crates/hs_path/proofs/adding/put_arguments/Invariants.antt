@@ -3,7 +3,7 @@ use Rattle.std.proofs.Common.{◌≡◌, ◌+◌, ◌≤◌, length, drop}
 use Rattle.hs_naming.specs.Evidence.{Packs, stacked}
 use Rattle.hs_naming.specs.Naming.{argument_packs}
 use Rattle.hs_core.specs.Core.{log_of}
-use Rattle.hs_path.specs.Stored.{Piled, Grows, Knows, premise, ArePremises}
+use Rattle.hs_path.specs.Stored.{Piled, Grows, KnowsCurrent, premise, ArePremises}
 use Rattle.hs_path.proofs.adding.put_arguments.Given as goal
 
 abbrev pub invariant-loop-argument : goal.invariant-loop-argument
@@ -11,9 +11,9 @@ invariant-loop-argument l = record {
   grows : Grows l.fn.store l.store;
   count : l.first + length l.chosen ≡ length l.store.nodes.items;
   within : l.argument ≤ length l.arguments;
-  premises : (own : Packs) → Knows (length (log_of l.core)) l.fn.store (length l.fn.store.nodes.items) l.fn.node own
+  premises : (own : Packs) → KnowsCurrent (length (log_of l.core)) l.fn.store (length l.fn.store.nodes.items) l.fn.node own
       → ArePremises (length (log_of l.core)) l.store l.first (premise (log_of l.core) l.fn.node.place own) l.chosen;
-  made : (own packs : Packs) → Knows (length (log_of l.core)) l.fn.store (length l.fn.store.nodes.items) l.fn.node own
+  made : (own packs : Packs) → KnowsCurrent (length (log_of l.core)) l.fn.store (length l.fn.store.nodes.items) l.fn.node own
       → Piled (length (log_of l.core)) l.fn.store (length l.fn.store.nodes.items) l.fn.stack.items 0 (length l.fn.stack.items) packs
       → Piled (length (log_of l.core)) l.store (length l.store.nodes.items) l.stack.items 0 (length l.stack.items)
       (stacked (argument_packs (premise (log_of l.core) l.fn.node.place own) l.argument (drop l.argument l.arguments) l.chosen) packs);

@@ -9,7 +9,7 @@ use Rattle.hs_naming.specs.Evidence.{Evidence, Packs, evidence, no_packs, stacke
 use Rattle.hs_naming.specs.Naming.{support_at, point_at, terminal_of, argument_packs}
 use Rattle.hs_core.specs.Core.{log_of, state_of}
 use Rattle.hs_path.specs.declared.evidence.Store.{Store}
-use Rattle.hs_path.specs.Stored.{Nothing, Knows, Grows, premise}
+use Rattle.hs_path.specs.Stored.{Nothing, KnowsCurrent, Grows, premise}
 use Rattle.hs_path.specs.Turned.{owns, Turns}
 use Rattle.hs_path.proofs.StoredLemmas.{grows_then, stands_grow}
 use Rattle.hs_path.proofs.TurningLemmas.{premises_within, head_weaker, spot_grows, spot_knows, some_nodes, turned_at}
@@ -65,7 +65,7 @@ returns-clause-turn c = λ own packs nothing at piled.
     let give : ℕ → Evidence = premise T place own in
     let of : ℕ → ℕ → Evidence = owns T place own in
     let arguments : List ℕ = c.args_of-arguments.result.now in
-    let known : Knows b old (length old.nodes.items) c.args.spot.node own = spot_knows b old c.args.spot own nothing at (length old.nodes.items) at.within (some_nodes b old c.args.spot own nothing at) in
+    let known : KnowsCurrent b old (length old.nodes.items) c.args.spot.node own = spot_knows b old c.args.spot own nothing at (length old.nodes.items) at.within (some_nodes b old c.args.spot own nothing at) in
     let stack = c.in_ok-put_arguments.ensures.stack own packs known piled in
     let later : Nothing b mid = stands_grow b old mid g 0 (evidence 0 no_packs) nothing in
     let here = spot_grows b old mid g c.args.spot (evidence place own) at in

@@ -8,8 +8,8 @@ use Rattle.hs_scheme.specs.Sorted.{SortedData, sorts_of}
 use Rattle.hs_scheme.specs.TreeTerms.{IsTreeTerm}
 use Rattle.hs_trace.specs.Path.{PathData}
 use Rattle.hs_reduce.specs.Path.{IsErrorFrom}
-use Rattle.hs_reduce.specs.Graph.{term_at, arguments_of, Name, Unfolds}
-use Rattle.hs_reduce.specs.Bounds.{ReadsCut, IsErrorWithin, IsFound}
+use Rattle.hs_reduce.specs.Graph.{term_at, arguments_of, NamesTerms, Unfolds}
+use Rattle.hs_reduce.specs.Bounds.{ReadsCut, IsErrorWithin, IsFoundWithin}
 use Rattle.hs_reduce.proofs.ReplacementLemmas.{Grows-then}
 use Rattle.hs_reduce.proofs.CutLemmas.{read_replaced, error_replaced, replaced_sorted, as_many_states, as_many_places, child_there, child_sorted, error_below, one_more_read, all_read}
 use Rattle.hs_reduce.proofs.cutting.+first_error.Goals as goal
@@ -30,7 +30,7 @@ returns-in-None-clause-found t c =
     let a = c.if-n-eq0.false in
     let found = subst (λ (o : Option ℕ). Unfolds old new o (unfolded s.scheme.rules c.in-Nt.number (arguments_of term))) c.in-Some.is c.in_ok-body-in-Nt.ensures in
     let read : ReadsCut s (c.args.n - 1) c.args.state (term_at new c.in-Some.body) =
-    subst (λ (o : Option PathData). IsFound s (c.args.n - 1) c.args.state (term_at new c.in-Some.body) o) c.in-None.is c.in_ok-first_error-in-Nt.ensures.found in
+    subst (λ (o : Option PathData). IsFoundWithin s (c.args.n - 1) c.args.state (term_at new c.in-Some.body) o) c.in-None.is c.in_ok-first_error-in-Nt.ensures.found in
     read_replaced s c.args.n c.args.state c.in-Nt.number term found.0 (omega arith) (sym c.in-Nt.ensures) found.1
     (subst (λ (u : Tree Head). ReadsCut s (c.args.n - 1) c.args.state u) found.2.term read)
 
@@ -40,7 +40,7 @@ returns-in-Some-2-clause-found t c =
     let path = c.in-Some-2.path in
     let found = subst (λ (o : Option ℕ). Unfolds old new o (unfolded s.scheme.rules c.in-Nt.number (arguments_of term))) c.in-Some.is c.in_ok-body-in-Nt.ensures in
     let error : IsErrorWithin s (c.args.n - 1) c.args.state (term_at new c.in-Some.body) path =
-    subst (λ (o : Option PathData). IsFound s (c.args.n - 1) c.args.state (term_at new c.in-Some.body) o) c.in-Some-2.is c.in_ok-first_error-in-Nt.ensures.found in
+    subst (λ (o : Option PathData). IsFoundWithin s (c.args.n - 1) c.args.state (term_at new c.in-Some.body) o) c.in-Some-2.is c.in_ok-first_error-in-Nt.ensures.found in
     let below = subst (λ (u : Tree Head). IsErrorFrom s.scheme.rules s.automaton.transitions c.args.state u path) found.2.term error.error in
     subst (λ (p : PathData). IsErrorWithin s c.args.n c.args.state term p) (sym c.after_replacement.ensures)
     (record { within = omega (arith, error.within); error = error_replaced s c.args.state c.in-Nt.number term found.0 path (sym c.in-Nt.ensures) found.1 below })
@@ -50,7 +50,7 @@ index-child-requires t c =
     let s = c.args.sorted.now in let old = c.args.graph.now in let term = term_at old c.args.place in
     let places = c.in_ok-args-in-Tm.args.items in let to = c.in-Some-next.to.now in
     let copied : places ≡ c.arguments.result.now = search rules in
-    let named : Name old places (arguments_of term) = subst (λ (ps : List ℕ). Name old ps (arguments_of term)) (sym copied) c.arguments.ensures in
+    let named : NamesTerms old places (arguments_of term) = subst (λ (ps : List ℕ). NamesTerms old ps (arguments_of term)) (sym copied) c.arguments.ensures in
     let e = sym (c.in-Some-next.ensures ∙ ap (λ (x : SortedData). next x.automaton.transitions c.args.state c.in-Tm.terminal) c.sorted.view_is) in
     let front = sym c.in-Tm.ensures in
     let lt : c.loop-index.index < slice_index s.scheme.ranks c.in-Tm.terminal = subst (λ n. c.loop-index.index < n) c.rank_of-index-end.ensures c.loop-index-test.true in
@@ -61,7 +61,7 @@ bounds-to-index t c =
     let s = c.args.sorted.now in let old = c.args.graph.now in let term = term_at old c.args.place in
     let places = c.in_ok-args-in-Tm.args.items in let to = c.in-Some-next.to.now in
     let copied : places ≡ c.arguments.result.now = search rules in
-    let named : Name old places (arguments_of term) = subst (λ (ps : List ℕ). Name old ps (arguments_of term)) (sym copied) c.arguments.ensures in
+    let named : NamesTerms old places (arguments_of term) = subst (λ (ps : List ℕ). NamesTerms old ps (arguments_of term)) (sym copied) c.arguments.ensures in
     let e = sym (c.in-Some-next.ensures ∙ ap (λ (x : SortedData). next x.automaton.transitions c.args.state c.in-Tm.terminal) c.sorted.view_is) in
     let front = sym c.in-Tm.ensures in
     let lt : c.loop-index.index < slice_index s.scheme.ranks c.in-Tm.terminal = subst (λ n. c.loop-index.index < n) c.rank_of-index-end.ensures c.loop-index-test.true in
@@ -72,7 +72,7 @@ first_error-requires-in-loop-index t c =
     let s = c.args.sorted.now in let old = c.args.graph.now in let term = term_at old c.args.place in
     let places = c.in_ok-args-in-Tm.args.items in let to = c.in-Some-next.to.now in
     let copied : places ≡ c.arguments.result.now = search rules in
-    let named : Name old places (arguments_of term) = subst (λ (ps : List ℕ). Name old ps (arguments_of term)) (sym copied) c.arguments.ensures in
+    let named : NamesTerms old places (arguments_of term) = subst (λ (ps : List ℕ). NamesTerms old ps (arguments_of term)) (sym copied) c.arguments.ensures in
     let e = sym (c.in-Some-next.ensures ∙ ap (λ (x : SortedData). next x.automaton.transitions c.args.state c.in-Tm.terminal) c.sorted.view_is) in
     let front = sym c.in-Tm.ensures in
     let lt : c.loop-index.index < slice_index s.scheme.ranks c.in-Tm.terminal = subst (λ n. c.loop-index.index < n) c.rank_of-index-end.ensures c.loop-index-test.true in
@@ -87,7 +87,7 @@ returns-in-Some-3-clause-found t c =
     let s = c.args.sorted.now in let old = c.args.graph.now in let term = term_at old c.args.place in
     let places = c.in_ok-args-in-Tm.args.items in let to = c.in-Some-next.to.now in
     let copied : places ≡ c.arguments.result.now = search rules in
-    let named : Name old places (arguments_of term) = subst (λ (ps : List ℕ). Name old ps (arguments_of term)) (sym copied) c.arguments.ensures in
+    let named : NamesTerms old places (arguments_of term) = subst (λ (ps : List ℕ). NamesTerms old ps (arguments_of term)) (sym copied) c.arguments.ensures in
     let e = sym (c.in-Some-next.ensures ∙ ap (λ (x : SortedData). next x.automaton.transitions c.args.state c.in-Tm.terminal) c.sorted.view_is) in
     let front = sym c.in-Tm.ensures in
     let lt : c.loop-index.index < slice_index s.scheme.ranks c.in-Tm.terminal = subst (λ n. c.loop-index.index < n) c.rank_of-index-end.ensures c.loop-index-test.true in
@@ -96,7 +96,7 @@ returns-in-Some-3-clause-found t c =
     let there = child_there s c.requires.sorted c.args.n c.args.state c.in-Tm.terminal term c.requires.tree front to e old places named i child lt c.index-child.ensures in
     let same = c.loop-index.invariant.grows.same child there in
     let error : IsErrorWithin s (c.args.n - 1) (get_or to i 0) (term_at mid child) path =
-    subst (λ (o : Option PathData). IsFound s (c.args.n - 1) (get_or to i 0) (term_at mid child) o) c.in-Some-3.is c.in_ok-path-in-Tm.ensures.found in
+    subst (λ (o : Option PathData). IsFoundWithin s (c.args.n - 1) (get_or to i 0) (term_at mid child) o) c.in-Some-3.is c.in_ok-path-in-Tm.ensures.found in
     let below = subst (λ (u : Tree Head). IsErrorFrom s.scheme.rules s.automaton.transitions (get_or to i 0) u path) same error.error in
     subst (λ (p : PathData). IsErrorWithin s c.args.n c.args.state term p) (sym c.in_ok-after_descent-in-Tm.ensures)
     (record { within = omega (arith, error.within); error = error_below s c.requires.sorted c.args.n c.args.state c.in-Tm.terminal term c.requires.tree front to e old places named i child lt c.index-child.ensures path below })
@@ -106,7 +106,7 @@ loop-index-preserved t c =
     let s = c.args.sorted.now in let old = c.args.graph.now in let term = term_at old c.args.place in
     let places = c.in_ok-args-in-Tm.args.items in let to = c.in-Some-next.to.now in
     let copied : places ≡ c.arguments.result.now = search rules in
-    let named : Name old places (arguments_of term) = subst (λ (ps : List ℕ). Name old ps (arguments_of term)) (sym copied) c.arguments.ensures in
+    let named : NamesTerms old places (arguments_of term) = subst (λ (ps : List ℕ). NamesTerms old ps (arguments_of term)) (sym copied) c.arguments.ensures in
     let e = sym (c.in-Some-next.ensures ∙ ap (λ (x : SortedData). next x.automaton.transitions c.args.state c.in-Tm.terminal) c.sorted.view_is) in
     let front = sym c.in-Tm.ensures in
     let lt : c.loop-index.index < slice_index s.scheme.ranks c.in-Tm.terminal = subst (λ n. c.loop-index.index < n) c.rank_of-index-end.ensures c.loop-index-test.true in
@@ -114,7 +114,7 @@ loop-index-preserved t c =
     let there = child_there s c.requires.sorted c.args.n c.args.state c.in-Tm.terminal term c.requires.tree front to e old places named i child lt c.index-child.ensures in
     let same = c.loop-index.invariant.grows.same child there in
     let read : ReadsCut s (c.args.n - 1) (get_or to i 0) (term_at mid child) =
-    subst (λ (o : Option PathData). IsFound s (c.args.n - 1) (get_or to i 0) (term_at mid child) o) c.in_default-2.is c.in_ok-path-in-Tm.ensures.found in
+    subst (λ (o : Option PathData). IsFoundWithin s (c.args.n - 1) (get_or to i 0) (term_at mid child) o) c.in_default-2.is c.in_ok-path-in-Tm.ensures.found in
     record {
       grows = Grows-then old mid c.first_error-in-loop-index.new.graph c.loop-index.invariant.grows c.in_ok-path-in-Tm.ensures.grows;
       rest = one_more_read s c.requires.sorted c.args.n c.args.state c.in-Tm.terminal term c.requires.tree front to e old places named i child lt c.index-child.ensures
@@ -126,7 +126,7 @@ returns-after-loop-index-clause-found t c =
     let s = c.args.sorted.now in let old = c.args.graph.now in let term = term_at old c.args.place in
     let places = c.in_ok-args-in-Tm.args.items in let to = c.in-Some-next.to.now in
     let copied : places ≡ c.arguments.result.now = search rules in
-    let named : Name old places (arguments_of term) = subst (λ (ps : List ℕ). Name old ps (arguments_of term)) (sym copied) c.arguments.ensures in
+    let named : NamesTerms old places (arguments_of term) = subst (λ (ps : List ℕ). NamesTerms old ps (arguments_of term)) (sym copied) c.arguments.ensures in
     let e = sym (c.in-Some-next.ensures ∙ ap (λ (x : SortedData). next x.automaton.transitions c.args.state c.in-Tm.terminal) c.sorted.view_is) in
     let front = sym c.in-Tm.ensures in
     let end : slice_index s.scheme.ranks c.in-Tm.terminal ≤ c.loop-index.index = subst (λ n. n ≤ c.loop-index.index) c.rank_of-index-end.ensures c.loop-index-test.false in

@@ -3,7 +3,7 @@ use Rattle.hs_scheme.specs.Tree.{Tree}
 use Rattle.hs_scheme.specs.Cut.{unfolded}
 use Rattle.hs_scheme.specs.declared.term.Head.{Head}
 use Rattle.hs_reduce.specs.Graph.{term_at, arguments_of, Unfolds}
-use Rattle.hs_reduce.specs.Advances.{IsAt}
+use Rattle.hs_reduce.specs.Advances.{IsReachedSpot}
 use Rattle.hs_reduce.proofs.ReplayLemmas.{replaces}
 use Rattle.hs_reduce.proofs.replaying.next_step.Goals as goal
 
@@ -14,6 +14,6 @@ returns-in-Some c =
     let found = subst (λ (o : Option ℕ). Unfolds c.args.graph.now new o (unfolded s.scheme.rules c.in-Nt.number (arguments_of t))) c.in-Some.is c.in_ok-replace-in-Nt.ensures in (
       refl,
       found.2.within,
-      subst (λ (u : Tree Head). IsAt s c.args.path.now (record { place = place; state = c.args.spot.state; at = c.args.spot.at; used = c.args.spot.used + 1 }) u) (sym found.2.term)
+      subst (λ (u : Tree Head). IsReachedSpot s c.args.path.now (record { place = place; state = c.args.spot.state; at = c.args.spot.at; used = c.args.spot.used + 1 }) u) (sym found.2.term)
           (replaces s c.requires.sorted c.args.path.now c.args.spot t found.0 c.in-Nt.number place c.requires.at (sym c.in-Nt.ensures) found.1),
     )

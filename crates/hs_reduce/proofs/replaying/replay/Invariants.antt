@@ -1,14 +1,14 @@
 -- the spot is reached within the steps
 use Rattle.std.proofs.Common.{◌-◌, ◌<◌, ◌≤◌, length}
 use Rattle.hs_reduce.specs.Graph.{term_at}
-use Rattle.hs_reduce.specs.Advances.{IsAt}
+use Rattle.hs_reduce.specs.Advances.{IsReachedSpot}
 use Rattle.hs_reduce.proofs.replaying.replay.Given as goal
 
 abbrev pub invariant-loop-graph : goal.invariant-loop-graph
 invariant-loop-graph l = record {
   in_time : l.spot.used ≤ l.steps;
   within : l.spot.place < length l.graph;
-  at : IsAt l.sorted l.path l.spot (term_at l.graph l.spot.place);
+  at : IsReachedSpot l.sorted l.path l.spot (term_at l.graph l.spot.place);
 }
 
 abbrev pub decreases-loop-graph : goal.decreases-loop-graph

@@ -1,7 +1,7 @@
 use Rattle.std.proofs.Common.{◌≡◌, sym, subst, ◌∙◌, ◌+◌, ◌<◌, length, take, get_or}
 use Rattle.hs_types.proofs.Numbers.{Grows-trans}
 use Rattle.hs_rules.specs.Conclusions.{AreConclusions, Uses}
-use Rattle.hs_workers.proofs.FormingLemmas.{SoFar, point_more, whole_so_far}
+use Rattle.hs_workers.proofs.FormingLemmas.{AreAllBefore, point_more, whole_so_far}
 use Rattle.hs_workers.proofs.forming.form_at.Goals as goal
 
 pub loop-point-preserved : goal.loop-point-preserved
@@ -23,7 +23,7 @@ loop-point-preserved c =
           (subst (λ xs. place < length xs) (sym (same ∙ c.loop-point.invariant.log)) c.requires.place)
           (subst (λ xs. AreConclusions p J (take (place + 1) xs) (get_or points n 0) (Uses place) formed) (sym same) c.in_ok-formed.ensures.found)
           c.in_ok-keep_new.ensures
-          (subst (λ xs. SoFar p I xs points n place old) (sym same) c.loop-point.invariant.so_far);
+          (subst (λ xs. AreAllBefore p I xs points n place old) (sym same) c.loop-point.invariant.so_far);
     }
 
 pub returns-clause-found : goal.returns-clause-found

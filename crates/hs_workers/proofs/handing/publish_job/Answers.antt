@@ -4,7 +4,7 @@ use Rattle.hs_rules.specs.declared.deduced.Deduced.{Deduced}
 use Rattle.hs_history.specs.Story.{Base}
 use Rattle.hs_history.specs.CoreStep.{IsClosedWork}
 use Rattle.hs_core.specs.Core.{log_of}
-use Rattle.hs_workers.specs.Forming.{HasAll, AreFormed}
+use Rattle.hs_workers.specs.Forming.{HasFound, AreFormed}
 use Rattle.hs_workers.proofs.WorkingLemmas.{formed_closed}
 use Rattle.hs_workers.proofs.HoldLemmas.{prefix_trans}
 use Rattle.hs_workers.proofs.handing.publish_job.Goals as goal
@@ -21,6 +21,6 @@ returns-in-Ok-clause-closed c = λ yes.
     let found = c.in-Some.found.items in
     let formed : AreFormed p ids log work found =
     subst (λ (o : Option (Vec Deduced Global)). IfSome o (λ v. AreFormed p ids log work v.items)) c.in-Some.is c.requires.formed in
-    let has : HasAll ids found (log_of new) = subst (λ xs. HasAll ids xs (log_of new)) c.as_slice.ensures.value (c.in-Ok.ensures.all yes) in
+    let has : HasFound ids found (log_of new) = subst (λ xs. HasFound ids xs (log_of new)) c.as_slice.ensures.value (c.in-Ok.ensures.all yes) in
     subst (λ (b : Base). IsClosedWork b.problem (log_of new) work) (sym goes.base)
     (formed_closed p ids log (log_of new) work found (prefix_trans log (log_of old) (log_of new) c.requires.begins goes.log) formed has)

@@ -1,7 +1,7 @@
 use Rattle.std.proofs.Common.{◌≡◌, sym, ap, subst, ◌∙◌, ◌+◌, ◌∷◌, ◌++◌, [], length, length-append, append_assoc}
 use Rattle.hs_turn.specs.Seats.{RestsIn}
 use Rattle.hs_shared.specs.Seats.{SeatData}
-use Rattle.hs_workers.specs.Working.{IsFirst}
+use Rattle.hs_workers.specs.Working.{IsFirstSeat}
 use Rattle.hs_workers.proofs.FormingLemmas.{all_through}
 use Rattle.hs_workers.proofs.FirstLemmas.{first_joined, next_of, rested_turn}
 use Rattle.hs_workers.proofs.saturating.join_all.Goals as goal
@@ -32,7 +32,7 @@ loop-seat-preserved c =
     let ys = c.loop-seat.yielded in
     let more : length (ys ++ c.in-Some.seat ∷ []) ≡ length ys + 1 = length-append ys (c.in-Some.seat ∷ []) in
     record {
-      first = subst (λ k. IsFirst c.args.table.now n k c.join.new.seat) (sym more) (first_joined c.args.table.now c.loop-seat.first c.join.new.seat c.into_seat.result.known n (length ys) c.loop-seat.invariant.first c.join.ensures.seat);
+      first = subst (λ k. IsFirstSeat c.args.table.now n k c.join.new.seat) (sym more) (first_joined c.args.table.now c.loop-seat.first c.join.new.seat c.into_seat.result.known n (length ys) c.loop-seat.invariant.first c.join.ensures.seat);
       base = ap (λ (s : SeatData). s.known.base) c.join.ensures.seat ∙ c.loop-seat.invariant.base;
       whole = append_assoc ys (c.in-Some.seat ∷ []) _ ∙ sym (ap (λ xs. ys ++ xs) c.in-Some.ensures.steps.0) ∙ c.loop-seat.invariant.whole;
     }
@@ -41,4 +41,4 @@ pub returns-clause-first : goal.returns-clause-first
 returns-clause-first c =
     let n = length c.args.seats.items in
     let all = all_through c.loop-seat.yielded _ c.args.seats.items (sym c.loop-seat.seat-iterator.rest.ok.0 ∙ c.in-None.ensures.steps.0) c.loop-seat.invariant.whole in
-    subst (λ xs. IsFirst c.args.table.now n (length xs) c.loop-seat.first) all c.loop-seat.invariant.first
+    subst (λ xs. IsFirstSeat c.args.table.now n (length xs) c.loop-seat.first) all c.loop-seat.invariant.first

@@ -3,8 +3,8 @@ use Rattle.std.specs.Prelude.{All}
 use Rattle.hs_scheme.specs.declared.term.Head.{Head}
 use Rattle.hs_scheme.specs.Tree.{Tree, node, forest}
 use Rattle.hs_reduce.specs.declared.graph.Node.{Node}
-use Rattle.hs_reduce.specs.Graph.{terms_at, trees_of, AreNodes, Adds}
-use Rattle.hs_reduce.proofs.GraphLemmas.{count, nodes_stay, nodes_more, trees_more, Adds-push}
+use Rattle.hs_reduce.specs.Graph.{terms_at, trees_of, AreNodes, AddsTerm}
+use Rattle.hs_reduce.proofs.GraphLemmas.{count, nodes_stay, nodes_more, trees_more, AddsTerm-push}
 use Rattle.hs_reduce.proofs.graph.Graph.add.Goals as goal
 
 -- the links and the nodes after each of the two appends
@@ -28,13 +28,13 @@ module _ (links links' args : List ℕ) (ns ns' : List Node) (n : Node) (e : lin
   grown : AreNodes links' ns'
   grown = subst (λ (x : List Node). AreNodes links' x) (sym f) (subst (λ (x : List ℕ). AreNodes x (ns ++ n ∷ [])) (sym e) (nodes_more links ns are n.head args in_nodes n last))
 
-  added : (place : ℕ) → place ≡ length ns → Adds trees (trees_of links' [] ns') place (node n.head (forest (terms_at trees args)))
+  added : (place : ℕ) → place ≡ length ns → AddsTerm trees (trees_of links' [] ns') place (node n.head (forest (terms_at trees args)))
   added place is =
       let t : Tree Head = node n.head (forest (terms_at trees args)) in
       let whole : trees_of links' [] ns' ≡ trees ++ t ∷ [] =
       (λ i. trees_of (e i) [] (f i)) ∙ (trees_more links ns are n.head args in_nodes n last ∙ ap (λ (ts : List (Tree Head)). ts ++ node n.head (forest (terms_at ts args)) ∷ []) view) in
       let here : length trees ≡ place = omega (arith, count links ns, ap length view) in
-      subst (λ (ts : List (Tree Head)). Adds trees ts place t) (sym whole) (subst (λ i. Adds trees (trees ++ t ∷ []) i t) here (Adds-push trees t))
+      subst (λ (ts : List (Tree Head)). AddsTerm trees ts place t) (sym whole) (subst (λ i. AddsTerm trees (trees ++ t ∷ []) i t) here (AddsTerm-push trees t))
 
 pub invariant_of-self-2 : goal.invariant_of-self-2
 invariant_of-self-2 c =
