@@ -57,7 +57,8 @@ pub(crate) fn run_on<R: Threads + Wait + Sync, S: Source, O: Sink, E: Sink>(
         (source_run S.file S.left S.reading S.faults source.old source.new)
         (sink_run O.writing O.faults out.old out.new) (sink_run E.writing E.faults err.old err.new) result) }
     ensures no_words { IfErr words (λ error. error_kind error ≢ ErrorKind.OutOfMemory → result ≡ NO_WORDS) }
-    ensures no_memory { IfErr words (λ error. error_kind error ≡ ErrorKind.OutOfMemory → result ≡ OUT_OF_MEMORY) }
+    ensures no_memory { IfErr words (λ error. error_kind error ≡ ErrorKind.OutOfMemory
+        → result ≡ OUT_OF_MEMORY) }
     ensures untouched { OnErr words ((source.new ≡ source.old) × (out.new ≡ out.old) × (err.new ≡ err.old)) }
 {
     let words = match words {

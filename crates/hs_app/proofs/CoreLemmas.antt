@@ -37,8 +37,3 @@ reported_least true p T goes_on least start = absurd (goes_on refl start)
 pub reported_first : (first : Bool) (p : ProblemData) (T : List EntryData) → first ≡ true → IsSupportedTable p T → HasStart p T → IsReportedTable first p T
 reported_first false p T is table start = absurd (cc)
 reported_first true p T is table start = (table, start)
-
--- the reported table has the start entry
-pub reported_start : (first : Bool) (p : ProblemData) (T : List EntryData) → IsReportedTable first p T → HasStart p T
-reported_start false p T h = h.1
-reported_start true p T h = h.1

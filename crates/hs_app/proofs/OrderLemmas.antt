@@ -2,7 +2,7 @@
 use Rattle.std.proofs.Common.{◌≡◌, refl, ◌∙◌, ap, subst, arith, ℕ, ◌≤◌, Bool, true, false, List, Option, Some, None}
 use Rattle.std.specs.Prelude.{nat_le, if◌then◌else◌, ◌&&◌, is_some, option_map, codes}
 use Rattle.std.proofs.lemmas.Bool.{leb-true}
-use Rattle.std.proofs.lemmas.Option.{option_and_then_some}
+use Rattle.std.proofs.lemmas.Option.{option_and_then_some, same_Some}
 use Rattle.std.specs.Str.Parse.{digits_value}
 use Rattle.clap.specs.Simple.{matches_of}
 use Rattle.clap.specs.Faults.{fault_of}
@@ -11,15 +11,12 @@ use Rattle.hs_words.specs.Words.{horsat, said, is_numeral, number_in, number_or,
 use Rattle.hs_app.specs.Verdict.{AreWithin}
 use Rattle.hs_app.specs.Order.{settings_of}
 
-some_same : {A : Type 0} (x y : A) → Some x ≡ Some y → x ≡ y
-some_same x y e = (cc)
-
 pub record IsIn (least most n : ℕ) : Type 0 where
   pub above : least ≤ n
   pub below : n ≤ most
 
 picked : (b c d : Bool) (v n : ℕ) → (if b && (c && d) then Some v else None) ≡ Some n → (v ≡ n) × (c ≡ true) × (d ≡ true)
-picked true true true v n e = (some_same v n e, refl, refl)
+picked true true true v n e = (same_Some v n e, refl, refl)
 picked true true false v n e = absurd (cc)
 picked true false true v n e = absurd (cc)
 picked true false false v n e = absurd (cc)
@@ -32,20 +29,20 @@ in_range least most t n e =
     subst (λ (m : ℕ). IsIn least most m) p.0 (record { above = leb-true least v p.1; below = leb-true v most p.2 })
 
 or_in_range : (default least most : ℕ) (t : Option (List ℕ)) (n : ℕ) → IsIn least most default → number_or default least most t ≡ Some n → IsIn least most n
-or_in_range default least most None n h e = subst (λ (m : ℕ). IsIn least most m) (some_same default n e) h
+or_in_range default least most None n h e = subst (λ (m : ℕ). IsIn least most m) (same_Some default n e) h
 or_in_range default least most (Some t) n h e = in_range least most t n e
 
 wrapped : (o : Option ℕ) (k : ℕ) → option_map (λ (n : ℕ). Some n) o ≡ Some (Some k) → o ≡ Some k
 wrapped None k e = absurd (cc)
-wrapped (Some n) k e = some_same (Some n) (Some k) e
+wrapped (Some n) k e = same_Some (Some n) (Some k) e
 
 if_in_range : (least most : ℕ) (t : Option (List ℕ)) (k : ℕ) → number_if least most t ≡ Some (Some k) → IsIn least most k
-if_in_range least most None k e = let f : None ≡ Some k = some_same None (Some k) e in absurd (cc)
+if_in_range least most None k e = let f : None ≡ Some k = same_Some None (Some k) e in absurd (cc)
 if_in_range least most (Some t) k e = in_range least most t k (wrapped (number_in least most t) k e)
 
 both_given : (b : Bool) (o p : OptionsData) → (if b then None else Some o) ≡ Some p → o ≡ p
 both_given true o p e = absurd (cc)
-both_given false o p e = some_same o p e
+both_given false o p e = same_Some o p e
 
 -- what options say is within its range
 pub record AreIn (o : OptionsData) : Type 0 where

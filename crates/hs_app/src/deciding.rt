@@ -41,7 +41,8 @@ fn report_with(
 ) -> Result<Vec<u8>, OutOfMemory>
     requires problem { problem.now ≡ core.now.base.problem }
     requires entries { entries.now ≡ log_of core.now }
-    ensures { IfOk result (λ text. IsShown problem.now settings.table verdict.now (log_of core.now) removed text.items) }
+    ensures { IfOk result (λ text. IsShown problem.now settings.table verdict.now
+        (log_of core.now) removed text.items) }
 {
     if !settings.table {
         return report(alloc, problem, verdict, None, removed);
@@ -61,7 +62,8 @@ fn report_of(
     removed: Option<u64>,
 ) -> Result<Vec<u8>, OutOfMemory>
     requires problem { problem.now ≡ core.now.base.problem }
-    ensures { IfOk result (λ text. IsShown problem.now settings.table verdict.now (log_of core.now) removed text.items) }
+    ensures { IfOk result (λ text. IsShown problem.now settings.table verdict.now
+        (log_of core.now) removed text.items) }
 {
     if !settings.table {
         return report(alloc, problem, verdict, None, removed);
@@ -178,7 +180,11 @@ fn rejected(
 /// That the least table has more entries than are allowed.
 fn over(problem: &Problem, core: &Core, settings: Settings) -> Refusal
     requires sorted { IsSortedProblem problem.now }
-    requires shared { IsShared (record { problem = problem.now; budget = settings.entries; first = settings.first }) settings.workers core.now }
+    requires shared { IsShared (record {
+      problem = problem.now;
+      budget = settings.entries;
+      first = settings.first;
+    }) settings.workers core.now }
     requires answer { IsOverAnswer core.now }
     ensures { (removed : Option ℕ) → DecidesProblem settings problem.now removed (Err result) }
 {
@@ -196,7 +202,11 @@ fn first(
 ) -> Result<Decided, OutOfMemory>
     requires settings { AreWithin settings }
     requires sorted { IsSortedProblem problem.now }
-    requires shared { IsShared (record { problem = problem.now; budget = settings.entries; first = settings.first }) settings.workers core.now }
+    requires shared { IsShared (record {
+      problem = problem.now;
+      budget = settings.entries;
+      first = settings.first;
+    }) settings.workers core.now }
     requires answer { IsFirstAnswer core.now }
     ensures { IfOk result (λ decided. DecidesProblem settings problem.now removed (Ok decided)) }
 {
@@ -215,9 +225,14 @@ fn least(
     requires flow { HasClosedFlow problem.now }
     requires settings { AreWithin settings }
     requires sorted { IsSortedProblem problem.now }
-    requires shared { IsShared (record { problem = problem.now; budget = settings.entries; first = settings.first }) settings.workers core.now }
+    requires shared { IsShared (record {
+      problem = problem.now;
+      budget = settings.entries;
+      first = settings.first;
+    }) settings.workers core.now }
     requires answer { IsLeastAnswer core.now }
-    requires verdict { Accepts problem.now.sorted.scheme.rules problem.now.sorted.automaton.transitions ↔ (HasStart problem.now (log_of core.now) → ⊥) }
+    requires verdict { Accepts problem.now.sorted.scheme.rules problem.now.sorted.automaton.transitions
+        ↔ (HasStart problem.now (log_of core.now) → ⊥) }
     ensures { IfOk result (λ decided. DecidesProblem settings problem.now removed (Ok decided)) }
 {
     core.is_core();
@@ -238,7 +253,11 @@ fn of_done(
     requires flow { HasClosedFlow problem.now }
     requires settings { AreWithin settings }
     requires sorted { IsSortedProblem problem.now }
-    requires done { IsSharedDone (record { problem = problem.now; budget = settings.entries; first = settings.first }) settings.workers done.now }
+    requires done { IsSharedDone (record {
+      problem = problem.now;
+      budget = settings.entries;
+      first = settings.first;
+    }) settings.workers done.now }
     requires verdict { IsVerdict problem.now done.now }
     ensures { DecidesProblem settings problem.now removed result }
 {

@@ -10,5 +10,6 @@ ghost use Rattle.hs_app.specs.ReadAgain.{StandsFor};
 /// The canonical file of a resolved scheme is a file within the limits, but for those on its size
 /// and on its depth, and this file is resolved to the same scheme.
 pub fn canonical_file_is_read_again()
-    ensures { (raw : File) → IsRaw raw → IsFaultless raw → StandsFor (canonical (unsorted_of raw)) (unsorted_of raw) }
+    ensures { (raw : File) → IsRaw raw → IsFaultless raw
+        → StandsFor (canonical (unsorted_of raw)) (unsorted_of raw) }
 {}

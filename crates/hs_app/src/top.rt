@@ -28,9 +28,11 @@ const STANDARD_INPUT: &str = "-";
 /// Reads the file of this name.
 fn read<S: Source>(alloc: Global, name: &str, source: &mut S) -> Result<Vec<u8>, Refusal>
     ensures answer { MatchResult result
-        (λ bytes. outcome.IsReadWhole name.now (source_run S.file S.left S.reading S.faults source.old source.new) bytes.items)
+        (λ bytes. outcome.IsReadWhole name.now
+        (source_run S.file S.left S.reading S.faults source.old source.new) bytes.items)
         (outcome.IsReadFault name.now (source_run S.file S.left S.reading S.faults source.old source.new)) }
-    ensures calm { result ≢ Err Refusal.Source → outcome.IsCalm (source_run S.file S.left S.reading S.faults source.old source.new) }
+    ensures calm { result ≢ Err Refusal.Source
+        → outcome.IsCalm (source_run S.file S.left S.reading S.faults source.old source.new) }
     ensures keeps { outcome.KeepsSource (source_run S.file S.left S.reading S.faults source.old source.new) }
 {
     if source.start(name).is_err() {
@@ -56,8 +58,15 @@ fn verdict_on<R: Threads + Wait + Sync, S: Source, G: Gate + Sync>(
 ) -> Result<Decided, Refusal>
     requires settings { AreWithin settings }
     requires tallies { All (λ p. taken p ≡ 0) passes.old.items }
-    ensures answer { outcome.IsAnswerOfRun (Some (record { job = read_file name.now; asked = asked_of settings (map (λ p. image p) passes.old.items) })) (source_run S.file S.left S.reading S.faults source.old source.new) result }
-    ensures calm { result ≢ Err Refusal.Source → outcome.IsCalm (source_run S.file S.left S.reading S.faults source.old source.new) }
+    ensures answer { outcome.IsAnswerOfRun
+        (Some (record {
+          job = read_file name.now;
+          asked = asked_of settings
+              (map (λ p. image p) passes.old.items);
+        }))
+        (source_run S.file S.left S.reading S.faults source.old source.new) result }
+    ensures calm { result ≢ Err Refusal.Source
+        → outcome.IsCalm (source_run S.file S.left S.reading S.faults source.old source.new) }
     ensures keeps { outcome.KeepsSource (source_run S.file S.left S.reading S.faults source.old source.new) }
 {
     match read(alloc, name, source) {
@@ -111,10 +120,13 @@ fn answer<R: Threads + Wait + Sync, S: Source, G: Gate + Sync>(
     gate: &G,
 ) -> Result<Decided, Refusal>
     requires { All (λ p. taken p ≡ 0) passes.old.items }
-    ensures answer { outcome.IsAnswerOfRun (ordered (map (λ p. image p) passes.old.items) (texts words.now)) (source_run S.file S.left S.reading S.faults source.old source.new) result }
-    ensures calm { result ≢ Err Refusal.Source → outcome.IsCalm (source_run S.file S.left S.reading S.faults source.old source.new) }
+    ensures answer { outcome.IsAnswerOfRun (ordered (map (λ p. image p) passes.old.items) (texts words.now))
+        (source_run S.file S.left S.reading S.faults source.old source.new) result }
+    ensures calm { result ≢ Err Refusal.Source
+        → outcome.IsCalm (source_run S.file S.left S.reading S.faults source.old source.new) }
     ensures keeps { outcome.KeepsSource (source_run S.file S.left S.reading S.faults source.old source.new) }
-    ensures untouched { ordered (map (λ p. image p) passes.old.items) (texts words.now) ≡ None → source.new ≡ source.old }
+    ensures untouched { ordered (map (λ p. image p) passes.old.items) (texts words.now) ≡ None
+        → source.new ≡ source.old }
 {
     let options = match read_words(alloc, words) {
         Ok(options) => options,
@@ -185,12 +197,15 @@ fn end<R: Threads + Wait + Sync, S: Source, O: Sink, E: Sink, G: Gate + Sync>(
     gate: &G,
 ) -> Ending
     requires { All (λ p. taken p ≡ 0) passes.old.items }
-    ensures ends { outcome.Ends (ordered (map (λ p. image p) passes.old.items) (texts words.now)) (source_run S.file S.left S.reading S.faults source.old source.new)
+    ensures ends { outcome.Ends (ordered (map (λ p. image p) passes.old.items) (texts words.now))
+        (source_run S.file S.left S.reading S.faults source.old source.new)
         (sink_run O.writing O.faults out.old out.new) (sink_run E.writing E.faults err.old err.new) result }
-    ensures calm { result ≢ Ending.Refused Refusal.Source → outcome.IsCalm (source_run S.file S.left S.reading S.faults source.old source.new) }
+    ensures calm { result ≢ Ending.Refused Refusal.Source
+        → outcome.IsCalm (source_run S.file S.left S.reading S.faults source.old source.new) }
     ensures keeps { outcome.Keeps (source_run S.file S.left S.reading S.faults source.old source.new)
         (sink_run O.writing O.faults out.old out.new) (sink_run E.writing E.faults err.old err.new) }
-    ensures untouched { ordered (map (λ p. image p) passes.old.items) (texts words.now) ≡ None → source.new ≡ source.old }
+    ensures untouched { ordered (map (λ p. image p) passes.old.items) (texts words.now) ≡ None
+        → source.new ≡ source.old }
 {
     match answer(rt, alloc, words, source, passes, gate) {
         Ok(decided) => match write_all(out, decided.report.as_slice()) {
@@ -253,12 +268,14 @@ pub fn run<R: Threads + Wait + Sync, S: Source, O: Sink, E: Sink, G: Gate + Sync
     mut passes: Vec<Box<dyn Pass>>,
 ) -> u8
     requires { All (λ p. taken p ≡ 0) passes.items }
-    ensures rows { outcome.Rows (ordered (map (λ p. image p) passes.items) (texts words.now)) (source_run S.file S.left S.reading S.faults source.old source.new)
+    ensures rows { outcome.Rows (ordered (map (λ p. image p) passes.items) (texts words.now))
+        (source_run S.file S.left S.reading S.faults source.old source.new)
         (sink_run O.writing O.faults out.old out.new) (sink_run E.writing E.faults err.old err.new) result }
     ensures keeps { outcome.Keeps (source_run S.file S.left S.reading S.faults source.old source.new)
         (sink_run O.writing O.faults out.old out.new) (sink_run E.writing E.faults err.old err.new) }
     // Where the words are refused, nothing is started or read.
-    ensures untouched { ordered (map (λ p. image p) passes.items) (texts words.now) ≡ None → source.new ≡ source.old }
+    ensures untouched { ordered (map (λ p. image p) passes.items) (texts words.now) ≡ None
+        → source.new ≡ source.old }
 {
     exit_status(&end(rt, alloc, words, source, out, err, &mut passes, gate))
 }

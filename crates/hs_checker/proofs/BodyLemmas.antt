@@ -22,7 +22,7 @@ use Rattle.hs_table_plain.proofs.Members.{in_pushed, pairs_push}
 use Rattle.hs_table_plain.proofs.TableLemmas.{one_more as one_longer}
 use Rattle.hs_checker.specs.Any.{AnyOf}
 use Rattle.hs_checker.specs.Order.{index_cmp}
-use Rattle.hs_checker.specs.Slots.{Fits, Says, AreInShape, IsCountAt}
+use Rattle.hs_checker.specs.Slots.{FitsSets, Says, AreInShape, IsCountAt}
 use Rattle.hs_checker.proofs.IndexLemmas.{index_total, get_or-map, length-map}
 use Rattle.hs_checker.proofs.InstanceLemmas.{body_fits, sets_too_few, instance_exact, comes_follows, follows_comes}
 use Rattle.hs_checker.proofs.Steps.{any_step, one_more}
@@ -30,10 +30,10 @@ use Rattle.hs_checker.proofs.TypeLemmas.{or_same, or_nothing, body_types, any_pa
 
 -- the row says the type, and it fits
 abbrev pub SaysFitting : List EntryData → List ℕ → ℕ → Bor EntryData → TypeTree → Type 0
-SaysFitting E args b r t = Contains (body_type b r.now) t × Fits E args t
+SaysFitting E args b r t = Contains (body_type b r.now) t × FitsSets E args t
 
-pub says_type : (E : List EntryData) (args : List ℕ) (b : ℕ) (x : EntryData) (t : TypeTree) → x.point ≡ b → Says E args x → (t ≡ arrows x.env x.ty) ↔ (Contains (body_type b x) t × Fits E args t)
-says_type E args b x t point s = subst (λ (z : TypeTree). (t ≡ arrows x.env z) ↔ (Contains (body_type b x) t × Fits E args t)) (sym s.is_state) (body_fits E args b x s.q t point s.is_state s.fits)
+pub says_type : (E : List EntryData) (args : List ℕ) (b : ℕ) (x : EntryData) (t : TypeTree) → x.point ≡ b → Says E args x → (t ≡ arrows x.env x.ty) ↔ (Contains (body_type b x) t × FitsSets E args t)
+says_type E args b x t point s = subst (λ (z : TypeTree). (t ≡ arrows x.env z) ↔ (Contains (body_type b x) t × FitsSets E args t)) (sym s.is_state) (body_fits E args b x s.q t point s.is_state s.fits)
 
 pub enough_sets : (E : List EntryData) (args : List ℕ) (x : EntryData) → Says E args x → length args ≤ length x.env
 enough_sets E args x s = elim (cases_lt (length x.env) (length args)) [
@@ -97,9 +97,9 @@ module _ (E : List EntryData) (args : List ℕ) (b : ℕ) (rows : List (Bor Entr
 
 -- all that rows say and that fits is said by the entries
 pub said_by_rows : (E : List EntryData) (rows : List (Bor EntryData)) (args : List ℕ) (b : ℕ) → ((e : EntryData) → Contains (map (λ (r : Bor EntryData). r.now) rows) e ↔ (Contains E e × (e.point ≡ b)))
-    → (t : TypeTree) → AnyOf (SaysFitting E args b) rows t ↔ (Contains (flat_map (body_type b) E) t × Fits E args t)
+    → (t : TypeTree) → AnyOf (SaysFitting E args b) rows t ↔ (Contains (flat_map (body_type b) E) t × FitsSets E args t)
 said_by_rows E rows args b exact t =
-    let part = any_part (λ (r : Bor EntryData) (t : TypeTree). Contains (body_type b r.now) t) (λ (t : TypeTree). Fits E args t) rows t in
+    let part = any_part (λ (r : Bor EntryData) (t : TypeTree). Contains (body_type b r.now) t) (λ (t : TypeTree). FitsSets E args t) rows t in
     let says = body_types E rows b exact t in
     (λ a. let both = part.0 a in (says.0 both.0, both.1), λ both. part.1 (says.1 both.0, both.1))
 
@@ -138,8 +138,8 @@ module _ (p : ProblemData) (E : List EntryData) (shapes : AreInShape p E) (point
       some_same shape.of (get_or p.points.points r.now.point none) (sym shape.at ∙ slice_get-get_or p.points.points r.now.point none (within_from p.points.points r.now.point shape.of shape.at)) in
       shape.env.long ∙ (ap (λ (o : PointData). params_of p o.rule) same ∙ ap (λ n. params_of p (get_or p.points.points n none).rule) both.1)
 
-  types_said : (t : TypeTree) → AnyOf (SaysFitting E args b) rows t ↔ (Contains (head_types p E rule (Nt f)) t × Fits E args t)
-  types_said t = subst (λ (n : ℕ). AnyOf (SaysFitting E args b) rows t ↔ (Contains (flat_map (body_type n) E) t × Fits E args t)) body_is (said_by_rows E rows args b has t)
+  types_said : (t : TypeTree) → AnyOf (SaysFitting E args b) rows t ↔ (Contains (head_types p E rule (Nt f)) t × FitsSets E args t)
+  types_said t = subst (λ (n : ℕ). AnyOf (SaysFitting E args b) rows t ↔ (Contains (flat_map (body_type n) E) t × FitsSets E args t)) body_is (said_by_rows E rows args b has t)
 
   pub count_all : (n : ℕ) → CountedRows E args b rows n → IsCountAt p E point n
   count_all n c = record {

@@ -24,7 +24,7 @@ use Rattle.hs_verdict.specs.Premises.{HasClosedFlow}
 use Rattle.hs_checker.specs.declared.fault.CheckFault.{CheckFault}
 use Rattle.hs_checker.specs.declared.fault.CheckFault.TheVariants.{FlowOpen, HeadOpen, Missing, HasStart, OutOfMemory}
 use Rattle.hs_checker.specs.declared.flow.Kind.TheVariants.{Flow, Heads}
-use Rattle.hs_checker.specs.Gaps.{HoldsAll, IsFirst}
+use Rattle.hs_checker.specs.Gaps.{HoldsAll, IsFirstLacking}
 use Rattle.hs_checker.specs.Slots.{IsCountAt}
 use Rattle.hs_checker.specs.Checked.{IsCount, IsMissing, IsGap, IsFault, fault_of}
 
@@ -202,15 +202,15 @@ both_kinds : (p : ProblemData) → HoldsAll p Flow → HoldsAll p Heads → HasC
 both_kinds p flows heads (OfFlow f) d = flows (OfFlow f) tt d
 both_kinds p flows heads (OfHead h) d = heads (OfHead h) tt d
 
-pub no_gap : (p : ProblemData) (o : Option Pair) → ((pair : Pair) → o ≡ Some pair → ⊥) → MatchOption o (HoldsAll p Flow × HoldsAll p Heads) (IsFirst p) → HasClosedFlow p
+pub no_gap : (p : ProblemData) (o : Option Pair) → ((pair : Pair) → o ≡ Some pair → ⊥) → MatchOption o (HoldsAll p Flow × HoldsAll p Heads) (IsFirstLacking p) → HasClosedFlow p
 no_gap p None never h = both_kinds p h.0 h.1
 no_gap p (Some pair) never h = absurd (never pair refl)
 
-first_fault : (p : ProblemData) (T : List EntryData) (pair : Pair) → IsFirst p pair → IsFault p T (fault_of pair)
+first_fault : (p : ProblemData) (T : List EntryData) (pair : Pair) → IsFirstLacking p pair → IsFault p T (fault_of pair)
 first_fault p T (OfFlow f) h = h
 first_fault p T (OfHead h) both = both
 
-pub gap_fault : (p : ProblemData) (T : List EntryData) (o : Option Pair) (pair : Pair) (fault : CheckFault) → o ≡ Some pair → MatchOption o (HoldsAll p Flow × HoldsAll p Heads) (IsFirst p) → fault ≡ fault_of pair → IsFault p T fault
+pub gap_fault : (p : ProblemData) (T : List EntryData) (o : Option Pair) (pair : Pair) (fault : CheckFault) → o ≡ Some pair → MatchOption o (HoldsAll p Flow × HoldsAll p Heads) (IsFirstLacking p) → fault ≡ fault_of pair → IsFault p T fault
 gap_fault p T None pair fault is h same = absurd (cc)
 gap_fault p T (Some own) pair fault is h same =
     let e : own ≡ pair = cc in

@@ -16,7 +16,7 @@ use Rattle.hs_table.specs.Entries.{EntryData, entry_cmp, InShape}
 use Rattle.hs_table_laws.proofs.Orders.{type_cmp_total, type_same, entry_cmp_total, entry_same}
 use Rattle.hs_table_laws.proofs.Members.{from_map, into_map}
 use Rattle.hs_table_plain.proofs.Members.{in_pushed, next_member}
-use Rattle.hs_checker.specs.Order.{key_cmp, index_cmp, IsIndex}
+use Rattle.hs_checker.specs.Order.{key_cmp, index_cmp, IsInIndexOrder}
 use Rattle.hs_checker.proofs.GapLemmas.{nat_equal, nat_itself}
 
 pub index_total : IsTotalOrder index_cmp
@@ -54,12 +54,12 @@ length-map f [] = refl
 length-map f (x ∷ xs) = ap suc (length-map f xs)
 
 -- a list of references and what they refer to are in order together
-pub rows_sorted : (rows : List (Bor EntryData)) → IsIndex (map (λ (r : Bor EntryData). r.now) rows) → IsSortedBy (λ (a b : Bor EntryData). is_lt (index_cmp a.now b.now)) rows
+pub rows_sorted : (rows : List (Bor EntryData)) → IsInIndexOrder (map (λ (r : Bor EntryData). r.now) rows) → IsSortedBy (λ (a b : Bor EntryData). is_lt (index_cmp a.now b.now)) rows
 rows_sorted rows h k d low high =
     let f : Bor EntryData → EntryData = λ r. r.now in
     (λ i. is_lt (index_cmp (sym (get_or-map f rows (k + 1) d) i) (sym (get_or-map f rows k d) i))) ∙ h k d.now low (omega (arith, length-map f rows))
 
-pub index_sorted : (rows : List (Bor EntryData)) → IsSortedBy (λ (a b : Bor EntryData). is_lt (index_cmp a.now b.now)) rows → IsIndex (map (λ (r : Bor EntryData). r.now) rows)
+pub index_sorted : (rows : List (Bor EntryData)) → IsSortedBy (λ (a b : Bor EntryData). is_lt (index_cmp a.now b.now)) rows → IsInIndexOrder (map (λ (r : Bor EntryData). r.now) rows)
 index_sorted [] h k d low high = absurd (omega arith)
 index_sorted (r ∷ rs) h k d low high =
     let f : Bor EntryData → EntryData = λ x. x.now in
@@ -75,7 +75,7 @@ pair_cmp a b = ordering_then (nat_cmp a.0 b.0) (type_cmp a.1 b.1)
 pair_total : IsTotalOrder pair_cmp
 pair_total = then_total (on_total (λ (a : ℕ × TypeTree). a.0) nat_cmp_total) (on_total (λ (a : ℕ × TypeTree). a.1) type_cmp_total)
 
-module _ (rows : List (Bor EntryData)) (up : IsIndex (map (λ (r : Bor EntryData). r.now) rows)) where
+module _ (rows : List (Bor EntryData)) (up : IsInIndexOrder (map (λ (r : Bor EntryData). r.now) rows)) where
   pub points_up : (t : ℕ) → IsNonDecreasingBy (λ (r : Bor EntryData). ordering_index (nat_cmp r.now.point t)) rows
   points_up t = searchable_from_sorted nat_cmp_total (λ (r : Bor EntryData). r.now.point) rows t (λ k d low high.
       let a = (get_or rows (k + 1) d).now in

@@ -23,7 +23,7 @@ use Rattle.hs_table_plain.proofs.ChoiceLemmas.{choose_all, through_arrows, split
 use Rattle.hs_table_plain.proofs.HeadLemmas.{from_heads, into_heads}
 use Rattle.hs_table_plain.proofs.ConclusionLemmas.{all_at_exact}
 use Rattle.hs_table_plain.proofs.TableLemmas.{below_or_last}
-use Rattle.hs_checker.specs.Slots.{HasTypeAt, HasTypesAt, Fits, AreBare, Moves, AreInShape, IsConclusion}
+use Rattle.hs_checker.specs.Slots.{HasTypeAt, HasTypesAt, FitsSets, AreBare, HasMove, AreInShape, IsConclusion}
 
 module _ (p : ProblemData) (E : List EntryData) (shapes : AreInShape p E) where
   pub record Choice (i : ℕ) (us : List ℕ) (ty : TypeTree) : Type 0 where
@@ -43,7 +43,7 @@ module _ (p : ProblemData) (E : List EntryData) (shapes : AreInShape p E) where
       let place = at_place p E shapes own.entry own.there in
       ((i, place.0) ∷ rest.0, (own.entry ∷ rest.1.0, choose place.1 own.at own.typed rest.1.1))
 
-  pub fits_choice : (i : ℕ) (us : List ℕ) (ty : TypeTree) → Fits E us ty → Choice i us ty
+  pub fits_choice : (i : ℕ) (us : List ℕ) (ty : TypeTree) → FitsSets E us ty → Choice i us ty
   fits_choice i [] ty h = record { sets = []; rest = ty; is = refl; args = []; chosen = []; are = done }
   fits_choice i (u ∷ us) (node (Some q) ts) h = absurd h
   fits_choice i (u ∷ us) (node None none) h = absurd h
@@ -59,7 +59,7 @@ module _ (p : ProblemData) (E : List EntryData) (shapes : AreInShape p E) where
         are = all.1.1;
       }
 
-  pub choice_fits : {i : ℕ} {us : List ℕ} {ss : Env} {args : List (ℕ × ℕ)} {es : List EntryData} (t : TypeTree) → Chosen p E i us ss args es → Fits E us (arrows ss t)
+  pub choice_fits : {i : ℕ} {us : List ℕ} {ss : Env} {args : List (ℕ × ℕ)} {es : List EntryData} (t : TypeTree) → Chosen p E i us ss args es → FitsSets E us (arrows ss t)
   choice_fits t done = tt
   choice_fits t (next_argument {us = us} {ss = ss} h) = (λ a c. absurd (none_in a c), choice_fits t h)
   choice_fits t (choose {u = u} {place = place} {a = a} {s = s} {e = e} at point ty h) =
@@ -73,20 +73,20 @@ module _ (p : ProblemData) (E : List EntryData) (shapes : AreInShape p E) where
       )
 
   -- where something comes through, the type fits
-  pub through_fits : (us : List ℕ) (ty : TypeTree) (es : List EntryData) (y : EntryData) → Contains (through E us ty es) y → Fits E us ty
+  pub through_fits : (us : List ℕ) (ty : TypeTree) (es : List EntryData) (y : EntryData) → Contains (through E us ty es) y → FitsSets E us ty
   through_fits us ty es y c =
       let split = split_from E us ty es y c in
       let gives = subst (λ x. Contains x y) (ap (λ x. through E us x es) split.is ∙ through_arrows E us split.sets split.rest es split.long) c in
       let image = from_map (retyped split.rest) (choose_all E us split.sets es) y gives in
       let found = from_all p E shapes us split.sets es image.item split.long image.there in
-      subst (λ z. Fits E us z) (sym split.is) (choice_fits split.rest (found.are 0).1)
+      subst (λ z. FitsSets E us z) (sym split.is) (choice_fits split.rest (found.are 0).1)
 
   module _ (point rule : ℕ) (head : Head) (args : List ℕ) (lt : point < length p.points.points)
       (rule_is : rule ≡ (point_at p.points point).rule) (head_is : head ≡ (point_at p.points point).head) (args_is : args ≡ (point_at p.points point).args) (within : NonterminalWithin (length p.points.bodies) head) where
     at : slice_get p.points.points point ≡ Some (point_at p.points point)
     at = slice_get-get_or p.points.points point (record { rule = 0; head = Tm 0; args = [] }) lt
 
-    to_instance : (t : TypeTree) → Contains (head_types p E rule head) t → Fits E args t → IsInstance p E point t
+    to_instance : (t : TypeTree) → Contains (head_types p E rule head) t → FitsSets E args t → IsInstance p E point t
     to_instance t c h =
         let by = from_heads p E shapes rule head t within c in
         let choice = fits_choice 0 args t h in
@@ -103,19 +103,19 @@ module _ (p : ProblemData) (E : List EntryData) (shapes : AreInShape p E) where
           are = subst (λ (us : List ℕ). Chosen p E 0 us choice.sets choice.args choice.chosen) args_is choice.are;
         }
 
-    from_instance : (t : TypeTree) → IsInstance p E point t → Contains (head_types p E rule head) t × Fits E args t
+    from_instance : (t : TypeTree) → IsInstance p E point t → Contains (head_types p E rule head) t × FitsSets E args t
     from_instance t h =
         let same : h.of ≡ point_at p.points point = some_same h.of (point_at p.points point) (sym h.at ∙ at) in
         let typed = into_heads p E shapes h.of.rule h.of.head h.by t h.head in
-        let fits = subst (λ z. Fits E h.of.args z) (sym h.is) (choice_fits h.rest h.are) in
+        let fits = subst (λ z. FitsSets E h.of.args z) (sym h.is) (choice_fits h.rest h.are) in
         let rules_same : h.of.rule ≡ rule = ap (λ (d : PointData). d.rule) same ∙ sym rule_is in
         let heads_same : h.of.head ≡ head = ap (λ (d : PointData). d.head) same ∙ sym head_is in
         let args_same : h.of.args ≡ args = ap (λ (d : PointData). d.args) same ∙ sym args_is in (
           subst (λ (x : Head). Contains (head_types p E rule x) t) heads_same (subst (λ (r : ℕ). Contains (head_types p E r h.of.head) t) rules_same typed),
-          subst (λ (us : List ℕ). Fits E us t) args_same fits,
+          subst (λ (us : List ℕ). FitsSets E us t) args_same fits,
         )
 
-    pub instance_exact : (t : TypeTree) → (Contains (head_types p E rule head) t × Fits E args t) ↔ IsInstance p E point t
+    pub instance_exact : (t : TypeTree) → (Contains (head_types p E rule head) t × FitsSets E args t) ↔ IsInstance p E point t
     instance_exact t = (λ both. to_instance t both.0 both.1, from_instance t)
 
     part : {A : Type 0} (f : PointData → A) (r : A) → r ≡ f (point_at p.points point) → option_map f (slice_get p.points.points point) ≡ Some r
@@ -131,7 +131,7 @@ module _ (p : ProblemData) (E : List EntryData) (shapes : AreInShape p E) where
         (subst (λ (m : ℕ). Contains (through E args ty (opening point m head ty ∷ [])) e) are k))).1
 
     pub follows_comes : (params : ℕ) (e : EntryData) → params ≡ params_of p rule → e.point ≡ point → Follows p E e
-        → (ty : TypeTree) × ((Contains (head_types p E rule head) ty × Fits E args ty) × Contains (through E args ty (opening point params head ty ∷ [])) e)
+        → (ty : TypeTree) × ((Contains (head_types p E rule head) ty × FitsSets E args ty) × Contains (through E args ty (opening point params head ty ∷ [])) e)
     follows_comes params e are at_point follows =
         let s = from_flat_map (λ ty. through E args ty (opening point (params_of p rule) head ty ∷ [])) (head_types p E rule head) e ((all_exact e).1 (at_point, follows)) in (
           s.item,
@@ -165,13 +165,13 @@ types_at_more E u set k a lt read before own b c = elim ((next_member set k a b 
 ]
 
 -- an arrow fits where its set has entries, and its result fits
-pub fits_arrow : (E : List EntryData) (us : List ℕ) (u : ℕ) (set : List TypeTree) (t ty : TypeTree) → slice_get us 0 ≡ Some u → ty ≡ arrow set t → (HasTypesAt E u set × Fits E (drop 1 us) t) ↔ Fits E us ty
+pub fits_arrow : (E : List EntryData) (us : List ℕ) (u : ℕ) (set : List TypeTree) (t ty : TypeTree) → slice_get us 0 ≡ Some u → ty ≡ arrow set t → (HasTypesAt E u set × FitsSets E (drop 1 us) t) ↔ FitsSets E us ty
 fits_arrow E [] u set t ty at is = absurd (cc)
 fits_arrow E (v ∷ us) u set t ty at is =
     let same : v ≡ u = some_same v u at in
     let kids = children-forest set in (
-      λ both. subst (λ z. Fits E (v ∷ us) z) (sym is) (subst (λ (s : List TypeTree). HasTypesAt E v s) (sym kids) (subst (λ w. HasTypesAt E w set) (sym same) both.0), both.1),
-      λ h. let g = subst (λ z. Fits E (v ∷ us) z) is h in (subst (λ w. HasTypesAt E w set) same (subst (λ (s : List TypeTree). HasTypesAt E v s) kids g.0), g.1),
+      λ both. subst (λ z. FitsSets E (v ∷ us) z) (sym is) (subst (λ (s : List TypeTree). HasTypesAt E v s) (sym kids) (subst (λ w. HasTypesAt E w set) (sym same) both.0), both.1),
+      λ h. let g = subst (λ z. FitsSets E (v ∷ us) z) is h in (subst (λ w. HasTypesAt E w set) same (subst (λ (s : List TypeTree). HasTypesAt E v s) kids g.0), g.1),
     )
 
 -- cases of a search that may find nothing
@@ -198,7 +198,7 @@ conclusion_more E point params head args types k ty lt read before own e h = eli
 ]
 
 -- each set has entries at its argument
-pub fits_set : (E : List EntryData) (us : List ℕ) (ss : Env) (t : TypeTree) (k u : ℕ) → slice_get us k ≡ Some u → k < length ss → Fits E us (arrows ss t) → HasTypesAt E u (get_or ss k [])
+pub fits_set : (E : List EntryData) (us : List ℕ) (ss : Env) (t : TypeTree) (k u : ℕ) → slice_get us k ≡ Some u → k < length ss → FitsSets E us (arrows ss t) → HasTypesAt E u (get_or ss k [])
 fits_set E [] ss t zero u read lt h = absurd (cc)
 fits_set E [] ss t (suc k) u read lt h = absurd (cc)
 fits_set E (v ∷ us) [] t k u read lt h = absurd (omega arith)
@@ -206,7 +206,7 @@ fits_set E (v ∷ us) (s ∷ ss) t zero u read lt h = ((fits_arrow E (v ∷ us) 
 fits_set E (v ∷ us) (s ∷ ss) t (suc k) u read lt h = fits_set E us ss t k u read (omega arith) h.1
 
 -- so a child's type fits only where an entry at its argument has the child's state
-pub unfit_child : (E : List EntryData) (us qs : List ℕ) (q place u : ℕ) → place < length qs → slice_get us place ≡ Some u → (HasTypeAt E u (state (slice_index qs place)) → ⊥) → Fits E us (child_type qs q place) → ⊥
+pub unfit_child : (E : List EntryData) (us qs : List ℕ) (q place u : ℕ) → place < length qs → slice_get us place ≡ Some u → (HasTypeAt E u (state (slice_index qs place)) → ⊥) → FitsSets E us (child_type qs q place) → ⊥
 unfit_child E us qs q place u lt read never h =
     let r = state (slice_index qs place) in
     let empty : List TypeTree = [] in
@@ -220,7 +220,7 @@ unfit_child E us qs q place u lt read never h =
 abbrev pub SetsHave : List EntryData → List ℕ → Env → ℕ → Type 0
 SetsHave E us ss n = (k u : ℕ) → k < n → slice_get us k ≡ Some u → HasTypesAt E u (get_or ss k [])
 
-pub sets_fit : (E : List EntryData) (us : List ℕ) (ss : Env) (q : ℕ) → length us ≤ length ss → SetsHave E us ss (length us) → Fits E us (arrows ss (state q))
+pub sets_fit : (E : List EntryData) (us : List ℕ) (ss : Env) (q : ℕ) → length us ≤ length ss → SetsHave E us ss (length us) → FitsSets E us (arrows ss (state q))
 sets_fit E [] ss q le h = tt
 sets_fit E (u ∷ us) [] q le h = absurd (omega arith)
 sets_fit E (u ∷ us) (s ∷ ss) q le h =
@@ -236,14 +236,14 @@ sets_more E us ss k lt before own n u low at = elim (below_or_last n k low) [
       subst (λ w. HasTypesAt E w (get_or ss n [])) is (subst (λ m. HasTypesAt E (get_or us k 0) (get_or ss m [])) (sym same) own)
 ]
 
-pub sets_too_few : (E : List EntryData) (us : List ℕ) (ss : Env) (q : ℕ) → length ss < length us → Fits E us (arrows ss (state q)) → ⊥
+pub sets_too_few : (E : List EntryData) (us : List ℕ) (ss : Env) (q : ℕ) → length ss < length us → FitsSets E us (arrows ss (state q)) → ⊥
 sets_too_few E [] ss q lt h = absurd (omega arith)
 sets_too_few E (u ∷ us) [] q lt h = h
 sets_too_few E (u ∷ us) (s ∷ ss) q lt h = sets_too_few E us ss q (omega arith) ((fits_arrow E (u ∷ us) u s (arrows ss (state q)) (arrow s (arrows ss (state q))) refl refl).1 h).1
 
 -- what an entry at the body says, where its sets have entries
-pub body_fits : (E : List EntryData) (args : List ℕ) (b : ℕ) (x : EntryData) (q : ℕ) (t : TypeTree) → x.point ≡ b → x.ty ≡ state q → Fits E args (arrows x.env (state q)) → (t ≡ arrows x.env (state q)) ↔ (Contains (body_type b x) t × Fits E args t)
-body_fits E args b x q t point is fits = let says = body_says b x q t point is in (λ e. (says.0 e, subst (λ z. Fits E args z) (sym e) fits), λ both. says.1 both.0)
+pub body_fits : (E : List EntryData) (args : List ℕ) (b : ℕ) (x : EntryData) (q : ℕ) (t : TypeTree) → x.point ≡ b → x.ty ≡ state q → FitsSets E args (arrows x.env (state q)) → (t ≡ arrows x.env (state q)) ↔ (Contains (body_type b x) t × FitsSets E args t)
+body_fits E args b x q t point is fits = let says = body_says b x q t point is in (λ e. (says.0 e, subst (λ z. FitsSets E args z) (sym e) fits), λ both. says.1 both.0)
 
 child_place : (to : List ℕ) (q n : ℕ) (t : TypeTree) → Contains (child_types to q n) t → (k : ℕ) × ((k < n) × (t ≡ child_type to q k))
 child_place to q zero t c = absurd (none_in t c)
@@ -253,16 +253,16 @@ child_place to q (suc n) t c = elim ((in_pushed (child_types to q n) (child_type
 ]
 
 -- over arguments without entries no child's type fits
-pub bare_unfit : (E : List EntryData) (us to : List ℕ) (q : ℕ) (t : TypeTree) → AreBare E us → length to ≤ length us → Contains (child_types to q (length to)) t → Fits E us t → ⊥
+pub bare_unfit : (E : List EntryData) (us to : List ℕ) (q : ℕ) (t : TypeTree) → AreBare E us → length to ≤ length us → Contains (child_types to q (length to)) t → FitsSets E us t → ⊥
 bare_unfit E us to q t bare le c fits =
     let r = child_place to q (length to) t c in
     let lt : r.0 < length us = omega (arith, r.1.0) in
     let u = get_or us r.0 0 in
-    unfit_child E us to q r.0 u r.1.0 (slice_get-get_or us r.0 0 lt) (bare u (state (slice_index to r.0)) (Contains-get_or us r.0 0 lt)) (subst (λ z. Fits E us z) r.1.1 fits)
+    unfit_child E us to q r.0 u r.1.0 (slice_get-get_or us r.0 0 lt) (bare u (state (slice_index to r.0)) (Contains-get_or us r.0 0 lt)) (subst (λ z. FitsSets E us z) r.1.1 fits)
 
 -- so nothing comes of a state that has a transition for no more children than there are arguments
-pub barren_unfit : (p : ProblemData) (E : List EntryData) (us : List ℕ) (a q : ℕ) (t : TypeTree) → AreBare E us → Moves p.sorted.automaton.transitions a (length us) q
-    → Contains (types_in p a q (next p.sorted.automaton.transitions q a)) t × Fits E us t → ⊥
+pub barren_unfit : (p : ProblemData) (E : List EntryData) (us : List ℕ) (a q : ℕ) (t : TypeTree) → AreBare E us → HasMove p.sorted.automaton.transitions a (length us) q
+    → Contains (types_in p a q (next p.sorted.automaton.transitions q a)) t × FitsSets E us t → ⊥
 barren_unfit p E us a q t bare moves both =
     bare_unfit E us moves.0 q t bare moves.1.1 (subst (λ (o : Option (List ℕ)). Contains (types_in p a q o) t) moves.1.0 both.0) both.1
 
@@ -273,14 +273,14 @@ bare_more E us k u lt read before own v a c has = elim ((next_member us k u v lt
 ]
 
 -- those so far that fit, and one more
-pub fitting_pushed : (E : List EntryData) (args : List ℕ) (olds found news : List TypeTree) (a : TypeTree) → news ≡ found ++ a ∷ [] → Fits E args a → ((t : TypeTree) → Contains found t ↔ (Contains olds t × Fits E args t))
-    → (t : TypeTree) → Contains news t ↔ (Contains (olds ++ a ∷ []) t × Fits E args t)
+pub fitting_pushed : (E : List EntryData) (args : List ℕ) (olds found news : List TypeTree) (a : TypeTree) → news ≡ found ++ a ∷ [] → FitsSets E args a → ((t : TypeTree) → Contains found t ↔ (Contains olds t × FitsSets E args t))
+    → (t : TypeTree) → Contains news t ↔ (Contains (olds ++ a ∷ []) t × FitsSets E args t)
 fitting_pushed E args olds found news a made fits before t =
     let pushed = pushed_is found news a t made in
     let member = in_pushed olds a t in (
       λ c. elim (pushed.0 c) [
         | inl old ↦ let b = (before t).0 old in (member.1 (inl b.0), b.1)
-        | inr same ↦ (member.1 (inr same), subst (λ z. Fits E args z) (sym same) fits)
+        | inr same ↦ (member.1 (inr same), subst (λ z. FitsSets E args z) (sym same) fits)
       ],
       λ both. pushed.1 (elim (member.0 both.0) [
         | inl there ↦ inl ((before t).1 (there, both.1))
@@ -288,13 +288,13 @@ fitting_pushed E args olds found news a made fits before t =
       ]),
     )
 
-pub fitting_passed : (E : List EntryData) (args : List ℕ) (olds found : List TypeTree) (a : TypeTree) → (Fits E args a → ⊥) → ((t : TypeTree) → Contains found t ↔ (Contains olds t × Fits E args t))
-    → (t : TypeTree) → Contains found t ↔ (Contains (olds ++ a ∷ []) t × Fits E args t)
+pub fitting_passed : (E : List EntryData) (args : List ℕ) (olds found : List TypeTree) (a : TypeTree) → (FitsSets E args a → ⊥) → ((t : TypeTree) → Contains found t ↔ (Contains olds t × FitsSets E args t))
+    → (t : TypeTree) → Contains found t ↔ (Contains (olds ++ a ∷ []) t × FitsSets E args t)
 fitting_passed E args olds found a unfit before t =
     let member = in_pushed olds a t in (
       λ c. let b = (before t).0 c in (member.1 (inl b.0), b.1),
       λ both. elim (member.0 both.0) [
         | inl there ↦ (before t).1 (there, both.1)
-        | inr same ↦ absurd (unfit (subst (λ z. Fits E args z) same both.1))
+        | inr same ↦ absurd (unfit (subst (λ z. FitsSets E args z) same both.1))
       ],
     )

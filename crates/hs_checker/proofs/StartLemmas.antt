@@ -13,7 +13,7 @@ use Rattle.std.proofs.lemmas.List.{get_or-take, get_or-drop, length-drop, length
 use Rattle.hs_scheme.specs.Flow.{IsAscending}
 use Rattle.hs_table.specs.Entries.{EntryData}
 use Rattle.hs_table_laws.proofs.Places.{none_in}
-use Rattle.hs_checker.specs.Order.{IsIndex, IsStart, AreStarts, IsStartBy, AreStartsBy, index_cmp}
+use Rattle.hs_checker.specs.Order.{IsInIndexOrder, IsStartOfPoint, AreStartsOfPoints, IsStartBy, AreStartsBy, index_cmp}
 use Rattle.hs_checker.proofs.Between.{equal_of}
 use Rattle.hs_checker.proofs.IndexLemmas.{get_or-map, length-map}
 
@@ -35,7 +35,7 @@ read_row rows k d r lt =
     let f : Bor EntryData → EntryData = λ x. x.now in
     get_or_default (entries rows) k d r.now (omega (arith, length-map f rows)) ∙ get_or-map f rows k r
 
-pub start_of : (rows : List (Bor EntryData)) (t n : ℕ) → IsPartitionPoint (λ (y : Bor EntryData). is_lt (nat_cmp y.now.point t) ≡ true) (λ (y : Bor EntryData). is_lt (nat_cmp y.now.point t) ≡ false) rows n → n ≤ length rows → IsStart (entries rows) t n
+pub start_of : (rows : List (Bor EntryData)) (t n : ℕ) → IsPartitionPoint (λ (y : Bor EntryData). is_lt (nat_cmp y.now.point t) ≡ true) (λ (y : Bor EntryData). is_lt (nat_cmp y.now.point t) ≡ false) rows n → n ≤ length rows → IsStartOfPoint (entries rows) t n
 start_of [] t n point within = record { within = within; before = λ k d lt. absurd (omega arith); behind = λ k d le lt. absurd (omega arith) }
 start_of (r ∷ rs) t n point within =
     let rows = r ∷ rs in
@@ -117,7 +117,7 @@ module _ {X : Type 0} (at : X → ℕ) where
     part_exact = between_starts xs p (get_or starts p 0) (get_or starts (p + 1) 0) (are.each p 0 (omega arith)) (are.each (p + 1) 0 within)
 
 -- the entries of a point, by the starts of an index
-module _ (rows : List (Bor EntryData)) (starts : List ℕ) (p : ℕ) (are : AreStarts (entries rows) starts) (within : p + 1 < length starts) where
+module _ (rows : List (Bor EntryData)) (starts : List ℕ) (p : ℕ) (are : AreStartsOfPoints (entries rows) starts) (within : p + 1 < length starts) where
   pub part_up : get_or starts p 0 ≤ get_or starts (p + 1) 0
   part_up = part_rises (λ (e : EntryData). e.point) (entries rows) starts p are within
 
@@ -134,12 +134,12 @@ none_of [] e c = none_in e c
 none_of (r ∷ rows) e c = none_in e c
 
 -- a part of an index is one
-pub index_part : (rows : List (Bor EntryData)) (n k : ℕ) → IsIndex (entries rows) → IsIndex (entries (take k (drop n rows)))
+pub index_part : (rows : List (Bor EntryData)) (n k : ℕ) → IsInIndexOrder (entries rows) → IsInIndexOrder (entries (take k (drop n rows)))
 index_part rows n k up =
     let f : Bor EntryData → EntryData = λ x. x.now in
-    subst (λ es. IsIndex es) (ap (take k) (drop-map f n rows) ∙ take-map f k (drop n rows)) (part (entries rows) up)
+    subst (λ es. IsInIndexOrder es) (ap (take k) (drop-map f n rows) ∙ take-map f k (drop n rows)) (part (entries rows) up)
   where
-    part : (es : List EntryData) → IsIndex es → IsIndex (take k (drop n es))
+    part : (es : List EntryData) → IsInIndexOrder es → IsInIndexOrder (take k (drop n es))
     part es up i d low high =
         let short : i + 1 < k = omega (arith, length-take k (drop n es), high) in
         let within : n + i + 1 < length es = omega (arith, length-take k (drop n es), length-drop n es, high) in

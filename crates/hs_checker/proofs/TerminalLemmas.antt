@@ -4,10 +4,10 @@ use Rattle.std.proofs.lemmas.Bool.{eq-eqb, and_from}
 use Rattle.hs_scheme.specs.Transition.{TransitionData}
 use Rattle.hs_scheme.specs.Automaton.{is_of, IsDeterministic}
 use Rattle.hs_scheme.proofs.Index.{find-only, is_of-true}
-use Rattle.hs_checker.specs.Slots.{Moves}
+use Rattle.hs_checker.specs.Slots.{HasMove}
 
 -- the transition at a place is the only one of its state and terminal
-pub moves_at : (ts : List TransitionData) (a n i q : ℕ) (t : TransitionData) → IsDeterministic ts → slice_get ts i ≡ Some t → t.terminal ≡ a → t.from ≡ q → length t.to ≤ n → Moves ts a n q
+pub moves_at : (ts : List TransitionData) (a n i q : ℕ) (t : TransitionData) → IsDeterministic ts → slice_get ts i ≡ Some t → t.terminal ≡ a → t.from ≡ q → length t.to ≤ n → HasMove ts a n q
 moves_at ts a n i q t det at terminal from le = (
   t.to,
   (

@@ -31,6 +31,6 @@ abbrev pub HoldsAll : ProblemData → Kind → Type 0
 HoldsAll p kind = (pair : Pair) → IsOfKind kind pair → IsDemanded p pair → Contains (held p) pair
 
 -- the first pair that is lacking: a head pair only where no flow pair is
-abbrev pub IsFirst : ProblemData → Pair → Type 0
-IsFirst p (OfFlow f) = Lacks p (OfFlow f)
-IsFirst p (OfHead h) = HoldsAll p Flow × Lacks p (OfHead h)
+abbrev pub IsFirstLacking : ProblemData → Pair → Type 0
+IsFirstLacking p (OfFlow f) = Lacks p (OfFlow f)
+IsFirstLacking p (OfHead h) = HoldsAll p Flow × Lacks p (OfHead h)

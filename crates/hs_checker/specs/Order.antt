@@ -14,8 +14,8 @@ key_cmp point ty e = ordering_then (nat_cmp e.point point) (type_cmp e.ty ty)
 abbrev pub index_cmp : EntryData → EntryData → Ordering
 index_cmp a b = ordering_then (key_cmp b.point b.ty a) (entry_cmp a b)
 
-abbrev pub IsIndex : List EntryData → Type 0
-IsIndex xs = IsSorted index_cmp xs
+abbrev pub IsInIndexOrder : List EntryData → Type 0
+IsInIndexOrder xs = IsSorted index_cmp xs
 
 -- the first n items are of lesser points, and no others
 pub record IsStartBy {X : Type 0} (at : X → ℕ) (xs : List X) (point n : ℕ) : Type 0 where
@@ -28,11 +28,11 @@ pub record AreStartsBy {X : Type 0} (at : X → ℕ) (xs : List X) (starts : Lis
   pub each : (point d : ℕ) → point < length starts → IsStartBy at xs point (slice_index_or starts point d)
   pub within : (x : X) → Contains xs x → at x + 1 < length starts
 
-abbrev pub IsStart : List EntryData → ℕ → ℕ → Type 0
-IsStart es point n = IsStartBy (λ (e : EntryData). e.point) es point n
+abbrev pub IsStartOfPoint : List EntryData → ℕ → ℕ → Type 0
+IsStartOfPoint es point n = IsStartBy (λ (e : EntryData). e.point) es point n
 
-abbrev pub AreStarts : List EntryData → List ℕ → Type 0
-AreStarts es starts = AreStartsBy (λ (e : EntryData). e.point) es starts
+abbrev pub AreStartsOfPoints : List EntryData → List ℕ → Type 0
+AreStartsOfPoints es starts = AreStartsBy (λ (e : EntryData). e.point) es starts
 
 abbrev pub AreHeadStarts : List HeadPair → List ℕ → Type 0
 AreHeadStarts heads starts = AreStartsBy (λ (h : HeadPair). h.point) heads starts

@@ -1,6 +1,6 @@
 -- Types that have entries; only private contracts cite it.
 --     HasTypeAt E u a     an entry at the point has the type
---     Fits E us ty        each type of the sets has an entry at its argument
+--     FitsSets E us ty    each type of the sets has an entry at its argument
 --     AreBare E us        no argument has an entry
 --     Says E us e         the entry's type is a state, and the type that it says of its nonterminal fits
 --     IsCountAt p E u n   n is the number of instances at the point
@@ -24,23 +24,23 @@ pub record HasTypeAt (E : List EntryData) (point : ℕ) (ty : TypeTree) : Type 0
 abbrev pub HasTypesAt : List EntryData → ℕ → List TypeTree → Type 0
 HasTypesAt E u s = (a : TypeTree) → Contains s a → HasTypeAt E u a
 
-abbrev pub Fits : List EntryData → List ℕ → TypeTree → Type 0
-Fits E [] ty = Unit {0}
-Fits E (u ∷ us) (node (Some q) ts) = ⊥
-Fits E (u ∷ us) (node None none) = ⊥
-Fits E (u ∷ us) (node None (more t ts)) = HasTypesAt E u (children ts) × Fits E us t
+abbrev pub FitsSets : List EntryData → List ℕ → TypeTree → Type 0
+FitsSets E [] ty = Unit {0}
+FitsSets E (u ∷ us) (node (Some q) ts) = ⊥
+FitsSets E (u ∷ us) (node None none) = ⊥
+FitsSets E (u ∷ us) (node None (more t ts)) = HasTypesAt E u (children ts) × FitsSets E us t
 
 abbrev pub AreBare : List EntryData → List ℕ → Type 0
 AreBare E us = (u : ℕ) (a : TypeTree) → Contains us u → HasTypeAt E u a → ⊥
 
 -- in state q the terminal a has a transition, with at most n children
-abbrev pub Moves : List TransitionData → ℕ → ℕ → ℕ → Type 0
-Moves ts a n q = (to : List ℕ) × ((next ts q a ≡ Some to) × (length to ≤ n))
+abbrev pub HasMove : List TransitionData → ℕ → ℕ → ℕ → Type 0
+HasMove ts a n q = (to : List ℕ) × ((next ts q a ≡ Some to) × (length to ≤ n))
 
 pub record Says (E : List EntryData) (us : List ℕ) (e : EntryData) : Type 0 where
   pub q : ℕ
   pub is_state : e.ty ≡ state q
-  pub fits : Fits E us (arrows e.env (state q))
+  pub fits : FitsSets E us (arrows e.env (state q))
 
 abbrev pub AreInShape : ProblemData → List EntryData → Type 0
 AreInShape p E = (e : EntryData) → Contains E e → InShape p e

@@ -10,7 +10,7 @@ ghost use Rattle.hs_table.specs.Entries.{EntryData};
 ghost use Rattle.hs_table.specs.Follows.{Follows};
 ghost use Rattle.hs_table_plain.specs.Enumeration as plain;
 ghost use Rattle.hs_checker.specs.Checked.{IsGap};
-ghost use Rattle.hs_checker.specs.Slots.{Says, Fits, AreInShape, IsCountAt};
+ghost use Rattle.hs_checker.specs.Slots.{Says, FitsSets, AreInShape, IsCountAt};
 
 use crate::fault::CheckFault;
 use crate::index::Index;
@@ -26,7 +26,8 @@ use std::alloc::Global;
 /// type of its nonterminal that fits there.
 fn says(index: &Index, args: &[u32], entry: &Entry) -> bool
     ensures said { IsTrue result → Says index.now args.now entry.now }
-    ensures none { (body : ℕ) (t : TypeTree) → Contains (plain.body_type body entry.now) t → Fits index.now args.now t → IsTrue result }
+    ensures none { (body : ℕ) (t : TypeTree) → Contains (plain.body_type body entry.now) t
+        → FitsSets index.now args.now t → IsTrue result }
 {
     match &entry.ty.shape {
         Shape::State(_q) => sets_fit(index, args, entry.env.as_slice()),
@@ -46,8 +47,13 @@ fn missing_by_body(
 ) -> Result<Option<Entry>, OutOfMemory>
     requires { Says index.now args.now entry.now }
     ensures { (f : ℕ) → IfOk result (λ found. MatchOption found
-        ((e : EntryData) → Contains (plain.through index.now args.now (types.arrows entry.now.env entry.now.ty) (plain.opening point params (Nt f) (types.arrows entry.now.env entry.now.ty) ∷ [])) e → Contains index.now e)
-        (λ e. Contains (plain.through index.now args.now (types.arrows entry.now.env entry.now.ty) (plain.opening point params (Nt f) (types.arrows entry.now.env entry.now.ty) ∷ [])) e × (Contains index.now e → ⊥))) }
+        ((e : EntryData) → Contains (plain.through index.now args.now
+        (types.arrows entry.now.env entry.now.ty)
+        (plain.opening point params (Nt f) (types.arrows entry.now.env entry.now.ty) ∷ [])) e
+        → Contains index.now e)
+        (λ e. Contains (plain.through index.now args.now (types.arrows entry.now.env entry.now.ty)
+        (plain.opening point params (Nt f) (types.arrows entry.now.env entry.now.ty) ∷ [])) e
+        × (Contains index.now e → ⊥))) }
 {
     let mut entries = Vec::new(alloc);
     let start = opening(alloc, point, params, Head::Nt(0), &entry.ty)?;
@@ -69,7 +75,8 @@ pub(crate) fn count_at_rule(
     requires shape { AreInShape problem.now index.now }
     requires head { (point_at problem.now.points point).head ≡ Nt nonterminal }
     requires within { nonterminal < length problem.now.points.bodies }
-    ensures closed { OnOk result ((e : EntryData) → e.point ≡ point → Follows problem.now index.now e → Contains index.now e) }
+    ensures closed { OnOk result ((e : EntryData) → e.point ≡ point → Follows problem.now index.now e
+        → Contains index.now e) }
     ensures count { IfOk result (IsCountAt problem.now index.now point) }
     ensures missing { IfErr result (IsGap problem.now index.now) }
 {

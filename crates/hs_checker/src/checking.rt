@@ -70,7 +70,8 @@ fn has_start(problem: &Problem, table: &[Entry]) -> bool
 fn count_at(alloc: Global, problem: &Problem, index: &Index, point: u32) -> Result<u64, CheckFault>
     requires point { point < length problem.now.points.points }
     requires shape { AreInShape problem.now index.now }
-    ensures closed { OnOk result ((e : EntryData) → e.point ≡ point → Follows problem.now index.now e → Contains index.now e) }
+    ensures closed { OnOk result ((e : EntryData) → e.point ≡ point → Follows problem.now index.now e
+        → Contains index.now e) }
     ensures count { IfOk result (IsCountAt problem.now index.now point) }
     ensures missing { IfErr result (IsGap problem.now index.now) }
 {
@@ -114,9 +115,11 @@ fn count_closed(alloc: Global, problem: &Problem, index: &Index) -> Result<u64, 
 /// each entry, a number for each point, and at one point a mark for each state, the types and what
 /// follows by one of them. Types are compared as trees, and calls recurse as deep as they.
 pub fn check(alloc: Global, problem: &Problem, table: &[Entry]) -> Result<u64, CheckFault>
-    ensures closed { OnOk result (HasClosedFlow problem.now × (IsClosedTable problem.now table.now × (HasStart problem.now table.now → ⊥))) }
+    ensures closed { OnOk result (HasClosedFlow problem.now
+        × (IsClosedTable problem.now table.now × (HasStart problem.now table.now → ⊥))) }
     ensures count { IfOk result (IsCount problem.now table.now) }
-    ensures accepted { OnOk result (Accepts problem.now.sorted.scheme.rules problem.now.sorted.automaton.transitions) }
+    ensures accepted { OnOk result
+        (Accepts problem.now.sorted.scheme.rules problem.now.sorted.automaton.transitions) }
     ensures fault { IfErr result (IsFault problem.now table.now) }
 {
     is_sorted_problem(problem);

@@ -10,7 +10,7 @@ ghost use Rattle.hs_scheme.specs.Problem.{ProblemData};
 ghost use Rattle.hs_table.specs.Entries.{params_of};
 ghost use Rattle.hs_checker.specs.declared.flow.Base.{Base as AnyBase};
 ghost use Rattle.hs_checker.specs.declared.flow.Kind.TheVariants.{Flow as OfFlows, Heads as OfHeads};
-ghost use Rattle.hs_checker.specs.Gaps.{held, IsOfKind, HoldsAll, Lacks, IsFirst};
+ghost use Rattle.hs_checker.specs.Gaps.{held, IsOfKind, HoldsAll, Lacks, IsFirstLacking};
 ghost use Rattle.hs_checker.specs.Passes.{base_of, PassesArgument, PassesFlow, PassesHead, HoldsBy, LacksBy, DemandsAt, DemandsNone};
 
 use crate::head_pairs::{HeadPairs, is_head_at};
@@ -55,7 +55,8 @@ fn is_at(row: &[FlowPair], place: usize, point: u32) -> bool
 /// Whether the base's parameter behind so many others may be the argument, by a pair at this place
 /// among those of the parameter.
 fn is_passed(flow: &FlowTable, base: Base, number: usize, arg: u32, place: usize) -> bool
-    ensures { IsTrue result → Contains flow.now.pairs (record { rule = base.rule; param = base.given + number; point = arg }) }
+    ensures { IsTrue result → Contains flow.now.pairs
+        (record { rule = base.rule; param = base.given + number; point = arg }) }
 {
     let Ok(number) = u32::try_from(number) else {
         return false;
@@ -88,7 +89,8 @@ fn flow_place(
     guess: usize,
 ) -> Result<usize, FlowPair>
     ensures { MatchResult result
-        (λ _. (f : AnyFlow) → PassesArgument problem.now base number arg f → Contains problem.now.flow.pairs f)
+        (λ _. (f : AnyFlow) → PassesArgument problem.now base number arg f
+        → Contains problem.now.flow.pairs f)
         (λ f. PassesArgument problem.now base number arg f × (Contains problem.now.flow.pairs f → ⊥)) }
 {
     if is_passed(&problem.flow, base, number, arg, guess) {
@@ -163,7 +165,8 @@ fn flow_gap(
 /// Whether the point with these head pairs may become the base with so many arguments more, by the
 /// pair at this place.
 fn is_taken(own: &[HeadPair], base: Base, count: usize, place: usize) -> bool
-    ensures { IsTrue result → (h : AnyHead) × (Contains own.now h × ((h.rule ≡ base.rule) × (h.given ≡ base.given + count))) }
+    ensures { IsTrue result → (h : AnyHead)
+        × (Contains own.now h × ((h.rule ≡ base.rule) × (h.given ≡ base.given + count))) }
 {
     let Ok(count) = u32::try_from(count) else {
         return false;
@@ -189,7 +192,8 @@ fn head_place(
     requires heads { heads.now ≡ problem.now.flow.heads }
     requires own { (h : AnyHead) → Contains own.now h → Contains heads.now h × (h.point ≡ point) }
     ensures { MatchResult result
-        (λ _. (h : AnyHead) → PassesHead problem.now point args.now base h → Contains problem.now.flow.heads h)
+        (λ _. (h : AnyHead) → PassesHead problem.now point args.now base h
+        → Contains problem.now.flow.heads h)
         (λ h. PassesHead problem.now point args.now base h × (Contains problem.now.flow.heads h → ⊥)) }
 {
     if is_taken(own, base, args.len(), guess) {
@@ -257,7 +261,8 @@ fn gap_by(
     requires { heads.now ≡ problem.now.flow.heads }
     ensures { MatchOption result
         ((h : AnyHead) → Contains bases.now h → HoldsBy problem.now kind point args.now (base_of h))
-        (λ pair. (h : AnyHead) × (Contains bases.now h × LacksBy problem.now kind point args.now (base_of h) pair)) }
+        (λ pair. (h : AnyHead) × (Contains bases.now h
+        × LacksBy problem.now kind point args.now (base_of h) pair)) }
 {
     match kind {
         Kind::Flow => match flow_gap(problem, args, bases, guess) {
@@ -283,8 +288,10 @@ fn gap_through(
 ) -> Option<Pair>
     requires { heads.now ≡ problem.now.flow.heads }
     ensures { MatchOption result
-        ((b : AnyBase) → IsBase (held problem.now) rule (Head.Var parameter) b.rule b.given → HoldsBy problem.now kind point args.now b)
-        (λ pair. (b : AnyBase) × (IsBase (held problem.now) rule (Head.Var parameter) b.rule b.given × LacksBy problem.now kind point args.now b pair)) }
+        ((b : AnyBase) → IsBase (held problem.now) rule (Head.Var parameter) b.rule b.given
+        → HoldsBy problem.now kind point args.now b)
+        (λ pair. (b : AnyBase) × (IsBase (held problem.now) rule (Head.Var parameter) b.rule b.given
+        × LacksBy problem.now kind point args.now b pair)) }
 {
     let mut guess = 0;
     for pair in problem.flow.flow_of(rule, parameter) {
@@ -311,8 +318,10 @@ fn gap_of(
 ) -> Option<Pair>
     requires { heads.now ≡ problem.now.flow.heads }
     ensures { MatchOption result
-        ((b : AnyBase) → IsBase (held problem.now) rule head b.rule b.given → HoldsBy problem.now kind point args.now b)
-        (λ pair. (b : AnyBase) × (IsBase (held problem.now) rule head b.rule b.given × LacksBy problem.now kind point args.now b pair)) }
+        ((b : AnyBase) → IsBase (held problem.now) rule head b.rule b.given
+        → HoldsBy problem.now kind point args.now b)
+        (λ pair. (b : AnyBase) × (IsBase (held problem.now) rule head b.rule b.given
+        × LacksBy problem.now kind point args.now b pair)) }
 {
     match head {
         Head::Tm(_) => None,
@@ -349,7 +358,8 @@ fn most_parameters(problem: &Problem) -> u32
 /// Whether a point with these arguments demands no pair of the kind, whatever its head may become,
 /// where no rule has more than so many parameters.
 fn demands_none(kind: Kind, args: &[u32], most: u32) -> bool
-    ensures { (p : ProblemData) → ((rule : ℕ) → params_of p rule ≤ most) → IsTrue result → DemandsNone p kind args.now }
+    ensures { (p : ProblemData) → ((rule : ℕ) → params_of p rule ≤ most) → IsTrue result
+        → DemandsNone p kind args.now }
 {
     match kind {
         Kind::Flow => args.is_empty(),
@@ -364,8 +374,10 @@ fn gap_at(problem: &Problem, heads: &HeadPairs, kind: Kind, most: u32, point: u3
     requires heads { heads.now ≡ problem.now.flow.heads }
     requires most { (rule : ℕ) → params_of problem.now rule ≤ most }
     ensures { MatchOption result
-        ((pair : AnyPair) → IsOfKind kind pair → DemandsAt problem.now point pair → Contains (held problem.now) pair)
-        (λ pair. IsOfKind kind pair × (DemandsAt problem.now point pair × (Contains (held problem.now) pair → ⊥))) }
+        ((pair : AnyPair) → IsOfKind kind pair → DemandsAt problem.now point pair
+        → Contains (held problem.now) pair)
+        (λ pair. IsOfKind kind pair × (DemandsAt problem.now point pair
+        × (Contains (held problem.now) pair → ⊥))) }
 {
     let args = problem.points.args_of(point);
     if demands_none(kind, args, most) {
@@ -379,7 +391,8 @@ fn gap_at(problem: &Problem, heads: &HeadPairs, kind: Kind, most: u32, point: u3
 /// The first pair of the kind that is demanded by the pairs held, and isn't one of them.
 fn gap(problem: &Problem, heads: &HeadPairs, kind: Kind) -> Option<Pair>
     requires { heads.now ≡ problem.now.flow.heads }
-    ensures { MatchOption result (HoldsAll problem.now kind) (λ pair. IsOfKind kind pair × Lacks problem.now pair) }
+    ensures { MatchOption result (HoldsAll problem.now kind) (λ pair. IsOfKind kind pair
+        × Lacks problem.now pair) }
 {
     let most = most_parameters(problem);
     for point in 0..problem.points.count() {
@@ -397,7 +410,8 @@ fn gap(problem: &Problem, heads: &HeadPairs, kind: Kind) -> Option<Pair>
 /// Time is in proportion to the meetings of points with what their heads may become, with the
 /// logarithm of the number of pairs. Memory is for a number for each point.
 pub(crate) fn first_gap(alloc: Global, problem: &Problem) -> Result<Option<Pair>, OutOfMemory>
-    ensures { IfOk result (λ found. MatchOption found (HoldsAll problem.now OfFlows × HoldsAll problem.now OfHeads) (IsFirst problem.now)) }
+    ensures { IfOk result (λ found. MatchOption found (HoldsAll problem.now OfFlows
+        × HoldsAll problem.now OfHeads) (IsFirstLacking problem.now)) }
 {
     let heads = HeadPairs::of(alloc, problem)?;
     if let Some(pair) = gap(problem, &heads, Kind::Flow) {

@@ -74,7 +74,8 @@ fn ends_with(found: &[Ty], ty: &Ty) -> bool
 
 /// Adds an equal type, where it isn't the last one already.
 fn add_type(alloc: Global, found: &mut Vec<Ty>, ty: &Ty) -> Result<(), OutOfMemory>
-    ensures { OnOk result ((t : TypeTree) → Contains found.new.items t ↔ (Contains found.old.items t ⊎ (t ≡ ty.now))) }
+    ensures { OnOk result ((t : TypeTree) → Contains found.new.items t
+        ↔ (Contains found.old.items t ⊎ (t ≡ ty.now))) }
 {
     if ends_with(found.as_slice(), ty) {
         return Ok(());
@@ -102,7 +103,8 @@ fn add_types_at(
     point: u32,
     found: &mut Vec<Ty>,
 ) -> Result<(), OutOfMemory>
-    ensures { OnOk result ((t : TypeTree) → Contains found.new.items t ↔ (Contains found.old.items t ⊎ HasTypeAt index.now point t)) }
+    ensures { OnOk result ((t : TypeTree) → Contains found.new.items t
+        ↔ (Contains found.old.items t ⊎ HasTypeAt index.now point t)) }
 {
     for entry in index.at_point(point) {
         add_type(alloc, found, &entry.ty)?;
@@ -118,7 +120,8 @@ pub(crate) fn parameter_types(
     rule: u32,
     parameter: u32,
 ) -> Result<Vec<Ty>, OutOfMemory>
-    ensures { IfOk result (λ found. (t : TypeTree) → Contains found.items t ↔ Contains (flat_map (plain.flow_type problem.now.flow.pairs rule parameter) index.now) t) }
+    ensures { IfOk result (λ found. (t : TypeTree) → Contains found.items t
+        ↔ Contains (flat_map (plain.flow_type problem.now.flow.pairs rule parameter) index.now) t) }
 {
     let mut found = Vec::new(alloc);
     for pair in problem.flow.flow_of(rule, parameter) {

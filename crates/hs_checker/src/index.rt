@@ -7,7 +7,7 @@ ghost use Rattle.std.specs.declared.cmp.Ordering.TheVariants.{Equal};
 ghost use Rattle.hs_scheme.specs.Flow.{IsAscending};
 ghost use Rattle.hs_table.specs.Types.{type_cmp};
 ghost use Rattle.hs_table.specs.Entries.{EntryData, InShape};
-ghost use Rattle.hs_checker.specs.Order.{index_cmp, key_cmp, IsIndex, AreStarts};
+ghost use Rattle.hs_checker.specs.Order.{index_cmp, key_cmp, IsInIndexOrder, AreStartsOfPoints};
 ghost use Rattle.hs_checker.specs.Slots.{HasTypeAt};
 
 use crate::shape::is_in_shape;
@@ -66,7 +66,7 @@ impl<'a> Model for Index<'a> {
     ghost use Rattle.std.specs.Coded.{coded_list};
     ghost use Rattle.hs_table.specs.Entries.{EntryData, coded_entry};
     ghost use Rattle.hs_scheme.specs.Flow.{IsAscending};
-    ghost use Rattle.hs_checker.specs.Order.{index_cmp, IsIndex, AreStarts};
+    ghost use Rattle.hs_checker.specs.Order.{index_cmp, IsInIndexOrder, AreStartsOfPoints};
 
     ghost Value = { List EntryData };
 
@@ -75,9 +75,9 @@ impl<'a> Model for Index<'a> {
     ghost view = { λ a. map (λ r. r.now) a.rows.items };
 
     ghost invariant = { λ a. record {
-      sorted : IsIndex (map (λ r. r.now) a.rows.items);
+      sorted : IsInIndexOrder (map (λ r. r.now) a.rows.items);
       once : IsAscending index_cmp (map (λ r. r.now) a.rows.items);
-      starts : AreStarts (map (λ r. r.now) a.rows.items) a.starts.items;
+      starts : AreStartsOfPoints (map (λ r. r.now) a.rows.items) a.starts.items;
     } };
 }
 
@@ -87,7 +87,8 @@ fn shaped<'a>(
     problem: &Problem,
     table: &'a [Entry],
 ) -> Result<Vec<&'a Entry>, OutOfMemory>
-    ensures { IfOk result (λ rows. (e : EntryData) → Contains (map (λ r. r.now) rows.items) e ↔ (Contains table.now e × InShape problem.now e)) }
+    ensures { IfOk result (λ rows. (e : EntryData) → Contains (map (λ r. r.now) rows.items) e
+        ↔ (Contains table.now e × InShape problem.now e)) }
 {
     let mut rows = Vec::new(alloc);
     for entry in table {
@@ -101,9 +102,9 @@ fn shaped<'a>(
 /// For each of so many points, and for one past them, how many of the rows are of lesser points. The
 /// rows are in order, and of these points.
 fn starts_of(alloc: Global, rows: &[&Entry], points: u32) -> Result<Vec<usize>, OutOfMemory>
-    requires sorted { IsIndex (map (λ r. r.now) rows.now) }
+    requires sorted { IsInIndexOrder (map (λ r. r.now) rows.now) }
     requires within { (e : EntryData) → Contains (map (λ r. r.now) rows.now) e → e.point < points }
-    ensures { IfOk result (λ starts. AreStarts (map (λ r. r.now) rows.now) starts.items) }
+    ensures { IfOk result (λ starts. AreStartsOfPoints (map (λ r. r.now) rows.now) starts.items) }
 {
     let mut starts = Vec::with_capacity(alloc, points as usize + 1)?;
     for point in 0..points {
@@ -147,7 +148,8 @@ impl<'a> Index<'a> {
         problem: &Problem,
         table: &'a [Entry],
     ) -> Result<Index<'a>, OutOfMemory>
-        ensures { IfOk result (λ index. (e : EntryData) → Contains index e ↔ (Contains table.now e × InShape problem.now e)) }
+        ensures { IfOk result (λ index. (e : EntryData) → Contains index e
+            ↔ (Contains table.now e × InShape problem.now e)) }
     {
         let mut rows = shaped(alloc, problem, table)?;
         rows.sort_by(|a, b| order(a, b))?;
@@ -160,7 +162,7 @@ impl<'a> Index<'a> {
     pub(crate) fn at_point(&self, point: u32) -> &[&'a Entry]
         ensures has { (e : EntryData) →
             Contains (map (λ r. r.now) result.now) e ↔ (Contains self.now e × (e.point ≡ point)) }
-        ensures sorted { IsIndex (map (λ r. r.now) result.now) }
+        ensures sorted { IsInIndexOrder (map (λ r. r.now) result.now) }
         ensures once { IsAscending index_cmp (map (λ r. r.now) result.now) }
     {
         let rows = self.rows.as_slice();
@@ -202,7 +204,8 @@ impl<'a> Index<'a> {
     /// The entries at the point with the type. Time is in the logarithm of the number of the entries
     /// at the point, and in the number of those that are given.
     pub(crate) fn at(&self, point: u32, ty: &Ty) -> &[&'a Entry]
-        ensures { (e : EntryData) → Contains (map (λ r. r.now) result.now) e ↔ (Contains self.now e × ((e.point ≡ point) × (e.ty ≡ ty.now))) }
+        ensures { (e : EntryData) → Contains (map (λ r. r.now) result.now) e
+            ↔ (Contains self.now e × ((e.point ≡ point) × (e.ty ≡ ty.now))) }
     {
         let rows = self.at_point(point);
         let from = rows.partition_point(|row| place(row, point, ty).is_lt());

@@ -6,7 +6,7 @@ ghost use Rattle.hs_scheme.specs.Points.{point_at};
 ghost use Rattle.hs_table.specs.Types as types;
 ghost use Rattle.hs_table.specs.Types.{TypeTree, IsSet};
 ghost use Rattle.hs_table.specs.Tables.{IsInstance};
-ghost use Rattle.hs_checker.specs.Slots.{HasTypesAt, Fits, AreInShape};
+ghost use Rattle.hs_checker.specs.Slots.{HasTypesAt, FitsSets, AreInShape};
 ghost use Rattle.hs_table_plain.specs.Enumeration as plain;
 
 use crate::heads::{in_order, parameter_types};
@@ -30,7 +30,7 @@ fn have_entries(index: &Index, arg: u32, set: &[Ty]) -> bool
 
 /// Whether each type of the sets has an entry at its argument. Recurses as deep as the type.
 pub(crate) fn fits(index: &Index, args: &[u32], ty: &Ty) -> bool
-    ensures { IsTrue result ↔ Fits index.now args.now ty.now }
+    ensures { IsTrue result ↔ FitsSets index.now args.now ty.now }
 {
     let Some(arg) = args.first() else {
         return true;
@@ -46,7 +46,7 @@ pub(crate) fn fits(index: &Index, args: &[u32], ty: &Ty) -> bool
 /// Whether each type of these sets has an entry at its argument, and there are no more arguments than
 /// sets.
 pub(crate) fn sets_fit(index: &Index, args: &[u32], sets: &[TypeSet]) -> bool
-    ensures { (q : ℕ) → IsTrue result ↔ Fits index.now args.now (types.arrows sets.now (types.state q)) }
+    ensures { (q : ℕ) → IsTrue result ↔ FitsSets index.now args.now (types.arrows sets.now (types.state q)) }
 {
     if args.len() > sets.len() {
         return false;
@@ -67,7 +67,8 @@ fn fitting(
     args: &[u32],
     types: Vec<Ty>,
 ) -> Result<Vec<Ty>, OutOfMemory>
-    ensures { IfOk result (λ found. (t : TypeTree) → Contains found.items t ↔ (Contains types.items t × Fits index.now args.now t)) }
+    ensures { IfOk result (λ found. (t : TypeTree) → Contains found.items t
+        ↔ (Contains types.items t × FitsSets index.now args.now t)) }
 {
     let mut found = Vec::new(alloc);
     for ty in types {
@@ -89,7 +90,8 @@ fn fitting_types(
     args: &[u32],
 ) -> Result<Vec<Ty>, OutOfMemory>
     requires { (f : ℕ) → head ≡ Head.Nt f → ⊥ }
-    ensures { IfOk result (λ found. (t : TypeTree) → Contains found.items t ↔ (Contains (plain.head_types problem.now index.now rule head) t × Fits index.now args.now t)) }
+    ensures { IfOk result (λ found. (t : TypeTree) → Contains found.items t
+        ↔ (Contains (plain.head_types problem.now index.now rule head) t × FitsSets index.now args.now t)) }
 {
     match head {
         Head::Tm(terminal) => terminal_instances(alloc, problem, index, args, terminal),
@@ -112,7 +114,8 @@ fn instances_of(
 ) -> Result<Vec<Ty>, OutOfMemory>
     requires { (f : ℕ) → head ≡ Head.Nt f → ⊥ }
     ensures set { IfOk result (λ found. IsSet found.items) }
-    ensures each { IfOk result (λ found. (t : TypeTree) → Contains found.items t ↔ (Contains (plain.head_types problem.now index.now rule head) t × Fits index.now args.now t)) }
+    ensures each { IfOk result (λ found. (t : TypeTree) → Contains found.items t
+        ↔ (Contains (plain.head_types problem.now index.now rule head) t × FitsSets index.now args.now t)) }
 {
     let types = fitting_types(alloc, problem, index, rule, head, args)?;
     in_order(types)
@@ -129,7 +132,8 @@ pub(crate) fn instances(
     requires shape { AreInShape problem.now index.now }
     requires head { (f : ℕ) → (point_at problem.now.points point).head ≡ Head.Nt f → ⊥ }
     ensures set { IfOk result (λ found. IsSet found.items) }
-    ensures each { IfOk result (λ found. (t : TypeTree) → Contains found.items t ↔ IsInstance problem.now index.now point t) }
+    ensures each { IfOk result (λ found. (t : TypeTree) → Contains found.items t
+        ↔ IsInstance problem.now index.now point t) }
 {
     let rule = problem.points.rule_of(point);
     let head = problem.points.head_of(point);

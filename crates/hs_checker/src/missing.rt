@@ -68,8 +68,10 @@ fn missing_by(
     guess: &mut usize,
 ) -> Result<Option<Entry>, OutOfMemory>
     ensures { IfOk result (λ found. MatchOption found
-        ((e : EntryData) → Contains (plain.through index.now args.now ty.now (start ∷ [])) e → Contains index.now e)
-        (λ e. Contains (plain.through index.now args.now ty.now (start ∷ [])) e × (Contains index.now e → ⊥))) }
+        ((e : EntryData) → Contains (plain.through index.now args.now ty.now (start ∷ [])) e
+        → Contains index.now e)
+        (λ e. Contains (plain.through index.now args.now ty.now (start ∷ [])) e
+        × (Contains index.now e → ⊥))) }
 {
     let mut entries = Vec::new(alloc);
     entries.push(start)?;
@@ -88,7 +90,8 @@ fn missing_among(
     types: &[Ty],
 ) -> Result<Option<Entry>, OutOfMemory>
     ensures { IfOk result (λ found. MatchOption found
-        ((e : EntryData) → IsConclusion index.now point params head args.now types.now e → Contains index.now e)
+        ((e : EntryData) → IsConclusion index.now point params head args.now types.now e
+        → Contains index.now e)
         (λ e. IsConclusion index.now point params head args.now types.now e × (Contains index.now e → ⊥))) }
 {
     let mut guess = 0;

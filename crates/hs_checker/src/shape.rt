@@ -52,7 +52,8 @@ fn are_types(types: &[Ty], states: u32) -> bool
 
 /// Whether there are so many sets, of types in range.
 fn is_env(env: &[TypeSet], params: u32, states: u32) -> bool
-    ensures { IsTrue result ↔ (IsEnv params env.now × ((j : ℕ) (a : TypeTree) → Has env.now j a → IsType states a)) }
+    ensures { IsTrue result ↔ (IsEnv params env.now
+        × ((j : ℕ) (a : TypeTree) → Has env.now j a → IsType states a)) }
 {
     if env.len() != params as usize {
         return false;

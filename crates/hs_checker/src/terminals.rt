@@ -5,7 +5,7 @@ ghost use Rattle.hs_scheme.specs.Automaton as automaton;
 ghost use Rattle.hs_table.specs.Types as types;
 ghost use Rattle.hs_table.specs.Types.{TypeTree};
 ghost use Rattle.hs_table.specs.Follows.{rank_of};
-ghost use Rattle.hs_checker.specs.Slots.{HasTypeAt, Fits, AreBare, Moves};
+ghost use Rattle.hs_checker.specs.Slots.{HasTypeAt, FitsSets, AreBare, HasMove};
 ghost use Rattle.hs_table_plain.specs.Enumeration as plain;
 
 use crate::heads::{arrows, empty_sets, singleton, state};
@@ -45,7 +45,8 @@ fn transition(problem: &Problem, q: u32, terminal: u32) -> Option<&[u32]>
 
 /// Adds the type, where its sets have entries.
 fn add_fitting(index: &Index, args: &[u32], ty: Ty, found: &mut Vec<Ty>) -> Result<(), OutOfMemory>
-    ensures { OnOk result ((t : TypeTree) → Contains found.new.items t ↔ (Contains found.old.items t ⊎ ((t ≡ ty) × Fits index.now args.now t))) }
+    ensures { OnOk result ((t : TypeTree) → Contains found.new.items t
+        ↔ (Contains found.old.items t ⊎ ((t ≡ ty) × FitsSets index.now args.now t))) }
 {
     if fits(index, args, &ty) {
         found.push(ty)?;
@@ -67,7 +68,8 @@ fn are_bare(index: &Index, args: &[u32]) -> bool
 
 /// Whether there is an argument at this place, and no entry there has the state as its type.
 fn asks_in_vain(index: &Index, args: &[u32], place: usize, r: u32) -> bool
-    ensures { IsTrue result → (u : ℕ) × ((slice_get args.now place ≡ Some u) × (HasTypeAt index.now u (types.state r) → ⊥)) }
+    ensures { IsTrue result → (u : ℕ)
+        × ((slice_get args.now place ≡ Some u) × (HasTypeAt index.now u (types.state r) → ⊥)) }
 {
     match args.get(place) {
         None => false,
@@ -86,7 +88,9 @@ fn add_child_type(
     found: &mut Vec<Ty>,
 ) -> Result<(), OutOfMemory>
     requires { place < length to.now }
-    ensures { OnOk result ((t : TypeTree) → Contains found.new.items t ↔ (Contains found.old.items t ⊎ ((t ≡ plain.child_type to.now q place) × Fits index.now args.now t))) }
+    ensures { OnOk result ((t : TypeTree) → Contains found.new.items t
+        ↔ (Contains found.old.items t ⊎ ((t ≡ plain.child_type to.now q place)
+        × FitsSets index.now args.now t))) }
 {
     if asks_in_vain(index, args, place, to[place]) {
         return Ok(());
@@ -104,7 +108,9 @@ fn add_child_types(
     q: u32,
     found: &mut Vec<Ty>,
 ) -> Result<(), OutOfMemory>
-    ensures { OnOk result ((t : TypeTree) → Contains found.new.items t ↔ (Contains found.old.items t ⊎ (Contains (plain.child_types to.now q (length to.now)) t × Fits index.now args.now t))) }
+    ensures { OnOk result ((t : TypeTree) → Contains found.new.items t
+        ↔ (Contains found.old.items t ⊎ (Contains (plain.child_types to.now q (length to.now)) t
+        × FitsSets index.now args.now t))) }
 {
     for place in 0..to.len() {
         add_child_type(alloc, index, args, to, q, place, found)?;
@@ -124,7 +130,10 @@ fn add_types_in(
     found: &mut Vec<Ty>,
 ) -> Result<(), OutOfMemory>
     ensures { OnOk result ((t : TypeTree) → Contains found.new.items t
-        ↔ (Contains found.old.items t ⊎ (Contains (plain.types_in problem.now terminal q (automaton.next problem.now.sorted.automaton.transitions q terminal)) t × Fits index.now args.now t))) }
+        ↔ (Contains found.old.items t ⊎
+        (Contains (plain.types_in problem.now terminal q
+        (automaton.next problem.now.sorted.automaton.transitions q terminal)) t
+        × FitsSets index.now args.now t))) }
 {
     match transition(problem, q, terminal) {
         None => {
@@ -145,7 +154,8 @@ fn mark(marks: &mut Vec<bool>, transition: &Transition, most: usize)
     requires { transition.now.from < length marks.old.items }
     ensures long { length marks.new.items ≡ length marks.old.items }
     ensures marked { (q : ℕ) → slice_get marks.new.items q ≡ Some true
-        → slice_get marks.old.items q ≡ Some true ⊎ ((transition.now.from ≡ q) × (length transition.now.to ≤ most)) }
+        → slice_get marks.old.items q ≡ Some true
+        ⊎ ((transition.now.from ≡ q) × (length transition.now.to ≤ most)) }
 {
     if transition.to.len() <= most {
         marks[transition.from as usize] = true;
@@ -159,7 +169,8 @@ fn moving(
     terminal: u32,
     most: usize,
 ) -> Result<Vec<bool>, OutOfMemory>
-    ensures { IfOk result (λ marks. (q : ℕ) → slice_get marks.items q ≡ Some true → Moves automaton.now.transitions terminal most q) }
+    ensures { IfOk result (λ marks. (q : ℕ) → slice_get marks.items q ≡ Some true
+        → HasMove automaton.now.transitions terminal most q) }
 {
     automaton.is_automaton();
     let mut marks = vec![in alloc; false; automaton.states() as usize]?;
@@ -193,7 +204,7 @@ fn barren(
     terminal: u32,
 ) -> Result<Vec<bool>, OutOfMemory>
     ensures { IfOk result (λ marks. (q : ℕ) → slice_get marks.items q ≡ Some true
-        → IsTrue bare × Moves problem.now.sorted.automaton.transitions terminal (length args.now) q) }
+        → IsTrue bare × HasMove problem.now.sorted.automaton.transitions terminal (length args.now) q) }
 {
     if !bare {
         return Ok(Vec::new(alloc));
@@ -211,7 +222,9 @@ pub(crate) fn terminal_instances(
     args: &[u32],
     terminal: u32,
 ) -> Result<Vec<Ty>, OutOfMemory>
-    ensures { IfOk result (λ found. (t : TypeTree) → Contains found.items t ↔ (Contains (plain.terminal_types problem.now terminal problem.now.sorted.automaton.states) t × Fits index.now args.now t)) }
+    ensures { IfOk result (λ found. (t : TypeTree) → Contains found.items t
+        ↔ (Contains (plain.terminal_types problem.now terminal problem.now.sorted.automaton.states) t
+        × FitsSets index.now args.now t)) }
 {
     let bare = are_bare(index, args);
     let barren = barren(alloc, problem, args, bare, terminal)?;

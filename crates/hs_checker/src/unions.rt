@@ -24,7 +24,8 @@ const ROOM: usize = 1_024;
 fn place_of(set: &[Ty], ty: &Ty) -> Result<usize, usize>
     ensures { MatchResult result
         (λ place. with_type ty.now set.now ≡ set.now)
-        (λ place. (place ≤ length set.now) × (with_type ty.now set.now ≡ take place set.now ++ ty.now ∷ drop place set.now)) }
+        (λ place. (place ≤ length set.now)
+        × (with_type ty.now set.now ≡ take place set.now ++ ty.now ∷ drop place set.now)) }
 {
     for (place, member) in set.iter().enumerate() {
         match ty.compare(member) {
@@ -100,7 +101,8 @@ fn joined(alloc: Global, entry: &Entry, other: &Entry) -> Result<Entry, OutOfMem
 
 /// The entries in order, each once.
 fn thin(entries: &mut Vec<Entry>) -> Result<(), OutOfMemory>
-    ensures each { OnOk result ((e : EntryData) → Contains entries.new.items e ↔ Contains entries.old.items e) }
+    ensures each { OnOk result ((e : EntryData) → Contains entries.new.items e
+        ↔ Contains entries.old.items e) }
     ensures once { OnOk result (IsAscending entry_cmp entries.new.items) }
 {
     if entries.len() < 2 {
@@ -130,7 +132,8 @@ fn extend_by(
     candidate: &Entry,
     found: &mut Vec<Entry>,
 ) -> Result<(), OutOfMemory>
-    ensures { OnOk result ((e : EntryData) → Contains found.new.items e ↔ (Contains found.old.items e ⊎ AnyOf (λ x y. y ≡ plain.joined x candidate.now) entries.now e)) }
+    ensures { OnOk result ((e : EntryData) → Contains found.new.items e
+        ↔ (Contains found.old.items e ⊎ AnyOf (λ x y. y ≡ plain.joined x candidate.now) entries.now e)) }
 {
     for entry in entries {
         found.push(joined(alloc, entry, candidate)?)?;
@@ -212,7 +215,8 @@ fn picks(
     set: &[Ty],
     entries: Vec<Entry>,
 ) -> Result<Vec<Entry>, OutOfMemory>
-    ensures { IfOk result (λ found. (e : EntryData) → Contains found.items e ↔ Contains (plain.picks index.now arg set.now entries.items) e) }
+    ensures { IfOk result (λ found. (e : EntryData) → Contains found.items e
+        ↔ Contains (plain.picks index.now arg set.now entries.items) e) }
 {
     let mut found = entries;
     for ty in set {
@@ -254,7 +258,8 @@ pub(crate) fn through_sets(
     entries: Vec<Entry>,
 ) -> Result<Vec<Entry>, OutOfMemory>
     requires { length args.now ≤ length sets.now }
-    ensures { IfOk result (λ found. (e : EntryData) → Contains found.items e ↔ Contains (plain.through index.now args.now (types.arrows sets.now ty.now) entries.items) e) }
+    ensures { IfOk result (λ found. (e : EntryData) → Contains found.items e
+        ↔ Contains (plain.through index.now args.now (types.arrows sets.now ty.now) entries.items) e) }
 {
     let mut found = entries;
     for (place, arg) in args.iter().enumerate() {
@@ -277,7 +282,8 @@ pub(crate) fn through(
     ty: &Ty,
     entries: Vec<Entry>,
 ) -> Result<Vec<Entry>, OutOfMemory>
-    ensures { IfOk result (λ found. (e : EntryData) → Contains found.items e ↔ Contains (plain.through index.now args.now ty.now entries.items) e) }
+    ensures { IfOk result (λ found. (e : EntryData) → Contains found.items e
+        ↔ Contains (plain.through index.now args.now ty.now entries.items) e) }
 {
     let Some(arg) = args.first() else {
         return retyped(alloc, ty, entries);

@@ -5,7 +5,7 @@ use Rattle.hs_history.specs.declared.step.Event.TheVariants.{Take, Added, PastBu
 use Rattle.hs_core.specs.declared.journal.Actor.{Actor}
 use Rattle.hs_core.specs.declared.journal.Due.{Due}
 use Rattle.hs_core.specs.declared.journal.Mark.{Mark}
-use Rattle.hs_core.specs.Journal.{due_after, kind_of, ticket_of, due_for, event_of, pick, left, Has, only, Reader, step_of, step_at, beyond, steps_read, opened, Ends, IsKept}
+use Rattle.hs_core.specs.Journal.{due_after, kind_of, ticket_of, due_for, event_of, pick, left, Has, only, Reader, step_of, step_at, beyond, steps_read, opened, EndsAtRest, IsKept}
 
 module _ {X : Type 0} where
   pick_more : (b : Bool) (x : X) (xs ys : List X) → Has b xs → pick b x (xs ++ ys) ≡ pick b x xs
@@ -61,7 +61,7 @@ module _ (m : Mark) (actor : Actor) (due : Due) where
     step_last : step_at (with_more at_end) m ≡ step_of m.kind actor due
     step_last = λ i. step_of m.kind (pick_only m.changed last actor actors_same i) (pick_only m.jumped was due dues_same i)
 
-    ends_last : Ends (with_more at_end) (m ∷ []) actor (due_after m.kind due)
+    ends_last : EndsAtRest (with_more at_end) (m ∷ []) actor (due_after m.kind due)
     ends_last = (
       has_only m.changed actor,
       has_only m.jumped due,
@@ -73,17 +73,17 @@ module _ (m : Mark) (actor : Actor) (due : Due) where
       }),
     )
 
-    pub steps_pushed : (r : Reader) (marks : List Mark) → Ends r marks last was → steps_read (with_more r) (marks ++ m ∷ []) ≡ steps_read r marks ++ step_of m.kind actor due ∷ []
+    pub steps_pushed : (r : Reader) (marks : List Mark) → EndsAtRest r marks last was → steps_read (with_more r) (marks ++ m ∷ []) ≡ steps_read r marks ++ step_of m.kind actor due ∷ []
     steps_pushed r [] ends = ap (λ (x : Reader). step_at (with_more x) m ∷ []) ends ∙ ap (λ s. s ∷ []) step_last
     steps_pushed r (n ∷ marks) (h, k, ends) =
         (λ i. step_more r n h k i ∷ steps_read (beyond_more r n h k i) (marks ++ m ∷ [])) ∙ ap (λ rest. step_at r n ∷ rest) (steps_pushed (beyond r n) marks ends)
 
-    pub ends_pushed : (r : Reader) (marks : List Mark) → Ends r marks last was → Ends (with_more r) (marks ++ m ∷ []) actor (due_after m.kind due)
-    ends_pushed r [] ends = subst (λ (x : Reader). Ends (with_more x) (m ∷ []) actor (due_after m.kind due)) (sym ends) ends_last
+    pub ends_pushed : (r : Reader) (marks : List Mark) → EndsAtRest r marks last was → EndsAtRest (with_more r) (marks ++ m ∷ []) actor (due_after m.kind due)
+    ends_pushed r [] ends = subst (λ (x : Reader). EndsAtRest (with_more x) (m ∷ []) actor (due_after m.kind due)) (sym ends) ends_last
     ends_pushed r (n ∷ marks) (h, k, ends) = (
       has_more n.changed r.actors (only m.changed actor) h,
       has_more n.jumped r.dues (only m.jumped due) k,
-      subst (λ (x : Reader). Ends x (marks ++ m ∷ []) actor (due_after m.kind due)) (sym (beyond_more r n h k)) (ends_pushed (beyond r n) marks ends),
+      subst (λ (x : Reader). EndsAtRest x (marks ++ m ∷ []) actor (due_after m.kind due)) (sym (beyond_more r n h k)) (ends_pushed (beyond r n) marks ends),
     )
 
 -- the lists of a journal once a step is added

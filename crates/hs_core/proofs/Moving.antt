@@ -34,9 +34,9 @@ use Rattle.hs_core.specs.declared.answers.Taken.TheVariants.{Item, Quiet, Idle, 
 use Rattle.hs_core.specs.declared.answers.Published.{Published}
 use Rattle.hs_core.specs.declared.answers.Published.TheVariants.{Known, Added, Over as NoRoom}
 use Rattle.hs_core.specs.Core.{CoreData, state_of, log_of, deduction_of, stepped}
-use Rattle.hs_core.specs.Answers.{IsFound, Takes, Publishes, Passes, IsLeastAnswer, IsOverAnswer, AreOfWorker}
+use Rattle.hs_core.specs.Answers.{IsFound, Takes, Publishes, AddsOrPasses, IsLeastAnswer, IsOverAnswer, AreOfWorker}
 use Rattle.hs_core.specs.Saturation.{IsAlone, GivesBack}
-use Rattle.hs_core.specs.Draining.{weight, GoesAlone, SameFlight, NothingFlies, IsReady, IsThere, Ends}
+use Rattle.hs_core.specs.Draining.{weight, GoesAlone, SameFlight, NothingFlies, IsReady, IsThere, EndsAtRest}
 
 -- a worker did some steps, after which the same works are in flight and not more are left
 pub record Moves (me : ℕ) (old new : CoreData) : Type 0 where
@@ -116,7 +116,7 @@ longer_has a b l e c = subst (λ xs. Contains xs e) (sym l.log) (Contains-append
 
 -- a publication by the worker
 module _ (me : ℕ) (old new : CoreData) (ticket : ℕ) (d : Deduction) where
-  passes_moves : (kept : Option Deduction) → Passes old me ticket d new kept → Moves me old new
+  passes_moves : (kept : Option Deduction) → AddsOrPasses old me ticket d new kept → Moves me old new
   passes_moves None is =
       let s = state_stepped old new me (passes ticket d) (old.spare - 1) is in
       record {
@@ -149,7 +149,7 @@ module _ (me : ℕ) (old new : CoreData) (ticket : ℕ) (d : Deduction) where
   publish_ids (Added place) h = ap (λ (c : CoreData). c.ids) h.3
   publish_ids NoRoom h = go (state_of old).kept h.2
     where
-      go : (kept : Option Deduction) → Passes old me ticket d new kept → new.ids ≡ old.ids
+      go : (kept : Option Deduction) → AddsOrPasses old me ticket d new kept → new.ids ≡ old.ids
       go None is = ap (λ (c : CoreData). c.ids) is
       go (Some k) is = ap (λ (c : CoreData). c.ids) is
 
@@ -165,7 +165,7 @@ module _ (me : ℕ) (old new : CoreData) (ticket : ℕ) (d : Deduction) where
   pub no_room_kept : Publishes old me ticket d NoRoom new → IsSome (state_of new).kept
   no_room_kept h = go (state_of old).kept refl h.2
     where
-      go : (kept : Option Deduction) → (state_of old).kept ≡ kept → Passes old me ticket d new kept → IsSome (state_of new).kept
+      go : (kept : Option Deduction) → (state_of old).kept ≡ kept → AddsOrPasses old me ticket d new kept → IsSome (state_of new).kept
       go None e is = subst (λ (x : State). IsSome x.kept) (sym (state_stepped old new me (passes ticket d) (old.spare - 1) is)) refl
       go (Some k) e is = subst (λ (c : CoreData). IsSome (state_of c).kept) (sym is) (subst (λ o. IsSome o) (sym e) refl)
 
@@ -194,16 +194,16 @@ module _ (p : ProblemData) (ids : InternerData) (L : List EntryData) (found : Li
   seed_closed point are e at (s, follows) = in_log e (are.each s e at follows tt)
 
 -- all that follows at a point by the place is in the log
-abbrev pub HasAll : ProblemData → List EntryData → ℕ → ℕ → List EntryData → Type 0
-HasAll p from place d L = (s : Support) (e : EntryData) → e.point ≡ d → FollowsBy p (take (place + 1) from) s e → Contains (premises s) place → Contains L e
+abbrev pub HasAllThatFollow : ProblemData → List EntryData → ℕ → ℕ → List EntryData → Type 0
+HasAllThatFollow p from place d L = (s : Support) (e : EntryData) → e.point ≡ d → FollowsBy p (take (place + 1) from) s e → Contains (premises s) place → Contains L e
 
 pub has_all : (p : ProblemData) (ids : InternerData) (from L : List EntryData) (place d : ℕ) (found : List DeducedData) → All (λ (x : DeducedData). Contains L (entry_of ids x.row)) found
-    → AreConclusions p ids (take (place + 1) from) d (Uses place) found → HasAll p from place d L
+    → AreConclusions p ids (take (place + 1) from) d (Uses place) found → HasAllThatFollow p from place d L
 has_all p ids from L place d found there are s e at follows among = in_log p ids L found there e (are.each s e at follows among)
 
 module _ (p : ProblemData) (from more L : List EntryData) (place : ℕ) (within : place < length from) (grown_to : L ≡ from ++ more) where
   pub place_closed : (at : EntryData) (lists : List (List ℕ)) (items : List ℕ) → slice_get from place ≡ Some at → HasDependents p.points p.flow.pairs lists → items ≡ list_of lists at.point
-      → ((k : ℕ) → k < length items → HasAll p from place (get_or items k 0) L) → IsClosedPlace p L place
+      → ((k : ℕ) → k < length items → HasAllThatFollow p from place (get_or items k 0) L) → IsClosedPlace p L place
   place_closed at lists items here dependents is all at' e s here' depends follows among =
       let before : slice_get from place ≡ Some at' = at_within from more place at' within (subst (λ xs. slice_get xs place ≡ Some at') grown_to here') in
       let same : at' ≡ at = some_same at' at (sym before ∙ here) in
@@ -327,7 +327,7 @@ never_found : (c : CoreData) → ((place : ℕ) → IsFound c place → ⊥) →
 never_found c never first (e, (start, there)) = let at = place_of (log_of c) e there in never at.0 (record { first = first; start = record { entry = e; at = at.1; is_start = start } })
 
 -- the answers
-pub least_answer : (c : CoreData) → IsLegal c.base c.story → ((place : ℕ) → IsFound c place → ⊥) → Ends c → (state_of c).kept ≡ None → IsLeastAnswer c
+pub least_answer : (c : CoreData) → IsLegal c.base c.story → ((place : ℕ) → IsFound c place → ⊥) → EndsAtRest c → (state_of c).kept ≡ None → IsLeastAnswer c
 least_answer c legal never ends kept =
     let on = never_found c never in
     let rest = ends kept on in
@@ -426,12 +426,12 @@ module _ {me : ℕ} where
   moves_asked a b c moves is = moves_trans a b c moves (moves_same b c (ap (λ (x : CoreData). x.base) is) (ap (λ (x : CoreData). x.story) is))
 
 module _ {me : ℕ} where
-  pub has_more : (p : ProblemData) (from : List EntryData) (place d : ℕ) (b e : CoreData) → GoesAlone me b e → HasAll p from place d (log_of b) → HasAll p from place d (log_of e)
+  pub has_more : (p : ProblemData) (from : List EntryData) (place d : ℕ) (b e : CoreData) → GoesAlone me b e → HasAllThatFollow p from place d (log_of b) → HasAllThatFollow p from place d (log_of e)
   has_more p from place d b e goes h = λ s x at follows among. longer_has b e (longer b e goes) x (h s x at follows among)
 
 module _ {me : ℕ} where
   pub has_new : (a b m e : CoreData) (place d : ℕ) (found : List DeducedData) → place < length (log_of a) → GoesAlone me a b → e.ids ≡ m.ids
-      → AreConclusions b.base.problem m.ids (take (place + 1) (log_of b)) d (Uses place) found → All (IsThere e) found → HasAll a.base.problem (log_of a) place d (log_of e)
+      → AreConclusions b.base.problem m.ids (take (place + 1) (log_of b)) d (Uses place) found → All (IsThere e) found → HasAllThatFollow a.base.problem (log_of a) place d (log_of e)
   has_new a b m e place d found within goes ids are there =
       let l = longer a b goes in
       let front : take (place + 1) (log_of b) ≡ take (place + 1) (log_of a) = ap (λ xs. take (place + 1) xs) l.log ∙ take-append-le (place + 1) (log_of a) l.more (omega arith) in
@@ -443,7 +443,7 @@ module _ {me : ℕ} where
 module _ {me : ℕ} where
   pub closed_at_end : (a e : CoreData) (place : ℕ) (at : EntryData) (lists : List (List ℕ)) (items : List ℕ) (index : ℕ) → place < length (log_of a) → GoesAlone me a e → slice_get (log_of a) place ≡ Some at
       → HasDependents a.base.problem.points a.base.problem.flow.pairs lists → slice_get lists at.point ≡ Some items → length items ≤ index
-      → ((k : ℕ) → k < index → HasAll a.base.problem (log_of a) place (get_or items k 0) (log_of e)) → IsClosedPlace e.base.problem (log_of e) place
+      → ((k : ℕ) → k < index → HasAllThatFollow a.base.problem (log_of a) place (get_or items k 0) (log_of e)) → IsClosedPlace e.base.problem (log_of e) place
   closed_at_end a e place at lists items index within goes here dependents listed done all =
       let l = longer a e goes in
       subst (λ (base : Base). IsClosedPlace base.problem (log_of e) place) (sym goes.base)
@@ -465,9 +465,9 @@ module _ (me : ℕ) where
 
 -- no work was given out
 module _ (me : ℕ) where
-  pub not_taken : (a b : CoreData) (answer : Taken) → ((work : Work) (ticket : ℕ) → answer ≡ Item work ticket → ⊥) → NothingFlies a → Takes a me answer b → (b ≡ a) × Ends b
-  not_taken a b (Found place) other none h = (h.1, subst (λ (c : CoreData). Ends c) (sym h.1) (λ kept on. absurd (on h.0.first (h.0.start.entry, (h.0.start.is_start, member_at (log_of a) place h.0.start.entry h.0.start.at)))))
-  not_taken a b Over other none h = (h.2, subst (λ (c : CoreData). Ends c) (sym h.2) (λ kept on. absurd (some_none (state_of a).kept h.1 kept)))
+  pub not_taken : (a b : CoreData) (answer : Taken) → ((work : Work) (ticket : ℕ) → answer ≡ Item work ticket → ⊥) → NothingFlies a → Takes a me answer b → (b ≡ a) × EndsAtRest b
+  not_taken a b (Found place) other none h = (h.1, subst (λ (c : CoreData). EndsAtRest c) (sym h.1) (λ kept on. absurd (on h.0.first (h.0.start.entry, (h.0.start.is_start, member_at (log_of a) place h.0.start.entry h.0.start.at)))))
+  not_taken a b Over other none h = (h.2, subst (λ (c : CoreData). EndsAtRest c) (sym h.2) (λ kept on. absurd (some_none (state_of a).kept h.1 kept)))
     where
       some_none : (o : Option Deduction) → IsSome o → o ≡ None → ⊥
       some_none None s e = false≢true s
@@ -477,7 +477,7 @@ module _ (me : ℕ) where
     where
       some_none : (x : Flight) → Some x ≡ None → ⊥
       some_none x e = cc
-  not_taken a b Quiet other none h = (h.2, subst (λ (c : CoreData). Ends c) (sym h.2) (λ kept on. h.1))
+  not_taken a b Quiet other none h = (h.2, subst (λ (c : CoreData). EndsAtRest c) (sym h.2) (λ kept on. h.1))
 
 pub seed_closed_after : (a m e : CoreData) (point : ℕ) (found : List DeducedData) → m ≡ record { base = a.base; ids = m.ids; story = a.story; spare = a.spare } → e.base ≡ m.base → e.ids ≡ m.ids
     → AreConclusions a.base.problem m.ids [] point AnySupport found → All (IsThere e) found → IsClosedSeed e.base.problem (log_of e) point
@@ -509,7 +509,7 @@ nothing_flies a b base story none t = ap (λ (s : State). s.flight t) (state_sam
 
 -- past the budget no work is given out
 module _ (me : ℕ) where
-  pub kept_ends : (a b : CoreData) (ticket spare : ℕ) → IsSome (state_of a).kept → b ≡ stepped a me (gives_back ticket) spare → Ends b
+  pub kept_ends : (a b : CoreData) (ticket spare : ℕ) → IsSome (state_of a).kept → b ≡ stepped a me (gives_back ticket) spare → EndsAtRest b
   kept_ends a b ticket spare some is none on = absurd (some_none (state_of a).kept some (sym (ap (λ (s : State). s.kept) (state_stepped a b me (gives_back ticket) spare is)) ∙ none))
     where
       some_none : (o : Option Deduction) → IsSome o → o ≡ None → ⊥

@@ -24,7 +24,7 @@ use Rattle.hs_history.proofs.Works.{without_first}
 use Rattle.hs_core.specs.declared.state.Core.TheInside.{Inside}
 use Rattle.hs_core.specs.Tickets.{under}
 use Rattle.hs_core.specs.Core.{CoreData, deduction_of, state_of, log_of, stepped, StartsAt}
-use Rattle.hs_core.specs.Answers.{IsFound, Passes}
+use Rattle.hs_core.specs.Answers.{IsFound, AddsOrPasses}
 use Rattle.hs_core.specs.Inside.{Fields, kept_in, story_of, Shows, IsReadable, KnowsStart, IsInside}
 use Rattle.hs_core.proofs.Telling.{told_stays, told_push, get_end, places_kept, places_same, deduction_end, past_same, past_grows, past_first, readable_weaker, readable_push}
 
@@ -425,6 +425,6 @@ module _ (base : Base) (f : Fields) (inside : IsInside base f) (spare : ℕ) (v 
       omega (arith, within, full, ap (λ xs. length xs) seen.log, ap (λ (b : Base). b.budget) seen_base)
 
 -- an entry past the budget, where one is kept already
-pub passes_again : (old : CoreData) (worker ticket : ℕ) (d : Deduction) (kept : Option Deduction) → IsSome kept → Passes old worker ticket d old kept
+pub passes_again : (old : CoreData) (worker ticket : ℕ) (d : Deduction) (kept : Option Deduction) → IsSome kept → AddsOrPasses old worker ticket d old kept
 passes_again old worker ticket d None some = absurd (false≢true some)
 passes_again old worker ticket d (Some x) some = refl

@@ -1,7 +1,7 @@
 -- What the answers of a core say of it before and after the call.
---     IsFound                        only the start entry is sought, and it stands at this place
---     Takes, Publishes               for each answer when it comes, and what has changed
---     IsLeastAnswer, IsOverAnswer, IsFirstAnswer    what the answers of saturation say
+--     IsFound                                     only the start entry is sought, and it stands at this place
+--     Takes, Publishes                            for each answer when it comes, and what has changed
+--     IsLeastAnswer, IsOverAnswer, IsFirstAnswer  what the answers of saturation say
 use Rattle.std.specs.Prelude.{◌≡◌, ℕ, ◌-◌, ◌<◌, true, [], length, slice_get, Option, Some, None, IsSome, Contains, All}
 use Rattle.hs_table.specs.Tables.{IsLeastTable, Exceeds, HasStart}
 use Rattle.hs_history.specs.declared.step.Flight.{Flight}
@@ -34,9 +34,9 @@ Takes old worker Idle new = GoesOn old.base (log_of old) × IsIdle old × (new �
 Takes old worker Quiet new = GoesOn old.base (log_of old) × IsAtRest (state_of old) × (new ≡ old)
 
 -- the first entry past the budget is kept, and a later one changes nothing
-abbrev pub Passes : CoreData → ℕ → ℕ → Deduction → CoreData → Option Deduction → Type 0
-Passes old worker ticket d new None = new ≡ stepped old worker (passes ticket d) (old.spare - 1)
-Passes old worker ticket d new (Some kept) = new ≡ old
+abbrev pub AddsOrPasses : CoreData → ℕ → ℕ → Deduction → CoreData → Option Deduction → Type 0
+AddsOrPasses old worker ticket d new None = new ≡ stepped old worker (passes ticket d) (old.spare - 1)
+AddsOrPasses old worker ticket d new (Some kept) = new ≡ old
 
 abbrev pub Publishes : CoreData → ℕ → ℕ → Deduction → Published → CoreData → Type 0
 Publishes old worker ticket d (Known place) new = (slice_get (log_of old) place ≡ Some d.entry) × (new ≡ old)
@@ -44,7 +44,7 @@ Publishes old worker ticket d (Added place) new =
     (Contains (log_of old) d.entry → ⊥) × (length (log_of old) < old.base.budget) × (place ≡ length (log_of old))
     × (new ≡ stepped old worker (adds ticket d) (old.spare - 1))
 Publishes old worker ticket d NoRoom new =
-    (Contains (log_of old) d.entry → ⊥) × (length (log_of old) ≡ old.base.budget) × Passes old worker ticket d new (state_of old).kept
+    (Contains (log_of old) d.entry → ⊥) × (length (log_of old) ≡ old.base.budget) × AddsOrPasses old worker ticket d new (state_of old).kept
 
 -- the log is the least table, within the budget; where only the start entry is sought it lacks it
 pub record IsLeastAnswer (c : CoreData) : Type 0 where

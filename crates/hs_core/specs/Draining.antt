@@ -1,7 +1,7 @@
 -- What one worker does alone.
 --     weight          how many works can still be done: it falls with each work that is done
 --     GoesAlone       this worker alone did some steps
---     Ends            nothing is left to do, or no work is given out any more
+--     EndsAtRest      nothing is left to do, or no work is given out any more
 use Rattle.std.specs.Prelude.{◌≡◌, ℕ, ◌+◌, ◌-◌, ◌*◌, ◌++◌, length, None, Contains}
 use Rattle.hs_table.specs.Follows.{FollowsBy}
 use Rattle.hs_types.specs.Interned.{IsRow, entry_of}
@@ -36,5 +36,5 @@ pub record IsReady (c : CoreData) (d : DeducedData) : Type 0 where
 abbrev pub IsThere : CoreData → DeducedData → Type 0
 IsThere c d = Contains (log_of c) (entry_of c.ids d.row)
 
-abbrev pub Ends : CoreData → Type 0
-Ends c = (state_of c).kept ≡ None → GoesOn c.base (log_of c) → IsAtRest (state_of c)
+abbrev pub EndsAtRest : CoreData → Type 0
+EndsAtRest c = (state_of c).kept ≡ None → GoesOn c.base (log_of c) → IsAtRest (state_of c)

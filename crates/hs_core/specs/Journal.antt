@@ -112,9 +112,9 @@ abbrev pub steps_read : Reader → List Mark → List Step
 steps_read r [] = []
 steps_read r (m ∷ marks) = step_at r m ∷ steps_read (beyond r m) marks
 
-abbrev pub Ends : Reader → List Mark → Actor → Due → Type 0
-Ends r [] actor due = r ≡ record { actor = actor; due = due; actors = []; dues = [] }
-Ends r (m ∷ marks) actor due = Has m.changed r.actors × Has m.jumped r.dues × Ends (beyond r m) marks actor due
+abbrev pub EndsAtRest : Reader → List Mark → Actor → Due → Type 0
+EndsAtRest r [] actor due = r ≡ record { actor = actor; due = due; actors = []; dues = [] }
+EndsAtRest r (m ∷ marks) actor due = Has m.changed r.actors × Has m.jumped r.dues × EndsAtRest (beyond r m) marks actor due
 
 abbrev pub IsKept : List Actor → List Due → List Mark → Actor → Due → Type 0
-IsKept actors dues marks actor due = Ends (opened actors dues) marks actor due
+IsKept actors dues marks actor due = EndsAtRest (opened actors dues) marks actor due

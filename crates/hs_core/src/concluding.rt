@@ -33,7 +33,8 @@ impl<'p> Core<'p> {
         requires point { point < length self.old.base.problem.points.points }
         requires place { place < length (log_of self.old) }
         ensures found { IfOk result (λ found.
-            AreConclusions self.old.base.problem self.new.ids (take (place + 1) (log_of self.old)) point (Uses place) found.items) }
+            AreConclusions self.old.base.problem self.new.ids (take (place + 1) (log_of self.old)) point
+            (Uses place) found.items) }
         ensures kept { self.new ≡ record self.old { ids = self.new.ids } }
         ensures grows { Grows self.old.ids self.new.ids }
     {

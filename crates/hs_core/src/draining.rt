@@ -6,7 +6,7 @@ ghost use Rattle.hs_history.specs.Story.{Story};
 ghost use Rattle.hs_history.specs.CoreStep.{Holds, IsClosedWork, IsClosedPlace};
 ghost use Rattle.hs_history.specs.History.{IsWork};
 ghost use Rattle.hs_core.specs.Core.{state_of, log_of};
-ghost use Rattle.hs_core.specs.Draining.{weight, GoesAlone, SameFlight, NothingFlies, IsReady, IsThere, Ends};
+ghost use Rattle.hs_core.specs.Draining.{weight, GoesAlone, SameFlight, NothingFlies, IsReady, IsThere, EndsAtRest};
 ghost use Rattle.hs_core.specs.Saturation.{IsDrained, GivesBack, Drains};
 
 use crate::answers::{Drained, Published, Taken};
@@ -69,7 +69,8 @@ fn conclude_place(
 ) -> Result<bool, OutOfMemory>
     requires holds { Holds (state_of core.old) worker ticket }
     requires place { place < length (log_of core.old) }
-    requires dependents { HasDependents core.old.base.problem.points core.old.base.problem.flow.pairs dependents.now }
+    requires dependents { HasDependents core.old.base.problem.points core.old.base.problem.flow.pairs
+        dependents.now }
     ensures goes { GoesAlone worker core.old core.new }
     ensures flight { SameFlight core.old core.new }
     ensures weight { weight core.new ≤ weight core.old }
@@ -99,7 +100,8 @@ fn conclude(
 ) -> Result<bool, OutOfMemory>
     requires holds { Holds (state_of core.old) worker ticket }
     requires work { IsWork core.old.base.problem (log_of core.old) work }
-    requires dependents { HasDependents core.old.base.problem.points core.old.base.problem.flow.pairs dependents.now }
+    requires dependents { HasDependents core.old.base.problem.points core.old.base.problem.flow.pairs
+        dependents.now }
     ensures goes { GoesAlone worker core.old core.new }
     ensures flight { SameFlight core.old core.new }
     ensures weight { weight core.new ≤ weight core.old }
@@ -125,10 +127,12 @@ fn turn<G: Gate>(
     gate: &G,
 ) -> Result<bool, OutOfMemory>
     requires flight { NothingFlies core.old }
-    requires dependents { HasDependents core.old.base.problem.points core.old.base.problem.flow.pairs dependents.now }
+    requires dependents { HasDependents core.old.base.problem.points core.old.base.problem.flow.pairs
+        dependents.now }
     ensures goes { GoesAlone worker core.old core.new }
     ensures flight { NothingFlies core.new }
-    ensures more { IfOk result (λ more. MatchBool more (weight core.new < weight core.old) (Ends core.new)) }
+    ensures more { IfOk result (λ more. MatchBool more (weight core.new < weight core.old)
+        (EndsAtRest core.new)) }
 {
     core.reserve_some()?;
     core.is_core();
@@ -164,10 +168,11 @@ pub fn work_alone<G: Gate>(
     gate: &G,
 ) -> Result<(), OutOfMemory>
     requires flight { NothingFlies core.old }
-    requires dependents { HasDependents core.old.base.problem.points core.old.base.problem.flow.pairs dependents.now }
+    requires dependents { HasDependents core.old.base.problem.points core.old.base.problem.flow.pairs
+        dependents.now }
     ensures goes { GoesAlone worker core.old core.new }
     ensures flight { NothingFlies core.new }
-    ensures ends { OnOk result (Ends core.new) }
+    ensures ends { OnOk result (EndsAtRest core.new) }
 {
     while turn(alloc, core, dependents, worker, gate)? {}
     Ok(())
@@ -175,7 +180,7 @@ pub fn work_alone<G: Gate>(
 
 /// What has come of it.
 pub(crate) fn answer(core: &Core) -> Drained
-    requires { Ends core.now }
+    requires { EndsAtRest core.now }
     ensures { IsDrained core.now result }
 {
     core.is_core();

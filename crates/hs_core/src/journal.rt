@@ -78,7 +78,10 @@ impl Model for Journal {
 
     ghost Value = { JournalData };
 
-    ghost view = { λ a. record { steps = steps_read (opened a.actors.items a.dues.items) a.marks.items; room = a.room } };
+    ghost view = { λ a. record {
+      steps = steps_read (opened a.actors.items a.dues.items) a.marks.items;
+      room = a.room;
+    } };
 
     ghost invariant = { λ a.
         IsKept a.actors.items a.dues.items a.marks.items a.actor a.due
@@ -317,7 +320,8 @@ impl<'a> Model for Steps<'a> {
 
     ghost Value = { List Step };
 
-    ghost view = { λ a. steps_read (record { actor = a.actor; due = a.due; actors = a.actors.now; dues = a.dues.now }) a.marks.now };
+    ghost view = { λ a. steps_read
+        (record { actor = a.actor; due = a.due; actors = a.actors.now; dues = a.dues.now }) a.marks.now };
 }
 
 /// The actor at a step, and those to come.

@@ -231,7 +231,8 @@ impl<'p> Core<'p> {
     /// from, and the chosen arguments with their places.
     pub fn support(&self, place: u32) -> (&HeadBy, &[(u32, u32)])
         requires { place < length (log_of self.now) }
-        ensures { slice_get (state_of self.now).supports place ≡ Some (record { head = result.0.now; args = result.1.now }) }
+        ensures { slice_get (state_of self.now).supports place ≡ Some
+            (record { head = result.0.now; args = result.1.now }) }
     {
         let backing = &self.supports[place as usize];
         (&backing.head, backing.args.as_slice())
@@ -240,7 +241,8 @@ impl<'p> Core<'p> {
     /// The entry past the budget, where one is kept.
     pub fn past(&self) -> Option<&Deduced>
         ensures row { IfSome result (λ d. IsRow self.now.ids d.now.row) }
-        ensures kept { (state_of self.now).kept ≡ option_map (deduction_of self.now.ids) (option_copied result) }
+        ensures kept { (state_of self.now).kept ≡ option_map (deduction_of self.now.ids)
+            (option_copied result) }
     {
         self.past.as_ref()
     }
@@ -248,7 +250,8 @@ impl<'p> Core<'p> {
     /// What has happened, the first step first. An entry that was added is told by its place in the
     /// log, and one past the budget is the kept one.
     pub fn journal(&self) -> &Journal
-        ensures { told (log_of self.now) (state_of self.now).supports (state_of self.now).kept result.now.steps ≡ self.now.story }
+        ensures { told (log_of self.now) (state_of self.now).supports
+            (state_of self.now).kept result.now.steps ≡ self.now.story }
     {
         &self.journal
     }

@@ -68,7 +68,8 @@ impl<'p> Core<'p> {
     /// The place of the start entry once the row's entry stands at the end of the log.
     fn start_with(&self, row: Row) -> Option<u32>
         requires { IsRow self.now.ids row }
-        ensures { KnowsStart self.now.base.problem (log_of self.now ++ entry_of self.now.ids row ∷ []) result }
+        ensures { KnowsStart self.now.base.problem
+            (log_of self.now ++ entry_of self.now.ids row ∷ []) result }
     {
         if is_start(self.problem, self.replica.interner(), row) {
             Some(self.replica.len())
@@ -80,10 +81,12 @@ impl<'p> Core<'p> {
     /// Adds the entry to the log, and answers its place.
     fn append(&mut self, worker: u32, ticket: u32, deduced: Deduced) -> u32
         requires row { IsRow self.old.ids deduced.row }
-        requires can { CanAdd self.old.base (state_of self.old) worker ticket (deduction_of self.old.ids deduced) }
+        requires can { CanAdd self.old.base (state_of self.old) worker ticket
+            (deduction_of self.old.ids deduced) }
         requires spare { 1 ≤ self.old.spare }
         ensures place { result ≡ length (log_of self.old) }
-        ensures stepped { self.new ≡ stepped self.old worker (adds ticket (deduction_of self.old.ids deduced)) (self.old.spare - 1) }
+        ensures stepped { self.new ≡ stepped self.old worker (adds ticket (deduction_of self.old.ids deduced))
+            (self.old.spare - 1) }
     {
         let place = self.replica.len();
         self.start = self.start_with(deduced.row);
@@ -102,9 +105,11 @@ impl<'p> Core<'p> {
     /// Keeps the entry, for which the budget has no room.
     fn keep(&mut self, worker: u32, ticket: u32, deduced: Deduced)
         requires row { IsRow self.old.ids deduced.row }
-        requires can { CanPass self.old.base (state_of self.old) worker ticket (deduction_of self.old.ids deduced) }
+        requires can { CanPass self.old.base (state_of self.old) worker ticket
+            (deduction_of self.old.ids deduced) }
         requires spare { 1 ≤ self.old.spare }
-        ensures { self.new ≡ stepped self.old worker (passes ticket (deduction_of self.old.ids deduced)) (self.old.spare - 1) }
+        ensures { self.new ≡ stepped self.old worker (passes ticket (deduction_of self.old.ids deduced))
+            (self.old.spare - 1) }
     {
         self.past = Some(deduced);
         self.journal.push(Step {
@@ -121,7 +126,8 @@ impl<'p> Core<'p> {
     pub fn publish(&mut self, worker: u32, ticket: u32, deduced: Deduced) -> Published
         requires holds { Holds (state_of self.old) worker ticket }
         requires row { IsRow self.old.ids deduced.row }
-        requires follows { FollowsBy self.old.base.problem (log_of self.old) deduced.support (entry_of self.old.ids deduced.row) }
+        requires follows { FollowsBy self.old.base.problem (log_of self.old) deduced.support
+            (entry_of self.old.ids deduced.row) }
         requires spare { 1 ≤ self.old.spare }
         ensures { Publishes self.old worker ticket (deduction_of self.old.ids deduced) result self.new }
     {

@@ -83,7 +83,8 @@ impl Tickets {
     pub fn insert(&mut self, flight: Flight) -> u32
         requires { held self.old + 1 ≤ self.old.capacity }
         ensures free { under self.old result ≡ None }
-        ensures updates { (ticket : ℕ) → under self.new ticket ≡ put result (Some flight) (under self.old) ticket }
+        ensures updates { (ticket : ℕ)
+            → under self.new ticket ≡ put result (Some flight) (under self.old) ticket }
         ensures count { held self.new ≡ held self.old + 1 }
         ensures capacity { self.new.capacity ≡ self.old.capacity }
     {

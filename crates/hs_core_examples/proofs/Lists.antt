@@ -1,11 +1,7 @@
 -- A list that is gone through from its front.
-use Rattle.std.proofs.Common.{◌≡◌, ◌∙◌, ap, subst, ℕ, zero, suc, ◌+◌, ◌<◌, ◌≤◌, List, [], ◌∷◌, length, get_or, All, arith, inl, inr}
+use Rattle.std.proofs.Common.{◌≡◌, ◌∙◌, ap, subst, ℕ, ◌+◌, ◌<◌, ◌≤◌, List, length, get_or, All, arith, inl, inr}
 use Rattle.std.proofs.lemmas.Bool.{cases_lt}
-
-pub any_default : {X : Type 0} (xs : List X) (n : ℕ) (a b : X) → n < length xs → get_or xs n a ≡ get_or xs n b
-any_default [] n a b lt = absurd (omega arith)
-any_default (x ∷ xs) zero a b lt = λ i. x
-any_default (x ∷ xs) (suc n) a b lt = any_default xs n a b (omega arith)
+use Rattle.std.proofs.lemmas.List.{get_or_default}
 
 -- so it is for the first n of them
 abbrev pub SoFar : {X : Type 0} → (X → Type 0) → List X → ℕ → Type 0
@@ -20,7 +16,7 @@ module _ {X : Type 0} (P : X → Type 0) (xs : List X) where
     | inl less ↦ before k d less
     | inr more ↦
         let same : n ≡ k = omega arith in
-        subst P (is ∙ any_default xs n x d below ∙ ap (λ i. get_or xs i d) same) h
+        subst P (is ∙ get_or_default xs n x d below ∙ ap (λ i. get_or xs i d) same) h
   ]
 
   pub all_of_them : (n : ℕ) → length xs ≤ n → SoFar P xs n → All P xs

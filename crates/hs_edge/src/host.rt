@@ -60,7 +60,10 @@ impl FileSource {
     fn answer(&mut self, buf: &[u8], outcome: io::Result<usize>) -> Result<usize, Failed>
         ensures ok { IfOk outcome (λ n. result ≡ Ok n) }
         ensures ok_state { IfOk outcome (λ n.
-            self.new ≡ record self.old { reading = handed (length buf.now) (take n buf.now) self.old.reading }) }
+            self.new ≡ record self.old {
+              reading = handed (length buf.now)
+                  (take n buf.now) self.old.reading;
+            }) }
         ensures err { OnErr outcome (IsErr result) }
         ensures err_state { OnErr outcome (
             self.new ≡ record self.old { failures = one_more self.old.failures }) }
@@ -179,7 +182,8 @@ impl StdSink {
     // What `write` answers where the system gives this outcome.
     fn answer(&mut self, piece: &[u8], outcome: io::Result<usize>) -> Result<usize, Failed>
         ensures ok { IfOk outcome (λ n. IfOk result (λ m. m ≡ n)) }
-        ensures ok_state { IfOk result (λ n. self.new ≡ record self.old { writing = written piece.now n self.old.writing }) }
+        ensures ok_state { IfOk result
+            (λ n. self.new ≡ record self.old { writing = written piece.now n self.old.writing }) }
         ensures err { OnErr outcome (IsErr result) }
         ensures fails { OnErr result (
             self.new ≡ record self.old { failures = one_more self.old.failures }) }

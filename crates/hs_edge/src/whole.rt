@@ -18,7 +18,8 @@ const PIECE: usize = 8192;
 pub fn read_all<S: Source>(alloc: Global, source: &mut S, limit: usize) -> Result<Vec<u8>, ReadAll>
     // All that was handed out, up to the first end.
     ensures all { IfOk result (λ bytes. ReadsOn
-        (S.reading source.old) (S.left source.old) bytes.items true (S.reading source.new) (S.left source.new)) }
+        (S.reading source.old) (S.left source.old) bytes.items true (S.reading source.new)
+        (S.left source.new)) }
     ensures within { IfOk result (λ bytes. vec_len bytes ≤ limit) }
     ensures emptied { OnOk result (IfSome (S.left source.new) (λ left. left ≡ [])) }
 
@@ -30,7 +31,8 @@ pub fn read_all<S: Source>(alloc: Global, source: &mut S, limit: usize) -> Resul
     ensures memory { IsErrOf result ReadAll.OutOfMemory → ReadsWithin limit
         (S.reading source.old) (S.left source.old) (S.reading source.new) (S.left source.new) }
     ensures cause { IsErrOf result ReadAll.ReadFault →
-        IsSomeAnd (S.reading source.old).begun (λ name. Rose (S.faults source.old name) (S.faults source.new name)) }
+        IsSomeAnd (S.reading source.old).begun
+        (λ name. Rose (S.faults source.old name) (S.faults source.new name)) }
 
     // Nothing failed but at `ReadFault`.
     ensures same_faults { result ≢ Err ReadAll.ReadFault →

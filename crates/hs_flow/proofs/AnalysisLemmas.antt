@@ -17,7 +17,7 @@ use Rattle.hs_flow.specs.declared.bases.Base.{Base}
 use Rattle.hs_flow.specs.Lists.{list_of, IsPushed}
 use Rattle.hs_flow.specs.Users.{IsUser}
 use Rattle.hs_flow.specs.Passing.{PassedAtFirst, MayBecome}
-use Rattle.hs_flow.specs.Pairs.{PairsData, Has, AreNone, IsReady, FindsOnly, Extends}
+use Rattle.hs_flow.specs.Pairs.{PairsData, HasBaseAt, AreNone, IsReady, FindsOnly, Extends}
 use Rattle.hs_flow.specs.Analysis.{point_of, IsByPoint, HasBases, IsAnalysis}
 use Rattle.hs_flow.proofs.PairLemmas.{nothing_in, only_in, first_in}
 use Rattle.hs_flow.proofs.PassingLemmas.{demand_cases}
@@ -203,17 +203,17 @@ module _ (a : PairsData) (n : ℕ) (flows : List (List FlowPair)) (heads : List 
 
   pub step_unused : (f : FlowPair) → slice_get a.found n ≡ Some (OfFlow f) → ((p : ℕ) → IsUser (points_of a.rules).points f.rule f.param p → ⊥) → IsAnalysis flows heads (record { pairs = a; taken = n + 1 })
   step_unused f at nobody = taken_one (OfFlow f) flows heads at refl refl (flow_unused a.rules (take n a.found) flows heads is.by_point f nobody)
-      (flow_bases a.rules (take n a.found) flows heads is.by_point (Has a) is.bases f (λ h p there user. absurd (nobody p user)))
+      (flow_bases a.rules (take n a.found) flows heads is.by_point (HasBaseAt a) is.bases f (λ h p there user. absurd (nobody p user)))
 
   pub step_flow : (f : FlowPair) (new : List (List FlowPair)) → slice_get a.found n ≡ Some (OfFlow f) → IsPushed f.point f flows new
-      → ((h : HeadPair) → Contains (list_of heads f.point) h → Has a (record { rule = f.rule; param = f.param; base = h.rule; given = h.given })) → IsAnalysis new heads (record { pairs = a; taken = n + 1 })
+      → ((h : HeadPair) → Contains (list_of heads f.point) h → HasBaseAt a (record { rule = f.rule; param = f.param; base = h.rule; given = h.given })) → IsAnalysis new heads (record { pairs = a; taken = n + 1 })
   step_flow f new at pushed now = taken_one (OfFlow f) new heads at pushed.len refl (flow_taken a.rules (take n a.found) flows heads is.by_point f new pushed)
-      (flow_bases a.rules (take n a.found) flows heads is.by_point (Has a) is.bases f (λ h p there user. now h there))
+      (flow_bases a.rules (take n a.found) flows heads is.by_point (HasBaseAt a) is.bases f (λ h p there user. now h there))
 
   pub step_head : (h : HeadPair) (new : List (List HeadPair)) → slice_get a.found n ≡ Some (OfHead h) → IsPushed h.point h heads new
-      → ((f : FlowPair) → Contains (list_of flows h.point) f → Has a (record { rule = f.rule; param = f.param; base = h.rule; given = h.given })) → IsAnalysis flows new (record { pairs = a; taken = n + 1 })
+      → ((f : FlowPair) → Contains (list_of flows h.point) f → HasBaseAt a (record { rule = f.rule; param = f.param; base = h.rule; given = h.given })) → IsAnalysis flows new (record { pairs = a; taken = n + 1 })
   step_head h new at pushed now = taken_one (OfHead h) flows new at refl pushed.len (head_taken a.rules (take n a.found) flows heads is.by_point h new pushed)
-      (head_bases a.rules (take n a.found) flows heads is.by_point (Has a) is.bases h now)
+      (head_bases a.rules (take n a.found) flows heads is.by_point (HasBaseAt a) is.bases h now)
 
   -- the pairs of the list of a point are found
   pub heads_found : (u : ℕ) → All (λ (h : HeadPair). (h.point ≡ u) × Contains a.found (OfHead h)) (list_of heads u)
@@ -258,7 +258,7 @@ next_within rules found n supported None e = tt
 next_within rules found n supported (Some q) e = point_within rules (take n found) q (supported.demanded n q (sym e))
 
 -- where there are no bases, all is passed on for each
-pub ready_first : (P : Pair → Type 0) (a b : PairsData) → FindsOnly P a b → ((c : Base) → Has a c → ⊥) → length b.found ≤ b.max → IsReady b
+pub ready_first : (P : Pair → Type 0) (a b : PairsData) → FindsOnly P a b → ((c : Base) → HasBaseAt a c → ⊥) → length b.found ≤ b.max → IsReady b
 ready_first P a b finds none = subst (λ (x : PairsData). length x.found ≤ x.max → IsReady x) (sym finds.is) (λ few. record { within = few; passed = λ c had. absurd (none c had) })
 
 pub never_some : {X : Type 0} (o : Option X) (P : Type 0) → ((x : X) → o ≡ Some x → ⊥) → IfNone o P → P

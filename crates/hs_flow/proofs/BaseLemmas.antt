@@ -1,8 +1,8 @@
 -- What parameters may become, one more of it.
-use Rattle.std.proofs.Common.{◌≡◌, refl, sym, ℕ, zero, suc, ◌<◌, ◌↔◌, ◌∙◌, ap, subst, Bool, true, false, not, ◌&&◌, nat_eq, length, arith, List, [], ◌∷◌, ◌++◌, cond, ◌⊎◌, inl, inr, Contains}
+use Rattle.std.proofs.Common.{◌≡◌, refl, sym, ℕ, zero, suc, ◌<◌, ◌↔◌, ◌∙◌, subst, Bool, true, false, not, ◌&&◌, nat_eq, length, arith, List, [], ◌∷◌, ◌++◌, cond, ◌⊎◌, inl, inr, Contains}
 use Rattle.std.specs.Bool.{Decides}
 use Rattle.std.specs.List.{list_any}
-use Rattle.std.proofs.lemmas.Bool.{eqb-true, eq-eqb}
+use Rattle.std.proofs.lemmas.Bool.{eqb-true, eq-eqb, and_parts}
 use Rattle.std.proofs.lemmas.List.Elements.{Contains-append_cases, Contains-append_left, Contains-push}
 use Rattle.std.proofs.lemmas.Map.Made.{is_member-Decides}
 use Rattle.hs_flow.specs.declared.bases.Base.{Base}
@@ -12,16 +12,11 @@ use Rattle.hs_scheme.proofs.ParameterLemmas.{number_once}
 use Rattle.hs_flow.specs.Bases.{HasFlag, InRows, IsOutside, TellsNew}
 use Rattle.hs_flow.proofs.PairLemmas.{only_in}
 
-both : (b c : Bool) → b && c ≡ true → (b ≡ true) × (c ≡ true)
-both true true h = (refl, refl)
-both true false h = absurd (cc)
-both false c h = absurd (cc)
-
 base_true : (a b : Base) → eq-value.it a b ≡ true → a ≡ b
 base_true a b h =
-    let p = both (nat_eq a.rule b.rule) (nat_eq a.param b.param && (nat_eq a.base b.base && nat_eq a.given b.given)) h in
-    let q = both (nat_eq a.param b.param) (nat_eq a.base b.base && nat_eq a.given b.given) p.1 in
-    let r = both (nat_eq a.base b.base) (nat_eq a.given b.given) q.1 in
+    let p = and_parts (nat_eq a.rule b.rule) (nat_eq a.param b.param && (nat_eq a.base b.base && nat_eq a.given b.given)) h in
+    let q = and_parts (nat_eq a.param b.param) (nat_eq a.base b.base && nat_eq a.given b.given) p.1 in
+    let r = and_parts (nat_eq a.base b.base) (nat_eq a.given b.given) q.1 in
     λ i. record { rule = eqb-true a.rule b.rule p.0 i; param = eqb-true a.param b.param q.0 i; base = eqb-true a.base b.base r.0 i; given = eqb-true a.given b.given r.1 i }
 
 base_own : (a : Base) → eq-value.it a a ≡ true
@@ -41,9 +36,6 @@ module _ (old new : List Base) (b : Base) where
   -- nothing was added
   pub base_there : (added : Bool) → added ≡ not (list_any (eq-value.it b) old) → added ≡ false → Contains old b
   base_there added is none = (is_member-Decides base_same old b).0 (was_there (list_any (eq-value.it b) old) added is none)
-
-  pub bases_same : (added : Bool) → new ≡ inserted (list_any (eq-value.it b) old) → added ≡ not (list_any (eq-value.it b) old) → added ≡ false → new ≡ old
-  bases_same added keys is none = keys ∙ ap inserted (was_there (list_any (eq-value.it b) old) added is none)
 
   isnt_there : (t added : Bool) → added ≡ not t → added ≡ true → t ≡ true → ⊥
   isnt_there true added is some e = (cc)

@@ -1,7 +1,7 @@
 -- Lists of points that grow by one point at a time.
 use Rattle.std.proofs.Common.{◌≡◌, ◌≢◌, refl, sym, ◌∙◌, ap, subst, ℕ, zero, suc, ◌+◌, ◌-◌, ◌<◌, ◌≤◌, Bool, true, false, nat_eq, ◌&&◌, List, [], ◌∷◌, ◌++◌, length, get_or, take, slice_get, Some, length-append, arith, ◌⊎◌, inl, inr, Contains, ◌↔◌, cond, filter}
 use Rattle.std.specs.List.Sorted.{IsStrictlyIncreasing}
-use Rattle.std.proofs.lemmas.Bool.{eqb-true, eq-eqb, cases_lt}
+use Rattle.std.proofs.lemmas.Bool.{eqb-true, eq-eqb, cases_lt, and_parts}
 use Rattle.std.proofs.lemmas.Option.{slice_get_within}
 use Rattle.std.proofs.lemmas.List.{take_more, get_or_append_left, get_or_push, get_or_default}
 use Rattle.std.proofs.lemmas.List.Elements.{All-append, All-cons, Contains-append_left, Contains-append_right, Contains-append_cases}
@@ -9,7 +9,7 @@ use Rattle.hs_scheme.specs.declared.flow.FlowPair.{FlowPair}
 use Rattle.hs_scheme.specs.declared.term.Head.{Head}
 use Rattle.hs_scheme.specs.Points.{PointData, PointsData, point_at}
 use Rattle.hs_scheme.specs.Dependents.{HeadReads, IsDependent}
-use Rattle.hs_scheme.proofs.DemandLemmas.{some_same, read-slice_get, slice_get-read}
+use Rattle.hs_scheme.proofs.DemandLemmas.{some_same, slice_get-read}
 use Rattle.hs_flow.specs.Dependents.{RisesTo, AddsTo, HasPoint, HasDependents, list_of}
 use Rattle.hs_flow.proofs.PairLemmas.{nothing_in, only_in, first_in}
 use Rattle.std.proofs.lemmas.Option.{slice_get-get_or}
@@ -63,38 +63,16 @@ module _ (old new : List (List ℕ)) (number point : ℕ) (long : length new ≡
       by p true here r = rises_push point (list_of old p) (subst (λ k. (x : ℕ) → slice_get (list_of old k) (length (list_of old k) - 1) ≡ Some x → x ≡ point → ⊥) (sym (eqb-true p number here)) apart) r
       by p false elsewhere r = r
 
--- it is the last there already
-pub kept_adds : (old : List (List ℕ)) (number point : ℕ) → slice_get (list_of old number) (length (list_of old number) - 1) ≡ Some point → AddsTo (λ p. p ≡ number) point old old
-kept_adds old number point last = record {
-  exact = λ p d. (
-    λ h. inl h,
-    λ h. elim h [
-      | inl was ↦ was
-      | inr new ↦ let r = read-slice_get (list_of old number) (length (list_of old number) - 1) point last in
-          subst (λ k. Contains (list_of old k) d) (sym new.1) (subst (λ e. Contains (list_of old number) e) (sym new.0) (length (list_of old number) - 1, r.0, r.1))
-    ],
-  );
-  rises = λ p r. r;
-  len = refl;
-}
-
-pub adds_nothing : (point : ℕ) (S : ℕ → Type 0) (old : List (List ℕ)) → ((p : ℕ) → S p → ⊥) → AddsTo S point old old
-adds_nothing point S old never = record {
-  exact = λ p d. (λ h. inl h, λ h. elim h [ inl was ↦ was | inr new ↦ absurd (never p new.1) ]);
-  rises = λ p r. r;
-  len = refl;
-}
-
 pub adds_then : (point : ℕ) (S T U : ℕ → Type 0) (a b c : List (List ℕ)) → ((p : ℕ) → (S p ⊎ T p) ↔ U p) → AddsTo S point a b → AddsTo T point b c → AddsTo U point a c
-adds_then point S T U a b c both f g = record {
+adds_then point S T U a b c and_parts f g = record {
   exact = λ p d. (
     λ h. elim ((g.exact p d).0 h) [
-      | inr late ↦ inr (late.0, (both p).0 (inr late.1))
-      | inl mid ↦ elim ((f.exact p d).0 mid) [ inl was ↦ inl was | inr early ↦ inr (early.0, (both p).0 (inl early.1)) ]
+      | inr late ↦ inr (late.0, (and_parts p).0 (inr late.1))
+      | inl mid ↦ elim ((f.exact p d).0 mid) [ inl was ↦ inl was | inr early ↦ inr (early.0, (and_parts p).0 (inl early.1)) ]
     ],
     λ h. elim h [
       | inl was ↦ (g.exact p d).1 (inl ((f.exact p d).1 (inl was)))
-      | inr new ↦ elim ((both p).1 new.1) [ inl early ↦ (g.exact p d).1 (inl ((f.exact p d).1 (inr (new.0, early)))) | inr late ↦ (g.exact p d).1 (inr (new.0, late)) ]
+      | inr new ↦ elim ((and_parts p).1 new.1) [ inl early ↦ (g.exact p d).1 (inl ((f.exact p d).1 (inr (new.0, early)))) | inr late ↦ (g.exact p d).1 (inr (new.0, late)) ]
     ],
   );
   rises = λ p r. g.rises p (f.rises p r);
@@ -160,17 +138,12 @@ module _ {X : Type 0} (m : X → Bool) where
   filter_to [] x h e = absurd (nothing_in x h)
   filter_to (y ∷ ys) x h e = to_step y ys x (λ k. filter_to ys x k e) e h (m y) refl
 
-both : (b c : Bool) → b && c ≡ true → (b ≡ true) × (c ≡ true)
-both true true h = (refl, refl)
-both true false h = absurd (cc)
-both false c h = absurd (cc)
-
 -- the points of the pairs of a parameter
 pub flow_reads : (flows : List FlowPair) (rule param p : ℕ) → HasPoint (filter (λ f. nat_eq f.rule rule && nat_eq f.param param) flows) p ↔ Contains flows (record { rule = rule; param = param; point = p })
 flow_reads flows rule param p = (
   λ h.
       let r = filter_from (λ (f : FlowPair). nat_eq f.rule rule && nat_eq f.param param) flows h.0 h.1.0 in
-      let t = both (nat_eq h.0.rule rule) (nat_eq h.0.param param) r.1 in
+      let t = and_parts (nat_eq h.0.rule rule) (nat_eq h.0.param param) r.1 in
       subst (λ (f : FlowPair). Contains flows f) (λ i. record { rule = eqb-true h.0.rule rule t.0 i; param = eqb-true h.0.param param t.1 i; point = h.1.1 i }) r.0,
   λ h. (
     record { rule = rule; param = param; point = p },

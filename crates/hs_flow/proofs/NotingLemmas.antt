@@ -7,7 +7,7 @@ use Rattle.hs_flow.specs.declared.bases.Base.{Base}
 use Rattle.hs_flow.specs.Bases.{BasesData, HasBase, IsNumber, TellsNew}
 use Rattle.hs_flow.specs.Users.{UserMap}
 use Rattle.hs_flow.specs.Passing.{PassedFor, MayBecome}
-use Rattle.hs_flow.specs.Pairs.{PairsData, Has, IsAddable, ArePairs, IsReady, FindsOnly, Extends}
+use Rattle.hs_flow.specs.Pairs.{PairsData, HasBaseAt, IsAddable, ArePairs, IsReady, FindsOnly, Extends}
 use Rattle.hs_flow.proofs.PairLemmas.{with_bases, extends_bases, extends_same}
 use Rattle.hs_flow.proofs.PassingLemmas.{base_fresh}
 
@@ -29,7 +29,7 @@ module _ (points : PointsData) (users : UserMap) (a old : PairsData) (view : a �
   counts : params ≡ (points_of a.rules).params
   counts = params_are ∙ ap (λ (ps : PointsData). ps.params) are.points_are
 
-  has_more : (b : Base) → Has (with_bases a bases) b ↔ (Has a b ⊎ (b ≡ base))
+  has_more : (b : Base) → HasBaseAt (with_bases a bases) b ↔ (HasBaseAt a b ⊎ (b ≡ base))
   has_more = subst (λ (ns : List ℕ). (b : Base) → HasBase ns bases b ↔ (HasBase ns a.bases b ⊎ (b ≡ base))) counts grows
 
   pub noted_are : ArePairs points users (with_bases a bases)
@@ -43,7 +43,7 @@ module _ (points : PointsData) (users : UserMap) (a old : PairsData) (view : a �
   pub noted_extends : Extends old (with_bases a bases)
   noted_extends = subst (λ (x : PairsData). Extends x (with_bases a bases)) view (extends_bases a bases (λ b h. (has_more b).1 (inl h)))
 
-  pub noted_has : Has (with_bases a bases) base
+  pub noted_has : HasBaseAt (with_bases a bases) base
   noted_has = (has_more base).1 (inr refl)
 
   ready_before : IsReady old → IsReady a
@@ -62,7 +62,7 @@ module _ (points : PointsData) (users : UserMap) (a old : PairsData) (view : a �
   -- it is new
   pub noted_addable : MayBecome old.found base → (HasBase params a.bases base → ⊥) → (q : Pair) → PassedFor a.rules base q → IsAddable (with_bases a bases) q
   noted_addable may absent q h = record {
-    absent = base_fresh a.rules a.found (Has a) base are.passed (λ had. absent (subst (λ (ns : List ℕ). HasBase ns a.bases base) (sym counts) had)) q h;
+    absent = base_fresh a.rules a.found (HasBaseAt a) base are.passed (λ had. absent (subst (λ (ns : List ℕ). HasBase ns a.bases base) (sym counts) had)) q h;
     passed = inr (base, (noted_has, (subst (λ (x : PairsData). MayBecome x.found base) (sym view) may, h)));
   }
 
@@ -75,8 +75,8 @@ module _ (points : PointsData) (users : UserMap) (a old : PairsData) (view : a �
     ];
   })
 
-  pub noted_still : (new : PairsData) → FindsOnly (PassedFor a.rules base) (with_bases a bases) new → Has new base
-  noted_still new finds = subst (λ (x : PairsData). Has x base) (sym finds.is) noted_has
+  pub noted_still : (new : PairsData) → FindsOnly (PassedFor a.rules base) (with_bases a bases) new → HasBaseAt new base
+  noted_still new finds = subst (λ (x : PairsData). HasBaseAt x base) (sym finds.is) noted_has
 
 -- a parameter's number stays what it is
 pub number_at : (points : PointsData) (users : UserMap) (a old now : PairsData) → a ≡ old → ArePairs points users a → (params : List ℕ) → params ≡ points.params → Extends old now

@@ -1,13 +1,13 @@
 -- How the pairs found grow: by one, by one step after another, and what stays.
-use Rattle.std.proofs.Common.{◌≡◌, ◌≢◌, refl, sym, ◌∙◌, ap, subst, ℕ, zero, suc, ◌+◌, ◌-◌, ◌≤◌, ◌⊎◌, List, [], ◌∷◌, ◌++◌, length, length-append, get_or, take, append_assoc, arith, inl, inr, Contains, AllPairs}
+use Rattle.std.proofs.Common.{◌≡◌, ◌≢◌, refl, sym, ◌∙◌, ap, subst, zero, suc, ◌+◌, ◌-◌, ◌⊎◌, List, [], ◌∷◌, ◌++◌, length, length-append, get_or, append_assoc, arith, inl, inr, Contains, AllPairs}
 use Rattle.std.proofs.lemmas.Bool.{cases_lt}
-use Rattle.std.proofs.lemmas.List.{append-nil, get_or_append_left, get_or-append_right, take-append-le}
+use Rattle.std.proofs.lemmas.List.{append-nil, get_or_append_left, get_or-append_right}
 use Rattle.std.proofs.lemmas.List.Elements.{Contains-append_left, Contains-append_right, Contains-append_cases, Contains-get_or}
 use Rattle.hs_scheme.specs.declared.flow.Pair.{Pair}
 use Rattle.hs_flow.specs.declared.bases.Base.{Base}
 use Rattle.hs_flow.specs.Bases.{BasesData}
 use Rattle.hs_flow.specs.Passing.{PassedAtFirst, PassedFor, MayBecome}
-use Rattle.hs_flow.specs.Pairs.{PairsData, Has, IsAddable, FindsOnly, Extends}
+use Rattle.hs_flow.specs.Pairs.{PairsData, HasBaseAt, IsAddable, FindsOnly, Extends}
 
 pub nothing_in : {X : Type 0} (x : X) → Contains [] x → ⊥
 nothing_in x (k, within, is) = omega arith
@@ -55,9 +55,6 @@ module _ (P : Pair → Type 0) (a b : PairsData) (f : FindsOnly P a b) where
   pub finds_rules : b.rules ≡ a.rules
   finds_rules = ap (λ (x : PairsData). x.rules) f.is
 
-  pub finds_max : b.max ≡ a.max
-  finds_max = ap (λ (x : PairsData). x.max) f.is
-
   pub finds_keep : (q : Pair) → Contains a.found q → Contains b.found q
   finds_keep q h = subst (λ (x : PairsData). Contains x.found q) (sym f.is) (Contains-append_left a.found f.added q h)
 
@@ -75,7 +72,7 @@ module _ (P : Pair → Type 0) (a b : PairsData) (f : FindsOnly P a b) where
   pub addable_more : (q : Pair) → IsAddable a q → (Contains b.found q → ⊥) → IsAddable b q
   addable_more q can absent = record {
     absent = absent;
-    passed = subst (λ (x : PairsData). PassedAtFirst x.rules q ⊎ ((c : Base) × (Has x c × (MayBecome x.found c × PassedFor x.rules c q)))) (sym f.is) (elim can.passed [
+    passed = subst (λ (x : PairsData). PassedAtFirst x.rules q ⊎ ((c : Base) × (HasBaseAt x c × (MayBecome x.found c × PassedFor x.rules c q)))) (sym f.is) (elim can.passed [
       | inl first ↦ inl first
       | inr (c, (had, (may, for))) ↦ inr (
         c,
@@ -105,7 +102,7 @@ finds_then P Q R a b c first_too second_too f g = record {
 abbrev pub with_bases : PairsData → BasesData → PairsData
 with_bases a bases = record { rules = a.rules; max = a.max; found = a.found; bases = bases }
 
-pub extends_bases : (a : PairsData) (bases : BasesData) → ((c : Base) → Has a c → Has (with_bases a bases) c) → Extends a (with_bases a bases)
+pub extends_bases : (a : PairsData) (bases : BasesData) → ((c : Base) → HasBaseAt a c → HasBaseAt (with_bases a bases) c) → Extends a (with_bases a bases)
 extends_bases a bases keeps = record {
   added = [];
   bases = bases;
@@ -137,11 +134,5 @@ module _ (a b : PairsData) (e : Extends a b) where
   pub extends_keep : (q : Pair) → Contains a.found q → Contains b.found q
   extends_keep q h = subst (λ (qs : List Pair). Contains qs q) (sym extends_found) (Contains-append_left a.found e.added q h)
 
-  pub extends_has : (c : Base) → Has a c → Has b c
-  extends_has c h = subst (λ (x : PairsData). Has x c) (sym e.is) (e.keeps c h)
-
-  pub extends_take : (n : ℕ) → n ≤ length a.found → take n b.found ≡ take n a.found
-  extends_take n le = ap (take n) extends_found ∙ take-append-le n a.found e.added le
-
-  pub extends_length : length a.found ≤ length b.found
-  extends_length = omega (arith, ap (λ (qs : List Pair). length qs) extends_found, length-append a.found e.added)
+  pub extends_has : (c : Base) → HasBaseAt a c → HasBaseAt b c
+  extends_has c h = subst (λ (x : PairsData). HasBaseAt x c) (sym e.is) (e.keeps c h)

@@ -17,9 +17,9 @@ use Rattle.hs_scheme.proofs.DemandLemmas.{slice_get-read, read-slice_get}
 use Rattle.hs_flow.specs.declared.bases.Base.{Base}
 use Rattle.hs_flow.specs.Users.{UserMap}
 use Rattle.hs_flow.specs.Passing.{PassedAtFirst, PassedFor}
-use Rattle.hs_flow.specs.Pairs.{PairsData, Has, IsAddable, ArePairs, FindsOnly}
+use Rattle.hs_flow.specs.Pairs.{PairsData, HasBaseAt, IsAddable, ArePairs}
 use Rattle.hs_flow.specs.Analysis.{point_of}
-use Rattle.hs_flow.proofs.PairLemmas.{only_in, append_once, grown, finds_nothing, finds_one, finds_there}
+use Rattle.hs_flow.proofs.PairLemmas.{only_in, append_once, grown}
 use Rattle.hs_flow.proofs.PassingLemmas.{addable_demanded}
 
 pub in_take : {X : Type 0} (n : ℕ) (xs : List X) (x : X) → Contains (take n xs) x → Contains xs x
@@ -43,9 +43,6 @@ module _ (rules : List Rule) (old : List Pair) (k : Pair) (absent : Contains old
     distinct = append_once old (k ∷ []) s.distinct (λ i j d less within. absurd (omega arith)) (λ q was h. absent (subst (Contains old) (only_in k q h) was));
     demanded = by_place;
   }
-
-pub nothing_supported : (rules : List Rule) → IsSupported rules []
-nothing_supported rules = record { distinct = λ i j d less within. absurd (omega arith); demanded = λ i q at. absurd (omega (arith, slice_get_within [] i q at)) }
 
 -- what is demanded names points, rules and parameters in range
 pub flow_within : (rules : List Rule) (found : List Pair) (f : FlowPair) → Demands rules found (OfFlow f) → FlowWithin rules (length (points_of rules).points) f
@@ -77,7 +74,7 @@ are_push points users a q are can = record {
   supported = supported_push a.rules a.found q can.absent (addable_demanded a q can) are.supported;
   passed = λ p h. elim (Contains-append_cases a.found (q ∷ []) p h) [
     | inl was ↦ are.passed p was
-    | inr last ↦ subst (λ (x : Pair). PassedAtFirst a.rules x ⊎ ((b : Base) × (Has a b × PassedFor a.rules b x))) (sym (only_in q p last))
+    | inr last ↦ subst (λ (x : Pair). PassedAtFirst a.rules x ⊎ ((b : Base) × (HasBaseAt a b × PassedFor a.rules b x))) (sym (only_in q p last))
         (elim can.passed [ inl first ↦ inl first | inr (b, (had, (may, for))) ↦ inr (b, (had, for)) ])
   ];
 }
@@ -90,17 +87,3 @@ module _ (points : PointsData) (users : UserMap) (a old : PairsData) (q : Pair) 
 
   pushed_is : record { rules = a.rules; max = a.max; found = items; bases = a.bases } ≡ grown old (q ∷ [])
   pushed_is = (λ i. record { rules = a.rules; max = a.max; found = pushed i; bases = a.bases }) ∙ ap (λ (x : PairsData). grown x (q ∷ [])) view
-
-  pub pushed_finds : FindsOnly (λ p. p ≡ q) old (record { rules = a.rules; max = a.max; found = items; bases = a.bases })
-  pushed_finds = finds_one old _ q pushed_is
-
-  pub pushed_there : Contains items q
-  pushed_there = finds_there old (record { rules = a.rules; max = a.max; found = items; bases = a.bases }) q pushed_is
-
--- nothing was pushed
-module _ (points : PointsData) (users : UserMap) (a old : PairsData) (items : List Pair) (view : a ≡ old) (are : ArePairs points users a) (same : items ≡ a.found) where
-  pub same_are : ArePairs points users (record { rules = a.rules; max = a.max; found = items; bases = a.bases })
-  same_are = subst (λ (ps : List Pair). ArePairs points users (record { rules = a.rules; max = a.max; found = ps; bases = a.bases })) (sym same) are
-
-  pub same_finds : (P : Pair → Type 0) → FindsOnly P old (record { rules = a.rules; max = a.max; found = items; bases = a.bases })
-  same_finds P = subst (λ (x : PairsData). FindsOnly P old x) (sym ((λ i. record { rules = a.rules; max = a.max; found = same i; bases = a.bases }) ∙ view)) (finds_nothing P old)

@@ -1,8 +1,6 @@
 -- The users of a parameter, one point after another.
-use Rattle.std.proofs.Common.{◌≡◌, ◌≢◌, AllPairs, refl, sym, ◌∙◌, ap, subst, ℕ, ◌+◌, ◌<◌, Bool, true, false, ◌&&◌, List, [], ◌∷◌, ◌++◌, Some, cond, nat_eq, nat_lt, slice_index, Contains, slice_get, get_or, length, All, ◌↔◌, inl, inr, arith}
-use Rattle.std.proofs.lemmas.Bool.{eqb-true, eq-eqb, cases_lt}
-use Rattle.std.proofs.lemmas.List.{get_or_default}
-use Rattle.std.proofs.lemmas.Option.{slice_get_within}
+use Rattle.std.proofs.Common.{◌≡◌, ◌≢◌, AllPairs, refl, sym, ◌∙◌, ap, subst, ℕ, ◌+◌, ◌<◌, Bool, true, false, ◌&&◌, List, [], ◌∷◌, ◌++◌, Some, cond, nat_eq, nat_lt, slice_index, Contains, slice_get, get_or, length, ◌↔◌, inl, inr, arith}
+use Rattle.std.proofs.lemmas.Bool.{eqb-true, eq-eqb, cases_lt, and_parts}
 use Rattle.std.proofs.lemmas.List.Elements.{Contains-append_left, Contains-append_right, Contains-append_cases, Contains-get_or}
 use Rattle.std.proofs.lemmas.List.Quantifiers.{all_pairs_push}
 use Rattle.hs_scheme.specs.declared.term.Head.TheVariants.{Var}
@@ -13,13 +11,8 @@ use Rattle.hs_scheme.specs.Parameters.{IsParameter, parameter_of}
 use Rattle.hs_scheme.proofs.ParameterLemmas.{number_once}
 use Rattle.std.proofs.lemmas.Bool.Decides.{nat_tests}
 use Rattle.hs_flow.specs.Lists.{list_of}
-use Rattle.hs_flow.specs.Users.{UserMap, list_for, users_of, IsUser, IsUserMap}
+use Rattle.hs_flow.specs.Users.{list_for, IsUser}
 use Rattle.hs_flow.proofs.PairLemmas.{only_in, first_in}
-
-both : (b c : Bool) → b && c ≡ true → (b ≡ true) × (c ≡ true)
-both true true h = (refl, refl)
-both true false h = absurd (cc)
-both false c h = absurd (cc)
 
 lt_of : (x n : ℕ) → nat_lt x n ≡ true → x < n
 lt_of x n h = grind (arith, nat_tests)
@@ -68,7 +61,7 @@ module _ (counts : List ℕ) (old new : List (List ℕ)) (n rule param point : �
 
       lost : (t : Bool) → key ≡ t → nat_eq at n ≡ false → t ≡ false
       lost true k e =
-          let p = both (nat_eq rule r) (nat_eq param x) k in
+          let p = and_parts (nat_eq rule r) (nat_eq param x) k in
           let same : at ≡ n = (λ i. parameter_of counts (sym (eqb-true rule r p.0) i) (sym (eqb-true param x p.1) i)) ∙ sym is in
           let f : nat_eq at n ≡ true = eq-eqb at n same in absurd (cc)
       lost false k e = refl
@@ -82,7 +75,7 @@ module _ (counts : List ℕ) (old new : List (List ℕ)) (n rule param point : �
     where
       by : (t : Bool) → key ≡ t → t ≡ false
       by true k =
-          let p = both (nat_eq rule r) (nat_eq param x) k in
+          let p = and_parts (nat_eq rule r) (nat_eq param x) k in
           absurd (never (subst (λ (y : ℕ). IsParameter counts r y) (eqb-true param x p.1) (subst (λ (q : ℕ). IsParameter counts q param) (eqb-true rule r p.0) here)))
       by false k = refl
 
@@ -130,7 +123,7 @@ module _ (points : List PointData) (n : ℕ) (d : PointData) (at : slice_get poi
     only rule x p true here h = elim (Contains-append_cases (was rule x) (n ∷ []) p h) [
       | inl old ↦ let w = (so_far rule x p).0 old in (omega (arith, w.0), w.1)
       | inr last ↦
-          let same : p ≡ n = only_in n p last in let k = both (nat_eq d.rule rule) (nat_eq param x) here in
+          let same : p ≡ n = only_in n p last in let k = and_parts (nat_eq d.rule rule) (nat_eq param x) here in
           (omega arith, record { of = d; at = ap (λ j. slice_get points j) same ∙ at; rule_is = eqb-true d.rule rule k.0; head_is = head ∙ ap (λ y. Var y) (eqb-true param x k.1) })
     ]
     only rule x p false elsewhere h = let w = (so_far rule x p).0 h in (omega (arith, w.0), w.1)
@@ -148,13 +141,6 @@ module _ (points : List PointData) (n : ℕ) (d : PointData) (at : slice_get poi
 pub once_more : (was : List ℕ) (n : ℕ) (t : Bool) → ((p : ℕ) → Contains was p → p < n) → AllPairs (λ a b. a ≢ b) was → AllPairs (λ a b. a ≢ b) (cond t (was ++ n ∷ []) was)
 once_more was n true below once = all_pairs_push (λ a b. a ≢ b) was n once (λ i d lt e. omega (arith, below (get_or was i d) (Contains-get_or was i d lt)))
 once_more was n false below once = once
-
--- users are points
-pub users_within : (points : List PointData) (m : UserMap) → IsUserMap points m → (rule x : ℕ) → All (λ p. p < length points) (users_of m rule x)
-users_within points m is rule x k d lt =
-    let p = get_or (users_of m rule x) k d in
-    let u = (is.exact rule x p).0 (k, lt, get_or_default (users_of m rule x) k p d lt) in
-    slice_get_within points p u.of u.at
 
 -- where there are none
 pub no_user : (us vs : List ℕ) (empty : Bool) → us ≡ vs → empty ≡ nat_eq (length us) 0 → empty ≡ true → (p : ℕ) → Contains vs p → ⊥

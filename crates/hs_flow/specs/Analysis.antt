@@ -15,7 +15,7 @@ use Rattle.hs_flow.specs.declared.bases.Base.{Base}
 use Rattle.hs_flow.specs.Lists.{list_of}
 use Rattle.hs_flow.specs.Users.{IsUser}
 use Rattle.hs_flow.specs.Passing.{MayBecome}
-use Rattle.hs_flow.specs.Pairs.{PairsData, coded_pairs, Has}
+use Rattle.hs_flow.specs.Pairs.{PairsData, coded_pairs, HasBaseAt}
 
 pub record AnalysisData : Type 0 where
   pub pairs : PairsData
@@ -36,7 +36,7 @@ pub record IsByPoint (rules : List Rule) (taken : List Pair) (by_flow : List (Li
 
 -- what the users' parameters may become by these pairs is known
 abbrev pub HasBases : PairsData → List Pair → Type 0
-HasBases a taken = (b : Base) (p : ℕ) → MayBecome taken b → IsUser (points_of a.rules).points b.rule b.param p → Has a b
+HasBases a taken = (b : Base) (p : ℕ) → MayBecome taken b → IsUser (points_of a.rules).points b.rule b.param p → HasBaseAt a b
 
 pub record IsAnalysis (flows : List (List FlowPair)) (heads : List (List HeadPair)) (a : AnalysisData) : Type 0 where
   pub few : a.taken ≤ length a.pairs.found

@@ -1,6 +1,6 @@
 -- The pairs that are found, and what parameters may become.
 --     PairsData               the rules, the most pairs, the pairs in the order in which they were found, and the bases
---     Has a b                 the bases have b
+--     HasBaseAt a b           the bases have b
 --     AreNone rules max a     nothing is found
 --     IsAddable a q           the pair isn't found, and is passed on at first or for a base
 --     ArePairs points users a what holds at all times
@@ -53,28 +53,28 @@ coded_pairs =
     code_by (List Rule × (ℕ × (List Pair × BasesData))) (coded× (coded_list coded_rule) (coded× coded_ℕ (coded× (coded_list coded_pair) coded_bases)))
     (λ a. (a.rules, (a.max, (a.found, a.bases)))) (λ p. record { rules = p.0; max = p.1.0; found = p.1.1.0; bases = p.1.1.1 }) (λ _. refl)
 
-abbrev pub Has : PairsData → Base → Type 0
-Has a b = HasBase (points_of a.rules).params a.bases b
+abbrev pub HasBaseAt : PairsData → Base → Type 0
+HasBaseAt a b = HasBase (points_of a.rules).params a.bases b
 
 pub record AreNone (rules : List Rule) (max : ℕ) (a : PairsData) : Type 0 where
   pub rules_are : a.rules ≡ rules
   pub max_is : a.max ≡ max
   pub none : a.found ≡ []
-  pub no_base : (b : Base) → Has a b → ⊥
+  pub no_base : (b : Base) → HasBaseAt a b → ⊥
 
 pub record IsAddable (a : PairsData) (q : Pair) : Type 0 where
   pub absent : Contains a.found q → ⊥
-  pub passed : PassedAtFirst a.rules q ⊎ ((b : Base) × (Has a b × (MayBecome a.found b × PassedFor a.rules b q)))
+  pub passed : PassedAtFirst a.rules q ⊎ ((b : Base) × (HasBaseAt a b × (MayBecome a.found b × PassedFor a.rules b q)))
 
 pub record ArePairs (points : PointsData) (users : UserMap) (a : PairsData) : Type 0 where
   pub points_are : points ≡ points_of a.rules
   pub users_are : IsUserMap (points_of a.rules).points users
   pub supported : IsSupported a.rules a.found
-  pub passed : (q : Pair) → Contains a.found q → PassedAtFirst a.rules q ⊎ ((b : Base) × (Has a b × PassedFor a.rules b q))
+  pub passed : (q : Pair) → Contains a.found q → PassedAtFirst a.rules q ⊎ ((b : Base) × (HasBaseAt a b × PassedFor a.rules b q))
 
 pub record IsReady (a : PairsData) : Type 0 where
   pub within : length a.found ≤ a.max
-  pub passed : (b : Base) → Has a b → (q : Pair) → PassedFor a.rules b q → Contains a.found q
+  pub passed : (b : Base) → HasBaseAt a b → (q : Pair) → PassedFor a.rules b q → Contains a.found q
 
 pub record FindsOnly (P : Pair → Type 0) (old new : PairsData) : Type 0 where
   pub added : List Pair
@@ -85,7 +85,7 @@ pub record Extends (old new : PairsData) : Type 0 where
   pub added : List Pair
   pub bases : BasesData
   pub is : new ≡ record { rules = old.rules; max = old.max; found = old.found ++ added; bases = bases }
-  pub keeps : (b : Base) → Has old b → HasBase (points_of old.rules).params bases b
+  pub keeps : (b : Base) → HasBaseAt old b → HasBase (points_of old.rules).params bases b
 
 pub record TellsLimit (result : Result (Unit {0}) FlowFault) (a : PairsData) : Type 0 where
   pub within : OnOk result (length a.found ≤ a.max)

@@ -10,7 +10,7 @@ ghost use Rattle.hs_scheme.specs.Points.{points_of};
 ghost use Rattle.hs_scheme.specs.Flow.{IsSupported};
 ghost use Rattle.hs_flow.specs.Users.{IsUser, IsUserMap};
 ghost use Rattle.hs_flow.specs.Passing.{PassedBy, PassedAtFirst, PassedFor, MayBecome};
-ghost use Rattle.hs_flow.specs.Pairs.{Has, AreNone, IsAddable, IsReady, FindsOnly, Extends, TellsLimit};
+ghost use Rattle.hs_flow.specs.Pairs.{HasBaseAt, AreNone, IsAddable, IsReady, FindsOnly, Extends, TellsLimit};
 
 use crate::bases::{Base, Bases};
 use crate::fault::FlowFault;
@@ -182,7 +182,7 @@ impl<'a> Pairs<'a> {
         requires may { MayBecome self.old.found base }
         ensures extends { Extends self.old self.new }
         ensures ready { OnOk result (IsReady self.new) }
-        ensures base { OnOk result (Has self.new base) }
+        ensures base { OnOk result (HasBaseAt self.new base) }
         ensures limit { TellsLimit result self.new }
     {
         if !self.bases.insert(self.points.params(), base)? {
@@ -204,7 +204,12 @@ impl<'a> Pairs<'a> {
         ensures extends { Extends self.old self.new }
         ensures ready { OnOk result (IsReady self.new) }
         ensures bases { OnOk result ((h : AnyHeadPair) → Contains heads.now h →
-            Has self.new (record { rule = flow.rule; param = flow.param; base = h.rule; given = h.given })) }
+            HasBaseAt self.new (record {
+              rule = flow.rule;
+              param = flow.param;
+              base = h.rule;
+              given = h.given;
+            })) }
         ensures limit { TellsLimit result self.new }
     {
         let points = self.points;
@@ -236,7 +241,12 @@ impl<'a> Pairs<'a> {
         ensures extends { Extends self.old self.new }
         ensures ready { OnOk result (IsReady self.new) }
         ensures bases { OnOk result ((f : AnyFlowPair) → Contains flows.now f →
-            Has self.new (record { rule = f.rule; param = f.param; base = head.rule; given = head.given })) }
+            HasBaseAt self.new (record {
+              rule = f.rule;
+              param = f.param;
+              base = head.rule;
+              given = head.given;
+            })) }
         ensures limit { TellsLimit result self.new }
     {
         let points = self.points;

@@ -57,7 +57,8 @@ fn push_end(state: u32, text: &mut Vec<u8>) -> Result<(), OutOfMemory>
 
 /// Puts the lines of the states before the last at the end.
 fn push_states(last: u32, text: &mut Vec<u8>) -> Result<(), OutOfMemory>
-    ensures { OnOk result (text.new.items ≡ text.old.items ++ flat_map cycle.inner_lines (range_with_len 0 last)) }
+    ensures { OnOk result (text.new.items ≡ text.old.items ++ flat_map cycle.inner_lines
+        (range_with_len 0 last)) }
 {
     for state in 0..last {
         push_branch(state, text)?;

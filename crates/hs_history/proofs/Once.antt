@@ -16,8 +16,8 @@ use Rattle.hs_history.proofs.Sound.{IsSound}
 abbrev flown : ℕ → Work → Option Flight
 flown worker work = Some (record { worker = worker; work = work })
 
-abbrev Differ : Work → Work → Type 0
-Differ v w = v ≢ w
+abbrev AreOtherWorks : Work → Work → Type 0
+AreOtherWorks v w = v ≢ w
 
 seed_same : (i j : ℕ) → Seed i ≡ Seed j → i ≡ j
 seed_same i j e = (cc)
@@ -29,29 +29,29 @@ seeds_below (suc n) i c = elim (Contains-push_cases (seeds n) (Seed n) (Seed i) 
   | inr last ↦ omega (arith, seed_same n i last)
 ]
 
-seeds_once : (n : ℕ) → AllPairs Differ (seeds n)
+seeds_once : (n : ℕ) → AllPairs AreOtherWorks (seeds n)
 seeds_once zero = λ i j d lt within. absurd (omega arith)
 seeds_once (suc n) =
-    all_pairs_push Differ (seeds n) (Seed n) (seeds_once n)
+    all_pairs_push AreOtherWorks (seeds n) (Seed n) (seeds_once n)
     (λ k d lt same. absurd (omega (arith, seeds_below n n (subst (λ w. Contains (seeds n) w) same (Contains-get_or (seeds n) k d lt)))))
 
-without_once : (w : Work) (vs : List Work) → AllPairs Differ vs → AllPairs Differ (without w vs)
+without_once : (w : Work) (vs : List Work) → AllPairs AreOtherWorks vs → AllPairs AreOtherWorks (without w vs)
 without_once w [] once = once
 without_once w (v ∷ vs) once = elim (cases_Bool (is_work w v)) [
-  | inl same ↦ subst (λ ws. AllPairs Differ ws) (sym (cond-true (is_work w v) vs (v ∷ without w vs) same)) (pairs_tail Differ v vs once)
-  | inr other ↦ subst (λ ws. AllPairs Differ ws) (sym (cond-false (is_work w v) vs (v ∷ without w vs) other))
-      (pairs_cons Differ v (without w vs) (λ x c. pairs_head Differ v x vs once (without_less w x vs c)) (without_once w vs (pairs_tail Differ v vs once)))
+  | inl same ↦ subst (λ ws. AllPairs AreOtherWorks ws) (sym (cond-true (is_work w v) vs (v ∷ without w vs) same)) (pairs_tail AreOtherWorks v vs once)
+  | inr other ↦ subst (λ ws. AllPairs AreOtherWorks ws) (sym (cond-false (is_work w v) vs (v ∷ without w vs) other))
+      (pairs_cons AreOtherWorks v (without w vs) (λ x c. pairs_head AreOtherWorks v x vs once (without_less w x vs c)) (without_once w vs (pairs_tail AreOtherWorks v vs once)))
 ]
 
-gone : (w : Work) (vs : List Work) → AllPairs Differ vs → Contains (without w vs) w → ⊥
+gone : (w : Work) (vs : List Work) → AllPairs AreOtherWorks vs → Contains (without w vs) w → ⊥
 gone w [] once c = none_in w c
 gone w (v ∷ vs) once c = elim (cases_Bool (is_work w v)) [
   | inl same ↦
       let there : Contains vs w = subst (λ ws. Contains ws w) (cond-true (is_work w v) vs (v ∷ without w vs) same) c in
-      pairs_head Differ v w vs once there (sym (is_work_same w v same))
+      pairs_head AreOtherWorks v w vs once there (sym (is_work_same w v same))
   | inr other ↦ elim (uncons v w (without w vs) (subst (λ ws. Contains ws w) (cond-false (is_work w v) vs (v ∷ without w vs) other) c)) [
     | inl is ↦ absurd (both_ways (is_work w v) other (ap (λ x. is_work w x) (sym is) ∙ is_work_itself w))
-    | inr there ↦ gone w vs (pairs_tail Differ v vs once) there
+    | inr there ↦ gone w vs (pairs_tail AreOtherWorks v vs once) there
   ]
 ]
 
@@ -109,7 +109,7 @@ module _ (base : Base) (s : State) (sound : IsSound base s) (once : IsJustOnce s
 
   adds_once : (worker ticket : ℕ) (d : Deduction) → IsJustOnce (acted s worker (adds ticket d))
   adds_once worker ticket d = record {
-    pending = all_pairs_push Differ s.pending (Place (length s.log)) once.pending (λ k e lt same. no_place (inl (subst (λ w. Contains s.pending w) same (Contains-get_or s.pending k e lt))));
+    pending = all_pairs_push AreOtherWorks s.pending (Place (length s.log)) once.pending (λ k e lt same. no_place (inl (subst (λ w. Contains s.pending w) same (Contains-get_or s.pending k e lt))));
     closed = once.closed;
     one_ticket = once.one_ticket;
     pending_or_flying = λ w c f. elim (Contains-push_cases s.pending (Place (length s.log)) w c) [
@@ -134,7 +134,7 @@ module _ (base : Base) (s : State) (sound : IsSound base s) (once : IsJustOnce s
   finishes_once : (worker ticket : ℕ) → CanFinish base s worker ticket → IsJustOnce (acted s worker (finishes ticket))
   finishes_once worker ticket can = subst (λ ws. IsJustOnce (record { log = s.log; supports = s.supports; pending = s.pending; flight = put ticket None s.flight; closed = s.closed ++ ws; kept = s.kept })) (sym now) (record {
     pending = once.pending;
-    closed = all_pairs_push Differ s.closed can.work once.closed (λ k e lt same. once.flying_or_closed can.work in_flight (subst (λ w. Contains s.closed w) same (Contains-get_or s.closed k e lt)));
+    closed = all_pairs_push AreOtherWorks s.closed can.work once.closed (λ k e lt same. once.flying_or_closed can.work in_flight (subst (λ w. Contains s.closed w) same (Contains-get_or s.closed k e lt)));
     one_ticket = λ t u k l w at_t at_u. once.one_ticket t u k l w (others ticket worker can.work can.holds t k w at_t).0 (others ticket worker can.work can.holds u l w at_u).0;
     pending_or_flying = λ w c f. once.pending_or_flying w c (f.0, f.1, (others ticket worker can.work can.holds f.0 f.1 w f.2).0);
     pending_or_closed = λ w c closed. elim (Contains-push_cases s.closed can.work w closed) [
@@ -155,7 +155,7 @@ module _ (base : Base) (s : State) (sound : IsSound base s) (once : IsJustOnce s
 
   gives_back_once : (worker ticket : ℕ) → Holds s worker ticket → IsJustOnce (acted s worker (gives_back ticket))
   gives_back_once worker ticket holds = subst (λ ws. IsJustOnce (record { log = s.log; supports = s.supports; pending = s.pending ++ ws; flight = put ticket None s.flight; closed = s.closed; kept = s.kept })) (sym now) (record {
-    pending = all_pairs_push Differ s.pending holds.0 once.pending (λ k e lt same. once.pending_or_flying holds.0 (subst (λ w. Contains s.pending w) same (Contains-get_or s.pending k e lt)) in_flight);
+    pending = all_pairs_push AreOtherWorks s.pending holds.0 once.pending (λ k e lt same. once.pending_or_flying holds.0 (subst (λ w. Contains s.pending w) same (Contains-get_or s.pending k e lt)) in_flight);
     closed = once.closed;
     one_ticket = λ t u k l w at_t at_u. once.one_ticket t u k l w (others ticket worker holds.0 holds.1 t k w at_t).0 (others ticket worker holds.0 holds.1 u l w at_u).0;
     pending_or_flying = λ w c f. elim (Contains-push_cases s.pending holds.0 w c) [

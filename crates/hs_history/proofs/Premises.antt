@@ -18,14 +18,14 @@ abbrev places : List (ℕ × ℕ) → List ℕ
 places args = map (λ a. a.1) args
 
 -- what is at these places is also in another list
-abbrev Keeps : List ℕ → List EntryData → List EntryData → Type 0
-Keeps used E F = (i : ℕ) (e : EntryData) → Contains used i → slice_get E i ≡ Some e → slice_get F i ≡ Some e
+abbrev KeepsPlaces : List ℕ → List EntryData → List EntryData → Type 0
+KeepsPlaces used E F = (i : ℕ) (e : EntryData) → Contains used i → slice_get E i ≡ Some e → slice_get F i ≡ Some e
 
 module _ (p : ProblemData) (E F : List EntryData) where
-  at_used : (used : List ℕ) (place : ℕ) (e : EntryData) → Keeps used E F → Contains used place → IsAt p E place e → IsAt p F place e
+  at_used : (used : List ℕ) (place : ℕ) (e : EntryData) → KeepsPlaces used E F → Contains used place → IsAt p E place e → IsAt p F place e
   at_used used place e keeps in_used h = record { at = keeps place e in_used h.at; shape = h.shape }
 
-  head_used : (rule : ℕ) (h : Head) (by : HeadBy) (ty : TypeTree) → Keeps (head_premise by) E F → IsHeadType p E rule h by ty → IsHeadType p F rule h by ty
+  head_used : (rule : ℕ) (h : Head) (by : HeadBy) (ty : TypeTree) → KeepsPlaces (head_premise by) E F → IsHeadType p E rule h by ty → IsHeadType p F rule h by ty
   head_used rule (Tm a) (Terminal q child) ty keeps x = x
   head_used rule (Tm a) (Rule place) ty keeps x = absurd x
   head_used rule (Tm a) (Param y place) ty keeps x = absurd x
@@ -38,13 +38,13 @@ module _ (p : ProblemData) (E F : List EntryData) where
   head_used rule (Var j) (Param y place) ty keeps x =
       (x.0, record { entry = x.1.entry; holds = at_used (place ∷ []) place x.1.entry keeps (here place []) x.1.holds; flows = x.1.flows; is = x.1.is })
 
-  chosen_used : {i : ℕ} {us : List ℕ} {ss : Env} {args : List (ℕ × ℕ)} {es : List EntryData} → Chosen p E i us ss args es → Keeps (places args) E F → Chosen p F i us ss args es
+  chosen_used : {i : ℕ} {us : List ℕ} {ss : Env} {args : List (ℕ × ℕ)} {es : List EntryData} → Chosen p E i us ss args es → KeepsPlaces (places args) E F → Chosen p F i us ss args es
   chosen_used done keeps = done
   chosen_used (next_argument c) keeps = next_argument (chosen_used c keeps)
   chosen_used (choose {i = i} {place = place} {args = args} {e = e} at point ty c) keeps =
       choose (at_used (place ∷ places args) place e keeps (here place (places args)) at) point ty (chosen_used c (λ k x h. keeps k x (later place k (places args) h)))
 
-  pub by_used : (s : Support) (e : EntryData) → Keeps (premises s) E F → FollowsBy p E s e → FollowsBy p F s e
+  pub by_used : (s : Support) (e : EntryData) → KeepsPlaces (premises s) E F → FollowsBy p E s e → FollowsBy p F s e
   by_used s e keeps h = record {
     of = h.of;
     at = h.at;

@@ -93,7 +93,8 @@ fn fold_one(links: &mut [u32], number: u32, target: u32)
     requires ahead { (h : ℕ) → number ≤ h → h < length links.old → slice_index links.old h ≡ h }
     ensures links { AreLinks links.new }
     ensures ahead { (h : ℕ) → number < h → h < length links.new → slice_index links.new h ≡ h }
-    ensures follow { (rep : ℕ → ℕ) → Follow rep links.old → Follow (stood rep number (Some target)) links.new }
+    ensures follow { (rep : ℕ → ℕ) → Follow rep links.old
+        → Follow (stood rep number (Some target)) links.new }
 {
     let found = root(links, target);
     if found != number {
@@ -105,7 +106,8 @@ fn fold_one(links: &mut [u32], number: u32, target: u32)
 fn linked(alloc: Global, scheme: &Scheme) -> Result<Vec<u32>, OutOfMemory>
     ensures each { IfOk result (λ links. vec_len links ≡ length scheme.now.rules) }
     ensures links { IfOk result (λ links. AreLinks links.items) }
-    ensures follow { IfOk result (λ links. Follow (scanned scheme.now.rules (length scheme.now.rules)) links.items) }
+    ensures follow { IfOk result (λ links. Follow
+        (scanned scheme.now.rules (length scheme.now.rules)) links.items) }
 {
     let rules = scheme.rules.as_slice();
     let mut links = own_links(alloc, rules.len() as u32)?;
@@ -122,7 +124,8 @@ fn roots(alloc: Global, links: &mut [u32]) -> Result<Vec<u32>, OutOfMemory>
     requires links { AreLinks links.old }
     requires few { length links.old ≤ 20000 }
     ensures each { IfOk result (λ roots. vec_len roots ≡ length links.old) }
-    ensures roots { IfOk result (λ roots. (rep : ℕ → ℕ) → Follow rep links.old → (h : ℕ) → h < length links.old → number_in roots.items h ≡ rep h) }
+    ensures roots { IfOk result (λ roots. (rep : ℕ → ℕ) → Follow rep links.old → (h : ℕ)
+        → h < length links.old → number_in roots.items h ≡ rep h) }
 {
     let count = links.len() as u32;
     let mut roots = Vec::with_capacity(alloc, links.len())?;

@@ -19,7 +19,8 @@ fn apply_boxed(
     ensures made { IfOk result (λ s. s ≡ image pass.old sorted.now) }
     ensures same_image { image pass.new ≡ image pass.old }
     ensures rest { IfOk result (λ s. KeepsRest sorted.now s) }
-    ensures same_tree { IfOk result (λ s. HaveSameTree sorted.now.scheme.ranks sorted.now.scheme.rules s.scheme.rules) }
+    ensures same_tree { IfOk result
+        (λ s. HaveSameTree sorted.now.scheme.ranks sorted.now.scheme.rules s.scheme.rules) }
     ensures lighter { IfOk result (λ s. weight s ≤ weight sorted.now) }
     ensures rose { IfOk result (λ s. taken pass.new + weight s ≡ taken pass.old + weight sorted.now) }
     ensures refused { OnErr result (taken pass.new ≡ taken pass.old) }
@@ -50,11 +51,16 @@ pub fn simplify(
     ensures made { IfOk result (λ s. s ≡ composed (map (λ p. image p) passes.old.items) sorted) }
     ensures same_images { map (λ p. image p) passes.new.items ≡ map (λ p. image p) passes.old.items }
     ensures rest { IfOk result (λ s. KeepsRest sorted s) }
-    ensures same_tree { IfOk result (λ s. HaveSameTree sorted.scheme.ranks sorted.scheme.rules s.scheme.rules) }
+    ensures same_tree { IfOk result
+        (λ s. HaveSameTree sorted.scheme.ranks sorted.scheme.rules s.scheme.rules) }
     ensures lighter { IfOk result (λ s. weight s ≤ weight sorted) }
-    ensures tallies { OnOk result (map (λ p. taken p) passes.new.items ≡ raised (map (λ p. image p) passes.old.items) (map (λ p. taken p) passes.old.items) sorted) }
-    ensures rose { IfOk result (λ s. sum_by (λ p. taken p) passes.new.items + weight s ≡ sum_by (λ p. taken p) passes.old.items + weight sorted) }
-    ensures refused { OnErr result (RaisedUpTo (map (λ p. image p) passes.old.items) (map (λ p. taken p) passes.old.items) (map (λ p. taken p) passes.new.items) sorted) }
+    ensures tallies { OnOk result (map (λ p. taken p) passes.new.items ≡ raised
+        (map (λ p. image p) passes.old.items) (map (λ p. taken p) passes.old.items) sorted) }
+    ensures rose { IfOk result (λ s. sum_by (λ p. taken p) passes.new.items + weight s ≡ sum_by
+        (λ p. taken p) passes.old.items + weight sorted) }
+    ensures refused { OnErr result
+        (RaisedUpTo (map (λ p. image p) passes.old.items) (map (λ p. taken p) passes.old.items)
+        (map (λ p. taken p) passes.new.items) sorted) }
 {
     let mut simplified = sorted;
     for pass in passes.iter_mut() {

@@ -14,7 +14,8 @@ use std::alloc::Global;
 /// Which nonterminals stand for themselves.
 fn own(alloc: Global, reps: &[u32]) -> Result<Vec<bool>, OutOfMemory>
     ensures each { IfOk result (λ kept. vec_len kept ≡ length reps.now) }
-    ensures is { IfOk result (λ kept. (h : ℕ) → h < length reps.now → stays kept.items h ≡ nat_eq (number_in reps.now h) h) }
+    ensures is { IfOk result (λ kept. (h : ℕ) → h < length reps.now
+        → stays kept.items h ≡ nat_eq (number_in reps.now h) h) }
 {
     let mut kept = Vec::with_capacity(alloc, reps.len())?;
     for (number, rep) in reps.iter().enumerate() {
@@ -26,7 +27,8 @@ fn own(alloc: Global, reps: &[u32]) -> Result<Vec<bool>, OutOfMemory>
 /// The new number of what stands for each nonterminal, by those of the rules that stay.
 fn new_numbers(alloc: Global, reps: &[u32], places: &[u32]) -> Result<Vec<u32>, OutOfMemory>
     ensures each { IfOk result (λ numbers. vec_len numbers ≡ length reps.now) }
-    ensures is { IfOk result (λ numbers. (h : ℕ) → h < length reps.now → number_in numbers.items h ≡ number_in places.now (number_in reps.now h)) }
+    ensures is { IfOk result (λ numbers. (h : ℕ) → h < length reps.now
+        → number_in numbers.items h ≡ number_in places.now (number_in reps.now h)) }
 {
     let mut numbers = Vec::with_capacity(alloc, reps.len())?;
     for rep in reps {

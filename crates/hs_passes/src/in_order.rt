@@ -44,7 +44,8 @@ fn are_missing_later(
     given: usize,
     low: u32,
 ) -> bool
-    ensures { result ≡ true → IsHeadInOrder (definition.rank_of parameters.now ranks.now) 0 low (Nt rule) given }
+    ensures { result ≡ true → IsHeadInOrder (definition.rank_of parameters.now ranks.now) 0 low
+        (Nt rule) given }
 {
     for param in 0..parameters.count_of(rule) {
         let rank = rank_of(parameters, ranks, rule, param as usize);
@@ -64,7 +65,8 @@ fn is_head_in_order(
     given: usize,
     low: u32,
 ) -> bool
-    ensures { result ≡ true → IsHeadInOrder (definition.rank_of parameters.now ranks.now) rule low head given }
+    ensures { result ≡ true → IsHeadInOrder
+        (definition.rank_of parameters.now ranks.now) rule low head given }
 {
     match head {
         Head::Var(param) => {
@@ -98,7 +100,8 @@ fn is_in_order(parameters: &Parameters, ranks: &[u32], rule: u32, term: &Term, l
 /// Whether so it is in each body.
 fn are_in_order(parameters: &Parameters, ranks: &[u32], rules: &[Rule]) -> bool
     requires { length rules.now ≤ 20000 }
-    ensures { result ≡ true → AllInOrder (definition.rank_of parameters.now ranks.now) rules.now (length rules.now) }
+    ensures { result ≡ true → AllInOrder (definition.rank_of parameters.now ranks.now) rules.now
+        (length rules.now) }
 {
     for (i, rule) in rules.iter().enumerate() {
         if !is_in_order(parameters, ranks, i as u32, &rule.body, NEVER) {

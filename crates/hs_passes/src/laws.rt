@@ -12,7 +12,8 @@ ghost use Rattle.hs_passes.specs.Leaving.{Keep, with_parameters};
 
 /// The rules that stay are exactly those to which a chain of occurrences in bodies leads from the start.
 pub fn reachable_rules_stay()
-    ensures { (rules : List Rule) (terminals : ℕ) → AreRules rules terminals → (f : ℕ) → f < length rules → (is_reachable rules f ≡ true) ↔ IsReachable rules f }
+    ensures { (rules : List Rule) (terminals : ℕ) → AreRules rules terminals → (f : ℕ) → f < length rules
+        → (is_reachable rules f ≡ true) ↔ IsReachable rules f }
 {}
 
 /// Where the aliases are folded, none is left.
@@ -28,5 +29,6 @@ pub fn no_unused_parameter_is_left()
 /// The parameters that stay are the greatest set of parameters each of which is needed by what is
 /// left of the bodies.
 pub fn needed_parameters_stay()
-    ensures { (s : SortedData) (keep : Keep) → IsGreatest s.scheme.rules keep → without_unused s ≡ with_parameters keep s }
+    ensures { (s : SortedData) (keep : Keep) → IsGreatest s.scheme.rules keep
+        → without_unused s ≡ with_parameters keep s }
 {}

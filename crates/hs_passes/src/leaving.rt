@@ -31,7 +31,8 @@ fn term_left(
     rule: u32,
     term: &Term,
 ) -> Result<Term, OutOfMemory>
-    ensures { IfOk result (λ t. t ≡ definition.term_left (kept parameters.now flags.now) (kept parameters.now flags.now rule) term.now) }
+    ensures { IfOk result (λ t. t ≡ definition.term_left (kept parameters.now flags.now)
+        (kept parameters.now flags.now rule) term.now) }
 {
     let head = head_left(parameters, flags, rule, term.head);
     let mut args = Vec::new(alloc);
@@ -51,7 +52,9 @@ fn rules_left(
     rules: &[Rule],
 ) -> Result<Vec<Rule>, OutOfMemory>
     requires { length rules.now ≤ 20000 }
-    ensures { IfOk result (λ out. out.items ≡ by_number (λ f. definition.rule_left (kept parameters.now flags.now) (kept parameters.now flags.now f)) rules.now) }
+    ensures { IfOk result (λ out. out.items ≡ by_number
+        (λ f. definition.rule_left (kept parameters.now flags.now)
+        (kept parameters.now flags.now f)) rules.now) }
 {
     let mut out = Vec::with_capacity(alloc, rules.len())?;
     for (i, rule) in rules.iter().enumerate() {
@@ -89,7 +92,8 @@ fn params_left(
     params: &[Vec<Name>],
 ) -> Result<Vec<Vec<Name>>, OutOfMemory>
     requires { length params.now ≤ 20000 }
-    ensures { IfOk result (λ out. map (λ names. names.items) out.items ≡ by_number (λ f. chosen (kept parameters.now flags.now f)) (map (λ names. names.items) params.now)) }
+    ensures { IfOk result (λ out. map (λ names. names.items) out.items ≡ by_number
+        (λ f. chosen (kept parameters.now flags.now f)) (map (λ names. names.items) params.now)) }
 {
     let mut out = Vec::with_capacity(alloc, params.len())?;
     for (i, names) in params.iter().enumerate() {
@@ -125,7 +129,8 @@ fn sorts_left(
     sorts: &[Sort],
 ) -> Result<Vec<Sort>, OutOfMemory>
     requires { length sorts.now ≤ 20000 }
-    ensures { IfOk result (λ out. out.items ≡ by_number (λ f. definition.sort_left (kept parameters.now flags.now f)) sorts.now) }
+    ensures { IfOk result (λ out. out.items ≡ by_number
+        (λ f. definition.sort_left (kept parameters.now flags.now f)) sorts.now) }
 {
     let mut out = Vec::with_capacity(alloc, sorts.len())?;
     for (i, sort) in sorts.iter().enumerate() {

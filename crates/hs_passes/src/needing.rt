@@ -48,7 +48,8 @@ fn mark_head(parameters: &Parameters, rule: u32, head: Head, given: usize, neede
 /// Marks the parameters that what is left of the term needs. Recurses as deep as the term.
 fn mark_term(parameters: &Parameters, flags: &[bool], rule: u32, term: &Term, needed: &mut [bool])
     requires { length needed.old ≡ sum parameters.now }
-    ensures { GainsFlags parameters.now needed.old needed.new (λ f j. live (kept parameters.now flags.now) rule f j term.now) }
+    ensures { GainsFlags parameters.now needed.old needed.new
+        (λ f j. live (kept parameters.now flags.now) rule f j term.now) }
 {
     mark_head(parameters, rule, term.head, term.args.len(), needed);
     for (i, arg) in term.args.iter().enumerate() {
@@ -79,7 +80,8 @@ fn needed(
     requires { length rules.now ≤ 20000 }
     ensures each { IfOk result (λ marks. vec_len marks ≡ sum parameters.now) }
     ensures is { IfOk result (λ marks. (f j : ℕ) → IsParameter parameters.now f j →
-        stays marks.items (parameter_of parameters.now f j) ≡ is_live (kept parameters.now flags.now) rules.now f j) }
+        stays marks.items (parameter_of parameters.now f j) ≡ is_live
+        (kept parameters.now flags.now) rules.now f j) }
 {
     let mut marks = all_flags(alloc, parameters, false)?;
     for (i, rule) in rules.iter().enumerate() {

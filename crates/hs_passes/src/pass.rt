@@ -26,7 +26,8 @@ pub trait Pass: Drop {
         ensures made { IfOk result (λ s. s ≡ image self.old sorted.now) }
         ensures same_image { image self.new ≡ image self.old }
         ensures rest { IfOk result (λ s. KeepsRest sorted.now s) }
-        ensures same_tree { IfOk result (λ s. HaveSameTree sorted.now.scheme.ranks sorted.now.scheme.rules s.scheme.rules) }
+        ensures same_tree { IfOk result
+            (λ s. HaveSameTree sorted.now.scheme.ranks sorted.now.scheme.rules s.scheme.rules) }
         ensures lighter { IfOk result (λ s. weight s ≤ weight sorted.now) }
         ensures rose { IfOk result (λ s. taken self.new + weight s ≡ taken self.old + weight sorted.now) }
         ensures refused { OnErr result (taken self.new ≡ taken self.old) };

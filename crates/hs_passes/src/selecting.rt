@@ -13,7 +13,8 @@ use std::alloc::Global;
 pub fn places(alloc: Global, keep: &[bool]) -> Result<Vec<u32>, OutOfMemory>
     requires { length keep.now ≤ 20000 }
     ensures each { IfOk result (λ numbers. vec_len numbers ≡ length keep.now) }
-    ensures is { IfOk result (λ numbers. (f : ℕ) → f < length keep.now → number_in numbers.items f ≡ place (stays keep.now) f) }
+    ensures is { IfOk result (λ numbers. (f : ℕ) → f < length keep.now
+        → number_in numbers.items f ≡ place (stays keep.now) f) }
 {
     let mut numbers = Vec::with_capacity(alloc, keep.len())?;
     let mut next = 0;
@@ -63,7 +64,8 @@ fn chosen_rules(
     numbers: &[u32],
 ) -> Result<Vec<Rule>, OutOfMemory>
     requires { length keep.now ≡ length rules.now }
-    ensures { IfOk result (λ out. out.items ≡ chosen (stays keep.now) (map (definition.renamed_rule (number_in numbers.now)) rules.now)) }
+    ensures { IfOk result (λ out. out.items ≡ chosen (stays keep.now)
+        (map (definition.renamed_rule (number_in numbers.now)) rules.now)) }
 {
     let mut out = Vec::new(alloc);
     for (i, rule) in rules.iter().enumerate() {
@@ -98,7 +100,8 @@ fn chosen_params(
     keep: &[bool],
 ) -> Result<Vec<Vec<Name>>, OutOfMemory>
     requires { length keep.now ≡ length params.now }
-    ensures { IfOk result (λ out. map (λ names. names.items) out.items ≡ chosen (stays keep.now) (map (λ names. names.items) params.now)) }
+    ensures { IfOk result (λ out. map (λ names. names.items) out.items ≡ chosen (stays keep.now)
+        (map (λ names. names.items) params.now)) }
 {
     let mut out = Vec::new(alloc);
     for (i, names) in params.iter().enumerate() {
@@ -131,8 +134,10 @@ fn chosen_scheme(
     numbers: &[u32],
 ) -> Result<Scheme, OutOfMemory>
     requires each { length keep.now ≡ length scheme.now.rules }
-    requires fits { IsScheme (definition.selected_scheme (stays keep.now) (number_in numbers.now) scheme.now) }
-    ensures { IfOk result (λ s. s ≡ definition.selected_scheme (stays keep.now) (number_in numbers.now) scheme.now) }
+    requires fits { IsScheme (definition.selected_scheme (stays keep.now)
+        (number_in numbers.now) scheme.now) }
+    ensures { IfOk result (λ s. s ≡ definition.selected_scheme (stays keep.now)
+        (number_in numbers.now) scheme.now) }
 {
     let rules = chosen_rules(alloc, scheme.rules.as_slice(), keep, numbers)?;
     let ranks = scheme.ranks.to_vec(alloc)?;

@@ -5,7 +5,7 @@ use Rattle.std.proofs.lemmas.Bool.{eq-eqb, cases_order}
 use Rattle.hs_table_laws.proofs.Places.{read_from}
 use Rattle.hs_table.specs.Types.{TypeTree}
 use Rattle.hs_table.specs.Entries.{Env, set_at}
-use Rattle.hs_naming.specs.Evidence.{Evidence, Packs, Pack, evidence, no_packs, put, empty, also, stacked, pack_for, packs_for}
+use Rattle.hs_naming.specs.Evidence.{Evidence, Packs, Pack, evidence, no_packs, put, also, stacked, pack_for, packs_for}
 use Rattle.hs_naming.specs.Naming.{chosen_pack, argument_packs}
 use Rattle.hs_path.specs.declared.evidence.Node.{Node}
 use Rattle.hs_path.specs.declared.evidence.Store.{Store}
@@ -54,14 +54,8 @@ pub types_from : (give : TypeTree → Evidence) (f : ℕ → TypeTree) (ids : Li
     → pack_for give (map f (drop k ids)) ≡ also (give (f x)) (pack_for give (map f (drop (k + 1) ids)))
 types_from give f ids k x lt is = ap (λ xs. pack_for give (map f xs)) (drop_more ids k x lt ∙ (λ i. sym is i ∷ drop (k + 1) ids))
 
-pub types_end : (give : TypeTree → Evidence) (f : ℕ → TypeTree) (ids : List ℕ) (k : ℕ) → length ids ≤ k → pack_for give (map f (drop k ids)) ≡ empty
-types_end give f ids k le = ap (λ xs. pack_for give (map f xs)) (drop_all k ids le)
-
 pub sets_from : (give : ℕ → TypeTree → Evidence) (env : Env) (k : ℕ) → k < length env → packs_for give k (drop k env) ≡ put (pack_for (give k) (set_at env k)) (packs_for give (k + 1) (drop (k + 1) env))
 sets_from give env k lt = ap (packs_for give k) (drop_more env k [] lt) ∙ ap (λ n. put (pack_for (give k) (set_at env k)) (packs_for give n (drop (k + 1) env))) (let e : suc k ≡ k + 1 = omega arith in e)
-
-pub sets_end : (give : ℕ → TypeTree → Evidence) (env : Env) (k : ℕ) → length env ≤ k → packs_for give k (drop k env) ≡ no_packs
-sets_end give env k le = ap (packs_for give k) (drop_all k env le)
 
 module _ (give : ℕ → Evidence) (i : ℕ) (chosen : List (ℕ × ℕ)) (k : ℕ) (lt : k < length chosen) where
   abbrev Choice : ℕ × ℕ
@@ -89,9 +83,6 @@ each_chosen bound old new g first give chosen n each last k argument place lt at
 ]
 
 module _ (give : ℕ → Evidence) where
-  pub chosen_end : (i : ℕ) (chosen : List (ℕ × ℕ)) (k : ℕ) → length chosen ≤ k → chosen_pack give i (drop k chosen) ≡ empty
-  chosen_end i chosen k le = ap (chosen_pack give i) (drop_all k chosen le)
-
   pub arguments_from : (us : List ℕ) (chosen : List (ℕ × ℕ)) (packs : Packs) (k : ℕ) → k < length us
       → stacked (argument_packs give k (drop k us) chosen) packs ≡ put (chosen_pack give k chosen) (stacked (argument_packs give (k + 1) (drop (k + 1) us) chosen) packs)
   arguments_from us chosen packs k lt =

@@ -11,7 +11,7 @@ use Rattle.hs_reader.specs.Tokens.{IsName, Token, Placed, end_of_file, bad, Lexe
 use Rattle.hs_reader.specs.Grammar.{IsUpper, IsLower, IsRule, IsTransition, Sequence, IsFile}
 use Rattle.hs_reader.specs.Limits.{IsShort, IsRaw}
 use Rattle.hs_reader.specs.Reading.{tokens}
-use Rattle.hs_reader.specs.Faults.{kinds, BeginsFile, PassesLimit, order, NoLimit, IsFileWithin, Reaches, IsSyntaxFault, IsLimitFault, IsFaultOf, IsAnswer}
+use Rattle.hs_reader.specs.Faults.{kinds, BeginsFile, PassesLimit, order, NoLimit, IsFileWithin, ReachesToken, IsSyntaxFault, IsLimitFault, IsFaultOf, IsAnswer}
 use Rattle.hs_reader.specs.ReadingStages.{steps, Stage, start, in_rules, in_head, in_body, between, in_transitions, in_transition, before_arrow, in_children, closed, finished, step, passed, judged, file_at, ◌>>=◌, run, read, Goes}
 use Rattle.hs_reader.proofs.Lexing.{tokens_lex, lexes_tokens}
 use Rattle.hs_reader.proofs.Running.{on, over}
@@ -196,7 +196,7 @@ run_through (p ∷ before) pre rest s last leads h free =
     ∙ run_through before (pre ++ p ∷ []) rest r.0 last (ap (steps start) (kinds_append pre (p ∷ [])) ∙ one_step (kinds pre) s r.0 p.token leads r.1) r.2
     (subst NoLimit (sym (ap (λ (w : List Token). w ++ kinds before) (kinds_append pre (p ∷ [])) ∙ append_assoc (kinds pre) (p.token ∷ []) (kinds before))) free)
 
-reached_run : (bytes : List ℕ) (before : List Placed) (at : Placed) (first : Reaches bytes before at) (s : Stage) → steps start (kinds before) ≡ Some s → read start 1 bytes ≡ run s (at ∷ first.after)
+reached_run : (bytes : List ℕ) (before : List Placed) (at : Placed) (first : ReachesToken bytes before at) (s : Stage) → steps start (kinds before) ≡ Some s → read start 1 bytes ≡ run s (at ∷ first.after)
 unfolding steps
 reached_run bytes before at first s leads =
     ap (run start) (sym (lexes_tokens bytes (before ++ at ∷ first.after) first.lexes))

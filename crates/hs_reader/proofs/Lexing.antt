@@ -8,7 +8,7 @@ use Rattle.hs_reader.specs.Tokens.{is_blank, is_name_byte, Token, Placed, word, 
 use Rattle.hs_reader.specs.Reading.{front, line_behind, comment_rest, slash_rest, gap_rest, place, from_token, from_gap, tokens_within, tokens}
 use Rattle.hs_reader.proofs.Runs.{both_true}
 use Rattle.hs_reader.proofs.Cutting.{chosen, gap_shorter, front_shorter, tokens_behind, tokens_front}
-use Rattle.hs_reader.proofs.Pieces.{line_ends-append, line_behind_is, NoEnd, IsComment, comment_is, comment_read, front_is, IsRead, front_read}
+use Rattle.hs_reader.proofs.Pieces.{line_ends-append, line_behind_is, NoEnd, IsComment, comment_is, comment_read, front_is, IsTokenRead, front_read}
 
 -- ---- a gap is a blank or a comment
 
@@ -112,11 +112,11 @@ after_token t line bytes rest ts begins c =
       are = ap (λ (us : List Placed). place line t ∷ us) (c.are ∙ ap (λ (k : ℕ). placed k c.pieces c.last) same);
     }
 
-stands : (t : Token) (line : ℕ) (bytes rest : List ℕ) → (t ≡ bad → ⊥) → IsRead line bytes (t, rest) → Begins line bytes (token t) rest
+stands : (t : Token) (line : ℕ) (bytes rest : List ℕ) → (t ≡ bad → ⊥) → IsTokenRead line bytes (t, rest) → Begins line bytes (token t) rest
 stands t line bytes rest good (inl e) = absurd (good e)
 stands t line bytes rest good (inr begins) = begins
 
-front_cutting : (t : Token) (f : ℕ → List ℕ → List Placed) (line b : ℕ) (bytes rest : List ℕ) → (t ≡ bad → (piece : Piece) (after : List ℕ) → Begins line (b ∷ bytes) piece after → ⊥) → IsCutting line rest (f line rest) → IsRead line (b ∷ bytes) (t, rest) → IsCutting line (b ∷ bytes) (from_token f line (t, rest))
+front_cutting : (t : Token) (f : ℕ → List ℕ → List Placed) (line b : ℕ) (bytes rest : List ℕ) → (t ≡ bad → (piece : Piece) (after : List ℕ) → Begins line (b ∷ bytes) piece after → ⊥) → IsCutting line rest (f line rest) → IsTokenRead line (b ∷ bytes) (t, rest) → IsCutting line (b ∷ bytes) (from_token f line (t, rest))
 front_cutting bad f line b bytes rest stop later here = record { pieces = []; last = bad; cut = ((λ e. cc), stop refl); are = refl }
 front_cutting end_of_file f line b bytes rest stop later here = absurd (stands end_of_file line (b ∷ bytes) rest (λ h. cc) here).whole
 front_cutting (word n) f line b bytes rest stop later here = after_token (word n) line (b ∷ bytes) rest (f line rest) (stands (word n) line (b ∷ bytes) rest (λ h. cc) here) later
@@ -159,7 +159,7 @@ bad_last line bytes (Some x) e some stop = let g = gap_is line bytes x e in absu
 bad_last line [] None e some stop = absurd (some refl)
 bad_last line (b ∷ bytes) None e some stop = tokens_front line (b ∷ bytes) e ∙ is_bad (front line (b ∷ bytes)) (front_read line b bytes)
   where
-    is_bad : (x : Token × List ℕ) → IsRead line (b ∷ bytes) x → from_token tokens line x ≡ place line bad ∷ []
+    is_bad : (x : Token × List ℕ) → IsTokenRead line (b ∷ bytes) x → from_token tokens line x ≡ place line bad ∷ []
     is_bad x (inl h) = ap (λ (t : Token). from_token tokens line (t, x.1)) h
     is_bad x (inr begins) = absurd (stop (token x.0) x.1 begins)
 

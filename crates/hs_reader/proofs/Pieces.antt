@@ -151,19 +151,19 @@ front_is end_of_file line rest h = absurd h
 front_is bad line rest h = absurd h
 
 -- what is read is bad, or stands there
-abbrev pub IsRead : ℕ → List ℕ → Token × List ℕ → Type 0
-IsRead line bytes x = (x.0 ≡ bad) ⊎ Begins line bytes (token x.0) x.1
+abbrev pub IsTokenRead : ℕ → List ℕ → Token × List ℕ → Type 0
+IsTokenRead line bytes x = (x.0 ≡ bad) ⊎ Begins line bytes (token x.0) x.1
 
-read_if : (line : ℕ) (bytes : List ℕ) (t : Bool) (x y : Token × List ℕ) → (t ≡ true → IsRead line bytes x) → (t ≡ false → IsRead line bytes y) → IsRead line bytes (cond t x y)
+read_if : (line : ℕ) (bytes : List ℕ) (t : Bool) (x y : Token × List ℕ) → (t ≡ true → IsTokenRead line bytes x) → (t ≡ false → IsTokenRead line bytes y) → IsTokenRead line bytes (cond t x y)
 read_if line bytes true x y p q = p refl
 read_if line bytes false x y p q = q refl
 
-arrow_read : (line : ℕ) (bytes : List ℕ) → IsRead line (45 ∷ bytes) (arrow_front bytes)
+arrow_read : (line : ℕ) (bytes : List ℕ) → IsTokenRead line (45 ∷ bytes) (arrow_front bytes)
 arrow_read line [] = inl refl
 arrow_read line (c ∷ bytes) = read_if line (45 ∷ (c ∷ bytes)) (eqb c 62) (arrow, bytes) (bad, c ∷ bytes)
     (λ h. inr (record { spelled = ap (λ (k : ℕ). 45 ∷ (k ∷ bytes)) (eqb-true c 62 h); whole = tt })) (λ _. inl refl)
 
-sign_read : (line b : ℕ) (bytes : List ℕ) → IsRead line (b ∷ bytes) (sign_front b bytes)
+sign_read : (line b : ℕ) (bytes : List ℕ) → IsTokenRead line (b ∷ bytes) (sign_front b bytes)
 sign_read line b bytes =
     read_if line (b ∷ bytes) (eqb b 46) (dot, bytes) (cond (eqb b 40) (left, bytes) (cond (eqb b 41) (right, bytes) (cond (eqb b 45) (arrow_front bytes) (bad, bytes))))
     (λ h. inr (record { spelled = ap (λ (k : ℕ). k ∷ bytes) (eqb-true b 46 h); whole = tt })) (λ _.
@@ -172,9 +172,9 @@ sign_read line b bytes =
     read_if line (b ∷ bytes) (eqb b 41) (right, bytes) (cond (eqb b 45) (arrow_front bytes) (bad, bytes))
     (λ h. inr (record { spelled = ap (λ (k : ℕ). k ∷ bytes) (eqb-true b 41 h); whole = tt })) (λ _.
     read_if line (b ∷ bytes) (eqb b 45) (arrow_front bytes) (bad, bytes)
-    (λ h. subst (λ (k : ℕ). IsRead line (k ∷ bytes) (arrow_front bytes)) (sym (eqb-true b 45 h)) (arrow_read line bytes)) (λ _. inl refl))))
+    (λ h. subst (λ (k : ℕ). IsTokenRead line (k ∷ bytes) (arrow_front bytes)) (sym (eqb-true b 45 h)) (arrow_read line bytes)) (λ _. inl refl))))
 
-marker_read : (line : ℕ) (run rest : List ℕ) → prefix_len is_name_byte rest ≡ 0 → IsRead line (37 ∷ (run ++ rest)) (marker run, rest)
+marker_read : (line : ℕ) (run rest : List ℕ) → prefix_len is_name_byte rest ≡ 0 → IsTokenRead line (37 ∷ (run ++ rest)) (marker run, rest)
 marker_read line run rest none =
     go (bytes_eq run (codes "BEGING")) (bytes_eq run (codes "ENDG")) (bytes_eq run (codes "BEGINA")) (bytes_eq run (codes "ENDA"))
     (λ h. (bytes_eq-Decides run (codes "BEGING")).0 h) (λ h. (bytes_eq-Decides run (codes "ENDG")).0 h)
@@ -183,14 +183,14 @@ marker_read line run rest none =
     is : (text : List ℕ) → run ≡ text → 37 ∷ (run ++ rest) ≡ 37 ∷ (text ++ rest)
     is text e = ap (λ (w : List ℕ). 37 ∷ (w ++ rest)) e
 
-    go : (p q r s : Bool) → (p ≡ true → run ≡ codes "BEGING") → (q ≡ true → run ≡ codes "ENDG") → (r ≡ true → run ≡ codes "BEGINA") → (s ≡ true → run ≡ codes "ENDA") → IsRead line (37 ∷ (run ++ rest)) (cond p rules_begin (cond q rules_end (cond r automaton_begin (cond s automaton_end bad))), rest)
+    go : (p q r s : Bool) → (p ≡ true → run ≡ codes "BEGING") → (q ≡ true → run ≡ codes "ENDG") → (r ≡ true → run ≡ codes "BEGINA") → (s ≡ true → run ≡ codes "ENDA") → IsTokenRead line (37 ∷ (run ++ rest)) (cond p rules_begin (cond q rules_end (cond r automaton_begin (cond s automaton_end bad))), rest)
     go true q r s hp hq hr hs = inr (record { spelled = is (codes "BEGING") (hp refl); whole = none })
     go false true r s hp hq hr hs = inr (record { spelled = is (codes "ENDG") (hq refl); whole = none })
     go false false true s hp hq hr hs = inr (record { spelled = is (codes "BEGINA") (hr refl); whole = none })
     go false false false true hp hq hr hs = inr (record { spelled = is (codes "ENDA") (hs refl); whole = none })
     go false false false false hp hq hr hs = inl refl
 
-name_read : (line b : ℕ) (bytes : List ℕ) → is_name_byte b ≡ true → IsRead line (b ∷ bytes) (run_front (as_word line) (b ∷ bytes))
+name_read : (line b : ℕ) (bytes : List ℕ) → is_name_byte b ≡ true → IsTokenRead line (b ∷ bytes) (run_front (as_word line) (b ∷ bytes))
 name_read line b bytes h = inr (record {
   spelled = sym (take-append-drop (prefix_len is_name_byte (b ∷ bytes)) (b ∷ bytes));
   whole = ((some, run_passes is_name_byte (b ∷ bytes)), run_ends is_name_byte (b ∷ bytes), refl);
@@ -199,12 +199,12 @@ name_read line b bytes h = inr (record {
     some : take (prefix_len is_name_byte (b ∷ bytes)) (b ∷ bytes) ≢ []
     some e = let k = prefix_yes is_name_byte b bytes h in let f : b ∷ take (prefix_len is_name_byte bytes) bytes ≡ [] = rw k at e in cc
 
-pub front_read : (line b : ℕ) (bytes : List ℕ) → IsRead line (b ∷ bytes) (front line (b ∷ bytes))
+pub front_read : (line b : ℕ) (bytes : List ℕ) → IsTokenRead line (b ∷ bytes) (front line (b ∷ bytes))
 unfolding front
 front_read line b bytes =
     read_if line (b ∷ bytes) (is_name_byte b) (run_front (as_word line) (b ∷ bytes)) (cond (eqb b 37) (run_front marker bytes) (sign_front b bytes))
     (name_read line b bytes) (λ _.
     read_if line (b ∷ bytes) (eqb b 37) (run_front marker bytes) (sign_front b bytes)
-    (λ h. subst (λ (w : List ℕ). IsRead line w (run_front marker bytes)) (ap (λ (w : List ℕ). 37 ∷ w) (take-append-drop (prefix_len is_name_byte bytes) bytes) ∙ ap (λ (k : ℕ). k ∷ bytes) (sym (eqb-true b 37 h)))
+    (λ h. subst (λ (w : List ℕ). IsTokenRead line w (run_front marker bytes)) (ap (λ (w : List ℕ). 37 ∷ w) (take-append-drop (prefix_len is_name_byte bytes) bytes) ∙ ap (λ (k : ℕ). k ∷ bytes) (sym (eqb-true b 37 h)))
     (marker_read line (take (prefix_len is_name_byte bytes) bytes) (drop (prefix_len is_name_byte bytes) bytes) (run_ends is_name_byte bytes)))
     (λ _. sign_read line b bytes))

@@ -15,7 +15,7 @@ use Rattle.hs_reader.specs.Raw.{Rule, Transition, File}
 use Rattle.hs_reader.specs.Tokens.{Token, Placed, word, rules_begin, rules_end, automaton_begin, automaton_end, arrow, dot, left, right, end_of_file, bad}
 use Rattle.hs_reader.specs.Grammar.{begins_upper}
 use Rattle.hs_reader.specs.Reading.{view, place, as_word, from_token, tokens}
-use Rattle.hs_reader.specs.ReadingStages.{Stage, closed, finished, when, any, from_start, from_rules, from_head, from_body, from_between, from_transitions, from_transition, from_arrow, from_children, from_closed, step, which_if, first_of, is_long, at_word, passed, accept, ◌>>=◌, run, named, Fails, IsNameFault, IsCasedFault}
+use Rattle.hs_reader.specs.ReadingStages.{Stage, closed, finished, when, any, from_start, from_rules, from_head, from_body, from_between, from_transitions, from_transition, from_arrow, from_children, from_closed, step, which_if, first_of, is_long, at_word, passed, accept, ◌>>=◌, run, named, FailsWith, IsNameFault, IsCasedFault}
 
 -- ---- a token is taken, is no token of the grammar, or passes a limit
 
@@ -62,20 +62,20 @@ word_full s next line bytes w ts rest e short h full = over s next line (as_word
 word_long : (s next : Stage) (line : ℕ) (bytes : List ℕ) (w : Which) (ts rest : List Placed) → ts ≡ named line bytes ∷ rest → step s (as_word line bytes) ≡ Some next → w ≡ which.Name → is_long bytes ≡ true → run s ts ≡ Err (Limit w)
 word_long s next line bytes w ts rest e h is long = over s next line (as_word line bytes) which.Name ts rest e h (word_passes s line bytes true long) ∙ ap (λ (v : Which). Err (Limit v)) (sym is)
 
-pub word_fault : (s next : Stage) (line : ℕ) (bytes : List ℕ) (f : ReadFault) (ts rest : List Placed) → ts ≡ named line bytes ∷ rest → step s (as_word line bytes) ≡ Some next → IsNameFault f bytes → Fails f (run s ts)
+pub word_fault : (s next : Stage) (line : ℕ) (bytes : List ℕ) (f : ReadFault) (ts rest : List Placed) → ts ≡ named line bytes ∷ rest → step s (as_word line bytes) ≡ Some next → IsNameFault f bytes → FailsWith f (run s ts)
 word_fault s next line bytes (Syntax at) ts rest e h fault = absurd fault
 word_fault s next line bytes (Limit w) ts rest e h fault = word_long s next line bytes w ts rest e h fault.0 fault.1
 word_fault s next line bytes OutOfMemory ts rest e h fault = tt
 
 pub cased_fault : (s next : Stage) (line : ℕ) (bytes : List ℕ) (upper : Bool) (f : ReadFault) (ts rest : List Placed) → ts ≡ named line bytes ∷ rest → (begins_upper bytes ≡ not upper → step s (as_word line bytes) ≡ None) → (begins_upper bytes ≡ upper → step s (as_word line bytes) ≡ Some next)
-    → IsCasedFault f upper line bytes → Fails f (run s ts)
+    → IsCasedFault f upper line bytes → FailsWith f (run s ts)
 cased_fault s next line bytes upper (Syntax at) ts rest e refused taken fault = off_at s line (as_word line bytes) ts rest e (refused fault.1) ∙ ap (λ (k : ℕ). Err (Syntax k)) (sym fault.0)
 cased_fault s next line bytes upper (Limit w) ts rest e refused taken fault = word_long s next line bytes w ts rest e (taken fault.0) fault.1 fault.2
 cased_fault s next line bytes upper OutOfMemory ts rest e refused taken fault = tt
 
 -- a fault stays one where reading gives the same
-pub continues : (f : ReadFault) (read later : Result File ReadFault) → read ≡ later → Fails f later → Fails f read
-continues f read later e h = subst (Fails f) (sym e) h
+pub continues : (f : ReadFault) (read later : Result File ReadFault) → read ≡ later → FailsWith f later → FailsWith f read
+continues f read later e h = subst (FailsWith f) (sym e) h
 
 -- ---- tests
 

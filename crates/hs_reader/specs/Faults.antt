@@ -139,7 +139,7 @@ pub record IsFileWithin (bytes : List ℕ) (file : File) : Type 0 where
   pub within : NoLimit (kinds tokens)
 
 -- a token of the bytes before which none offends
-pub record Reaches (bytes : List ℕ) (before : List Placed) (at : Placed) : Type 0 where
+pub record ReachesToken (bytes : List ℕ) (before : List Placed) (at : Placed) : Type 0 where
   pub after : List Placed
   pub lexes : Lexes bytes (before ++ at ∷ after)
   pub begins : BeginsFile (kinds before)
@@ -147,14 +147,14 @@ pub record Reaches (bytes : List ℕ) (before : List Placed) (at : Placed) : Typ
 
 -- the token offends, and none before it
 pub record Offends (bytes : List ℕ) (before : List Placed) (at : Placed) : Type 0 where
-  pub first : Reaches bytes before at
+  pub first : ReachesToken bytes before at
   pub offends : (BeginsFile (kinds before ++ at.token ∷ []) → ⊥) ⊎ ((which : Which) × PassesLimit which (kinds before) at.token)
 
 -- The first token that offends offends the grammar, and stands on this line.
 pub record IsSyntaxFault (bytes : List ℕ) (line : ℕ) : Type 0 where
   pub before : List Placed
   pub at : Placed
-  pub first : Reaches bytes before at
+  pub first : ReachesToken bytes before at
   pub offends : BeginsFile (kinds before ++ at.token ∷ []) → ⊥
   pub line_is : at.line ≡ line
 
@@ -162,7 +162,7 @@ pub record IsSyntaxFault (bytes : List ℕ) (line : ℕ) : Type 0 where
 pub record IsLimitFault (bytes : List ℕ) (which : Which) : Type 0 where
   pub before : List Placed
   pub at : Placed
-  pub first : Reaches bytes before at
+  pub first : ReachesToken bytes before at
   pub in_grammar : BeginsFile (kinds before ++ at.token ∷ [])
   pub passes : PassesLimit which (kinds before) at.token
   pub no_earlier : (other : Which) → order other < order which → PassesLimit other (kinds before) at.token → ⊥

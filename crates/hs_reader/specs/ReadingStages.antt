@@ -188,13 +188,13 @@ abbrev pub named : ℕ → List ℕ → Placed
 named line bytes = place line (as_word line bytes)
 
 -- What a function returned, against what reading gives: it goes on behind a value, and ends at a fault.
-abbrev pub Fails : ReadFault → Result File ReadFault → Type 0
-Fails OutOfMemory read = Unit {0}
-Fails e read = read ≡ Err e
+abbrev pub FailsWith : ReadFault → Result File ReadFault → Type 0
+FailsWith OutOfMemory read = Unit {0}
+FailsWith e read = read ≡ Err e
 
 abbrev pub Goes : {X : Type 0} → (X → Result File ReadFault) → Result X ReadFault → Result File ReadFault → Type 0
 Goes next (Ok x) read = read ≡ next x
-Goes next (Err e) read = Fails e read
+Goes next (Err e) read = FailsWith e read
 
 -- a name that is not too long is made of the bytes
 abbrev pub IsNameFault : ReadFault → List ℕ → Type 0

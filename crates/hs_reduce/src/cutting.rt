@@ -30,7 +30,12 @@ fn rank_of(sorted: &Sorted, terminal: u32) -> u32
 /// The path with a replacement in front.
 fn after_replacement(path: Path) -> Path
     requires { path.used < MAX_CUT }
-    ensures { result ≡ record { steps = path.steps; last = path.last; state = path.state; used = path.used + 1 } }
+    ensures { result ≡ record {
+      steps = path.steps;
+      last = path.last;
+      state = path.state;
+      used = path.used + 1;
+    } }
 {
     Path {
         used: path.used + 1,
@@ -43,7 +48,12 @@ fn after_replacement(path: Path) -> Path
 /// The path with a descent in front.
 fn after_descent(path: Path, terminal: u32, number: u32) -> Result<Path, OutOfMemory>
     requires { path.used < MAX_CUT }
-    ensures { IfOk result (λ made. made ≡ record { steps = (terminal, number) ∷ path.steps; last = path.last; state = path.state; used = path.used + 1 }) }
+    ensures { IfOk result (λ made. made ≡ record {
+      steps = (terminal, number) ∷ path.steps;
+      last = path.last;
+      state = path.state;
+      used = path.used + 1;
+    }) }
 {
     let mut path = path;
     path.steps.insert(0, (terminal, number))?;

@@ -88,7 +88,8 @@ impl Graph {
     /// place.
     pub fn add(&mut self, head: Head, args: &[usize]) -> Result<usize, OutOfMemory>
         requires { All (λ i. i < length self.old) args.now }
-        ensures { IfOk result (λ place. AddsTerm self.old self.new place (node head (forest (terms_at self.old args.now)))) }
+        ensures { IfOk result (λ place. AddsTerm self.old self.new place
+            (node head (forest (terms_at self.old args.now)))) }
     {
         let from = self.links.len();
         self.links.extend_from_slice(args)?;

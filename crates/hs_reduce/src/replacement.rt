@@ -20,7 +20,8 @@ pub struct Front {
 
 /// The place that stands for the term where it is a parameter without arguments.
 fn shared(term: &Term, with: &[usize]) -> Option<usize>
-    ensures { IfSome result (λ place. (j : ℕ) × (term.now ≡ node (Var j) none) × (slice_get with.now j ≡ Some place)) }
+    ensures { IfSome result (λ place. (j : ℕ) × (term.now ≡ node (Var j) none)
+        × (slice_get with.now j ≡ Some place)) }
 {
     if !term.args.is_empty() {
         return None;
@@ -36,7 +37,8 @@ fn shared(term: &Term, with: &[usize]) -> Option<usize>
 fn front_of(alloc: Global, graph: &Graph, head: Head, with: &[usize]) -> Result<Front, OutOfMemory>
     requires { All (λ i. i < length graph.now) with.now }
     ensures within { IfOk result (λ f. All (λ i. i < length graph.now) f.args.items) }
-    ensures term { IfOk result (λ f. node f.head (forest (terms_at graph.now f.args.items)) ≡ replaced head (terms_at graph.now with.now)) }
+    ensures term { IfOk result (λ f. node f.head (forest (terms_at graph.now f.args.items)) ≡ replaced head
+        (terms_at graph.now with.now)) }
 {
     if let Head::Var(parameter) = head {
         if let Some(place) = with.get(parameter as usize) {
@@ -61,7 +63,8 @@ pub fn substitute(
     with: &[usize],
 ) -> Result<usize, OutOfMemory>
     requires { All (λ i. i < length graph.old) with.now }
-    ensures { IfOk result (λ place. AddsTerm graph.old graph.new place (subst term.now (terms_at graph.old with.now))) }
+    ensures { IfOk result (λ place. AddsTerm graph.old graph.new place
+        (subst term.now (terms_at graph.old with.now))) }
 {
     if let Some(place) = shared(term, with) {
         return Ok(place);
@@ -83,7 +86,8 @@ fn applied(
 ) -> Result<usize, OutOfMemory>
     requires place { place < length graph.old }
     requires rest { All (λ i. i < length graph.old) rest.now }
-    ensures { IfOk result (λ made. AddsTerm graph.old graph.new made (applied (term_at graph.old place) (forest (terms_at graph.old rest.now)))) }
+    ensures { IfOk result (λ made. AddsTerm graph.old graph.new made
+        (applied (term_at graph.old place) (forest (terms_at graph.old rest.now)))) }
 {
     if rest.is_empty() {
         return Ok(place);
@@ -103,7 +107,8 @@ fn unfold(
     args: &[usize],
 ) -> Result<Option<usize>, OutOfMemory>
     requires { All (λ i. i < length graph.old) args.now }
-    ensures { IfOk result (λ found. Unfolds graph.old graph.new found (unfolded rules.now number (terms_at graph.old args.now))) }
+    ensures { IfOk result (λ found. Unfolds graph.old graph.new found
+        (unfolded rules.now number (terms_at graph.old args.now))) }
 {
     let Some(rule) = rules.get(number as usize) else {
         return Ok(None);
@@ -126,7 +131,8 @@ pub fn replace(
     number: u32,
 ) -> Result<Option<usize>, OutOfMemory>
     requires { place < length graph.old }
-    ensures { IfOk result (λ found. Unfolds graph.old graph.new found (unfolded sorted.now.scheme.rules number (arguments_of (term_at graph.old place)))) }
+    ensures { IfOk result (λ found. Unfolds graph.old graph.new found
+        (unfolded sorted.now.scheme.rules number (arguments_of (term_at graph.old place)))) }
 {
     let args = graph.arguments(place).to_vec(alloc)?;
     let scheme = &sorted.scheme;

@@ -35,7 +35,8 @@ pub enum Advance {
 /// The place and the state of the child with this number, counted from 1.
 fn child_at(to: &[u32], args: &[usize], number: u32) -> Option<(usize, u32)>
     ensures { MatchOption result ((number ≡ 0) ⊎ (length args.now < number) ⊎ (length to.now < number))
-        (λ child. (i : ℕ) × (number ≡ i + 1) × (slice_get args.now i ≡ Some child.0) × (slice_get to.now i ≡ Some child.1)) }
+        (λ child. (i : ℕ) × (number ≡ i + 1) × (slice_get args.now i ≡ Some child.0)
+        × (slice_get to.now i ≡ Some child.1)) }
 {
     if number == 0 {
         return None;
@@ -93,7 +94,8 @@ fn next_step(
     requires at { IsReachedSpot sorted.now path.now spot (term_at graph.old spot.place) }
     requires few { spot.used ≤ MAX_STEPS }
     requires short { length path.now ≤ MAX_STEPS }
-    ensures { IfOk result (λ advance. Advances sorted.now path.now spot (term_at graph.old spot.place) graph.new advance) }
+    ensures { IfOk result (λ advance. Advances sorted.now path.now spot
+        (term_at graph.old spot.place) graph.new advance) }
 {
     match graph.head(spot.place) {
         Head::Var(_) => Ok(Advance::Stays),
@@ -123,7 +125,8 @@ pub fn replay(
 ) -> Result<Replay, OutOfMemory>
     requires few { steps ≤ MAX_STEPS }
     requires short { length path.now ≤ MAX_STEPS }
-    ensures { IfOk result (λ found. (answer : Replay) → (found ≡ answer) ↔ IsReplayAnswer sorted.now path.now steps answer) }
+    ensures { IfOk result (λ found. (answer : Replay) → (found ≡ answer)
+        ↔ IsReplayAnswer sorted.now path.now steps answer) }
 {
     // What the types of `sorted` and of its scheme keep is known where their fields are read.
     let scheme = &sorted.scheme;

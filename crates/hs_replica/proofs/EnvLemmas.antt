@@ -1,23 +1,15 @@
 -- A place in the lists of what an environment asks for, one set after another.
 use Rattle.std.proofs.Common.{◌≡◌, refl, sym, ◌∙◌, ap, subst, ℕ, ◌+◌, ◌<◌, ◌≤◌, List, [], length, get_or, map, arith, inl, inr, Contains}
 use Rattle.std.proofs.lemmas.Bool.{cases_lt}
-use Rattle.std.proofs.lemmas.List.{get_or-map, get_or_past, length-map}
+use Rattle.std.proofs.lemmas.List.{get_or-map, length-map}
 use Rattle.hs_table.specs.Types.{TypeTree}
 use Rattle.hs_table.specs.Entries.{Env, Has, set_at}
+use Rattle.hs_table_laws.proofs.Arrows.{has_within}
 use Rattle.hs_types.specs.Interned.{InternerData, set_of_id}
 use Rattle.hs_replica.specs.declared.key.Key.{Key}
 use Rattle.hs_replica.specs.Places.{Question, here, typed, asks, takes}
 use Rattle.hs_replica.specs.Index.{Gains, HasAll, AsksAt, AsksIn}
 use Rattle.hs_replica.proofs.SetLemmas.{gains_nothing, gains_then, still_listed}
-
--- what has a type is a parameter of the environment
-pub has_within : (env : Env) (j : ℕ) (a : TypeTree) → Has env j a → j < length env
-has_within env j a h = elim (cases_lt j (length env)) [
-  | inl lt ↦ lt
-  | inr past ↦
-      let e : set_at env j ≡ [] = get_or_past env j [] past in
-      let n = subst (λ (s : List TypeTree). Contains s a) e h in absurd (omega (arith, n.1))
-]
 
 -- what the first n sets ask for is listed
 pub record EnvSoFar (ids : InternerData) (point : ℕ) (env : Env) (place n : ℕ) (old new : Key → List ℕ) : Type 0 where

@@ -1,34 +1,30 @@
 -- Lists of places that gain a place.
-use Rattle.std.proofs.Common.{◌≡◌, ◌≢◌, refl, sym, ◌∙◌, ap, subst, ℕ, zero, suc, ◌+◌, ◌-◌, ◌≤◌, Bool, true, false, nat_eq, ◌&&◌, List, [], ◌∷◌, ◌++◌, length, get_or, slice_get, Some, None, Option, length-append, arith, ◌⊎◌, inl, inr, Contains, cond}
+use Rattle.std.proofs.Common.{◌≡◌, ◌≢◌, refl, sym, ◌∙◌, ap, subst, ℕ, ◌+◌, ◌-◌, ◌≤◌, Bool, true, false, nat_eq, ◌&&◌, List, [], ◌∷◌, ◌++◌, length, get_or, slice_get, Some, None, Option, length-append, arith, ◌⊎◌, inl, inr, Contains, cond}
 use Rattle.std.specs.Bool.{Decides}
 use Rattle.std.specs.Map.{lookup}
 use Rattle.std.specs.Option.{option_map_or}
-use Rattle.std.proofs.lemmas.Bool.{eqb-true, eq-eqb, cases_lt}
+use Rattle.std.proofs.lemmas.Bool.{eqb-true, eq-eqb, cases_lt, and_parts}
 use Rattle.std.proofs.lemmas.Option.{slice_get-get_or}
 use Rattle.std.proofs.lemmas.List.{get_or_append_left, get_or_push}
 use Rattle.std.proofs.lemmas.List.Elements.{All-append, All-cons, Contains-append_left, Contains-append_cases, Contains-push}
 use Rattle.indexmap.specs.IndexMap.{IndexMap, get}
 use Rattle.smallvec.specs.SmallVec.{SmallVec}
+use Rattle.hs_table_laws.proofs.Members.{only}
 use Rattle.hs_replica.specs.declared.key.Key.{Key}
 use Rattle.hs_replica.specs.declared.key.Key.TheVariants.{At, Typed, Asking, Taking}
 use Rattle.hs_replica.specs.contracts.key.KeyPartialEq.TheImpl.{eq-value}
 use Rattle.hs_replica.specs.Index.{RisesTo, AddsAt, list_at}
 
-both : (b c : Bool) → b && c ≡ true → (b ≡ true) × (c ≡ true)
-both true true h = (refl, refl)
-both true false h = absurd (cc)
-both false c h = absurd (cc)
-
 key_true : (a b : Key) → eq-value.it a b ≡ true → a ≡ b
 key_true (At p) (At q) h = ap At (eqb-true p q h)
-key_true (Typed p t) (Typed q u) h = let e = both (nat_eq p q) (nat_eq t u) h in λ i. Typed (eqb-true p q e.0 i) (eqb-true t u e.1 i)
+key_true (Typed p t) (Typed q u) h = let e = and_parts (nat_eq p q) (nat_eq t u) h in λ i. Typed (eqb-true p q e.0 i) (eqb-true t u e.1 i)
 key_true (Asking p j t) (Asking q k u) h =
-    let e = both (nat_eq p q) (nat_eq j k && nat_eq t u) h in
-    let f = both (nat_eq j k) (nat_eq t u) e.1 in
+    let e = and_parts (nat_eq p q) (nat_eq j k && nat_eq t u) h in
+    let f = and_parts (nat_eq j k) (nat_eq t u) e.1 in
     λ i. Asking (eqb-true p q e.0 i) (eqb-true j k f.0 i) (eqb-true t u f.1 i)
 key_true (Taking p j t) (Taking q k u) h =
-    let e = both (nat_eq p q) (nat_eq j k && nat_eq t u) h in
-    let f = both (nat_eq j k) (nat_eq t u) e.1 in
+    let e = and_parts (nat_eq p q) (nat_eq j k && nat_eq t u) h in
+    let f = and_parts (nat_eq j k) (nat_eq t u) e.1 in
     λ i. Taking (eqb-true p q e.0 i) (eqb-true j k f.0 i) (eqb-true t u f.1 i)
 key_true (At p) (Typed q u) h = absurd (cc)
 key_true (At p) (Asking q k u) h = absurd (cc)
@@ -79,10 +75,6 @@ none_some x e = (cc)
 pub nothing_last : (xs : List ℕ) → xs ≡ [] → (x : ℕ) → slice_get xs (length xs - 1) ≡ Some x → ⊥
 nothing_last xs none x e = none_some x (subst (λ (ys : List ℕ). slice_get ys (length ys - 1) ≡ Some x) none e)
 
-pub only_in : {X : Type 0} (x y : X) → Contains (x ∷ []) y → y ≡ x
-only_in x y (zero, lt, e) = sym e
-only_in x y (suc k, lt, e) = absurd (omega arith)
-
 pub adds_same : (key : Key) (place : ℕ) (old new : Key → List ℕ) → ((k : Key) → new k ≡ old k) → AddsAt key place old new
 adds_same key place old new same = record {
   only = λ k i h. inl (subst (λ (xs : List ℕ). Contains xs i) (same k) h);
@@ -101,7 +93,7 @@ module _ (old new : Key → List ℕ) (key : Key) (place : ℕ) (is : (k : Key) 
   pushed_only : (k : Key) (i : ℕ) (b : Bool) → eq-value.it key k ≡ b → Contains (grown b k) i → Contains (old k) i ⊎ ((i ≡ place) × (k ≡ key))
   pushed_only k i true e h = elim (Contains-append_cases (old key) (place ∷ []) i h) [
     | inl was ↦ inl (subst (λ (j : Key). Contains (old j) i) (sym (here true k e refl)) was)
-    | inr last ↦ inr (only_in place i last, here true k e refl)
+    | inr last ↦ inr (only place i last, here true k e refl)
   ]
   pushed_only k i false e h = inl h
 

@@ -3,7 +3,7 @@ use Rattle.std.proofs.Common.{◌≡◌, ◌≢◌, refl, sym, ◌∙◌, ap, su
 use Rattle.std.specs.Bool.{Decides}
 use Rattle.std.specs.List.{list_any}
 use Rattle.std.specs.List.Sorted.{IsStrictlyIncreasing}
-use Rattle.std.proofs.lemmas.Bool.{eqb-true, eq-eqb}
+use Rattle.std.proofs.lemmas.Bool.{eqb-true, eq-eqb, and_parts}
 use Rattle.std.proofs.lemmas.List.{map-append, length-map, get_or-map}
 use Rattle.std.proofs.lemmas.List.Elements.{All-push, Contains-get_or}
 use Rattle.std.proofs.lemmas.List.Quantifiers.{all_pairs_push, position-Some}
@@ -22,16 +22,10 @@ use Rattle.hs_replica.specs.Replica.{ReplicaData, IsReplica, KeepsLog}
 use Rattle.hs_replica.specs.Index.{log_of, question, IsKey, IsIndex, IsKept}
 use Rattle.hs_replica.proofs.RowLemmas.{same_key}
 
--- rows are equal where they are found to be
-both : (b c : Bool) → b && c ≡ true → (b ≡ true) × (c ≡ true)
-both true true h = (refl, refl)
-both true false h = absurd (cc)
-both false c h = absurd (cc)
-
 row_true : (a b : RowData) → eq-value.it a b ≡ true → a ≡ b
 row_true a b h =
-    let e = both (nat_eq a.point b.point) (nat_eq a.env b.env && nat_eq a.ty b.ty) h in
-    let f = both (nat_eq a.env b.env) (nat_eq a.ty b.ty) e.1 in
+    let e = and_parts (nat_eq a.point b.point) (nat_eq a.env b.env && nat_eq a.ty b.ty) h in
+    let f = and_parts (nat_eq a.env b.env) (nat_eq a.ty b.ty) e.1 in
     λ i. record { point = eqb-true a.point b.point e.0 i; env = eqb-true a.env b.env f.0 i; ty = eqb-true a.ty b.ty f.1 i }
 
 row_own : (a : RowData) → eq-value.it a a ≡ true

@@ -5,13 +5,13 @@ use Rattle.std.proofs.lemmas.List.{get_or_append_left, get_or_push}
 use Rattle.hs_scheme.specs.Tree.{Tree, node, none, more, children, children-forest}
 use Rattle.hs_table.specs.Types.{TypeTree, state, arrow, arrows}
 use Rattle.hs_table.specs.Entries.{Env, set_at}
+use Rattle.hs_table_laws.proofs.Arrows.{arrows-append, has_within}
 use Rattle.hs_types.specs.Interned.{InternerData, type_of_id, set_of_id, IsView}
 use Rattle.hs_types.specs.declared.ids.View.TheVariants.{Arrow}
 use Rattle.hs_replica.specs.declared.key.Key.{Key}
 use Rattle.hs_replica.specs.Places.{Question, here, typed, asks, takes}
 use Rattle.hs_replica.specs.Index.{Gains, HasAll, TakesAt, TakesBy}
 use Rattle.hs_replica.proofs.SetLemmas.{gains_then, still_listed}
-use Rattle.hs_replica.proofs.EnvLemmas.{has_within}
 
 abbrev set_of : Tree (Option ℕ) → List TypeTree
 set_of (node x none) = []
@@ -20,10 +20,6 @@ set_of (node x (more r s)) = children s
 abbrev result_of : Tree (Option ℕ) → TypeTree
 result_of (node x none) = state 0
 result_of (node x (more r s)) = r
-
-arrows-append : (xs ys : Env) (t : TypeTree) → arrows (xs ++ ys) t ≡ arrows xs (arrows ys t)
-arrows-append [] ys t = refl
-arrows-append (s ∷ xs) ys t = ap (arrow s) (arrows-append xs ys t)
 
 -- all sets of a type begin with some of them
 record Begins (ss all : Env) : Type 0 where

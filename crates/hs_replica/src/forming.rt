@@ -22,7 +22,8 @@ impl Replica {
     pub fn arrow(&mut self, set: SetId, rest: TyId) -> Result<TyId, OutOfMemory>
         requires set { set < length self.old.ids.sets }
         requires rest { rest < length self.old.ids.types }
-        ensures ok { IfOk result (λ id. slice_get self.new.ids.types id ≡ Some (arrow (set_of_id self.old.ids set) (type_of_id self.old.ids rest))) }
+        ensures ok { IfOk result (λ id. slice_get self.new.ids.types id ≡ Some
+            (arrow (set_of_id self.old.ids set) (type_of_id self.old.ids rest))) }
         ensures kept { KeepsLog self.old self.new }
     {
         self.interner.arrow(set, rest)
@@ -41,7 +42,8 @@ impl Replica {
     /// The environment with these sets.
     pub fn env(&mut self, sets: &[SetId]) -> Result<EnvId, OutOfMemory>
         requires { All (λ s. s < length self.old.ids.sets) sets.now }
-        ensures ok { IfOk result (λ id. slice_get self.new.ids.envs id ≡ Some (map (set_of_id self.old.ids) sets.now)) }
+        ensures ok { IfOk result (λ id. slice_get self.new.ids.envs id ≡ Some
+            (map (set_of_id self.old.ids) sets.now)) }
         ensures kept { KeepsLog self.old self.new }
     {
         self.interner.env(sets)

@@ -19,8 +19,10 @@ fn add_asked(
     place: u32,
 ) -> Result<(), OutOfMemory>
     requires { set < length interner.now.sets }
-    ensures gains { Gains interner.now (AsksAt point param (set_of_id interner.now set)) place (list_at lists.old) (list_at lists.new) }
-    ensures all { OnOk result (HasAll interner.now (AsksAt point param (set_of_id interner.now set)) place (list_at lists.new)) }
+    ensures gains { Gains interner.now (AsksAt point param (set_of_id interner.now set)) place
+        (list_at lists.old) (list_at lists.new) }
+    ensures all { OnOk result (HasAll interner.now (AsksAt point param (set_of_id interner.now set)) place
+        (list_at lists.new)) }
 {
     for ty in interner.members(set) {
         add_once(lists, Key::Asking(point, param, *ty), place)?;
@@ -47,8 +49,10 @@ fn add_asking(
     place: u32,
 ) -> Result<(), OutOfMemory>
     requires { env < length interner.now.envs }
-    ensures gains { Gains interner.now (AsksIn point (env_of_id interner.now env)) place (list_at lists.old) (list_at lists.new) }
-    ensures all { OnOk result (HasAll interner.now (AsksIn point (env_of_id interner.now env)) place (list_at lists.new)) }
+    ensures gains { Gains interner.now (AsksIn point (env_of_id interner.now env)) place (list_at lists.old)
+        (list_at lists.new) }
+    ensures all { OnOk result (HasAll interner.now (AsksIn point (env_of_id interner.now env)) place
+        (list_at lists.new)) }
 {
     for (param, set) in interner.sets(env).iter().enumerate() {
         let number = numbered(param)?;
@@ -67,8 +71,10 @@ fn add_taken(
     place: u32,
 ) -> Result<(), OutOfMemory>
     requires { set < length interner.now.sets }
-    ensures gains { Gains interner.now (TakesAt point arg (set_of_id interner.now set)) place (list_at lists.old) (list_at lists.new) }
-    ensures all { OnOk result (HasAll interner.now (TakesAt point arg (set_of_id interner.now set)) place (list_at lists.new)) }
+    ensures gains { Gains interner.now (TakesAt point arg (set_of_id interner.now set)) place
+        (list_at lists.old) (list_at lists.new) }
+    ensures all { OnOk result (HasAll interner.now (TakesAt point arg (set_of_id interner.now set)) place
+        (list_at lists.new)) }
 {
     for ty in interner.members(set) {
         add_once(lists, Key::Taking(point, arg, *ty), place)?;
@@ -85,8 +91,10 @@ fn add_taking(
     place: u32,
 ) -> Result<(), OutOfMemory>
     requires { ty < length interner.now.types }
-    ensures gains { Gains interner.now (TakesBy point (type_of_id interner.now ty)) place (list_at lists.old) (list_at lists.new) }
-    ensures all { OnOk result (HasAll interner.now (TakesBy point (type_of_id interner.now ty)) place (list_at lists.new)) }
+    ensures gains { Gains interner.now (TakesBy point (type_of_id interner.now ty)) place (list_at lists.old)
+        (list_at lists.new) }
+    ensures all { OnOk result (HasAll interner.now (TakesBy point (type_of_id interner.now ty)) place
+        (list_at lists.new)) }
 {
     let mut rest = ty;
     let mut arg: u32 = 0;
@@ -121,8 +129,10 @@ fn add_roles(
     place: u32,
 ) -> Result<(), OutOfMemory>
     requires { IsRow interner.now row }
-    ensures gains { Gains interner.now (PlaysRole interner.now row (list_at lists.old) place) place (list_at lists.old) (list_at lists.new) }
-    ensures all { OnOk result (HasAll interner.now (PlaysRole interner.now row (list_at lists.old) place) place (list_at lists.new)) }
+    ensures gains { Gains interner.now (PlaysRole interner.now row (list_at lists.old) place) place
+        (list_at lists.old) (list_at lists.new) }
+    ensures all { OnOk result (HasAll interner.now
+        (PlaysRole interner.now row (list_at lists.old) place) place (list_at lists.new)) }
 {
     if let View::State(_) = interner.view(row.ty) {
         return add_asking(lists, interner, row.point, row.env, place);
@@ -145,7 +155,8 @@ pub(crate) fn add_place(
     requires place { place < length rows.now }
     requires index { IsIndex interner.now (log_of interner.now rows.now) place (list_at lists.old) }
     ensures index { IsIndex interner.now (log_of interner.now rows.now) place (list_at lists.new) }
-    ensures ok { OnOk result (IsIndex interner.now (log_of interner.now rows.now) (place + 1) (list_at lists.new)) }
+    ensures ok { OnOk result (IsIndex interner.now (log_of interner.now rows.now) (place + 1)
+        (list_at lists.new)) }
 {
     interner.numbers_are_exact();
     let row = rows[place as usize];

@@ -12,7 +12,8 @@ use hs_types::TyId;
 /// Each entry of a log has a first one with its point and its type, so that `taking` misses no type.
 /// A law; does nothing.
 pub fn each_entry_has_a_first()
-    ensures { (log : List EntryData) (i : ℕ) (e : EntryData) → slice_get log i ≡ Some e → IsFirstLike log i e }
+    ensures { (log : List EntryData) (i : ℕ) (e : EntryData) → slice_get log i ≡ Some e
+        → IsFirstLike log i e }
 {}
 
 impl Replica {
@@ -27,7 +28,8 @@ impl Replica {
     /// The places of the entries at this point with this type.
     pub fn with_type(&self, point: u32, ty: TyId) -> &[u32]
         requires { ty < length self.now.ids.types }
-        ensures { ArePlaces self.now.log self.now.indexed (typed point (type_of_id self.now.ids ty)) result.now }
+        ensures { ArePlaces self.now.log self.now.indexed
+            (typed point (type_of_id self.now.ids ty)) result.now }
     {
         self.places(Key::Typed(point, ty))
     }
@@ -36,7 +38,8 @@ impl Replica {
     /// this type at this parameter, counted from 0.
     pub fn asking(&self, point: u32, param: u32, ty: TyId) -> &[u32]
         requires { ty < length self.now.ids.types }
-        ensures { ArePlaces self.now.log self.now.indexed (asks point param (type_of_id self.now.ids ty)) result.now }
+        ensures { ArePlaces self.now.log self.now.indexed
+            (asks point param (type_of_id self.now.ids ty)) result.now }
     {
         self.places(Key::Asking(point, param, ty))
     }
@@ -45,7 +48,8 @@ impl Replica {
     /// something with this type: of each such type the first place.
     pub fn taking(&self, point: u32, arg: u32, ty: TyId) -> &[u32]
         requires { ty < length self.now.ids.types }
-        ensures { ArePlaces self.now.log self.now.indexed (takes point arg (type_of_id self.now.ids ty)) result.now }
+        ensures { ArePlaces self.now.log self.now.indexed
+            (takes point arg (type_of_id self.now.ids ty)) result.now }
     {
         self.places(Key::Taking(point, arg, ty))
     }

@@ -44,15 +44,26 @@ impl Model for Replica {
 
     ghost coded = { coded_replica };
 
-    ghost view = { λ a. record { ids = a.interner; log = log_of a.interner a.rows.keys; spare = a.reserved; indexed = a.indexed } };
+    ghost view = { λ a. record {
+      ids = a.interner;
+      log = log_of a.interner a.rows.keys;
+      spare = a.reserved;
+      indexed = a.indexed;
+    } };
 
-    ghost invariant = { λ a. IsKept a.interner a.rows.keys (spare a.rows) a.reserved a.indexed (list_at a.lists) };
+    ghost invariant = { λ a. IsKept a.interner a.rows.keys (spare a.rows) a.reserved a.indexed
+        (list_at a.lists) };
 }
 
 impl Replica {
     /// A replica without entries. Takes no memory.
     pub fn new(alloc: Global) -> Replica
-        ensures { result ≡ record { ids = record { types = []; sets = []; envs = [] }; log = []; spare = 0; indexed = 0 } }
+        ensures { result ≡ record {
+          ids = record { types = []; sets = []; envs = [] };
+          log = [];
+          spare = 0;
+          indexed = 0;
+        } }
     {
         Replica {
             interner: Interner::new(alloc),
@@ -91,7 +102,8 @@ impl Replica {
     /// it. Takes no memory, and constant time on average.
     pub fn find(&self, row: Row) -> Option<u32>
         requires { IsRow self.now.ids row }
-        ensures found { IfSome result (λ place. slice_get self.now.log place ≡ Some (entry_of self.now.ids row)) }
+        ensures found { IfSome result (λ place. slice_get self.now.log place ≡ Some
+            (entry_of self.now.ids row)) }
         ensures absent { IfNone result (Contains self.now.log (entry_of self.now.ids row) → ⊥) }
     {
         self.interner.numbers_are_exact();
@@ -167,7 +179,10 @@ impl Replica {
     /// average.
     pub fn extend(&mut self, rows: &[Row])
         requires { CanExtend self.old rows.now }
-        ensures { self.new ≡ record self.old { log = extended self.old rows.now; spare = self.old.spare - length rows.now } }
+        ensures { self.new ≡ record self.old {
+          log = extended self.old rows.now;
+          spare = self.old.spare - length rows.now;
+        } }
     {
         for row in rows {
             self.add(*row);
@@ -191,7 +206,10 @@ impl Replica {
         requires row { IsRow self.old.ids row }
         requires absent { Contains self.old.log (entry_of self.old.ids row) → ⊥ }
         requires room { length self.old.log + 1 < 2 ^ 32 }
-        ensures { self.new ≡ record self.old { log = self.old.log ++ entry_of self.old.ids row ∷ []; spare = self.old.spare - 1 } }
+        ensures { self.new ≡ record self.old {
+          log = self.old.log ++ entry_of self.old.ids row ∷ [];
+          spare = self.old.spare - 1;
+        } }
     {
         let _added = self.rows.insert(row).unwrap();
         self.reserved -= 1;

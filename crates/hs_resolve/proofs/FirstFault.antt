@@ -126,7 +126,7 @@ line_fault raw (suc (suc (suc (suc (suc k))))) line h = inr (inr (inr (inr (inr 
 abbrev NoneBelow : File → ℕ → ℕ → Type 0
 NoneBelow raw k line = (j : ℕ) → j < k → Stands raw j line → ⊥
 
-record IsFirst (raw : File) (k line : ℕ) : Type 0 where
+record IsFirstFault (raw : File) (k line : ℕ) : Type 0 where
   stands : Stands raw k line
   first : IsFirstLine raw line
   none : NoneBelow raw k line
@@ -143,7 +143,7 @@ one_more raw line k none absent j less h =
 
 -- the fault of a line that is answered has a place in the order
 module _ (raw : File) where
-  placed : (f : NameFault) → IsAnswered raw f → ((k : ℕ) × (line : ℕ) × (of_order k line ≡ f) × IsFirst raw k line) ⊎ (f ≡ fault.TooManyStates)
+  placed : (f : NameFault) → IsAnswered raw f → ((k : ℕ) × (line : ℕ) × (of_order k line ≡ f) × IsFirstFault raw k line) ⊎ (f ≡ fault.TooManyStates)
   placed (fault.DuplicateRule m) h = inl (0, m, refl, record { stands = h.0; first = h.1; none = none_below_0 raw m })
   placed (fault.DuplicateParam m) h = inl (1, m, refl, record { stands = h.0; first = h.1; none = one_more raw m 0 (none_below_0 raw m) h.2 })
   placed (fault.Undefined m) h =
@@ -166,7 +166,7 @@ module _ (raw : File) where
   placed fault.TooManyStates h = inr refl
   placed fault.OutOfMemory h = absurd h
 
-  same_first : (k m j n : ℕ) → IsFirst raw k m → IsFirst raw j n → of_order k m ≡ of_order j n
+  same_first : (k m j n : ℕ) → IsFirstFault raw k m → IsFirstFault raw j n → of_order k m ≡ of_order j n
   same_first k m j n p q =
       let on : m ≡ n = lines_meet raw m n (line_fault raw k m p.stands) p.first (line_fault raw j n q.stands) q.first in
       elim (cases_lt k j) [
@@ -177,7 +177,7 @@ module _ (raw : File) where
         ]
       ]
 
-  no_line_fault : (k line : ℕ) → IsFirst raw k line → IsAnswered raw fault.TooManyStates → ⊥
+  no_line_fault : (k line : ℕ) → IsFirstFault raw k line → IsAnswered raw fault.TooManyStates → ⊥
   no_line_fault k line p h = h.0 line (line_fault raw k line p.stands)
 
   pub one_fault_is : (f g : NameFault) → IsAnswered raw f → IsAnswered raw g → f ≡ g

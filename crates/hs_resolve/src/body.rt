@@ -166,7 +166,8 @@ pub(crate) fn bodies_of<'a>(
     requires few { All (λ r. length r.params ≤ 64) rules.now }
     ensures terminals { IfOk result (λ b. b.terminals ≡ distinct (flat_map terminals_in rules.now)) }
     ensures undefined { IfOk result (λ b. IsLeast
-        (λ line. Somewhere (λ _ r. Somewhere (λ _ n. IsUndefined left.now n line) (term_names r.body)) rules.now)
+        (λ line. Somewhere (λ _ r. Somewhere (λ _ n. IsUndefined left.now n line)
+        (term_names r.body)) rules.now)
         b.undefined) }
     ensures rules { IfOk result (λ b. AreScoped left.now b.terminals rules.now b.rules.items) }
 {

@@ -17,8 +17,8 @@ use Rattle.hs_rules.specs.declared.search.Fixed.{Fixed}
 use Rattle.hs_rules.specs.Conclusions.{DeducedData, IsDeduced}
 use Rattle.hs_rules.specs.Slots.{SlotData, slots, FixedData, IsCandidate, Picked, IsOwn, Concludes}
 use Rattle.hs_rules.specs.Filling.{entry_at, fixed_of}
-use Rattle.hs_rules.specs.Found.{SearchData, HeadData, HaveEnvs, RowsAre, LeadsTo, IsConclusion, IsFound}
-use Rattle.hs_rules.specs.Parts.{ArePart, HasRowFor, HasAll, UsesArgument, IsPlaceOf}
+use Rattle.hs_rules.specs.Found.{SearchData, HeadData, HaveEnvs, RowsAre, HeadLeadsTo, IsConclusion, HasEnvFound}
+use Rattle.hs_rules.specs.Parts.{ArePart, HasRowFor, HasAll, UsesArgument, IsOnlyPlaceOf}
 use Rattle.hs_rules.specs.Heads.{head_type, IsHead, AreHeads}
 use Rattle.hs_rules.proofs.SlotLemmas.{filled_by, used_fixed, fixed_used, slot_of, into_slots, slots_differ}
 use Rattle.hs_rules.proofs.FollowLemmas.{chosen_picked, chosen_long, concludes_follows, follows_concludes}
@@ -34,14 +34,14 @@ module _ (p : ProblemData) (log : List EntryData) (s : SearchData) (of : PointDa
   E = take s.limit log
 
   -- the same environment, for as many parameters as the rule has
-  to_rule : (ids : InternerData) (h : HeadData) (args : List (ℕ × ℕ)) (env : Env) → IsHead p E of ids h → LeadsTo ids log s h args env
+  to_rule : (ids : InternerData) (h : HeadData) (args : List (ℕ × ℕ)) (env : Env) → IsHead p E of ids h → HeadLeadsTo ids log s h args env
       → Concludes E (fixed_of log s.fixed) (params_of p of.rule) of.args (env_of_id ids h.own) (map (set_of_id ids) h.sets) args env
   to_rule ids h args env head leads =
       subst (λ (us : List ℕ). Concludes E (fixed_of log s.fixed) (params_of p of.rule) us (env_of_id ids h.own) (map (set_of_id ids) h.sets) args env) (sym args_are)
       (subst (λ (n : ℕ). Concludes E (fixed_of log s.fixed) n s.args (env_of_id ids h.own) (map (set_of_id ids) h.sets) args env) head.own.is_env.long leads)
 
   from_rule : (ids : InternerData) (h : HeadData) (args : List (ℕ × ℕ)) (env : Env) → IsHead p E of ids h
-      → Concludes E (fixed_of log s.fixed) (params_of p of.rule) of.args (env_of_id ids h.own) (map (set_of_id ids) h.sets) args env → LeadsTo ids log s h args env
+      → Concludes E (fixed_of log s.fixed) (params_of p of.rule) of.args (env_of_id ids h.own) (map (set_of_id ids) h.sets) args env → HeadLeadsTo ids log s h args env
   from_rule ids h args env head c =
       subst (λ (n : ℕ). Concludes E (fixed_of log s.fixed) n s.args (env_of_id ids h.own) (map (set_of_id ids) h.sets) args env) (sym head.own.is_env.long)
       (subst (λ (us : List ℕ). Concludes E (fixed_of log s.fixed) (params_of p of.rule) us (env_of_id ids h.own) (map (set_of_id ids) h.sets) args env) args_are c)
@@ -62,7 +62,7 @@ module _ (p : ProblemData) (log : List EntryData) (s : SearchData) (of : PointDa
 
     -- what follows by a wanted type is found
     pub reached : (Wanted : HeadBy → Env → Type 0) (heads : List HeadData) (found : List DeducedData) → AreHeads p E of J Wanted heads
-        → ((h : HeadData) → Contains heads h → (args : List (ℕ × ℕ)) (env : Env) → LeadsTo J log s h args env → IsFound K s h env found)
+        → ((h : HeadData) → Contains heads h → (args : List (ℕ × ℕ)) (env : Env) → HeadLeadsTo J log s h args env → HasEnvFound K s h env found)
         → (sup : Support) (e : EntryData) (f : FollowsBy p E sup e) → e.point ≡ s.point → Wanted sup.head f.sets
         → ((ids : List ℕ) → map (set_of_id J) ids ≡ f.sets → Picked (λ (x : SlotData). x.arg) (IsCandidate E None) (slots 0 f.of.args f.sets) sup.args f.chosen
         → Picked (λ (x : SlotData). x.arg) (IsCandidate E (fixed_of log s.fixed)) (slots 0 f.of.args f.sets) sup.args f.chosen)
@@ -97,7 +97,7 @@ module _ (p : ProblemData) (log : List EntryData) (s : SearchData) (of : PointDa
     }
 
     pub all_reached : (Wanted : HeadBy → Env → Type 0) (Kind : Support → Type 0) (heads : List HeadData) (found : List DeducedData) → AreHeads p E of J Wanted heads
-        → ((h : HeadData) → Contains heads h → (args : List (ℕ × ℕ)) (env : Env) → LeadsTo J log s h args env → IsFound K s h env found)
+        → ((h : HeadData) → Contains heads h → (args : List (ℕ × ℕ)) (env : Env) → HeadLeadsTo J log s h args env → HasEnvFound K s h env found)
         → ((sup : Support) (e : EntryData) (f : FollowsBy p E sup e) → e.point ≡ s.point → Kind sup → Wanted sup.head f.sets × ((ids : List ℕ) → map (set_of_id J) ids ≡ f.sets
         → Picked (λ (x : SlotData). x.arg) (IsCandidate E None) (slots 0 f.of.args f.sets) sup.args f.chosen → Picked (λ (x : SlotData). x.arg) (IsCandidate E (fixed_of log s.fixed)) (slots 0 f.of.args f.sets) sup.args f.chosen))
         → HasAll p K E s.point Kind found
@@ -113,7 +113,7 @@ numbered_sets ids is (x ∷ xs) (suc j) = numbered_sets ids is xs j
 
 -- the entry at a place, which is an argument of the point, is used
 module _ (p : ProblemData) (log : List EntryData) (limit point arg place : ℕ) (of : PointData) (at : slice_get p.points.points point ≡ Some of) (e0 : EntryData) (e0_at : slice_get log place ≡ Some e0) (below : place < limit)
-    (is_place : IsPlaceOf p.points point e0.point arg) where
+    (is_place : IsOnlyPlaceOf p.points point e0.point arg) where
   abbrev E0 : List EntryData
   E0 = take limit log
 

@@ -8,7 +8,7 @@ use Rattle.std.proofs.lemmas.List.Quantifiers.{all_pairs_push}
 use Rattle.hs_table.specs.Entries.{Env, EntryData, IsEnv}
 use Rattle.hs_table_laws.proofs.Places.{some_same, at_take, member_at, here, later, uncons, none_in}
 use Rattle.hs_table_laws.proofs.Sets.{envs_same}
-use Rattle.hs_table_laws.proofs.Members.{from_map, into_map}
+use Rattle.hs_table_laws.proofs.Members.{from_map}
 use Rattle.hs_types.specs.Interned.{InternerData, set_of_id, env_of_id, RowData, Grows}
 use Rattle.hs_types.specs.contracts.ids.RowPartialEq.TheImpl.{eq-value}
 use Rattle.hs_types.proofs.Numbers.{env_within, env_stays, set_within, set_stays, type_within}
@@ -16,9 +16,8 @@ use Rattle.hs_rules.specs.Conclusions.{DeducedData}
 use Rattle.hs_rules.specs.Slots.{SlotData, slots, FixedData, FilledData, IsCandidate, Picked, none_left, pick, Concludes}
 use Rattle.hs_rules.specs.Filling.{fixed_of, IsFilled, AreFilled}
 use Rattle.hs_rules.specs.Joins.{PartialData, FillsBy, ArePlaced, AreJoined}
-use Rattle.hs_rules.specs.Found.{SearchData, HeadData, IsKnown, HaveEnvs, RowsAre, IsRowOf, HasRow, LeadsTo, IsConclusion, IsFound}
+use Rattle.hs_rules.specs.Found.{SearchData, HeadData, HasKnownNumbers, HaveEnvs, RowsAre, IsRowOf, HasRow, HeadLeadsTo, IsConclusion, HasEnvFound}
 use Rattle.hs_rules.specs.declared.joining.TheConstants.{FEW}
-use Rattle.hs_rules.proofs.Lists.{taken_cases}
 use Rattle.hs_rules.proofs.SlotLemmas.{slot_of}
 
 row_true : (a b : RowData) → eq-value.it a b ≡ true → a ≡ b
@@ -78,15 +77,6 @@ few_or_more rows found few row h is r b c first rest or = (λ t. into (either b 
     out_of k = elim (Contains-append_cases (rows_of few) rows row (subst (λ (rs : List RowData). Contains rs row) (sym whole) k)) [
       | inl f ↦ left_true b c (first.1 f)
       | inr m ↦ right_true b c (rest.1 m)
-    ]
-
--- none of those so far has the row
-pub none_more : (list : List DeducedData) (k : ℕ) (d : DeducedData) (row : RowData) → k < length list → d ≡ get_or list k d → (d.row ≡ row → ⊥) → (Contains (rows_of (take k list)) row → ⊥) → Contains (rows_of (take (k + 1) list)) row → ⊥
-none_more list k d row lt is other before c =
-    let r = row_there (take (k + 1) list) row c in
-    elim (taken_cases list k d r.0 lt is r.1) [
-      | inl was ↦ before (subst (λ (q : RowData). Contains (rows_of (take k list)) q) r.2 (into_map (λ (x : DeducedData). x.row) (take k list) r.0 was))
-      | inr own ↦ other (ap (λ (x : DeducedData). x.row) (sym own) ∙ r.2)
     ]
 
 -- one more row
@@ -192,7 +182,7 @@ module _ (I K : InternerData) (log : List EntryData) (s : SearchData) (h : HeadD
         };
       })
 
-  pub conclude_rows : (found : List DeducedData) → ((x : PartialData) → Contains partials x → HasRow s.point h x found) → (args : List (ℕ × ℕ)) (env : Env) → LeadsTo I log s h args env → IsFound K s h env found
+  pub conclude_rows : (found : List DeducedData) → ((x : PartialData) → Contains partials x → HasRow s.point h x found) → (args : List (ℕ × ℕ)) (env : Env) → HeadLeadsTo I log s h args env → HasEnvFound K s h env found
   conclude_rows found all args env c =
       let n = length (env_of_id I h.own) in
       let r = joined.all args c.chosen (to_filled log s.limit (fixed_of log s.fixed) (slots 0 s.args (map (set_of_id I) h.sets)) fs filled c.picked) in
@@ -220,7 +210,7 @@ sets_stay I J ids g all = go ids (λ s c. All-contains (λ t. t < length I.sets)
 pub sets_within : (I J : InternerData) (ids : List ℕ) → Grows I J → All (λ s. s < length I.sets) ids → All (λ s. s < length J.sets) ids
 sets_within I J ids g all = λ k d lt. set_within I J g (get_or ids k d) (all k d lt)
 
-pub known_later : (I J : InternerData) (args : List ℕ) (h : HeadData) → Grows I J → IsKnown I args h → IsKnown J args h
+pub known_later : (I J : InternerData) (args : List ℕ) (h : HeadData) → Grows I J → HasKnownNumbers I args h → HasKnownNumbers J args h
 known_later I J args h g k = record {
   own = env_within I J g h.own k.own;
   sets = sets_within I J h.sets g k.sets;
@@ -236,23 +226,23 @@ envs_later I J log later limit args h g same known have =
     (subst (λ (e : Env). HaveEnvs (take limit log) args (length e)) (sym (env_stays I J g h.own known)) have)
 
 -- a head's type leads to the same, whenever its numbers are read
-module _ (I J : InternerData) (log later : List EntryData) (s : SearchData) (h : HeadData) (g : Grows I J) (same : later ≡ log) (k : IsKnown I s.args h) (args : List (ℕ × ℕ)) (env : Env) where
+module _ (I J : InternerData) (log later : List EntryData) (s : SearchData) (h : HeadData) (g : Grows I J) (same : later ≡ log) (k : HasKnownNumbers I s.args h) (args : List (ℕ × ℕ)) (env : Env) where
   abbrev Leads : List EntryData → Env → Env → Type 0
   Leads l own sets = Concludes (take s.limit l) (fixed_of l s.fixed) (length own) s.args own sets args env
 
-  pub leads_earlier : LeadsTo J later s h args env → LeadsTo I log s h args env
+  pub leads_earlier : HeadLeadsTo J later s h args env → HeadLeadsTo I log s h args env
   leads_earlier c =
       subst (λ (l : List EntryData). Leads l (env_of_id I h.own) (map (set_of_id I) h.sets)) same
       (subst (λ (own : Env). Leads later own (map (set_of_id I) h.sets)) (env_stays I J g h.own k.own)
       (subst (λ (sets : Env). Leads later (env_of_id J h.own) sets) (sets_stay I J h.sets g k.sets) c))
 
-  pub leads_later : LeadsTo I log s h args env → LeadsTo J later s h args env
+  pub leads_later : HeadLeadsTo I log s h args env → HeadLeadsTo J later s h args env
   leads_later c =
       subst (λ (sets : Env). Leads later (env_of_id J h.own) sets) (sym (sets_stay I J h.sets g k.sets))
       (subst (λ (own : Env). Leads later own (map (set_of_id I) h.sets)) (sym (env_stays I J g h.own k.own))
       (subst (λ (l : List EntryData). Leads l (env_of_id I h.own) (map (set_of_id I) h.sets)) (sym same) c))
 
-pub conclusion_earlier : (I J K : InternerData) (log later : List EntryData) (s : SearchData) (h : HeadData) → Grows I J → later ≡ log → IsKnown I s.args h → (d : DeducedData) → IsConclusion J K later s h d → IsConclusion I K log s h d
+pub conclusion_earlier : (I J K : InternerData) (log later : List EntryData) (s : SearchData) (h : HeadData) → Grows I J → later ≡ log → HasKnownNumbers I s.args h → (d : DeducedData) → IsConclusion J K later s h d → IsConclusion I K log s h d
 conclusion_earlier I J K log later s h g same k d c = record {
   point = c.point;
   ty = c.ty;
@@ -267,10 +257,10 @@ conclusion_later I J K log s h g d c = record {
   ty = c.ty;
   within = env_within J K g d.row.env c.within;
   by = c.by;
-  leads = subst (λ (e : Env). LeadsTo I log s h d.support.args e) (sym (env_stays J K g d.row.env c.within)) c.leads;
+  leads = subst (λ (e : Env). HeadLeadsTo I log s h d.support.args e) (sym (env_stays J K g d.row.env c.within)) c.leads;
 }
 
-pub found_later : (J K : InternerData) (s : SearchData) (h : HeadData) (env : Env) (old new : List DeducedData) → Grows J K → ((d : DeducedData) → Contains old d → Contains new d) → IsFound J s h env old → IsFound K s h env new
+pub found_later : (J K : InternerData) (s : SearchData) (h : HeadData) (env : Env) (old new : List DeducedData) → Grows J K → ((d : DeducedData) → Contains old d → Contains new d) → HasEnvFound J s h env old → HasEnvFound K s h env new
 found_later J K s h env old new g keeps f = record {
   item = f.item;
   there = keeps f.item f.there;

@@ -12,12 +12,12 @@ use Rattle.hs_types.specs.Interned.{InternerData, type_of_id, set_of_id, env_of_
 use Rattle.hs_types.proofs.Numbers.{type_within, type_stays, env_within, env_stays}
 use Rattle.hs_replica.specs.Places.{Question, Answers, ArePlaces}
 use Rattle.hs_rules.specs.Found.{HeadData}
-use Rattle.hs_rules.specs.Heads.{head_type, IsWhole, HasType, GainsHeads, ParamAt, AtSome, AtFlow}
+use Rattle.hs_rules.specs.Heads.{head_type, IsWholeHead, HasType, GainsHeads, ParamAt, AtSome, AtFlow}
 use Rattle.hs_rules.proofs.Lists.{read_again, taken_cases}
 use Rattle.hs_rules.proofs.ArrowLemmas.{arrows_first, arrows_parts}
 use Rattle.hs_rules.proofs.FoundLemmas.{sets_stay, sets_within}
 
-pub whole_later : (I J : InternerData) (count : ℕ) (h : HeadData) → Grows I J → IsWhole I count h → IsWhole J count h
+pub whole_later : (I J : InternerData) (count : ℕ) (h : HeadData) → Grows I J → IsWholeHead I count h → IsWholeHead J count h
 whole_later I J count h g w = record {
   own = env_within I J g h.own w.own;
   sets = sets_within I J h.sets g w.sets;
@@ -25,7 +25,7 @@ whole_later I J count h g w = record {
   long = w.long;
 }
 
-pub type_later : (I J : InternerData) (count : ℕ) (h : HeadData) → Grows I J → IsWhole I count h → head_type J h ≡ head_type I h
+pub type_later : (I J : InternerData) (count : ℕ) (h : HeadData) → Grows I J → IsWholeHead I count h → head_type J h ≡ head_type I h
 type_later I J count h g w = λ i. arrows (sets_stay I J h.sets g w.sets i) (type_stays I J g h.rest w.rest i)
 
 pub has_later : (I J : InternerData) (count : ℕ) (sets : Env) (rest : TypeTree) (old new : List HeadData) → Grows I J → ((h : HeadData) → Contains old h → Contains new h) → HasType I count sets rest old → HasType J count sets rest new
@@ -47,12 +47,12 @@ heads_none ids count From heads never = record {
 }
 
 -- one more
-pub heads_one : (ids : InternerData) (count : ℕ) (From : HeadBy → Env → TypeTree → Type 0) (old new : List HeadData) (h : HeadData) → new ≡ old ++ h ∷ [] → IsWhole ids count h
+pub heads_one : (ids : InternerData) (count : ℕ) (From : HeadBy → Env → TypeTree → Type 0) (old new : List HeadData) (h : HeadData) → new ≡ old ++ h ∷ [] → IsWholeHead ids count h
     → From h.by (env_of_id ids h.own) (head_type ids h) → ((by : HeadBy) (own : Env) (ty : TypeTree) → From by own ty → ty ≡ head_type ids h) → GainsHeads ids count From old new
 heads_one ids count From old new h is whole from only = record {
   sound = λ x c. elim (pushed_cases old h x (subst (λ (hs : List HeadData). Contains hs x) is c)) [
     | inl was ↦ inl was
-    | inr e ↦ inr (subst (λ (y : HeadData). IsWhole ids count y × From y.by (env_of_id ids y.own) (head_type ids y)) (sym e) (whole, from))
+    | inr e ↦ inr (subst (λ (y : HeadData). IsWholeHead ids count y × From y.by (env_of_id ids y.own) (head_type ids y)) (sym e) (whole, from))
   ];
   keeps = λ x c. subst (λ (hs : List HeadData). Contains hs x) (sym is) (Contains-append_left old (h ∷ []) x c);
   all = λ by own ty f sets rest long eq.
@@ -169,6 +169,3 @@ flow_next J K count log n x limit asked pairs k d found places indexed old mid n
           let ans = subst (λ (u : FlowPair). Answers log a.place (asked u.point)) last a.answers in
           inr (record { place = a.place; among = (below a.place).1 ((are.exact a.place).1 (omega (arith, w, all), ans), a.within); from = a.source })
     ]) f h
-
-pub flow_start : (ids : InternerData) (count : ℕ) (log : List EntryData) (n x limit : ℕ) (asked : ℕ → Question) (heads : List HeadData) → GainsHeads ids count (AtFlow log n x limit asked []) heads heads
-flow_start ids count log n x limit asked heads = heads_none ids count (AtFlow log n x limit asked []) heads (λ by own ty a sets rest long is. none_in a.pair a.among)

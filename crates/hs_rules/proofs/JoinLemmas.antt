@@ -11,7 +11,7 @@ use Rattle.hs_types.specs.contracts.ids.EnvIdPartialEq.TheImpl.{eq-value}
 use Rattle.hs_types.proofs.Numbers.{env_within, env_stays}
 use Rattle.hs_table_laws.proofs.Places.{some_same, here, within_from, place_of, member_at, at_take}
 use Rattle.hs_rules.specs.Slots.{FilledData, Picked, none_left, pick, IsJoin}
-use Rattle.hs_rules.specs.Joins.{PartialData, FillsBy, IsPlaced, ArePlaced, SeenAre, IsMade, IsMadeOf, IsCovered, CanExtend, AreJoined}
+use Rattle.hs_rules.specs.Joins.{PartialData, FillsBy, IsPlaced, ArePlaced, SeenAre, IsMade, IsMadeOf, IsCovered, CanFill, AreJoined}
 use Rattle.hs_rules.proofs.Lists.{read_other}
 use Rattle.hs_rules.proofs.SetLemmas.{env_same}
 use Rattle.hs_rules.proofs.SlotLemmas.{picked_append, last_of, none_of, join_none, join_more}
@@ -196,7 +196,7 @@ module _ (I J K : InternerData) (log later : List EntryData) (from : PartialData
 
 -- what extending environments that slots lead to requires
 pub can_extend : (I : InternerData) (log later : List EntryData) (n : ℕ) (own : Env) (fs : List FilledData) (f : FilledData) (found : List PartialData) → later ≡ log → AreJoined I log n own fs found → ArePlaced log n f
-    → CanExtend I later found f
+    → CanFill I later found f
 can_extend I log later n own fs f found same joined placed = λ x c.
     let s = joined.sound x c in
     (s.within, subst (λ (l : List EntryData). ArePlaced l (length (env_of_id I x.env)) f) (sym same) (subst (λ (k : ℕ). ArePlaced log k f) (sym s.join.is_env.long) placed))

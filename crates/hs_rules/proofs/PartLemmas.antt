@@ -1,5 +1,5 @@
 -- Conclusions as they are gathered.
-use Rattle.std.proofs.Common.{◌≡◌, ◌≢◌, refl, sym, ◌∙◌, ap, subst, ℕ, zero, suc, ◌<◌, List, [], ◌∷◌, length, map, drop, get_or, slice_get, slice_index, Option, None, Some, arith, AllPairs, Contains, ◌⊎◌, inl, inr, ◌↔◌}
+use Rattle.std.proofs.Common.{◌≡◌, ◌≢◌, refl, sym, ◌∙◌, ap, subst, ℕ, zero, suc, ◌<◌, List, [], ◌∷◌, length, map, drop, get_or, slice_get, slice_index, Option, Some, arith, AllPairs, Contains, ◌⊎◌, inl, inr, ◌↔◌}
 use Rattle.std.proofs.lemmas.Option.{slice_get-get_or}
 use Rattle.std.proofs.lemmas.List.{length-map}
 use Rattle.std.proofs.lemmas.List.Elements.{Contains-append_cases}
@@ -22,7 +22,7 @@ use Rattle.hs_rules.specs.Conclusions.{DeducedData, IsDeduced, Uses, AreConclusi
 use Rattle.hs_rules.specs.declared.joining.TheConstants.{FEW}
 use Rattle.hs_rules.specs.Filling.{CanSearch, IsWithin}
 use Rattle.hs_rules.specs.Found.{HaveEnvs, RowsAre}
-use Rattle.hs_rules.specs.Parts.{ArePart, HasAll, UsesArgument, IsPlaceOf, IsInRule}
+use Rattle.hs_rules.specs.Parts.{ArePart, HasAll, UsesArgument, IsInRule}
 use Rattle.hs_rules.proofs.Lists.{all_from}
 use Rattle.hs_rules.specs.Heads.{IsHeadWithin}
 use Rattle.hs_rules.proofs.PointLemmas.{params_are}
@@ -98,23 +98,6 @@ have_envs p E args rule params is shapes in_rule = λ e c among.
     let rule_is : s.of.rule ≡ rule = ap (λ (d : PointData). d.rule) same ∙ r.in_rule in
     let n_is : params_of p s.of.rule ≡ params = ap (params_of p) rule_is ∙ sym is in
     subst (λ (n : ℕ). IsEnv n e.env) n_is s.env
-
--- whose argument a point is
-module _ (points : PointsData) (point a : ℕ) (result : Option Argument) (exact : (q place : ℕ) → (result ≡ Some (record { point = q; place = place })) ↔ IsArgument points q place a) where
-  pub nobodys : result ≡ None → (i : ℕ) → IsArgument points point i a → ⊥
-  nobodys none i is = let e = sym none ∙ (exact point i).1 is in absurd (cc)
-
-  pub anothers : (whose : Argument) → result ≡ Some whose → (whose.point ≡ point → ⊥) → (i : ℕ) → IsArgument points point i a → ⊥
-  anothers whose found other i is =
-      let e = some_same whose (let x : Argument = record { point = point; place = i } in x) (sym found ∙ (exact point i).1 is) in other (ap (λ (x : Argument). x.point) e)
-
-  pub its_place : (whose : Argument) → result ≡ Some whose → whose.point ≡ point → IsPlaceOf points point a whose.place
-  its_place whose found same = record {
-    there = (exact point whose.place).0 (found ∙ ap (λ (x : Argument). Some x) (let e : whose ≡ record { point = point; place = whose.place } = λ i. record { point = same i; place = whose.place } in e));
-    only = λ q i is.
-        let e = some_same whose (let x : Argument = record { point = q; place = i } in x) (sym found ∙ (exact q i).1 is) in
-        (sym (ap (λ (x : Argument). x.point) e) ∙ same, sym (ap (λ (x : Argument). x.place) e));
-  }
 
 -- the point of a number, by its parts
 pub point_parts : (x : PointsData) (point rule : ℕ) (head : Head) (args : List ℕ) → point < length x.points → rule ≡ (point_at x point).rule → head ≡ (point_at x point).head → args ≡ (point_at x point).args

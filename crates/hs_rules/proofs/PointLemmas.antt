@@ -18,7 +18,7 @@ module _ (points : List PointData) where
   abbrev InRule : ℕ → ℕ → Type 0
   InRule rule a = (of : PointData) × (slice_get points a ≡ Some of) × (of.rule ≡ rule)
 
-  pub record IsWhole (rule : ℕ) (d : PointData) : Type 0 where
+  pub record IsWholeHead (rule : ℕ) (d : PointData) : Type 0 where
     pub in_rule : d.rule ≡ rule
     pub arguments : (j a : ℕ) → slice_get d.args j ≡ Some a → InRule rule a
 
@@ -33,22 +33,22 @@ module _ (points : List PointData) where
       row_points rule (n + size t) ts (stands_back points n (size t) (term_points rule n t) (terms_points rule (n + size t) ts) (length-term_points rule n t) s) j a e
 
   mutual
-    whole_term : (rule n : ℕ) (t : Tree Head) → StandsFrom points n (term_points rule n t) → (i : ℕ) (d : PointData) → slice_get (term_points rule n t) i ≡ Some d → IsWhole rule d
+    whole_term : (rule n : ℕ) (t : Tree Head) → StandsFrom points n (term_points rule n t) → (i : ℕ) (d : PointData) → slice_get (term_points rule n t) i ≡ Some d → IsWholeHead rule d
     whole_term rule n (node h ts) s zero d e =
         let own : PointData = record { rule = rule; head = h; args = numbers (n + 1) ts } in
-        subst (λ (q : PointData). IsWhole rule q) (some_same own d e) (record { in_rule = refl; arguments = row_points rule (n + 1) ts (stands_tail points n own (terms_points rule (n + 1) ts) s) })
+        subst (λ (q : PointData). IsWholeHead rule q) (some_same own d e) (record { in_rule = refl; arguments = row_points rule (n + 1) ts (stands_tail points n own (terms_points rule (n + 1) ts) s) })
     whole_term rule n (node h ts) s (suc i) d e =
         let own : PointData = record { rule = rule; head = h; args = numbers (n + 1) ts } in
         whole_row rule (n + 1) ts (stands_tail points n own (terms_points rule (n + 1) ts) s) i d e
 
-    whole_row : (rule n : ℕ) (ts : Trees Head) → StandsFrom points n (terms_points rule n ts) → (i : ℕ) (d : PointData) → slice_get (terms_points rule n ts) i ≡ Some d → IsWhole rule d
+    whole_row : (rule n : ℕ) (ts : Trees Head) → StandsFrom points n (terms_points rule n ts) → (i : ℕ) (d : PointData) → slice_get (terms_points rule n ts) i ≡ Some d → IsWholeHead rule d
     whole_row rule n none s i d e = absurd (cc)
     whole_row rule n (more t ts) s i d e = elim (place-append (term_points rule n t) (terms_points rule (n + size t) ts) i d e) [
       | inl h ↦ whole_term rule n t (stands_front points n (term_points rule n t) (terms_points rule (n + size t) ts) s) i d h
       | inr b ↦ whole_row rule (n + size t) ts (stands_back points n (size t) (term_points rule n t) (terms_points rule (n + size t) ts) (length-term_points rule n t) s) b.place d b.at
     ]
 
-  whole_rules : (rule n : ℕ) (rest : List Rule) → StandsFrom points n (rules_points rule n rest) → (i : ℕ) (d : PointData) → slice_get (rules_points rule n rest) i ≡ Some d → (f : ℕ) × IsWhole f d
+  whole_rules : (rule n : ℕ) (rest : List Rule) → StandsFrom points n (rules_points rule n rest) → (i : ℕ) (d : PointData) → slice_get (rules_points rule n rest) i ≡ Some d → (f : ℕ) × IsWholeHead f d
   whole_rules rule n [] s i d e = absurd (cc)
   whole_rules rule n (r ∷ rest) s i d e = elim (place-append (term_points rule n r.body) (rules_points (rule + 1) (n + size r.body) rest) i d e) [
     | inl h ↦ (rule, whole_term rule n r.body (stands_front points n (term_points rule n r.body) (rules_points (rule + 1) (n + size r.body) rest) s) i d h)

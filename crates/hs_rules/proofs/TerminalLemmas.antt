@@ -11,7 +11,7 @@ use Rattle.hs_table_laws.proofs.Sets.{sets_same, one_set}
 use Rattle.hs_types.specs.Interned.{InternerData, IsSetOf, Grows}
 use Rattle.hs_rules.specs.Found.{HeadData}
 use Rattle.hs_rules.specs.Heads.{GainsHeads, AtRange, ChildAt, ChildIn, ReadIn, Lacks, InState}
-use Rattle.hs_rules.proofs.HeadLemmas.{heads_none, heads_then, heads_same}
+use Rattle.hs_rules.proofs.HeadLemmas.{heads_then, heads_same}
 
 pub set_none : (s : List TypeTree) → IsSetOf [] s → s ≡ []
 set_none [] h = refl
@@ -41,9 +41,6 @@ heads_up J K count Source from k old mid new g le f h =
       | inr (inl less) ↦ inl (record { place = a.place; least = a.least; most = less; source = a.source })
       | inr (inr more) ↦ absurd (omega (arith, a.most, more))
     ]) f h
-
-pub heads_flat : (ids : InternerData) (count : ℕ) (Source : ℕ → HeadBy → Env → TypeTree → Type 0) (from : ℕ) (heads : List HeadData) → GainsHeads ids count (AtRange Source from from) heads heads
-heads_flat ids count Source from heads = heads_none ids count (AtRange Source from from) heads (λ by own ty a sets rest long is. omega (arith, a.least, a.most))
 
 -- all children, where the numbers went past the last one
 pub heads_children : (ids : InternerData) (count : ℕ) (own : Env) (q : ℕ) (to : List ℕ) (from k : ℕ) (old new : List HeadData) → length to ≤ k

@@ -1,13 +1,13 @@
 -- What the types of a head lead to.
 --     SearchData, seek    where conclusions are sought
 --     HeadData            a type of the head in numbers, with where it comes from and what it asks for
---     IsKnown             its numbers are known, and it has a set for each argument
+--     HasKnownNumbers     its numbers are known, and it has a set for each argument
 --     HaveEnvs            entries at the arguments have environments for n parameters
 --     RowsAre             the rows of what is found but for the first few; each row is found once
 --     IsRowOf, HasRow     rows for joined environments
---     LeadsTo             the head's type leads to the environment, by these arguments
+--     HeadLeadsTo         the head's type leads to the environment, by these arguments
 --     IsConclusion        what is found comes of the head's type
---     IsFound             the environment is found, with the point and the type
+--     HasEnvFound         the environment is found, with the point and the type
 use Rattle.std.specs.Prelude.{◌≡◌, ◌≢◌, ℕ, ◌<◌, List, length, map, take, drop, Option, All, AllPairs, Contains}
 use Rattle.hs_table.specs.declared.support.HeadBy.{HeadBy}
 use Rattle.hs_table.specs.Entries.{Env, EntryData, IsEnv}
@@ -35,7 +35,7 @@ pub record HeadData : Type 0 where
   pub sets : List ℕ
   pub rest : ℕ
 
-pub record IsKnown (ids : InternerData) (args : List ℕ) (h : HeadData) : Type 0 where
+pub record HasKnownNumbers (ids : InternerData) (args : List ℕ) (h : HeadData) : Type 0 where
   pub own : h.own < length ids.envs
   pub sets : All (λ s. s < length ids.sets) h.sets
   pub rest : h.rest < length ids.types
@@ -61,8 +61,8 @@ pub record HasRow (point : ℕ) (h : HeadData) (x : PartialData) (found : List D
   pub there : Contains found item
   pub is : item.row ≡ record { point = point; env = x.env; ty = h.rest }
 
-abbrev pub LeadsTo : InternerData → List EntryData → SearchData → HeadData → List (ℕ × ℕ) → Env → Type 0
-LeadsTo ids log s h args env =
+abbrev pub HeadLeadsTo : InternerData → List EntryData → SearchData → HeadData → List (ℕ × ℕ) → Env → Type 0
+HeadLeadsTo ids log s h args env =
     Concludes (take s.limit log) (fixed_of log s.fixed) (length (env_of_id ids h.own)) s.args (env_of_id ids h.own) (map (set_of_id ids) h.sets) args env
 
 pub record IsConclusion (old new : InternerData) (log : List EntryData) (s : SearchData) (h : HeadData) (d : DeducedData) : Type 0 where
@@ -70,9 +70,9 @@ pub record IsConclusion (old new : InternerData) (log : List EntryData) (s : Sea
   pub ty : d.row.ty ≡ h.rest
   pub within : d.row.env < length new.envs
   pub by : d.support.head ≡ h.by
-  pub leads : LeadsTo old log s h d.support.args (env_of_id new d.row.env)
+  pub leads : HeadLeadsTo old log s h d.support.args (env_of_id new d.row.env)
 
-pub record IsFound (ids : InternerData) (s : SearchData) (h : HeadData) (env : Env) (found : List DeducedData) : Type 0 where
+pub record HasEnvFound (ids : InternerData) (s : SearchData) (h : HeadData) (env : Env) (found : List DeducedData) : Type 0 where
   pub item : DeducedData
   pub there : Contains found item
   pub point : item.row.point ≡ s.point

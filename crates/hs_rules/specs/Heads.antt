@@ -1,18 +1,18 @@
 -- The types of a head, in numbers.
---     head_type        the type that the numbers stand for
---     IsWhole          its numbers are known, and it has so many sets
---     HasType          a type with these sets is there
---     GainsHeads       types from these sources were added, and all of them
---     Just             the source is this one
---     BodyAt, ParamAt  the sources at a place of the log: an entry at a nonterminal's body, and one at a point that may stand for a parameter
---     AtSome, AtRange  a source at one of these places; at one in a range
---     ChildAt, ChildIn, ReadIn, Lacks, InState   the sources of a terminal: a child that is rejected, or no transition
---     Moves            a transition of a terminal with no more than so many children
---     AtFlow           a source at a point that may stand for a parameter
---     IsSplit          a type is that with these sets
---     IsHead, AreHeads        a type of the point's head; just those that are wanted
---     IsSpot, IsHeadWithin    what the searches for types rely on
---     Asks, ComesFrom, AsksNothing, AnyHead   what is wanted: a type in the set of an argument; that they come from a place; anything
+--     head_type                                 the type that the numbers stand for
+--     IsWholeHead                               its numbers are known, and it has so many sets
+--     HasType                                   a type with these sets is there
+--     GainsHeads                                types from these sources were added, and all of them
+--     Just                                      the source is this one
+--     BodyAt, ParamAt                           the sources at a place of the log: an entry at a nonterminal's body, and one at a point that may stand for a parameter
+--     AtSome, AtRange                           a source at one of these places; at one in a range
+--     ChildAt, ChildIn, ReadIn, Lacks, InState  the sources of a terminal: a child that is rejected, or no transition
+--     Moves                                     a transition of a terminal with no more than so many children
+--     AtFlow                                    a source at a point that may stand for a parameter
+--     IsSplit                                   a type is that with these sets
+--     IsHead, AreHeads                          a type of the point's head; just those that are wanted
+--     IsParameterSpot, IsHeadWithin             what the searches for types rely on
+--     Asks, ComesFrom, AsksNothing, AnyHead     what is wanted: a type in the set of an argument; that they come from a place; anything
 use Rattle.std.specs.Prelude.{◌≡◌, ℕ, ◌+◌, ◌<◌, ◌≤◌, List, [], ◌∷◌, length, map, replicate, set, slice_get, None, Some, All, Contains, ◌⊎◌}
 use Rattle.hs_scheme.specs.declared.term.Head.{Head}
 use Rattle.hs_scheme.specs.declared.term.Head.TheVariants.{Var, Nt, Tm}
@@ -29,12 +29,12 @@ use Rattle.hs_types.specs.Interned.{InternerData, type_of_id, set_of_id, env_of_
 use Rattle.hs_table.specs.Follows.{IsHeadType, head_premise}
 use Rattle.hs_replica.specs.Places.{Question, IsState, Answers}
 use Rattle.hs_rules.specs.Slots.{IsOwn}
-use Rattle.hs_rules.specs.Found.{HeadData, IsKnown}
+use Rattle.hs_rules.specs.Found.{HeadData, HasKnownNumbers}
 
 abbrev pub head_type : InternerData → HeadData → TypeTree
 head_type ids h = arrows (map (set_of_id ids) h.sets) (type_of_id ids h.rest)
 
-pub record IsWhole (ids : InternerData) (count : ℕ) (h : HeadData) : Type 0 where
+pub record IsWholeHead (ids : InternerData) (count : ℕ) (h : HeadData) : Type 0 where
   pub own : h.own < length ids.envs
   pub sets : All (λ s. s < length ids.sets) h.sets
   pub rest : h.rest < length ids.types
@@ -43,12 +43,12 @@ pub record IsWhole (ids : InternerData) (count : ℕ) (h : HeadData) : Type 0 wh
 pub record HasType (ids : InternerData) (count : ℕ) (sets : Env) (rest : TypeTree) (heads : List HeadData) : Type 0 where
   pub item : HeadData
   pub there : Contains heads item
-  pub whole : IsWhole ids count item
+  pub whole : IsWholeHead ids count item
   pub sets_are : map (set_of_id ids) item.sets ≡ sets
   pub rest_is : type_of_id ids item.rest ≡ rest
 
 pub record GainsHeads (ids : InternerData) (count : ℕ) (From : HeadBy → Env → TypeTree → Type 0) (old new : List HeadData) : Type 0 where
-  pub sound : (h : HeadData) → Contains new h → Contains old h ⊎ (IsWhole ids count h × From h.by (env_of_id ids h.own) (head_type ids h))
+  pub sound : (h : HeadData) → Contains new h → Contains old h ⊎ (IsWholeHead ids count h × From h.by (env_of_id ids h.own) (head_type ids h))
   pub keeps : (h : HeadData) → Contains old h → Contains new h
   pub all : (by : HeadBy) (own : Env) (ty : TypeTree) → From by own ty → (sets : Env) (rest : TypeTree) → length sets ≡ count → ty ≡ arrows sets rest → HasType ids count sets rest new
 
@@ -123,7 +123,7 @@ pub record IsSplit (ids : InternerData) (ty count : ℕ) (sets : List ℕ) (rest
   pub is : type_of_id ids ty ≡ arrows (map (set_of_id ids) sets) (type_of_id ids rest)
 
 pub record IsHead (p : ProblemData) (E : List EntryData) (of : PointData) (ids : InternerData) (h : HeadData) : Type 0 where
-  pub known : IsKnown ids of.args h
+  pub known : HasKnownNumbers ids of.args h
   pub type : IsHeadType p E of.rule of.head h.by (head_type ids h)
   pub own : IsOwn (params_of p of.rule) of.head (head_type ids h) (env_of_id ids h.own)
 
@@ -148,7 +148,7 @@ abbrev pub AnyHead : HeadBy → Env → Type 0
 AnyHead by sets = Unit {0}
 
 -- the rule has so many parameters, and the entries that count are in shape
-pub record IsSpot (p : ProblemData) (rule params : ℕ) (E : List EntryData) : Type 0 where
+pub record IsParameterSpot (p : ProblemData) (rule params : ℕ) (E : List EntryData) : Type 0 where
   pub params_are : params ≡ params_of p rule
   pub shapes : All (InShape p) E
 

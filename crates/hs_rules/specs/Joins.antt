@@ -45,8 +45,8 @@ pub record IsMadeOf (old new : InternerData) (log : List EntryData) (partials : 
   pub made : IsMade old new log from f x
 
 -- their numbers are known, and they are as long as the candidates' environments
-abbrev pub CanExtend : InternerData → List EntryData → List PartialData → FilledData → Type 0
-CanExtend ids log partials f = (x : PartialData) → Contains partials x → (x.env < length ids.envs) × ArePlaced log (length (env_of_id ids x.env)) f
+abbrev pub CanFill : InternerData → List EntryData → List PartialData → FilledData → Type 0
+CanFill ids log partials f = (x : PartialData) → Contains partials x → (x.env < length ids.envs) × ArePlaced log (length (env_of_id ids x.env)) f
 
 -- the environment that comes of the old one and the entry is there
 pub record IsCovered (old new : InternerData) (from : PartialData) (entry : EntryData) (found : List PartialData) : Type 0 where

@@ -1,8 +1,8 @@
 -- Conclusions as they are gathered.
---     ArePart      what is found so far: deduced, by supports that count, each row once
---     HasRowFor    the entry is found
---     IsPlaceOf    where a point is an argument of another
---     IsInRule     a point stands in the rule
+--     ArePart        what is found so far: deduced, by supports that count, each row once
+--     HasRowFor      the entry is found
+--     IsOnlyPlaceOf  where a point is an argument of another
+--     IsInRule       a point stands in the rule
 use Rattle.std.specs.Prelude.{◌≡◌, ℕ, List, Contains, map, slice_get, Some}
 use Rattle.hs_scheme.specs.Points.{PointData, PointsData, IsArgument}
 use Rattle.hs_scheme.specs.Problem.{ProblemData}
@@ -30,7 +30,7 @@ abbrev pub UsesArgument : ℕ → Support → Type 0
 UsesArgument place s = Contains (map (λ a. a.1) s.args) place
 
 -- it is an argument of the point there, and of no other and nowhere else
-pub record IsPlaceOf (points : PointsData) (point a place : ℕ) : Type 0 where
+pub record IsOnlyPlaceOf (points : PointsData) (point a place : ℕ) : Type 0 where
   pub there : IsArgument points point place a
   pub only : (q i : ℕ) → IsArgument points q i a → (q ≡ point) × (i ≡ place)
 

@@ -24,7 +24,8 @@ fn arguments(problem: &Problem, point: u32) -> &[u32]
     requires { point < length problem.now.points.points }
     ensures args { result.now ≡ (point_at problem.now.points point).args }
     ensures few { length result.now < 2 ^ 32 }
-    ensures in_rule { (j a : ℕ) → slice_get result.now j ≡ Some a → IsInRule problem.now.points a (point_at problem.now.points point).rule }
+    ensures in_rule { (j a : ℕ) → slice_get result.now j ≡ Some a
+        → IsInRule problem.now.points a (point_at problem.now.points point).rule }
 {
     let points = &problem.points;
     let _ = points.count();
@@ -148,7 +149,8 @@ pub fn conclusions_with(
     requires place { place < length replica.old.log }
     requires shape { All (InShape problem.now) replica.old.log }
     ensures found { IfOk result (λ found.
-        AreConclusions problem.now replica.new.ids (take (place + 1) replica.old.log) point (Uses place) found.items) }
+        AreConclusions problem.now replica.new.ids (take (place + 1) replica.old.log) point
+        (Uses place) found.items) }
     ensures log { replica.new.log ≡ replica.old.log }
     ensures spare { replica.new.spare ≡ replica.old.spare }
     ensures grows { Grows replica.old.ids replica.new.ids }

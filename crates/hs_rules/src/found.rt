@@ -7,7 +7,7 @@ ghost use Rattle.hs_replica.specs.Replica.{KeepsLog};
 ghost use Rattle.hs_rules.specs.Conclusions.{DeducedData};
 ghost use Rattle.hs_rules.specs.Filling.{CanSearch};
 ghost use Rattle.hs_rules.specs.Joins.{PartialData};
-ghost use Rattle.hs_rules.specs.Found.{HeadData, seek, IsKnown, HaveEnvs, RowsAre, IsRowOf, HasRow, LeadsTo, IsConclusion, IsFound};
+ghost use Rattle.hs_rules.specs.Found.{HeadData, seek, HasKnownNumbers, HaveEnvs, RowsAre, IsRowOf, HasRow, HeadLeadsTo, IsConclusion, HasEnvFound};
 
 use crate::deduced::Deduced;
 use crate::joining::{FEW, Partial, joined};
@@ -112,8 +112,10 @@ fn add(
 ) -> Result<(), OutOfMemory>
     requires { RowsAre found.old.rows.keys found.old.list.items }
     ensures rows { OnOk result (RowsAre found.new.rows.keys found.new.list.items) }
-    ensures keeps { OnOk result ((d : DeducedData) → Contains found.old.list.items d → Contains found.new.list.items d) }
-    ensures only { OnOk result ((d : DeducedData) → Contains found.new.list.items d → Contains found.old.list.items d
+    ensures keeps { OnOk result ((d : DeducedData) → Contains found.old.list.items d
+        → Contains found.new.list.items d) }
+    ensures only { OnOk result ((d : DeducedData) → Contains found.new.list.items d
+        → Contains found.old.list.items d
         ⊎ (d ≡ record { row = row; support = record { head = head; args = args.now } })) }
     ensures there { OnOk result ((d : DeducedData) × Contains found.new.list.items d × (d.row ≡ row)) }
 {
@@ -141,10 +143,13 @@ fn add_all(
 ) -> Result<(), OutOfMemory>
     requires { RowsAre found.old.rows.keys found.old.list.items }
     ensures rows { OnOk result (RowsAre found.new.rows.keys found.new.list.items) }
-    ensures keeps { OnOk result ((d : DeducedData) → Contains found.old.list.items d → Contains found.new.list.items d) }
-    ensures only { OnOk result ((d : DeducedData) → Contains found.new.list.items d → Contains found.old.list.items d
+    ensures keeps { OnOk result ((d : DeducedData) → Contains found.old.list.items d
+        → Contains found.new.list.items d) }
+    ensures only { OnOk result ((d : DeducedData) → Contains found.new.list.items d
+        → Contains found.old.list.items d
         ⊎ IsRowOf point head.now partials.now d) }
-    ensures all { OnOk result ((x : PartialData) → Contains partials.now x → HasRow point head.now x found.new.list.items) }
+    ensures all { OnOk result ((x : PartialData) → Contains partials.now x
+        → HasRow point head.now x found.new.list.items) }
 {
     let by = head.by;
     let ty = head.rest;
@@ -168,15 +173,19 @@ fn conclude(
     found: &mut Found,
 ) -> Result<(), OutOfMemory>
     requires search { CanSearch replica.old search.now.args.now search.now.limit search.now.fixed }
-    requires head { IsKnown replica.old.ids search.now.args.now head.now }
-    requires envs { HaveEnvs (take search.now.limit replica.old.log) search.now.args.now (length (env_of_id replica.old.ids head.now.own)) }
+    requires head { HasKnownNumbers replica.old.ids search.now.args.now head.now }
+    requires envs { HaveEnvs (take search.now.limit replica.old.log) search.now.args.now
+        (length (env_of_id replica.old.ids head.now.own)) }
     requires rows { RowsAre found.old.rows.keys found.old.list.items }
     ensures rows { OnOk result (RowsAre found.new.rows.keys found.new.list.items) }
-    ensures keeps { OnOk result ((d : DeducedData) → Contains found.old.list.items d → Contains found.new.list.items d) }
-    ensures only { OnOk result ((d : DeducedData) → Contains found.new.list.items d → Contains found.old.list.items d
+    ensures keeps { OnOk result ((d : DeducedData) → Contains found.old.list.items d
+        → Contains found.new.list.items d) }
+    ensures only { OnOk result ((d : DeducedData) → Contains found.new.list.items d
+        → Contains found.old.list.items d
         ⊎ IsConclusion replica.old.ids replica.new.ids replica.old.log (seek search.now) head.now d) }
-    ensures all { OnOk result ((args : List (ℕ × ℕ)) (env : Env) → LeadsTo replica.old.ids replica.old.log (seek search.now) head.now args env →
-        IsFound replica.new.ids (seek search.now) head.now env found.new.list.items) }
+    ensures all { OnOk result ((args : List (ℕ × ℕ)) (env : Env)
+        → HeadLeadsTo replica.old.ids replica.old.log (seek search.now) head.now args env →
+        HasEnvFound replica.new.ids (seek search.now) head.now env found.new.list.items) }
     ensures kept { KeepsLog replica.old replica.new }
 {
     if !is_open(replica, search, head.sets.as_slice()) {
@@ -196,17 +205,22 @@ pub(crate) fn conclude_all(
     found: &mut Found,
 ) -> Result<(), OutOfMemory>
     requires search { CanSearch replica.old search.now.args.now search.now.limit search.now.fixed }
-    requires heads { (h : HeadData) → Contains heads.now h → IsKnown replica.old.ids search.now.args.now h }
+    requires heads { (h : HeadData) → Contains heads.now h
+        → HasKnownNumbers replica.old.ids search.now.args.now h }
     requires envs { (h : HeadData) → Contains heads.now h →
-        HaveEnvs (take search.now.limit replica.old.log) search.now.args.now (length (env_of_id replica.old.ids h.own)) }
+        HaveEnvs (take search.now.limit replica.old.log) search.now.args.now
+        (length (env_of_id replica.old.ids h.own)) }
     requires rows { RowsAre found.old.rows.keys found.old.list.items }
     ensures rows { OnOk result (RowsAre found.new.rows.keys found.new.list.items) }
-    ensures keeps { OnOk result ((d : DeducedData) → Contains found.old.list.items d → Contains found.new.list.items d) }
-    ensures only { OnOk result ((d : DeducedData) → Contains found.new.list.items d → Contains found.old.list.items d
-        ⊎ ((h : HeadData) × Contains heads.now h × IsConclusion replica.old.ids replica.new.ids replica.old.log (seek search.now) h d)) }
+    ensures keeps { OnOk result ((d : DeducedData) → Contains found.old.list.items d
+        → Contains found.new.list.items d) }
+    ensures only { OnOk result ((d : DeducedData) → Contains found.new.list.items d
+        → Contains found.old.list.items d
+        ⊎ ((h : HeadData) × Contains heads.now h
+        × IsConclusion replica.old.ids replica.new.ids replica.old.log (seek search.now) h d)) }
     ensures all { OnOk result ((h : HeadData) → Contains heads.now h → (args : List (ℕ × ℕ)) (env : Env) →
-        LeadsTo replica.old.ids replica.old.log (seek search.now) h args env →
-        IsFound replica.new.ids (seek search.now) h env found.new.list.items) }
+        HeadLeadsTo replica.old.ids replica.old.log (seek search.now) h args env →
+        HasEnvFound replica.new.ids (seek search.now) h env found.new.list.items) }
     ensures kept { KeepsLog replica.old replica.new }
 {
     for head in heads {

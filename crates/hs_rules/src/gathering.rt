@@ -8,8 +8,8 @@ ghost use Rattle.hs_replica.specs.Replica.{KeepsLog};
 ghost use Rattle.hs_rules.specs.Conclusions.{DeducedData, AnySupport, Uses};
 ghost use Rattle.hs_rules.specs.Filling.{CanSearch};
 ghost use Rattle.hs_rules.specs.Found.{HaveEnvs};
-ghost use Rattle.hs_rules.specs.Heads.{IsSpot, IsHeadWithin};
-ghost use Rattle.hs_rules.specs.Parts.{ArePart, HasAll, UsesArgument, IsPlaceOf};
+ghost use Rattle.hs_rules.specs.Heads.{IsParameterSpot, IsHeadWithin};
+ghost use Rattle.hs_rules.specs.Parts.{ArePart, HasAll, UsesArgument, IsOnlyPlaceOf};
 
 use crate::found::{Found, conclude_all};
 use crate::search::{Fixed, Search};
@@ -22,7 +22,8 @@ use std::alloc::Global;
 /// The place at which one point is an argument of another, where it is one.
 fn place_of(points: &Points, point: u32, argument: u32) -> Option<u32>
     requires { argument < length points.now.points }
-    ensures { MatchOption result ((i : ℕ) → IsArgument points.now point i argument → ⊥) (λ place. IsPlaceOf points.now point argument place) }
+    ensures { MatchOption result ((i : ℕ) → IsArgument points.now point i argument
+        → ⊥) (λ place. IsOnlyPlaceOf points.now point argument place) }
 {
     let whose = points.argument_of(argument)?;
     if whose.point != point {
@@ -42,15 +43,23 @@ pub(crate) fn add_by_argument(
     found: &mut Found,
 ) -> Result<(), OutOfMemory>
     requires search { CanSearch replica.old search.now.args.now search.now.limit None }
-    requires spot { IsSpot spot.now.problem.now spot.now.rule spot.now.params (take search.now.limit replica.old.log) }
+    requires spot { IsParameterSpot spot.now.problem.now spot.now.rule spot.now.params
+        (take search.now.limit replica.old.log) }
     requires head { IsHeadWithin spot.now.problem.now spot.now.params head }
-    requires at { slice_get spot.now.problem.now.points.points search.now.point ≡ Some (record { rule = spot.now.rule; head = head; args = search.now.args.now }) }
+    requires at { slice_get spot.now.problem.now.points.points search.now.point ≡ Some
+        (record { rule = spot.now.rule; head = head; args = search.now.args.now }) }
     requires envs { HaveEnvs (take search.now.limit replica.old.log) search.now.args.now spot.now.params }
     requires place { place < search.now.limit }
-    requires part { ArePart spot.now.problem.now replica.old.ids (take search.now.limit replica.old.log) search.now.point (Uses place) found.old.rows.keys found.old.list.items }
-    ensures part { OnOk result (ArePart spot.now.problem.now replica.new.ids (take search.now.limit replica.old.log) search.now.point (Uses place) found.new.rows.keys found.new.list.items) }
-    ensures keeps { OnOk result ((d : DeducedData) → Contains found.old.list.items d → Contains found.new.list.items d) }
-    ensures all { OnOk result (HasAll spot.now.problem.now replica.new.ids (take search.now.limit replica.old.log) search.now.point (UsesArgument place) found.new.list.items) }
+    requires part { ArePart spot.now.problem.now replica.old.ids
+        (take search.now.limit replica.old.log) search.now.point
+        (Uses place) found.old.rows.keys found.old.list.items }
+    ensures part { OnOk result (ArePart spot.now.problem.now replica.new.ids
+        (take search.now.limit replica.old.log) search.now.point
+        (Uses place) found.new.rows.keys found.new.list.items) }
+    ensures keeps { OnOk result ((d : DeducedData) → Contains found.old.list.items d
+        → Contains found.new.list.items d) }
+    ensures all { OnOk result (HasAll spot.now.problem.now replica.new.ids
+        (take search.now.limit replica.old.log) search.now.point (UsesArgument place) found.new.list.items) }
     ensures kept { KeepsLog replica.old replica.new }
 {
     let problem = spot.problem;
@@ -81,15 +90,24 @@ pub(crate) fn add_by_head(
 ) -> Result<(), OutOfMemory>
     requires search { CanSearch replica.old search.now.args.now search.now.limit search.now.fixed }
     requires free { search.now.fixed ≡ None }
-    requires spot { IsSpot spot.now.problem.now spot.now.rule spot.now.params (take search.now.limit replica.old.log) }
+    requires spot { IsParameterSpot spot.now.problem.now spot.now.rule spot.now.params
+        (take search.now.limit replica.old.log) }
     requires head { IsHeadWithin spot.now.problem.now spot.now.params head }
-    requires at { slice_get spot.now.problem.now.points.points search.now.point ≡ Some (record { rule = spot.now.rule; head = head; args = search.now.args.now }) }
+    requires at { slice_get spot.now.problem.now.points.points search.now.point ≡ Some
+        (record { rule = spot.now.rule; head = head; args = search.now.args.now }) }
     requires envs { HaveEnvs (take search.now.limit replica.old.log) search.now.args.now spot.now.params }
     requires place { place < search.now.limit }
-    requires part { ArePart spot.now.problem.now replica.old.ids (take search.now.limit replica.old.log) search.now.point (Uses place) found.old.rows.keys found.old.list.items }
-    ensures part { OnOk result (ArePart spot.now.problem.now replica.new.ids (take search.now.limit replica.old.log) search.now.point (Uses place) found.new.rows.keys found.new.list.items) }
-    ensures keeps { OnOk result ((d : DeducedData) → Contains found.old.list.items d → Contains found.new.list.items d) }
-    ensures all { OnOk result (HasAll spot.now.problem.now replica.new.ids (take search.now.limit replica.old.log) search.now.point (λ s. head_premise s.head ≡ place ∷ []) found.new.list.items) }
+    requires part { ArePart spot.now.problem.now replica.old.ids
+        (take search.now.limit replica.old.log) search.now.point
+        (Uses place) found.old.rows.keys found.old.list.items }
+    ensures part { OnOk result (ArePart spot.now.problem.now replica.new.ids
+        (take search.now.limit replica.old.log) search.now.point
+        (Uses place) found.new.rows.keys found.new.list.items) }
+    ensures keeps { OnOk result ((d : DeducedData) → Contains found.old.list.items d
+        → Contains found.new.list.items d) }
+    ensures all { OnOk result (HasAll spot.now.problem.now replica.new.ids
+        (take search.now.limit replica.old.log) search.now.point
+        (λ s. head_premise s.head ≡ place ∷ []) found.new.list.items) }
     ensures kept { KeepsLog replica.old replica.new }
 {
     let heads = heads_at(alloc, spot, replica, search, head, place)?;
@@ -107,13 +125,20 @@ pub(crate) fn add_all(
 ) -> Result<(), OutOfMemory>
     requires search { CanSearch replica.old search.now.args.now search.now.limit search.now.fixed }
     requires free { search.now.fixed ≡ None }
-    requires spot { IsSpot spot.now.problem.now spot.now.rule spot.now.params (take search.now.limit replica.old.log) }
+    requires spot { IsParameterSpot spot.now.problem.now spot.now.rule spot.now.params
+        (take search.now.limit replica.old.log) }
     requires head { IsHeadWithin spot.now.problem.now spot.now.params head }
-    requires at { slice_get spot.now.problem.now.points.points search.now.point ≡ Some (record { rule = spot.now.rule; head = head; args = search.now.args.now }) }
+    requires at { slice_get spot.now.problem.now.points.points search.now.point ≡ Some
+        (record { rule = spot.now.rule; head = head; args = search.now.args.now }) }
     requires envs { HaveEnvs (take search.now.limit replica.old.log) search.now.args.now spot.now.params }
-    requires part { ArePart spot.now.problem.now replica.old.ids (take search.now.limit replica.old.log) search.now.point AnySupport found.old.rows.keys found.old.list.items }
-    ensures part { OnOk result (ArePart spot.now.problem.now replica.new.ids (take search.now.limit replica.old.log) search.now.point AnySupport found.new.rows.keys found.new.list.items) }
-    ensures all { OnOk result (HasAll spot.now.problem.now replica.new.ids (take search.now.limit replica.old.log) search.now.point AnySupport found.new.list.items) }
+    requires part { ArePart spot.now.problem.now replica.old.ids
+        (take search.now.limit replica.old.log) search.now.point AnySupport found.old.rows.keys
+        found.old.list.items }
+    ensures part { OnOk result (ArePart spot.now.problem.now replica.new.ids
+        (take search.now.limit replica.old.log) search.now.point AnySupport found.new.rows.keys
+        found.new.list.items) }
+    ensures all { OnOk result (HasAll spot.now.problem.now replica.new.ids
+        (take search.now.limit replica.old.log) search.now.point AnySupport found.new.list.items) }
     ensures kept { KeepsLog replica.old replica.new }
 {
     let heads = heads_all(alloc, spot, replica, search, head)?;
@@ -133,10 +158,14 @@ pub(crate) fn add_seeds(
     requires indexed { replica.old.indexed ≡ length replica.old.log }
     requires few { length args.now < 2 ^ 32 }
     requires params { spot.now.params ≡ params_of spot.now.problem.now spot.now.rule }
-    requires at { slice_get spot.now.problem.now.points.points point ≡ Some (record { rule = spot.now.rule; head = head; args = args.now }) }
-    requires part { ArePart spot.now.problem.now replica.old.ids [] point AnySupport found.old.rows.keys found.old.list.items }
-    ensures part { OnOk result (ArePart spot.now.problem.now replica.new.ids [] point AnySupport found.new.rows.keys found.new.list.items) }
-    ensures all { OnOk result (HasAll spot.now.problem.now replica.new.ids [] point AnySupport found.new.list.items) }
+    requires at { slice_get spot.now.problem.now.points.points point ≡ Some
+        (record { rule = spot.now.rule; head = head; args = args.now }) }
+    requires part { ArePart spot.now.problem.now replica.old.ids [] point AnySupport found.old.rows.keys
+        found.old.list.items }
+    ensures part { OnOk result (ArePart spot.now.problem.now replica.new.ids [] point AnySupport
+        found.new.rows.keys found.new.list.items) }
+    ensures all { OnOk result (HasAll spot.now.problem.now replica.new.ids [] point AnySupport
+        found.new.list.items) }
     ensures kept { KeepsLog replica.old replica.new }
 {
     let search = Search {

@@ -27,7 +27,8 @@ fn split(
 ) -> Result<Option<(Sets, TyId)>, OutOfMemory>
     requires { ty < length interner.now.types }
     ensures { IfOk result (λ r. MatchOption r
-        ((sets : Env) (rest : TypeTree) → length sets ≡ count → type_of_id interner.now ty ≡ types.arrows sets rest → ⊥)
+        ((sets : Env) (rest : TypeTree) → length sets ≡ count
+        → type_of_id interner.now ty ≡ types.arrows sets rest → ⊥)
         (λ s. IsSplit interner.now ty count s.0.items s.1)) }
 {
     let mut sets = SmallVec::new(alloc);
@@ -56,7 +57,8 @@ fn rest_of(
     requires from { from ≤ length full.now }
     ensures range { IfOk result (λ id. id < length replica.new.ids.types) }
     ensures is { IfOk result (λ id. type_of_id replica.new.ids id
-        ≡ types.arrows (drop from (map (set_of_id replica.old.ids) full.now)) (type_of_id replica.old.ids ty)) }
+        ≡ types.arrows (drop from (map (set_of_id replica.old.ids) full.now))
+        (type_of_id replica.old.ids ty)) }
     ensures kept { KeepsLog replica.old replica.new }
 {
     let mut rest = ty;
@@ -84,7 +86,8 @@ pub(crate) fn push_given(
     requires ty { ty < length replica.old.ids.types }
     requires state { IsState (type_of_id replica.old.ids ty) }
     ensures gains { OnOk result (GainsHeads replica.new.ids count
-        (Just by (env_of_id replica.old.ids own) (types.arrows (map (set_of_id replica.old.ids) full.now) (type_of_id replica.old.ids ty)))
+        (Just by (env_of_id replica.old.ids own)
+        (types.arrows (map (set_of_id replica.old.ids) full.now) (type_of_id replica.old.ids ty)))
         out.old.items out.new.items) }
     ensures kept { KeepsLog replica.old replica.new }
 {
@@ -146,7 +149,8 @@ pub(crate) fn push_bodies(
     requires places { All (λ place. place < length replica.old.log) places.now }
     requires own { own < length replica.old.ids.envs }
     ensures gains { OnOk result (GainsHeads replica.new.ids count
-        (AtSome (BodyAt replica.old.log (env_of_id replica.old.ids own)) places.now) out.old.items out.new.items) }
+        (AtSome (BodyAt replica.old.log
+        (env_of_id replica.old.ids own)) places.now) out.old.items out.new.items) }
     ensures kept { KeepsLog replica.old replica.new }
 {
     for place in places {

@@ -6,7 +6,7 @@ ghost use Rattle.hs_types.specs.Interned.{env_of_id};
 ghost use Rattle.hs_replica.specs.Replica.{KeepsLog};
 ghost use Rattle.hs_rules.specs.Slots.{FilledData};
 ghost use Rattle.std.specs.Bool.{OnTrue};
-ghost use Rattle.hs_rules.specs.Joins.{PartialData, FillsBy, ArePlaced, SeenAre, IsMade, IsMadeOf, IsCovered, CanExtend, AreJoined};
+ghost use Rattle.hs_rules.specs.Joins.{PartialData, FillsBy, ArePlaced, SeenAre, IsMade, IsMadeOf, IsCovered, CanFill, AreJoined};
 
 use crate::search::Filled;
 use hs_replica::Replica;
@@ -103,7 +103,8 @@ fn add(
 ) -> Result<(), OutOfMemory>
     requires { SeenAre out.old.seen.keys out.old.list.items }
     ensures seen { OnOk result (SeenAre out.new.seen.keys out.new.list.items) }
-    ensures keeps { OnOk result ((x : PartialData) → Contains out.old.list.items x → Contains out.new.list.items x) }
+    ensures keeps { OnOk result ((x : PartialData) → Contains out.old.list.items x
+        → Contains out.new.list.items x) }
     ensures only { OnOk result ((x : PartialData) → Contains out.new.list.items x →
         Contains out.old.list.items x ⊎ (x ≡ record { env = env; args = from.now ++ (arg, place) ∷ [] })) }
     ensures there { OnOk result ((x : PartialData) × Contains out.new.list.items x × (x.env ≡ env)) }
@@ -127,12 +128,15 @@ fn extend(
     out: &mut Partials,
 ) -> Result<(), OutOfMemory>
     requires env { partial.now.env < length replica.old.ids.envs }
-    requires placed { ArePlaced replica.old.log (length (env_of_id replica.old.ids partial.now.env)) slot.now }
+    requires placed { ArePlaced replica.old.log
+        (length (env_of_id replica.old.ids partial.now.env)) slot.now }
     requires seen { SeenAre out.old.seen.keys out.old.list.items }
     ensures seen { OnOk result (SeenAre out.new.seen.keys out.new.list.items) }
-    ensures keeps { OnOk result ((x : PartialData) → Contains out.old.list.items x → Contains out.new.list.items x) }
+    ensures keeps { OnOk result ((x : PartialData) → Contains out.old.list.items x
+        → Contains out.new.list.items x) }
     ensures only { OnOk result ((x : PartialData) → Contains out.new.list.items x →
-        Contains out.old.list.items x ⊎ IsMade replica.old.ids replica.new.ids replica.old.log partial.now slot.now x) }
+        Contains out.old.list.items x ⊎ IsMade replica.old.ids replica.new.ids replica.old.log partial.now
+        slot.now x) }
     ensures all { OnOk result ((place : ℕ) (e : EntryData) → FillsBy replica.old.log slot.now place e →
         IsCovered replica.old.ids replica.new.ids partial.now e out.new.list.items) }
     ensures kept { KeepsLog replica.old replica.new }
@@ -155,7 +159,7 @@ fn extended(
     partials: &[Partial],
     slot: &Filled,
 ) -> Result<PartialList, OutOfMemory>
-    requires { CanExtend replica.old.ids replica.old.log partials.now slot.now }
+    requires { CanFill replica.old.ids replica.old.log partials.now slot.now }
     ensures only { IfOk result (λ out. (x : PartialData) → Contains out.items x →
         IsMadeOf replica.old.ids replica.new.ids replica.old.log partials.now slot.now x) }
     ensures all { IfOk result (λ out. (from : PartialData) → Contains partials.now from →
@@ -186,7 +190,8 @@ pub(crate) fn joined(
 ) -> Result<PartialList, OutOfMemory>
     requires own { own < length replica.old.ids.envs }
     requires is_env { IsEnv (length (env_of_id replica.old.ids own)) (env_of_id replica.old.ids own) }
-    requires placed { (f : FilledData) → Contains slots.now f → ArePlaced replica.old.log (length (env_of_id replica.old.ids own)) f }
+    requires placed { (f : FilledData) → Contains slots.now f
+        → ArePlaced replica.old.log (length (env_of_id replica.old.ids own)) f }
     ensures joined { IfOk result (λ out. AreJoined replica.new.ids replica.old.log
         (length (env_of_id replica.old.ids own)) (env_of_id replica.old.ids own) slots.now out.items) }
     ensures kept { KeepsLog replica.old replica.new }

@@ -5,7 +5,7 @@ ghost use Rattle.hs_scheme.specs.declared.term.Head.TheVariants.{Nt};
 ghost use Rattle.hs_types.specs.Interned.{type_of_id};
 ghost use Rattle.hs_replica.specs.Replica.{KeepsLog};
 ghost use Rattle.hs_rules.specs.Filling.{CanSearch};
-ghost use Rattle.hs_rules.specs.Heads.{AreHeads, Asks, ComesFrom, AnyHead, IsSpot};
+ghost use Rattle.hs_rules.specs.Heads.{AreHeads, Asks, ComesFrom, AnyHead, IsParameterSpot};
 
 use crate::found::HeadTypes;
 use crate::heads::push_bodies;
@@ -28,11 +28,13 @@ pub(crate) fn nonterminal_asking(
     ty: TyId,
 ) -> Result<HeadTypes, OutOfMemory>
     requires search { CanSearch replica.old search.now.args.now search.now.limit search.now.fixed }
-    requires spot { IsSpot spot.now.problem.now spot.now.rule spot.now.params (take search.now.limit replica.old.log) }
+    requires spot { IsParameterSpot spot.now.problem.now spot.now.rule spot.now.params
+        (take search.now.limit replica.old.log) }
     requires head { nonterminal < length spot.now.problem.now.points.bodies }
     requires arg { arg < length search.now.args.now }
     requires ty { ty < length replica.old.ids.types }
-    ensures heads { IfOk result (λ heads. AreHeads spot.now.problem.now (take search.now.limit replica.old.log)
+    ensures heads { IfOk result (λ heads. AreHeads spot.now.problem.now
+        (take search.now.limit replica.old.log)
         (record { rule = spot.now.rule; head = Nt nonterminal; args = search.now.args.now })
         replica.new.ids (Asks arg (type_of_id replica.old.ids ty)) heads.items) }
     ensures kept { KeepsLog replica.old replica.new }
@@ -63,10 +65,12 @@ pub(crate) fn nonterminal_at(
     place: u32,
 ) -> Result<HeadTypes, OutOfMemory>
     requires search { CanSearch replica.old search.now.args.now search.now.limit search.now.fixed }
-    requires spot { IsSpot spot.now.problem.now spot.now.rule spot.now.params (take search.now.limit replica.old.log) }
+    requires spot { IsParameterSpot spot.now.problem.now spot.now.rule spot.now.params
+        (take search.now.limit replica.old.log) }
     requires head { nonterminal < length spot.now.problem.now.points.bodies }
     requires place { place < search.now.limit }
-    ensures heads { IfOk result (λ heads. AreHeads spot.now.problem.now (take search.now.limit replica.old.log)
+    ensures heads { IfOk result (λ heads. AreHeads spot.now.problem.now
+        (take search.now.limit replica.old.log)
         (record { rule = spot.now.rule; head = Nt nonterminal; args = search.now.args.now })
         replica.new.ids (ComesFrom place) heads.items) }
     ensures kept { KeepsLog replica.old replica.new }
@@ -91,9 +95,11 @@ pub(crate) fn nonterminal_all(
     nonterminal: u32,
 ) -> Result<HeadTypes, OutOfMemory>
     requires search { CanSearch replica.old search.now.args.now search.now.limit search.now.fixed }
-    requires spot { IsSpot spot.now.problem.now spot.now.rule spot.now.params (take search.now.limit replica.old.log) }
+    requires spot { IsParameterSpot spot.now.problem.now spot.now.rule spot.now.params
+        (take search.now.limit replica.old.log) }
     requires head { nonterminal < length spot.now.problem.now.points.bodies }
-    ensures heads { IfOk result (λ heads. AreHeads spot.now.problem.now (take search.now.limit replica.old.log)
+    ensures heads { IfOk result (λ heads. AreHeads spot.now.problem.now
+        (take search.now.limit replica.old.log)
         (record { rule = spot.now.rule; head = Nt nonterminal; args = search.now.args.now })
         replica.new.ids AnyHead heads.items) }
     ensures kept { KeepsLog replica.old replica.new }

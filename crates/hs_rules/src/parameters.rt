@@ -6,7 +6,7 @@ ghost use Rattle.hs_types.specs.Interned.{type_of_id};
 ghost use Rattle.hs_replica.specs.Places.{here, takes};
 ghost use Rattle.hs_replica.specs.Replica.{KeepsLog};
 ghost use Rattle.hs_rules.specs.Filling.{CanSearch};
-ghost use Rattle.hs_rules.specs.Heads.{GainsHeads, AtFlow, AreHeads, Asks, ComesFrom, AnyHead, IsSpot};
+ghost use Rattle.hs_rules.specs.Heads.{GainsHeads, AtFlow, AreHeads, Asks, ComesFrom, AnyHead, IsParameterSpot};
 
 use crate::found::HeadTypes;
 use crate::heads::push_params;
@@ -35,7 +35,8 @@ fn push_taking(
     requires x { x < params }
     requires ty { ty < length replica.old.ids.types }
     ensures gains { OnOk result (GainsHeads replica.new.ids (length search.now.args.now)
-        (AtFlow replica.old.log params x search.now.limit (λ u. takes u arg (type_of_id replica.old.ids ty)) pairs.now) out.old.items out.new.items) }
+        (AtFlow replica.old.log params x search.now.limit
+        (λ u. takes u arg (type_of_id replica.old.ids ty)) pairs.now) out.old.items out.new.items) }
     ensures kept { KeepsLog replica.old replica.new }
 {
     for pair in pairs {
@@ -95,11 +96,13 @@ pub(crate) fn parameter_asking(
     ty: TyId,
 ) -> Result<HeadTypes, OutOfMemory>
     requires search { CanSearch replica.old search.now.args.now search.now.limit search.now.fixed }
-    requires spot { IsSpot spot.now.problem.now spot.now.rule spot.now.params (take search.now.limit replica.old.log) }
+    requires spot { IsParameterSpot spot.now.problem.now spot.now.rule spot.now.params
+        (take search.now.limit replica.old.log) }
     requires head { x < spot.now.params }
     requires arg { arg < length search.now.args.now }
     requires ty { ty < length replica.old.ids.types }
-    ensures heads { IfOk result (λ heads. AreHeads spot.now.problem.now (take search.now.limit replica.old.log)
+    ensures heads { IfOk result (λ heads. AreHeads spot.now.problem.now
+        (take search.now.limit replica.old.log)
         (record { rule = spot.now.rule; head = Var x; args = search.now.args.now })
         replica.new.ids (Asks arg (type_of_id replica.old.ids ty)) heads.items) }
     ensures kept { KeepsLog replica.old replica.new }
@@ -131,10 +134,12 @@ pub(crate) fn parameter_at(
     place: u32,
 ) -> Result<HeadTypes, OutOfMemory>
     requires search { CanSearch replica.old search.now.args.now search.now.limit search.now.fixed }
-    requires spot { IsSpot spot.now.problem.now spot.now.rule spot.now.params (take search.now.limit replica.old.log) }
+    requires spot { IsParameterSpot spot.now.problem.now spot.now.rule spot.now.params
+        (take search.now.limit replica.old.log) }
     requires head { x < spot.now.params }
     requires place { place < search.now.limit }
-    ensures heads { IfOk result (λ heads. AreHeads spot.now.problem.now (take search.now.limit replica.old.log)
+    ensures heads { IfOk result (λ heads. AreHeads spot.now.problem.now
+        (take search.now.limit replica.old.log)
         (record { rule = spot.now.rule; head = Var x; args = search.now.args.now })
         replica.new.ids (ComesFrom place) heads.items) }
     ensures kept { KeepsLog replica.old replica.new }
@@ -166,9 +171,11 @@ pub(crate) fn parameter_all(
     x: u32,
 ) -> Result<HeadTypes, OutOfMemory>
     requires search { CanSearch replica.old search.now.args.now search.now.limit search.now.fixed }
-    requires spot { IsSpot spot.now.problem.now spot.now.rule spot.now.params (take search.now.limit replica.old.log) }
+    requires spot { IsParameterSpot spot.now.problem.now spot.now.rule spot.now.params
+        (take search.now.limit replica.old.log) }
     requires head { x < spot.now.params }
-    ensures heads { IfOk result (λ heads. AreHeads spot.now.problem.now (take search.now.limit replica.old.log)
+    ensures heads { IfOk result (λ heads. AreHeads spot.now.problem.now
+        (take search.now.limit replica.old.log)
         (record { rule = spot.now.rule; head = Var x; args = search.now.args.now })
         replica.new.ids AnyHead heads.items) }
     ensures kept { KeepsLog replica.old replica.new }

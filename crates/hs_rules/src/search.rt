@@ -65,7 +65,8 @@ pub(crate) type Slots = SmallVec<Filled, 2>;
 /// The places below the limit.
 pub(crate) fn below(alloc: Global, places: &[u32], limit: u32) -> Result<Places, OutOfMemory>
     requires { IsStrictlyIncreasing places.now }
-    ensures { IfOk result (λ out. (place : ℕ) → Contains out.items place ↔ (Contains places.now place × (place < limit))) }
+    ensures { IfOk result (λ out. (place : ℕ) → Contains out.items place
+        ↔ (Contains places.now place × (place < limit))) }
 {
     let mut out = SmallVec::new(alloc);
     for place in places {
@@ -117,7 +118,8 @@ fn fill_set(
     requires search { CanSearch replica.now search.now.args.now search.now.limit search.now.fixed }
     requires set { set < length replica.now.ids.sets }
     requires point { slice_get search.now.args.now arg ≡ Some point }
-    ensures { OnOk result (GainsFilled (take search.now.limit replica.now.log) (fixed_of replica.now.log search.now.fixed)
+    ensures { OnOk result (GainsFilled (take search.now.limit replica.now.log)
+        (fixed_of replica.now.log search.now.fixed)
         (slots_of arg point (set_of_id replica.now.ids set)) out.old.items out.new.items) }
 {
     for ty in replica.interner().members(set) {
@@ -132,7 +134,8 @@ fn fill_set(
 fn has_candidate(replica: &Replica, limit: u32, point: u32, ty: TyId) -> bool
     requires indexed { replica.now.indexed ≡ length replica.now.log }
     requires ty { ty < length replica.now.ids.types }
-    ensures { OnFalse result ((place : ℕ) (e : EntryData) → slice_get (take limit replica.now.log) place ≡ Some e →
+    ensures { OnFalse result ((place : ℕ) (e : EntryData)
+        → slice_get (take limit replica.now.log) place ≡ Some e →
         e.point ≡ point → e.ty ≡ type_of_id replica.now.ids ty → ⊥) }
 {
     let places = replica.with_type(point, ty);
@@ -149,7 +152,8 @@ fn has_candidate(replica: &Replica, limit: u32, point: u32, ty: TyId) -> bool
 fn is_set_open(replica: &Replica, limit: u32, point: u32, set: SetId) -> bool
     requires indexed { replica.now.indexed ≡ length replica.now.log }
     requires set { set < length replica.now.ids.sets }
-    ensures { OnFalse result (LacksCandidate (take limit replica.now.log) point (set_of_id replica.now.ids set)) }
+    ensures { OnFalse result (LacksCandidate (take limit replica.now.log) point
+        (set_of_id replica.now.ids set)) }
 {
     for ty in replica.interner().members(set) {
         if !has_candidate(replica, limit, point, *ty) {
@@ -166,7 +170,8 @@ pub(crate) fn is_open(replica: &Replica, search: &Search, sets: &[SetId]) -> boo
     requires sets { All (λ s. s < length replica.now.ids.sets) sets.now }
     requires long { length sets.now ≡ length search.now.args.now }
     ensures { OnFalse result ((args : List (ℕ × ℕ)) (es : List EntryData) →
-        Picked (λ s. s.arg) (IsCandidate (take search.now.limit replica.now.log) (fixed_of replica.now.log search.now.fixed))
+        Picked (λ s. s.arg) (IsCandidate (take search.now.limit replica.now.log)
+        (fixed_of replica.now.log search.now.fixed))
         (slots 0 search.now.args.now (map (set_of_id replica.now.ids) sets.now)) args es → ⊥) }
 {
     let args = search.args;
@@ -188,7 +193,8 @@ pub(crate) fn fill(
     requires search { CanSearch replica.now search.now.args.now search.now.limit search.now.fixed }
     requires sets { All (λ s. s < length replica.now.ids.sets) sets.now }
     requires long { length sets.now ≡ length search.now.args.now }
-    ensures { IfOk result (λ out. AreFilled (take search.now.limit replica.now.log) (fixed_of replica.now.log search.now.fixed)
+    ensures { IfOk result (λ out. AreFilled (take search.now.limit replica.now.log)
+        (fixed_of replica.now.log search.now.fixed)
         (slots 0 search.now.args.now (map (set_of_id replica.now.ids) sets.now)) out.items) }
 {
     let mut out = SmallVec::new(alloc);

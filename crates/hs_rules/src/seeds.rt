@@ -22,7 +22,8 @@ fn moves_by(automaton: &Automaton, terminal: u32, place: usize, q: u32, count: u
 /// Whether the terminal has a transition in each state, with no more than so many children. That is
 /// found where its transitions are in the order of their states.
 fn moves_everywhere(automaton: &Automaton, terminal: u32, count: usize) -> bool
-    ensures { IsTrue result → (q : ℕ) → q < automaton.now.states → Moves automaton.now.transitions terminal count q }
+    ensures { IsTrue result → (q : ℕ) → q < automaton.now.states
+        → Moves automaton.now.transitions terminal count q }
 {
     let places = automaton.with_terminal(terminal);
     if places.len() < automaton.states() as usize {

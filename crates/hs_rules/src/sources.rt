@@ -5,7 +5,7 @@ ghost use Rattle.hs_table.specs.Entries.{params_of};
 ghost use Rattle.hs_types.specs.Interned.{type_of_id};
 ghost use Rattle.hs_replica.specs.Replica.{KeepsLog};
 ghost use Rattle.hs_rules.specs.Filling.{CanSearch};
-ghost use Rattle.hs_rules.specs.Heads.{AreHeads, Asks, ComesFrom, AsksNothing, AnyHead, IsSpot, IsHeadWithin};
+ghost use Rattle.hs_rules.specs.Heads.{AreHeads, Asks, ComesFrom, AsksNothing, AnyHead, IsParameterSpot, IsHeadWithin};
 
 use crate::found::HeadTypes;
 use crate::nonterminals::{nonterminal_all, nonterminal_asking, nonterminal_at};
@@ -30,7 +30,11 @@ pub(crate) fn heads_nothing(
     requires few { length args.now < 2 ^ 32 }
     requires params { spot.now.params ≡ params_of spot.now.problem.now spot.now.rule }
     ensures heads { IfOk result (λ heads. AreHeads spot.now.problem.now []
-        (record { rule = spot.now.rule; head = head; args = args.now }) replica.new.ids AsksNothing heads.items) }
+        (record {
+          rule = spot.now.rule;
+          head = head;
+          args = args.now;
+        }) replica.new.ids AsksNothing heads.items) }
     ensures kept { KeepsLog replica.old replica.new }
 {
     match head {
@@ -51,11 +55,13 @@ pub(crate) fn heads_asking(
     ty: TyId,
 ) -> Result<HeadTypes, OutOfMemory>
     requires search { CanSearch replica.old search.now.args.now search.now.limit search.now.fixed }
-    requires spot { IsSpot spot.now.problem.now spot.now.rule spot.now.params (take search.now.limit replica.old.log) }
+    requires spot { IsParameterSpot spot.now.problem.now spot.now.rule spot.now.params
+        (take search.now.limit replica.old.log) }
     requires head { IsHeadWithin spot.now.problem.now spot.now.params head }
     requires arg { arg < length search.now.args.now }
     requires ty { ty < length replica.old.ids.types }
-    ensures heads { IfOk result (λ heads. AreHeads spot.now.problem.now (take search.now.limit replica.old.log)
+    ensures heads { IfOk result (λ heads. AreHeads spot.now.problem.now
+        (take search.now.limit replica.old.log)
         (record { rule = spot.now.rule; head = head; args = search.now.args.now })
         replica.new.ids (Asks arg (type_of_id replica.old.ids ty)) heads.items) }
     ensures kept { KeepsLog replica.old replica.new }
@@ -79,10 +85,12 @@ pub(crate) fn heads_at(
     place: u32,
 ) -> Result<HeadTypes, OutOfMemory>
     requires search { CanSearch replica.old search.now.args.now search.now.limit search.now.fixed }
-    requires spot { IsSpot spot.now.problem.now spot.now.rule spot.now.params (take search.now.limit replica.old.log) }
+    requires spot { IsParameterSpot spot.now.problem.now spot.now.rule spot.now.params
+        (take search.now.limit replica.old.log) }
     requires head { IsHeadWithin spot.now.problem.now spot.now.params head }
     requires place { place < search.now.limit }
-    ensures heads { IfOk result (λ heads. AreHeads spot.now.problem.now (take search.now.limit replica.old.log)
+    ensures heads { IfOk result (λ heads. AreHeads spot.now.problem.now
+        (take search.now.limit replica.old.log)
         (record { rule = spot.now.rule; head = head; args = search.now.args.now })
         replica.new.ids (ComesFrom place) heads.items) }
     ensures kept { KeepsLog replica.old replica.new }
@@ -103,9 +111,11 @@ pub(crate) fn heads_all(
     head: Head,
 ) -> Result<HeadTypes, OutOfMemory>
     requires search { CanSearch replica.old search.now.args.now search.now.limit search.now.fixed }
-    requires spot { IsSpot spot.now.problem.now spot.now.rule spot.now.params (take search.now.limit replica.old.log) }
+    requires spot { IsParameterSpot spot.now.problem.now spot.now.rule spot.now.params
+        (take search.now.limit replica.old.log) }
     requires head { IsHeadWithin spot.now.problem.now spot.now.params head }
-    ensures heads { IfOk result (λ heads. AreHeads spot.now.problem.now (take search.now.limit replica.old.log)
+    ensures heads { IfOk result (λ heads. AreHeads spot.now.problem.now
+        (take search.now.limit replica.old.log)
         (record { rule = spot.now.rule; head = head; args = search.now.args.now })
         replica.new.ids AnyHead heads.items) }
     ensures kept { KeepsLog replica.old replica.new }

@@ -10,7 +10,7 @@ ghost use Rattle.hs_table.specs.Entries.{params_of};
 ghost use Rattle.hs_types.specs.Interned.{type_of_id, set_of_id, env_of_id};
 ghost use Rattle.hs_replica.specs.Replica.{KeepsLog};
 ghost use Rattle.hs_rules.specs.Filling.{CanSearch};
-ghost use Rattle.hs_rules.specs.Heads.{GainsHeads, Just, AtSome, AtRange, ChildAt, ReadIn, InState, AreHeads, Asks, AsksNothing, AnyHead, IsSpot};
+ghost use Rattle.hs_rules.specs.Heads.{GainsHeads, Just, AtSome, AtRange, ChildAt, ReadIn, InState, AreHeads, Asks, AsksNothing, AnyHead, IsParameterSpot};
 
 use crate::found::{HeadTypes, Sets};
 use crate::heads::push_given;
@@ -96,7 +96,8 @@ fn push_state(
     requires own { own < length replica.old.ids.envs }
     requires full { All (λ s. s < length replica.old.ids.sets) full.now }
     ensures gains { OnOk result (GainsHeads replica.new.ids count
-        (Just by (env_of_id replica.old.ids own) (types.arrows (map (set_of_id replica.old.ids) full.now) (types.state q)))
+        (Just by (env_of_id replica.old.ids own)
+        (types.arrows (map (set_of_id replica.old.ids) full.now) (types.state q)))
         out.old.items out.new.items) }
     ensures kept { KeepsLog replica.old replica.new }
 {
@@ -144,7 +145,8 @@ fn push_children(
     requires few { length to.now < 2 ^ 32 }
     requires own { own < length replica.old.ids.envs }
     ensures gains { OnOk result (GainsHeads replica.new.ids count
-        (AtRange (ChildAt (env_of_id replica.old.ids own) q to.now) from (length to.now)) out.old.items out.new.items) }
+        (AtRange (ChildAt (env_of_id replica.old.ids own) q to.now) from
+        (length to.now)) out.old.items out.new.items) }
     ensures kept { KeepsLog replica.old replica.new }
 {
     for place in from..to.len() as u32 {
@@ -167,10 +169,12 @@ fn push_in_state(
     count: usize,
     out: &mut HeadTypes,
 ) -> Result<(), OutOfMemory>
-    requires ranks { (to : List ℕ) → next_states automaton.now.transitions q terminal ≡ Some to → length to ≡ rank }
+    requires ranks { (to : List ℕ) → next_states automaton.now.transitions q terminal ≡ Some to
+        → length to ≡ rank }
     requires own { own < length replica.old.ids.envs }
     ensures gains { OnOk result (GainsHeads replica.new.ids count
-        (InState automaton.now.transitions terminal rank from (env_of_id replica.old.ids own) q) out.old.items out.new.items) }
+        (InState automaton.now.transitions terminal rank from
+        (env_of_id replica.old.ids own) q) out.old.items out.new.items) }
     ensures kept { KeepsLog replica.old replica.new }
 {
     match automaton.next(q, terminal) {
@@ -199,10 +203,12 @@ fn push_terminal(
     count: usize,
     out: &mut HeadTypes,
 ) -> Result<(), OutOfMemory>
-    requires ranks { (q : ℕ) (to : List ℕ) → next_states automaton.now.transitions q terminal ≡ Some to → length to ≡ rank }
+    requires ranks { (q : ℕ) (to : List ℕ) → next_states automaton.now.transitions q terminal ≡ Some to
+        → length to ≡ rank }
     requires own { own < length replica.old.ids.envs }
     ensures gains { OnOk result (GainsHeads replica.new.ids count
-        (AtRange (InState automaton.now.transitions terminal rank from (env_of_id replica.old.ids own)) 0 automaton.now.states) out.old.items out.new.items) }
+        (AtRange (InState automaton.now.transitions terminal rank from
+        (env_of_id replica.old.ids own)) 0 automaton.now.states) out.old.items out.new.items) }
     ensures kept { KeepsLog replica.old replica.new }
 {
     for q in 0..automaton.states() {
@@ -226,10 +232,12 @@ fn push_reading(
     count: usize,
     out: &mut HeadTypes,
 ) -> Result<(), OutOfMemory>
-    requires ranks { (q : ℕ) (to : List ℕ) → next_states automaton.now.transitions q terminal ≡ Some to → length to ≡ rank }
+    requires ranks { (q : ℕ) (to : List ℕ) → next_states automaton.now.transitions q terminal ≡ Some to
+        → length to ≡ rank }
     requires own { own < length replica.old.ids.envs }
     ensures gains { OnOk result (GainsHeads replica.new.ids count
-        (AtSome (ReadIn automaton.now.states automaton.now.transitions terminal (env_of_id replica.old.ids own) place) states.now) out.old.items out.new.items) }
+        (AtSome (ReadIn automaton.now.states automaton.now.transitions terminal
+        (env_of_id replica.old.ids own) place) states.now) out.old.items out.new.items) }
     ensures kept { KeepsLog replica.old replica.new }
 {
     for q in states {
@@ -253,10 +261,12 @@ fn push_reads(
     count: usize,
     out: &mut HeadTypes,
 ) -> Result<(), OutOfMemory>
-    requires ranks { (to : List ℕ) → next_states automaton.now.transitions q terminal ≡ Some to → length to ≡ rank }
+    requires ranks { (to : List ℕ) → next_states automaton.now.transitions q terminal ≡ Some to
+        → length to ≡ rank }
     requires own { own < length replica.old.ids.envs }
     ensures gains { OnOk result (GainsHeads replica.new.ids count
-        (ReadIn automaton.now.states automaton.now.transitions terminal (env_of_id replica.old.ids own) place q) out.old.items out.new.items) }
+        (ReadIn automaton.now.states automaton.now.transitions terminal
+        (env_of_id replica.old.ids own) place q) out.old.items out.new.items) }
     ensures kept { KeepsLog replica.old replica.new }
 {
     let Some(to) = automaton.next(q, terminal) else {
@@ -289,10 +299,12 @@ pub(crate) fn terminal_asking(
     ty: TyId,
 ) -> Result<HeadTypes, OutOfMemory>
     requires search { CanSearch replica.old search.now.args.now search.now.limit search.now.fixed }
-    requires spot { IsSpot spot.now.problem.now spot.now.rule spot.now.params (take search.now.limit replica.old.log) }
+    requires spot { IsParameterSpot spot.now.problem.now spot.now.rule spot.now.params
+        (take search.now.limit replica.old.log) }
     requires arg { arg < length search.now.args.now }
     requires ty { ty < length replica.old.ids.types }
-    ensures heads { IfOk result (λ heads. AreHeads spot.now.problem.now (take search.now.limit replica.old.log)
+    ensures heads { IfOk result (λ heads. AreHeads spot.now.problem.now
+        (take search.now.limit replica.old.log)
         (record { rule = spot.now.rule; head = Tm terminal; args = search.now.args.now })
         replica.new.ids (Asks arg (type_of_id replica.old.ids ty)) heads.items) }
     ensures kept { KeepsLog replica.old replica.new }
@@ -331,8 +343,10 @@ pub(crate) fn terminal_all(
     terminal: u32,
 ) -> Result<HeadTypes, OutOfMemory>
     requires search { CanSearch replica.old search.now.args.now search.now.limit search.now.fixed }
-    requires spot { IsSpot spot.now.problem.now spot.now.rule spot.now.params (take search.now.limit replica.old.log) }
-    ensures heads { IfOk result (λ heads. AreHeads spot.now.problem.now (take search.now.limit replica.old.log)
+    requires spot { IsParameterSpot spot.now.problem.now spot.now.rule spot.now.params
+        (take search.now.limit replica.old.log) }
+    ensures heads { IfOk result (λ heads. AreHeads spot.now.problem.now
+        (take search.now.limit replica.old.log)
         (record { rule = spot.now.rule; head = Tm terminal; args = search.now.args.now })
         replica.new.ids AnyHead heads.items) }
     ensures kept { KeepsLog replica.old replica.new }
@@ -368,7 +382,11 @@ pub(crate) fn terminal_nothing(
     requires few { length args.now < 2 ^ 32 }
     requires params { spot.now.params ≡ params_of spot.now.problem.now spot.now.rule }
     ensures heads { IfOk result (λ heads. AreHeads spot.now.problem.now []
-        (record { rule = spot.now.rule; head = Tm terminal; args = args.now }) replica.new.ids AsksNothing heads.items) }
+        (record {
+          rule = spot.now.rule;
+          head = Tm terminal;
+          args = args.now;
+        }) replica.new.ids AsksNothing heads.items) }
     ensures kept { KeepsLog replica.old replica.new }
 {
     let problem = spot.problem;

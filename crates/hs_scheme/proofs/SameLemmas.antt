@@ -1,6 +1,6 @@
 -- Lists that are compared item by item.
 use Rattle.std.proofs.Common.{◌≡◌, sym, ◌∙◌, ap, subst, ℕ, zero, suc, ◌+◌, ◌<◌, ◌≤◌, true, map, List, ◌∷◌, [], ◌++◌, length, get_or, take, arith}
-use Rattle.std.proofs.lemmas.List.{take_more, take_all, get_or_default}
+use Rattle.std.proofs.lemmas.List.{take_more, get_or_default}
 use Rattle.std.specs.Bool.{Decides}
 use Rattle.hs_scheme.specs.declared.flow.FlowPair.{FlowPair}
 use Rattle.hs_scheme.specs.declared.flow.HeadPair.{HeadPair}
@@ -13,9 +13,6 @@ module _ {X : Type 0} (xs ys : List X) (i : ℕ) where
   pub same_more : (x y : X) → i < length xs → i < length ys → x ≡ get_or xs i x → y ≡ get_or ys i y → take i xs ≡ take i ys → x ≡ y → take (i + 1) xs ≡ take (i + 1) ys
   same_more x y lt lu is_x is_y so_far same =
       take_more xs i x lt ∙ (ap (λ z. take i xs ++ z ∷ []) (sym is_x) ∙ ((λ j. so_far j ++ same j ∷ []) ∙ (ap (λ z. take i ys ++ z ∷ []) is_y ∙ sym (take_more ys i y lu))))
-
-  pub same_all : length xs ≤ i → length xs ≡ length ys → take i xs ≡ take i ys → xs ≡ ys
-  same_all all long so_far = sym (take_all i xs all) ∙ (so_far ∙ take_all i ys (omega arith))
 
   pub same_item : (x y : X) → x ≡ get_or xs i x → y ≡ get_or ys i y → i < length xs → xs ≡ ys → x ≡ y
   same_item x y is_x is_y lt same =

@@ -70,8 +70,10 @@ impl Model for Automaton {
 
     ghost invariant = { λ a. IsAutomaton (record { states = a.states; transitions = a.transitions.items })
         × IsIndex (λ q t. get key_eq a.index (q, t)) a.transitions.items (length a.transitions.items)
-        × IsByTerminal a.transitions.items (length a.transitions.items) (λ t. items_of (get nat_eq a.by_terminal t))
-        × IsByChild a.transitions.items (length a.transitions.items) (λ t child s. items_of (get triple_eq a.by_child (t, child, s))) };
+        × IsByTerminal a.transitions.items (length a.transitions.items)
+        (λ t. items_of (get nat_eq a.by_terminal t))
+        × IsByChild a.transitions.items (length a.transitions.items)
+        (λ t child s. items_of (get triple_eq a.by_child (t, child, s))) };
 }
 
 impl Automaton {
@@ -86,7 +88,10 @@ impl Automaton {
         transitions: Vec<Transition>,
     ) -> Result<Automaton, OutOfMemory>
         requires { IsAutomaton (record { states = states; transitions = transitions.items }) }
-        ensures { IfOk result (λ automaton. automaton ≡ record { states = states; transitions = transitions.items }) }
+        ensures { IfOk result (λ automaton. automaton ≡ record {
+          states = states;
+          transitions = transitions.items;
+        }) }
     {
         let mut index = HashMap::new(alloc);
         for (place, transition) in transitions.iter().enumerate() {
@@ -123,7 +128,8 @@ impl Automaton {
     /// The states in which this child, counted from 0, of a node with this terminal is read in the
     /// given state. Takes no memory, and constant time on average.
     pub fn reading(&self, terminal: u32, child: usize, state: u32) -> &[u32]
-        ensures { (from : ℕ) → Contains result.now from ↔ Reads self.now.transitions terminal child state from }
+        ensures { (from : ℕ) → Contains result.now from
+            ↔ Reads self.now.transitions terminal child state from }
     {
         states_at(&self.by_child, terminal, child, state)
     }

@@ -54,13 +54,16 @@ impl Model for FlowTable {
 
     ghost view = { λ a. record { pairs = a.pairs.items; heads = a.heads.items } };
 
-    ghost invariant = { λ a. IsFlowTable (record { pairs = a.pairs.items; heads = a.heads.items }) × AreStarts a.params a.pairs.items a.starts.items };
+    ghost invariant = { λ a. IsFlowTable (record { pairs = a.pairs.items; heads = a.heads.items })
+        × AreStarts a.params a.pairs.items a.starts.items };
 }
 
 /// Adds this place at the end until there are `count` places, where there are fewer.
 fn fill(starts: &mut Vec<usize>, count: usize, place: usize) -> Result<(), OutOfMemory>
-    ensures kept { OnOk result ((k : ℕ) → k < length starts.old.items → slice_index starts.new.items k ≡ slice_index starts.old.items k) }
-    ensures added { OnOk result ((k : ℕ) → length starts.old.items ≤ k → k < length starts.new.items → slice_index starts.new.items k ≡ place) }
+    ensures kept { OnOk result ((k : ℕ) → k < length starts.old.items
+        → slice_index starts.new.items k ≡ slice_index starts.old.items k) }
+    ensures added { OnOk result ((k : ℕ) → length starts.old.items ≤ k → k < length starts.new.items
+        → slice_index starts.new.items k ≡ place) }
     ensures len { OnOk result (length starts.new.items ≡ max (length starts.old.items) count) }
 {
     while starts.len() < count {
@@ -115,7 +118,8 @@ impl FlowTable {
     /// Whether the point may stand for the parameter. Takes no memory, and time in the logarithm of
     /// the number of the parameter's pairs.
     pub fn holds(&self, rule: u32, param: u32, point: u32) -> bool
-        ensures { IsTrue result ↔ Contains self.now.pairs (record { rule = rule; param = param; point = point }) }
+        ensures { IsTrue result ↔ Contains self.now.pairs
+            (record { rule = rule; param = param; point = point }) }
     {
         let pair = FlowPair { rule, param, point };
         self.flow_of(rule, param).binary_search(&pair).is_ok()

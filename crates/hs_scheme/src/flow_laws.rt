@@ -13,7 +13,8 @@ pub fn flow_is_unique()
         IsFlow rules flows heads → IsFlow rules others rest →
         (pair : Pair) → Contains (pairs_of flows heads) pair ↔ Contains (pairs_of others rest) pair }
     ensures within { (rules : List Rule) (order found : List Pair) →
-        IsSupported rules order → IsClosed rules found → (pair : Pair) → Contains order pair → Contains found pair }
+        IsSupported rules order → IsClosed rules found → (pair : Pair) → Contains order pair
+        → Contains found pair }
     ensures fewer { (rules : List Rule) (order found : List Pair) →
         IsSupported rules order → IsClosed rules found → length order ≤ length found }
 {}

@@ -157,7 +157,8 @@ pub fn accepts_cut(
     automaton: &Automaton,
     n: u8,
 ) -> Result<bool, OutOfMemory>
-    ensures { IfOk result (λ yes. yes ≡ acceptance.run automaton.now.transitions 0 (definition.cut rules.now n acceptance.start)) }
+    ensures { IfOk result (λ yes. yes ≡ acceptance.run automaton.now.transitions 0
+        (definition.cut rules.now n acceptance.start)) }
 {
     let start = Term {
         head: Head::Nt(0),

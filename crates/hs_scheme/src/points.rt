@@ -104,10 +104,18 @@ impl Model for Points {
 
     ghost coded = { coded_points };
 
-    ghost view = { λ a. record { points = points_in a.rows.args.items a.rows.points.items; bodies = a.bodies.items; params = a.params } };
+    ghost view = { λ a. record {
+      points = points_in a.rows.args.items a.rows.points.items;
+      bodies = a.bodies.items;
+      params = a.params;
+    } };
 
     ghost invariant = { λ a. AreRows a.rows.points.items a.rows.args.items
-        (record { points = points_in a.rows.args.items a.rows.points.items; bodies = a.bodies.items; params = a.params }) };
+        (record {
+          points = points_in a.rows.args.items a.rows.points.items;
+          bodies = a.bodies.items;
+          params = a.params;
+        }) };
 }
 
 /// Adds the points of a term of this rule, itself an argument or none. `pending` has the arguments of
@@ -123,13 +131,15 @@ fn add_term(
     requires args { length rows.old.args.items ≤ length rows.old.points.items }
     requires ranges { All (Fits rows.old.args.items) rows.old.points.items }
     ensures added { OnOk result (points_in rows.new.args.items rows.new.points.items
-        ≡ points_in rows.old.args.items rows.old.points.items ++ term_points rule (length rows.old.points.items) term.now) }
+        ≡ points_in rows.old.args.items rows.old.points.items ++ term_points rule
+        (length rows.old.points.items) term.now) }
     ensures places { OnOk result (places_in rows.new.points.items
         ≡ places_in rows.old.points.items ++ term_places argument (length rows.old.points.items) term.now) }
     ensures pending { OnOk result (pending.new.items ≡ pending.old.items) }
     ensures ranges { OnOk result (All (Fits rows.new.args.items) rows.new.points.items) }
     ensures few { OnOk result (length rows.new.points.items ≤ 500000) }
-    ensures args { OnOk result (length rows.new.args.items + length rows.old.points.items + 1 ≤ length rows.new.points.items + length rows.old.args.items) }
+    ensures args { OnOk result (length rows.new.args.items + length rows.old.points.items + 1 ≤ length
+        rows.new.points.items + length rows.old.args.items) }
     ensures many { IsErrOf result TooMany → 500000 < length rows.old.points.items + size term.now }
 {
     if rows.points.len() >= MAX_POINTS {
@@ -234,7 +244,8 @@ impl Points {
     /// body. No point is an argument twice. Takes no memory.
     pub fn argument_of(&self, p: u32) -> Option<Argument>
         requires { p < length self.now.points }
-        ensures { (q place : ℕ) → (result ≡ Some (record { point = q; place = place })) ↔ IsArgument self.now q place p }
+        ensures { (q place : ℕ) → (result ≡ Some (record { point = q; place = place }))
+            ↔ IsArgument self.now q place p }
     {
         self.rows.points[p as usize].argument
     }

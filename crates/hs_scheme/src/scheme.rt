@@ -113,7 +113,13 @@ impl Model for Unsorted {
 
     ghost coded = { coded_unsorted };
 
-    ghost view = { λ a. record { rules = a.rules.items; ranks = a.ranks.items; automaton = a.automaton; names = a.names } };
+    ghost view = { λ a. record {
+      rules = a.rules.items;
+      ranks = a.ranks.items;
+      automaton = a.automaton;
+      names = a.names;
+    } };
 
-    ghost invariant = { λ a. IsUnsorted (record { rules = a.rules.items; ranks = a.ranks.items; automaton = a.automaton; names = a.names }) };
+    ghost invariant = { λ a. IsUnsorted
+        (record { rules = a.rules.items; ranks = a.ranks.items; automaton = a.automaton; names = a.names }) };
 }

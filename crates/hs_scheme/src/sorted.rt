@@ -33,9 +33,15 @@ impl Model for Sorted {
 
     ghost coded = { coded_sorted };
 
-    ghost view = { λ a. record { scheme = a.scheme; automaton = a.automaton; names = a.names; sorts = a.sorts.items } };
+    ghost view = { λ a. record {
+      scheme = a.scheme;
+      automaton = a.automaton;
+      names = a.names;
+      sorts = a.sorts.items;
+    } };
 
-    ghost invariant = { λ a. IsSorted (record { scheme = a.scheme; automaton = a.automaton; names = a.names; sorts = a.sorts.items }) };
+    ghost invariant = { λ a. IsSorted
+        (record { scheme = a.scheme; automaton = a.automaton; names = a.names; sorts = a.sorts.items }) };
 }
 
 impl Sorted {

@@ -25,7 +25,9 @@ fn add_place(
     place: usize,
 ) -> Result<(), OutOfMemory>
     ensures { OnOk result ((a : ℕ) →
-        items_of (get nat_eq rows.new a) ≡ (if nat_eq terminal a then items_of (get nat_eq rows.old a) ++ place ∷ [] else items_of (get nat_eq rows.old a))) }
+        items_of (get nat_eq rows.new a) ≡
+        (if nat_eq terminal a then items_of (get nat_eq rows.old a) ++ place ∷ [] else items_of
+        (get nat_eq rows.old a))) }
 {
     let mut row = rows.remove(&terminal).unwrap_or(Vec::new(alloc));
     row.push(place)?;
@@ -41,7 +43,9 @@ fn add_state(
     state: u32,
 ) -> Result<(), OutOfMemory>
     ensures { OnOk result ((k : ℕ × ℕ × ℕ) →
-        items_of (get triple_eq rows.new k) ≡ (if triple_eq key k then items_of (get triple_eq rows.old k) ++ state ∷ [] else items_of (get triple_eq rows.old k))) }
+        items_of (get triple_eq rows.new k) ≡
+        (if triple_eq key k then items_of (get triple_eq rows.old k) ++ state ∷ [] else items_of
+        (get triple_eq rows.old k))) }
 {
     let mut row = rows.remove(&key).unwrap_or(Vec::new(alloc));
     row.push(state)?;
@@ -54,7 +58,8 @@ pub(crate) fn by_terminal(
     alloc: Global,
     transitions: &[Transition],
 ) -> Result<ByTerminal, OutOfMemory>
-    ensures { IfOk result (λ rows. IsByTerminal transitions.now (length transitions.now) (λ a. items_of (get nat_eq rows a))) }
+    ensures { IfOk result (λ rows. IsByTerminal transitions.now (length transitions.now)
+        (λ a. items_of (get nat_eq rows a))) }
 {
     let mut rows = HashMap::new(alloc);
     for (place, transition) in transitions.iter().enumerate() {
@@ -70,7 +75,8 @@ fn add_children(
     transition: &Transition,
 ) -> Result<(), OutOfMemory>
     ensures { OnOk result (GainsReads transition.now (length transition.now.to)
-        (λ a child s. items_of (get triple_eq rows.old (a, child, s))) (λ a child s. items_of (get triple_eq rows.new (a, child, s)))) }
+        (λ a child s. items_of (get triple_eq rows.old (a, child, s)))
+        (λ a child s. items_of (get triple_eq rows.new (a, child, s)))) }
 {
     for (child, state) in transition.to.iter().enumerate() {
         add_state(
@@ -85,7 +91,8 @@ fn add_children(
 
 /// The states of the transitions by what they read at a child.
 pub(crate) fn by_child(alloc: Global, transitions: &[Transition]) -> Result<ByChild, OutOfMemory>
-    ensures { IfOk result (λ rows. IsByChild transitions.now (length transitions.now) (λ a child s. items_of (get triple_eq rows (a, child, s)))) }
+    ensures { IfOk result (λ rows. IsByChild transitions.now (length transitions.now)
+        (λ a child s. items_of (get triple_eq rows (a, child, s)))) }
 {
     let mut rows = HashMap::new(alloc);
     for transition in transitions {

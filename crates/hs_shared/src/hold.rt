@@ -47,7 +47,8 @@ pub(crate) fn tell<'p>(guard: &mut Guard<'_, Held<'p>>, seat: &mut Seat<Held<'p>
 
 /// Makes room for an event, and takes a work.
 pub(crate) fn take_work(core: &mut Core, worker: u32) -> Result<Taken, OutOfMemory>
-    ensures ok { IfOk result (λ taken. (spare : ℕ) × Takes (record core.old { spare = spare }) worker taken core.new) }
+    ensures ok { IfOk result (λ taken. (spare : ℕ)
+        × Takes (record core.old { spare = spare }) worker taken core.new) }
     ensures err { OnErr result (core.new ≡ core.old) }
 {
     core.reserve_some()?;
@@ -64,8 +65,10 @@ pub(crate) fn publish_deduction(
 ) -> Result<Published, OutOfMemory>
     requires holds { Holds (state_of core.old) worker ticket }
     requires row { IsRow replica.now.ids deduced.now.row }
-    requires follows { FollowsBy core.old.base.problem (log_of core.old) deduced.now.support (entry_of replica.now.ids deduced.now.row) }
-    ensures ok { IfOk result (λ published. (found : CoreData) × IsCore found × (found.base ≡ core.old.base) × (found.story ≡ core.old.story)
+    requires follows { FollowsBy core.old.base.problem (log_of core.old) deduced.now.support
+        (entry_of replica.now.ids deduced.now.row) }
+    ensures ok { IfOk result (λ published. (found : CoreData) × IsCore found × (found.base ≡ core.old.base)
+        × (found.story ≡ core.old.story)
         × Publishes found worker ticket (deduction_of replica.now.ids deduced.now) published core.new) }
     ensures err { OnErr result ((core.new.base ≡ core.old.base) × (core.new.story ≡ core.old.story)) }
 {
@@ -82,7 +85,8 @@ fn copy_entry(from: &Replica, to: &mut Replica, place: u32) -> Result<(), OutOfM
     ensures ok { OnOk result (to.new.log ≡ take (place + 1) from.now.log) }
     ensures err { OnErr result (to.new.log ≡ to.old.log) }
     ensures more { IsPrefix to.old.log to.new.log }
-    ensures kept { (to.new.spare ≡ to.old.spare) × (to.new.indexed ≡ to.old.indexed) × Grows to.old.ids to.new.ids }
+    ensures kept { (to.new.spare ≡ to.old.spare) × (to.new.indexed ≡ to.old.indexed)
+        × Grows to.old.ids to.new.ids }
 {
     let _entries = from.len();
     to.append(from.interner(), from.row(place))
@@ -95,7 +99,8 @@ pub(crate) fn copy_log(from: &Replica, to: &mut Replica) -> Result<(), OutOfMemo
     ensures ok { OnOk result (to.new.log ≡ from.now.log) }
     ensures begins { IsPrefix to.new.log from.now.log }
     ensures more { IsPrefix to.old.log to.new.log }
-    ensures kept { (to.new.spare ≡ to.old.spare) × (to.new.indexed ≡ to.old.indexed) × Grows to.old.ids to.new.ids }
+    ensures kept { (to.new.spare ≡ to.old.spare) × (to.new.indexed ≡ to.old.indexed)
+        × Grows to.old.ids to.new.ids }
 {
     for place in to.len()..from.len() {
         copy_entry(from, to, place)?;

@@ -52,7 +52,8 @@ impl<'a, 'p> Hold<'a, 'p> {
     /// memory nothing has happened.
     pub fn take(&mut self, seat: &mut Seat<Held<'p>>) -> Result<Taken, OutOfMemory>
         requires { IsHolding seat.old self.old }
-        ensures ok { IfOk result (λ taken. (spare : ℕ) × Takes (record self.old.core { spare = spare }) seat.old.known.number taken self.new.core) }
+        ensures ok { IfOk result (λ taken. (spare : ℕ)
+            × Takes (record self.old.core { spare = spare }) seat.old.known.number taken self.new.core) }
         ensures err { OnErr result (self.new.core ≡ self.old.core) }
         ensures turn { self.new.turn ≡ self.old.turn }
         ensures told { HasTold seat.old self.new.core.story seat.new }
@@ -78,10 +79,14 @@ impl<'a, 'p> Hold<'a, 'p> {
         requires holds { IsHolding seat.old self.old }
         requires ticket { Holds (state_of self.old.core) seat.old.known.number ticket }
         requires row { IsRow replica.now.ids deduced.now.row }
-        requires follows { FollowsBy self.old.core.base.problem (log_of self.old.core) deduced.now.support (entry_of replica.now.ids deduced.now.row) }
-        ensures ok { IfOk result (λ published. (found : CoreData) × IsCore found × (found.base ≡ self.old.core.base) × (found.story ≡ self.old.core.story)
-            × Publishes found seat.old.known.number ticket (deduction_of replica.now.ids deduced.now) published self.new.core) }
-        ensures err { OnErr result ((self.new.core.base ≡ self.old.core.base) × (self.new.core.story ≡ self.old.core.story)) }
+        requires follows { FollowsBy self.old.core.base.problem (log_of self.old.core) deduced.now.support
+            (entry_of replica.now.ids deduced.now.row) }
+        ensures ok { IfOk result (λ published. (found : CoreData) × IsCore found
+            × (found.base ≡ self.old.core.base) × (found.story ≡ self.old.core.story)
+            × Publishes found seat.old.known.number ticket
+            (deduction_of replica.now.ids deduced.now) published self.new.core) }
+        ensures err { OnErr result ((self.new.core.base ≡ self.old.core.base)
+            × (self.new.core.story ≡ self.old.core.story)) }
         ensures turn { self.new.turn ≡ self.old.turn }
         ensures told { HasTold seat.old self.new.core.story seat.new }
         ensures holds { IsHolding seat.new self.new }
@@ -104,7 +109,8 @@ impl<'a, 'p> Hold<'a, 'p> {
     pub fn finish(&mut self, seat: &mut Seat<Held<'p>>, ticket: u32)
         requires holds { IsHolding seat.old self.old }
         requires closed { CanFinish self.old.core.base (state_of self.old.core) seat.old.known.number ticket }
-        ensures core { self.new.core ≡ stepped self.old.core seat.old.known.number (finishes ticket) self.old.core.spare }
+        ensures core { self.new.core ≡ stepped self.old.core seat.old.known.number
+            (finishes ticket) self.old.core.spare }
         ensures turn { self.new.turn ≡ self.old.turn }
         ensures told { HasTold seat.old self.new.core.story seat.new }
         ensures holds { IsHolding seat.new self.new }
@@ -119,7 +125,8 @@ impl<'a, 'p> Hold<'a, 'p> {
     pub fn give_back(&mut self, seat: &mut Seat<Held<'p>>, ticket: u32)
         requires holds { IsHolding seat.old self.old }
         requires ticket { Holds (state_of self.old.core) seat.old.known.number ticket }
-        ensures core { self.new.core ≡ stepped self.old.core seat.old.known.number (gives_back ticket) self.old.core.spare }
+        ensures core { self.new.core ≡ stepped self.old.core seat.old.known.number
+            (gives_back ticket) self.old.core.spare }
         ensures turn { self.new.turn ≡ self.old.turn }
         ensures told { HasTold seat.old self.new.core.story seat.new }
         ensures holds { IsHolding seat.new self.new }
@@ -138,7 +145,8 @@ impl<'a, 'p> Hold<'a, 'p> {
         ensures ok { OnOk result (replica.new.log ≡ log_of self.now.core) }
         ensures begins { IsPrefix replica.new.log (log_of self.now.core) }
         ensures more { IsPrefix replica.old.log replica.new.log }
-        ensures kept { (replica.new.spare ≡ replica.old.spare) × (replica.new.indexed ≡ replica.old.indexed) × Grows replica.old.ids replica.new.ids }
+        ensures kept { (replica.new.spare ≡ replica.old.spare) × (replica.new.indexed ≡ replica.old.indexed)
+            × Grows replica.old.ids replica.new.ids }
     {
         copy_log(self.guard.state.core.replica(), replica)
     }

@@ -111,9 +111,11 @@ impl<'p> SharedTable<'p> {
         requires replica { Sees seat.old (λ base state. IsPrefix replica.now.log state.log) }
         requires row { IsRow replica.now.ids deduced.now.row }
         requires follows { Sees seat.old (λ base state.
-            FollowsBy base.problem replica.now.log deduced.now.support (entry_of replica.now.ids deduced.now.row)) }
+            FollowsBy base.problem replica.now.log deduced.now.support
+            (entry_of replica.now.ids deduced.now.row)) }
         ensures ok { IfOk result (λ published.
-            Does (λ found left. Publishes found seat.old.known.number ticket (deduction_of replica.now.ids deduced.now) published left) seat.old seat.new) }
+            Does (λ found left. Publishes found seat.old.known.number ticket
+            (deduction_of replica.now.ids deduced.now) published left) seat.old seat.new) }
         ensures err { OnErr result (Looks seat.old seat.new) }
     {
         let mut hold = self.enter(rt, seat);
@@ -129,7 +131,8 @@ impl<'p> SharedTable<'p> {
         requires seat { IsSeatOf self.now seat.old }
         requires own { HasSeenOwn seat.old }
         requires closed { Sees seat.old (λ base state. CanFinish base state seat.old.known.number ticket) }
-        ensures { Does (λ found left. left ≡ stepped found seat.old.known.number (finishes ticket) found.spare) seat.old seat.new }
+        ensures { Does (λ found left. left ≡ stepped found seat.old.known.number
+            (finishes ticket) found.spare) seat.old seat.new }
     {
         let mut hold = self.enter(rt, seat);
         hold.finish(seat, ticket);
@@ -142,7 +145,8 @@ impl<'p> SharedTable<'p> {
         requires seat { IsSeatOf self.now seat.old }
         requires own { HasSeenOwn seat.old }
         requires ticket { Sees seat.old (λ base state. Holds state seat.old.known.number ticket) }
-        ensures { Does (λ found left. left ≡ stepped found seat.old.known.number (gives_back ticket) found.spare) seat.old seat.new }
+        ensures { Does (λ found left. left ≡ stepped found seat.old.known.number
+            (gives_back ticket) found.spare) seat.old seat.new }
     {
         let mut hold = self.enter(rt, seat);
         hold.give_back(seat, ticket);
@@ -164,7 +168,8 @@ impl<'p> SharedTable<'p> {
         ensures ok { OnOk result (Sees seat.new (λ base state. replica.new.log ≡ state.log)) }
         ensures begins { Sees seat.new (λ base state. IsPrefix replica.new.log state.log) }
         ensures more { IsPrefix replica.old.log replica.new.log }
-        ensures kept { (replica.new.spare ≡ replica.old.spare) × (replica.new.indexed ≡ replica.old.indexed) × Grows replica.old.ids replica.new.ids }
+        ensures kept { (replica.new.spare ≡ replica.old.spare) × (replica.new.indexed ≡ replica.old.indexed)
+            × Grows replica.old.ids replica.new.ids }
     {
         let hold = self.enter(rt, seat);
         let caught_up = hold.catch_up(replica);
@@ -206,7 +211,8 @@ impl<'p> SharedTable<'p> {
         ensures base { seat.entry.known.base ≡ Some result.base }
         ensures begins { IsPrefix seat.entry.known.seen result.story }
         ensures own { told_by worker_of 0 result.story ≡ seat.entry.known.own }
-        ensures joined { All (λ (p : ℕ × List CoreStep). told_by worker_of p.0 result.story ≡ p.1) seat.entry.known.joined }
+        ensures joined { All (λ (p : ℕ
+            × List CoreStep). told_by worker_of p.0 result.story ≡ p.1) seat.entry.known.joined }
         ensures no_others { (n : ℕ) → seat.entry.known.splits < n → told_by worker_of n result.story ≡ [] }
         ensures core { IsCore result }
     {

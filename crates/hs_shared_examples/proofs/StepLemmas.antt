@@ -14,7 +14,7 @@ use Rattle.hs_core.specs.declared.answers.Taken.TheVariants.{Item, Quiet, Idle, 
 use Rattle.hs_core.specs.declared.answers.Published.{Published}
 use Rattle.hs_core.specs.declared.answers.Published.TheVariants.{Known, Added, Over as NoRoom}
 use Rattle.hs_core.specs.Core.{CoreData, state_of, stepped}
-use Rattle.hs_core.specs.Answers.{Takes, Publishes, Passes}
+use Rattle.hs_core.specs.Answers.{Takes, Publishes, AddsOrPasses}
 use Rattle.hs_core.proofs.Moving.{state_stepped}
 use Rattle.hs_shared_examples.specs.Working.{WorkHeld, IsAtWork, held_after}
 
@@ -91,7 +91,7 @@ module _ (p : ProblemData) (n : ℕ) (log : List EntryData) where
   takes_on old new held Over w h = stays old new None h.2 (lets_go old held w)
   takes_on old new held (Found place) w h = stays old new None h.1 (lets_go old held w)
 
-  passes_on : (old new : CoreData) (held : WorkHeld) (ticket : ℕ) (d : Deduction) (kept : Option Deduction) → Knows old held → Passes old n ticket d new kept → Goes old new held
+  passes_on : (old new : CoreData) (held : WorkHeld) (ticket : ℕ) (d : Deduction) (kept : Option Deduction) → Knows old held → AddsOrPasses old n ticket d new kept → Goes old new held
   passes_on old new held ticket d None w is = goes old new (passes ticket d) (old.spare - 1) held held w is w.holds
   passes_on old new held ticket d (Some k) w is = stays old new held is w
 

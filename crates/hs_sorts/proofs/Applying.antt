@@ -7,7 +7,7 @@ use Rattle.hs_sorts.specs.declared.store.Shape.TheVariants.{Open, Base, Arrow}
 use Rattle.hs_sorts.specs.declared.store.Node.{Node}
 use Rattle.hs_sorts.specs.declared.store.Node.TheVariants.{Root}
 use Rattle.hs_sorts.specs.Nodes.{Valuation, Respects, FitsNode, IsStore, IsRootOf, Equates, with_arrow}
-use Rattle.hs_sorts.specs.Constraints.{Agree, Adds, Refutes, Takes}
+use Rattle.hs_sorts.specs.Constraints.{Agree, AddsNode, Refutes, TakesArgument}
 use Rattle.hs_sorts.proofs.Lists.{get_left, get_set_same}
 use Rattle.hs_sorts.proofs.Joining.{arrow_parts}
 use Rattle.hs_sorts.proofs.NodeLemmas.{over, over_agrees, over_later, respects_more, respects_fewer, respects_set, respects_unset, one_place}
@@ -37,7 +37,7 @@ module _ (old mid : List Node) (function argument root : ℕ) (found : IsRootOf 
   was_open : slice_get with_rest root ≡ Some (Root Open)
   was_open = get_left mid (Root Open ∷ []) root (Root Open) found.at
 
-  module _ (v : Valuation) (k : SortTree) (was : Respects v old) (takes : Takes function argument v k) where
+  module _ (v : Valuation) (k : SortTree) (was : Respects v old) (takes : TakesArgument function argument v k) where
     abbrev later : Valuation
     later = over (length mid) v (λ _. k)
 
@@ -54,7 +54,7 @@ module _ (old mid : List Node) (function argument root : ℕ) (found : IsRootOf 
     fit : later root ≡ arrow (later argument) (later (length mid))
     fit = agrees.at root in_mid ∙ (sym (found.equal v was) ∙ (takes ∙ (λ i. arrow (sym (agrees.at argument within) i) (sym at_rest i))))
 
-  pub open_applied : length mid < 2 ^ 32 → Adds old (with_arrow mid root argument) (length mid) (Takes function argument)
+  pub open_applied : length mid < 2 ^ 32 → AddsNode old (with_arrow mid root argument) (length mid) (TakesArgument function argument)
   open_applied few = record {
     longer = omega (arith, found.same.as_long, length-set with_rest root top, one_more);
     few = omega (arith, few, length-set with_rest root top, one_more);
@@ -73,13 +73,13 @@ module _ (old mid : List Node) (function argument root : ℕ) (found : IsRootOf 
 
 -- the same, as the call gives it
 pub open_given : (old mid new : List Node) (function argument root rest : ℕ) → IsRootOf old mid function root Open → IsStore mid → argument < length mid → length mid < 2 ^ 32 → rest ≡ length mid
-    → new ≡ with_arrow mid root argument → Adds old new rest (Takes function argument)
+    → new ≡ with_arrow mid root argument → AddsNode old new rest (TakesArgument function argument)
 open_given old mid new function argument root rest found is within few at widened =
-    subst (λ (j : ℕ). Adds old new j (Takes function argument)) (sym at)
-    (subst (λ (xs : List Node). Adds old xs (length mid) (Takes function argument)) (sym widened) (open_applied old mid function argument root found is within few))
+    subst (λ (j : ℕ). AddsNode old new j (TakesArgument function argument)) (sym at)
+    (subst (λ (xs : List Node). AddsNode old xs (length mid) (TakesArgument function argument)) (sym widened) (open_applied old mid function argument root found is within few))
 
 -- o takes no argument
-pub base_not_applied : (old mid : List Node) (function argument root : ℕ) → IsRootOf old mid function root Base → Refutes old (Takes function argument)
+pub base_not_applied : (old mid : List Node) (function argument root : ℕ) → IsRootOf old mid function root Base → Refutes old (TakesArgument function argument)
 base_not_applied old mid function argument root found v k r t =
     no_arrow (v argument) k (sym ((found.same.onward v r).fits root (Root Base) found.at) ∙ (sym (found.equal v r) ∙ t))
 
@@ -88,7 +88,7 @@ module _ (old mid : List Node) (function argument root expected rest : ℕ) (fou
   taken_apart : (v : Valuation) → Respects v mid → v function ≡ arrow (v expected) (v rest)
   taken_apart v r = found.equal v (found.same.back v r) ∙ r.fits root (Root (Arrow expected rest)) found.at
 
-  pub known_applied : (new : List Node) → Equates expected argument mid new → length old ≤ 2 ^ 32 → Adds old new rest (Takes function argument)
+  pub known_applied : (new : List Node) → Equates expected argument mid new → length old ≤ 2 ^ 32 → AddsNode old new rest (TakesArgument function argument)
   known_applied new e few = record {
     longer = omega (arith, e.as_long, found.same.as_long);
     few = omega (arith, e.as_long, found.same.as_long);
@@ -102,7 +102,7 @@ module _ (old mid : List Node) (function argument root expected rest : ℕ) (fou
         record { valuation = v; agrees = record { at = λ i h. refl }; respects = e.onward v was parts.0; gives = parts.1 };
   }
 
-  pub known_not_applied : ((v : Valuation) → Respects v mid → v expected ≡ v argument → ⊥) → Refutes old (Takes function argument)
+  pub known_not_applied : ((v : Valuation) → Respects v mid → v expected ≡ v argument → ⊥) → Refutes old (TakesArgument function argument)
   known_not_applied never v k r t =
       let was = found.same.onward v r in
       never v was (arrow_parts (v expected) (v rest) (v argument) k (sym (taken_apart v was) ∙ t)).0

@@ -6,7 +6,7 @@ use Rattle.hs_sorts.specs.declared.store.Shape.TheVariants.{Base}
 use Rattle.hs_sorts.specs.declared.store.Node.{Node}
 use Rattle.hs_sorts.specs.declared.store.Node.TheVariants.{Root}
 use Rattle.hs_sorts.specs.Nodes.{Valuation, Respects, FitsNode, IsStore, Equates, IsEquation}
-use Rattle.hs_sorts.specs.Constraints.{Agree, Extension, Adds, Refutes, Claims, IsClaim, IsBase, Leaves, IsRanked, Takes}
+use Rattle.hs_sorts.specs.Constraints.{Agree, Extension, AddsNode, Refutes, Claims, IsClaim, IsBaseSort, Leaves, IsRanked, TakesArgument}
 use Rattle.hs_sorts.proofs.Arrows.{arrows_more, arrows_split, arrows_same}
 use Rattle.hs_sorts.proofs.Lists.{get_right, get_replicate, get_of_replicate}
 use Rattle.hs_sorts.proofs.NodeLemmas.{agree_trans, over, over_agrees, over_later, respects_more, respects_fewer, one_place}
@@ -19,7 +19,7 @@ module _ (old : List Node) (i : ℕ) (is : IsStore old) (few : length old < 2 ^ 
   one_more : length with_base ≡ length old + 1
   one_more = length-append old (Root Base ∷ [])
 
-  module _ (v : Valuation) (was : Respects v old) (base : IsBase i v) where
+  module _ (v : Valuation) (was : Respects v old) (base : IsBaseSort i v) where
     abbrev later : Valuation
     later = over (length old) v (λ _. o)
 
@@ -33,7 +33,7 @@ module _ (old : List Node) (i : ℕ) (is : IsStore old) (few : length old < 2 ^ 
     equal : later i ≡ later (length old)
     equal = (over_agrees (length old) v (λ _. o)).at i below ∙ (base ∙ sym at_base)
 
-  pub based : (new : List Node) → Equates i (length old) with_base new → Claims old new (IsBase i)
+  pub based : (new : List Node) → Equates i (length old) with_base new → Claims old new (IsBaseSort i)
   based new e = record {
     longer = omega (arith, e.as_long, one_more);
     few = omega (arith, e.as_long, one_more);
@@ -44,17 +44,17 @@ module _ (old : List Node) (i : ℕ) (is : IsStore old) (few : length old < 2 ^ 
     complete = λ v r b. record { valuation = later v r b; agrees = over_agrees (length old) v (λ _. o); respects = e.onward (later v r b) (respects_base v r b) (equal v r b) };
   }
 
-  pub not_based : ((v : Valuation) → Respects v with_base → v i ≡ v (length old) → ⊥) → (v : Valuation) → Respects v old → IsBase i v → ⊥
+  pub not_based : ((v : Valuation) → Respects v with_base → v i ≡ v (length old) → ⊥) → (v : Valuation) → Respects v old → IsBaseSort i v → ⊥
   not_based never v r b = never (later v r b) (respects_base v r b) (equal v r b)
 
-  pub is_based : (wide new : List Node) (node : ℕ) (answer : Bool) → node ≡ length old → wide ≡ old ++ Root Base ∷ [] → IsEquation i node wide new answer → IsClaim old new (IsBase i) answer
+  pub is_based : (wide new : List Node) (node : ℕ) (answer : Bool) → node ≡ length old → wide ≡ old ++ Root Base ∷ [] → IsEquation i node wide new answer → IsClaim old new (IsBaseSort i) answer
   is_based wide new node true at widened e =
       based new (subst (λ (j : ℕ). Equates i j with_base new) at (subst (λ (xs : List Node). Equates i node xs new) widened e))
   is_based wide new node false at widened e =
       not_based (subst (λ (j : ℕ). (v : Valuation) → Respects v with_base → v i ≡ v j → ⊥) at (subst (λ (xs : List Node). (v : Valuation) → Respects v xs → v i ≡ v node → ⊥) widened e))
 
 -- a node for a sort is made o
-pub ended : (old mid new : List Node) (sort : ℕ) (P : Valuation → SortTree → Type 0) (answer : Bool) → Adds old mid sort P → IsClaim mid new (IsBase sort) answer → IsClaim old new (λ v. P v o) answer
+pub ended : (old mid new : List Node) (sort : ℕ) (P : Valuation → SortTree → Type 0) (answer : Bool) → AddsNode old mid sort P → IsClaim mid new (IsBaseSort sort) answer → IsClaim old new (λ v. P v o) answer
 ended old mid new sort P true a b = record {
   longer = omega (arith, a.longer, b.longer);
   few = b.few;
@@ -67,7 +67,7 @@ ended old mid new sort P true a b = record {
 ended old mid new sort P false a b = λ v r p. let w = a.complete v o r p in b w.valuation w.respects w.gives
 
 -- two nodes for a sort, made one
-module _ (old mid wide : List Node) (a b : ℕ) (P Q : Valuation → SortTree → Type 0) (first : Adds old mid a P) (second : Adds mid wide b Q)
+module _ (old mid wide : List Node) (a b : ℕ) (P Q : Valuation → SortTree → Type 0) (first : AddsNode old mid a P) (second : AddsNode mid wide b Q)
     (stable : (v w : Valuation) (k : SortTree) → Agree (length old) v w → Q v k → Q w k) where
   module _ (v : Valuation) (k : SortTree) (was : Respects v old) (p : P v k) (q : Q v k) where
     abbrev one : Extension old mid a v k
@@ -99,17 +99,17 @@ module _ (old mid wide : List Node) (a b : ℕ) (P Q : Valuation → SortTree �
   same_sort new false e = λ v r (k, p, q). let z = other v k r p q in e z.valuation z.respects (agree v k r p q)
 
 -- no node for the second sort
-pub no_second : (old mid : List Node) (a : ℕ) (P Q : Valuation → SortTree → Type 0) → Adds old mid a P → ((v w : Valuation) (k : SortTree) → Agree (length old) v w → Q v k → Q w k) → Refutes mid Q
+pub no_second : (old mid : List Node) (a : ℕ) (P Q : Valuation → SortTree → Type 0) → AddsNode old mid a P → ((v w : Valuation) (k : SortTree) → Agree (length old) v w → Q v k → Q w k) → Refutes mid Q
     → (v : Valuation) → Respects v old → ((k : SortTree) × P v k × Q v k) → ⊥
 no_second old mid a P Q first stable never v r (k, p, q) = let w = first.complete v k r p in never w.valuation k w.respects (stable v w.valuation k w.agrees q)
 
 -- a node's sort takes the first arguments of a row, and a node has what is left
 module _ (old : List Node) (i first count : ℕ) (within : first + count ≤ length old) where
-  pub taken_all : (new : List Node) (sort : ℕ) (n : ℕ) → n ≡ count → Adds old new sort (Leaves i first n) → Adds old new sort (Leaves i first count)
-  taken_all new sort n e a = subst (λ (m : ℕ). Adds old new sort (Leaves i first m)) e a
+  pub taken_all : (new : List Node) (sort : ℕ) (n : ℕ) → n ≡ count → AddsNode old new sort (Leaves i first n) → AddsNode old new sort (Leaves i first count)
+  taken_all new sort n e a = subst (λ (m : ℕ). AddsNode old new sort (Leaves i first m)) e a
 
-  module _ (now next : List Node) (n sort rest : ℕ) (below : n < count) (so_far : Adds old now sort (Leaves i first n)) where
-    pub taken_more : Adds now next rest (Takes sort (first + n)) → Adds old next rest (Leaves i first (n + 1))
+  module _ (now next : List Node) (n sort rest : ℕ) (below : n < count) (so_far : AddsNode old now sort (Leaves i first n)) where
+    pub taken_more : AddsNode now next rest (TakesArgument sort (first + n)) → AddsNode old next rest (Leaves i first (n + 1))
     taken_more t = record {
       longer = omega (arith, so_far.longer, t.longer);
       few = t.few;
@@ -127,7 +127,7 @@ module _ (old : List Node) (i first count : ℕ) (within : first + count ≤ len
           record { valuation = z.valuation; agrees = agree_trans (length old) (length now) v w.valuation z.valuation so_far.longer w.agrees z.agrees; respects = z.respects; gives = z.gives };
     }
 
-    pub taken_no_more : Refutes now (Takes sort (first + n)) → Refutes old (Leaves i first count)
+    pub taken_no_more : Refutes now (TakesArgument sort (first + n)) → Refutes old (Leaves i first count)
     taken_no_more never v k r p =
         let x = arrows_split n count (λ j. v (first + j)) k below in
         let w = so_far.complete v (arrow (v (first + n)) x.0) r (p ∙ x.1) in

@@ -9,7 +9,7 @@ use Rattle.hs_sorts.specs.declared.store.Shape.{Shape}
 use Rattle.hs_sorts.specs.declared.store.Shape.TheVariants.{Arrow}
 use Rattle.hs_sorts.specs.declared.store.Node.{Node}
 use Rattle.hs_sorts.specs.declared.store.Node.TheVariants.{Root, Link}
-use Rattle.hs_sorts.specs.Nodes.{Valuation, Fits, FitsNode, Respects, ShapeInRange, IsRootOf, root_count, linked, AreOne, PairsInRange, Merges, Joins, Equates, IsEquation}
+use Rattle.hs_sorts.specs.Nodes.{Valuation, FitsShape, FitsNode, Respects, ShapeInRange, IsRootOf, root_count, linked, AreOne, PairsInRange, Merges, Joins, Equates, IsEquation}
 use Rattle.hs_sorts.proofs.Lists.{get_set_same, get_set_other}
 use Rattle.hs_sorts.proofs.NodeLemmas.{respects_set, respects_unset, roots_set}
 
@@ -51,9 +51,9 @@ arrows_merge a b c d old mid new first second = record {
 pub record Linked (old new : List Node) (a b : ℕ) (left right shape : Shape) : Type 0 where
   pub as_long : length new ≡ length old
   pub roots : root_count new + 1 ≡ root_count old
-  pub onward : (v : Valuation) → Respects v old → v a ≡ v b → Fits v (v a) shape → Respects v new
-  pub back : (v : Valuation) → Respects v new → (v a ≡ v b) × Fits v (v a) shape
-  pub restores : (v : Valuation) → Respects v new → Fits v (v a) left → Fits v (v b) right → Respects v old
+  pub onward : (v : Valuation) → Respects v old → v a ≡ v b → FitsShape v (v a) shape → Respects v new
+  pub back : (v : Valuation) → Respects v new → (v a ≡ v b) × FitsShape v (v a) shape
+  pub restores : (v : Valuation) → Respects v new → FitsShape v (v a) left → FitsShape v (v b) right → Respects v old
 
 module _ (old : List Node) (a b : ℕ) (left right shape : Shape) (apart : a ≢ b) (at_a : slice_get old a ≡ Some (Root left)) (at_b : slice_get old b ≡ Some (Root right)) where
   in_a : a < length old
@@ -88,8 +88,8 @@ turned : (old new : List Node) (a b : ℕ) (left right shape : Shape) → Linked
 turned old new a b left right shape l = record {
   as_long = l.as_long;
   roots = l.roots;
-  onward = λ v r e fit. l.onward v r (sym e) (subst (λ (s : SortTree). Fits v s shape) e fit);
-  back = λ v r. let h = l.back v r in (sym h.0, subst (λ (s : SortTree). Fits v s shape) h.0 h.1);
+  onward = λ v r e fit. l.onward v r (sym e) (subst (λ (s : SortTree). FitsShape v s shape) e fit);
+  back = λ v r. let h = l.back v r in (sym h.0, subst (λ (s : SortTree). FitsShape v s shape) h.0 h.1);
   restores = λ v r fit_a fit_b. l.restores v r fit_b fit_a;
 }
 
@@ -144,11 +144,11 @@ module _ (old mid now : List Node) (a b root_a root_b : ℕ) (left right : Shape
   }
   equates_roots new false e = λ v r h. e v (both_onward v r) (same_value v r h)
 
-  pub not_joined : ((v : Valuation) (s : SortTree) → Fits v s left → Fits v s right → ⊥) → (v : Valuation) → Respects v old → v a ≡ v b → ⊥
+  pub not_joined : ((v : Valuation) (s : SortTree) → FitsShape v s left → FitsShape v s right → ⊥) → (v : Valuation) → Respects v old → v a ≡ v b → ⊥
   not_joined clash v r e =
       let now_r = both_onward v r in
       clash v (v root_a) (now_r.fits root_a (Root left) at_a)
-      (subst (λ (s : SortTree). Fits v s right) (sym (same_value v r e)) (now_r.fits root_b (Root right) find_b.at))
+      (subst (λ (s : SortTree). FitsShape v s right) (sym (same_value v r e)) (now_r.fits root_b (Root right) find_b.at))
 
   pub joined : (shape : Shape) (before after : List (ℕ × ℕ)) → root_a ≢ root_b → Merges left right shape before after
       → Joins a b old (linked now (min root_a root_b) (max root_a root_b) shape) before after
@@ -163,12 +163,12 @@ module _ (old mid now : List Node) (a b root_a root_b : ℕ) (left right : Shape
         onward = λ v r e h.
             let now_r = both_onward v r in
             let one = same_value v r e in
-            let fit = m.onward v (v root_a) (now_r.fits root_a (Root left) at_a) (subst (λ (s : SortTree). Fits v s right) (sym one) (now_r.fits root_b (Root right) find_b.at)) h in
+            let fit = m.onward v (v root_a) (now_r.fits root_a (Root left) at_a) (subst (λ (s : SortTree). FitsShape v s right) (sym one) (now_r.fits root_b (Root right) find_b.at)) h in
             (l.onward v now_r one fit.0, fit.1);
         back = λ v r h.
             let b = l.back v r in
             let fit = m.back v (v root_a) b.1 h in
-            let now_r = l.restores v r fit.0 (subst (λ (s : SortTree). Fits v s right) b.0 fit.1) in
+            let now_r = l.restores v r fit.0 (subst (λ (s : SortTree). FitsShape v s right) b.0 fit.1) in
             (both_back v now_r, same_node v (both_back v now_r) b.0, fit.2);
       }
 

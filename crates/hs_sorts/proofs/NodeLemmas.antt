@@ -8,7 +8,7 @@ use Rattle.hs_sorts.specs.declared.store.Shape.{Shape}
 use Rattle.hs_sorts.specs.declared.store.Shape.TheVariants.{Open, Base, Arrow}
 use Rattle.hs_sorts.specs.declared.store.Node.{Node}
 use Rattle.hs_sorts.specs.declared.store.Node.TheVariants.{Root, Link}
-use Rattle.hs_sorts.specs.Nodes.{Valuation, Fits, FitsNode, Respects, ShapeInRange, NodeInRange, IsStore, IsSameStore, unlinked, root_count}
+use Rattle.hs_sorts.specs.Nodes.{Valuation, FitsShape, FitsNode, Respects, ShapeInRange, NodeInRange, IsStore, IsSameStore, unlinked, root_count}
 use Rattle.hs_sorts.specs.Constraints.{Agree}
 use Rattle.hs_sorts.proofs.Lists.{get_append, get_left, get_set_same, get_set_other}
 
@@ -40,7 +40,7 @@ store_more nodes s few is r = record {
 pub agree_trans : (n m : ℕ) (u v w : Valuation) → n ≤ m → Agree n u v → Agree m v w → Agree n u w
 agree_trans n m u v w h p q = record { at = λ i below. q.at i (omega arith) ∙ p.at i below }
 
-fits_same : (n : ℕ) (v w : Valuation) (s : SortTree) (x : Shape) → Agree n v w → ShapeInRange n x → Fits v s x → Fits w s x
+fits_same : (n : ℕ) (v w : Valuation) (s : SortTree) (x : Shape) → Agree n v w → ShapeInRange n x → FitsShape v s x → FitsShape w s x
 fits_same n v w s Open a r h = tt
 fits_same n v w s Base a r h = h
 fits_same n v w s (Arrow x y) a r h = h ∙ (λ i. arrow (sym (a.at x r.0) i) (sym (a.at y r.1) i))

@@ -11,7 +11,7 @@ use Rattle.hs_sorts.specs.declared.store.Node.{Node}
 use Rattle.hs_sorts.specs.declared.store.Node.TheVariants.{Root, Link}
 use Rattle.hs_sorts.specs.declared.weights.Weight.{Weight}
 use Rattle.hs_sorts.specs.Nodes.{Valuation, FitsNode, Respects, IsStore, IsFlat}
-use Rattle.hs_sorts.specs.Weights.{Reads, IsReading}
+use Rattle.hs_sorts.specs.Weights.{ReadsNode, IsReading}
 use Rattle.hs_sorts.specs.Search.{rank, Weighing}
 use Rattle.hs_sorts.specs.Reading.{size_at, parts, IsArrow, IsSplit}
 use Rattle.hs_sorts.proofs.Applying.{no_arrow}
@@ -19,7 +19,7 @@ use Rattle.hs_sorts.proofs.Joining.{arrow_parts}
 use Rattle.hs_sorts.proofs.Weighing.{size-arrow, size_positive}
 use Rattle.hs_sorts.proofs.Searching.{child_lower, child_below}
 
-read_fits : (v : Valuation) (s : SortTree) (n : Node) → Reads v s n → FitsNode v s n
+read_fits : (v : Valuation) (s : SortTree) (n : Node) → ReadsNode v s n → FitsNode v s n
 read_fits v s (Root Open) h = tt
 read_fits v s (Root Base) h = h
 read_fits v s (Root (Arrow a b)) h = h

@@ -9,7 +9,7 @@ use Rattle.hs_sorts.specs.declared.store.Shape.TheVariants.{Open}
 use Rattle.hs_sorts.specs.declared.store.Node.{Node}
 use Rattle.hs_sorts.specs.declared.store.Node.TheVariants.{Root}
 use Rattle.hs_sorts.specs.Nodes.{Valuation, Respects, IsStore}
-use Rattle.hs_sorts.specs.Constraints.{node_of, NodesBelow, Agree, Adds, Refutes, Claims, IsClaim, Leaves, Has, sorts_with, IsRuled, BodyWithin}
+use Rattle.hs_sorts.specs.Constraints.{node_of, NodesBelow, Agree, AddsNode, Refutes, Claims, IsClaim, Leaves, HasSortAt, sorts_with, IsRuled, BodyWithin}
 use Rattle.hs_sorts.proofs.Arrows.{arrows_same}
 use Rattle.hs_sorts.proofs.NodeLemmas.{agree_trans, over, over_agrees, over_later, respects_fewer}
 use Rattle.hs_sorts.proofs.Ranges.{has_in_range, term_below}
@@ -50,7 +50,7 @@ module _ (old : List Node) (is : IsStore old) (rules k f : ℕ) (rule : Rule) (b
 
   -- some sort is left behind those of the parameters' nodes, and the body has it
   abbrev pub Both : Valuation → Type 0
-  Both v = (s : SortTree) × Leaves f first rule.params v s × Has (node_of rules first) rule.body v s
+  Both v = (s : SortTree) × Leaves f first rule.params v s × HasSortAt (node_of rules first) rule.body v s
 
   module _ (v : Valuation) (was : Respects v old) (q : IsRuled rules k f rule v) where
     abbrev opened : Valuation
@@ -92,7 +92,7 @@ module _ (old : List Node) (is : IsStore old) (rules k f : ℕ) (rule : Rule) (b
   none_left never v r q = never (opened v r q) q.rest (opened_respects v r q) (opened_leaves v r q)
 
   -- the rule's body isn't asked for
-  pub begun : (mid : List Node) (rest : ℕ) → k ≤ f → Adds wide mid rest (Leaves f first rule.params) → Claims old mid (IsRuled rules k f rule)
+  pub begun : (mid : List Node) (rest : ℕ) → k ≤ f → AddsNode wide mid rest (Leaves f first rule.params) → Claims old mid (IsRuled rules k f rule)
   begun mid rest past a = record {
     longer = omega (arith, long, a.longer);
     few = a.few;

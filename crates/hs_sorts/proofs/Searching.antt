@@ -14,8 +14,8 @@ use Rattle.hs_sorts.specs.declared.weights.Mark.{Mark}
 use Rattle.hs_sorts.specs.declared.weights.Mark.TheVariants.{New, Entered, Weighed}
 use Rattle.hs_sorts.specs.declared.weights.Step.TheVariants.{Done, Child}
 use Rattle.hs_sorts.specs.Nodes.{Valuation, Respects, IsStore}
-use Rattle.hs_sorts.specs.Weights.{Reads, Describes, IsWeighed, IsChild, ChildrenBelow, IsStep}
-use Rattle.hs_sorts.specs.Search.{rank, newness, new_count, PartReading, IsSearch, IsStarted, IsLast, Advances, IsAdvance, IsEntry, AreWeights, IsWeighing}
+use Rattle.hs_sorts.specs.Weights.{ReadsNode, Describes, IsWeighed, IsReadBy, ChildrenBelow, IsWeighingStep}
+use Rattle.hs_sorts.specs.Search.{rank, newness, new_count, PartReading, IsSearch, IsStarted, IsLastOnPath, Advances, IsAdvance, IsEntry, AreWeights, IsWeighing}
 use Rattle.hs_sorts.proofs.Lists.{get_set_same, get_set_other, get_left, get_right, get_append, get_replicate}
 use Rattle.hs_sorts.proofs.NodeLemmas.{here_or_not, written, one_place}
 use Rattle.hs_sorts.proofs.Weighing.{size-arrow}
@@ -31,7 +31,7 @@ child_below nodes i (Link up) is at c e = let r : up < i = is.in_range i (Link u
 smaller_rank : (count s t c i : ℕ) → s + 1 ≤ t → c < count → s * (count + 1) + c < t * (count + 1) + i
 smaller_rank count s t c i h l = omega (arith, mul-le-mul_left (count + 1) h)
 
-pub child_lower : (nodes : List Node) (v : Valuation) (i c : ℕ) (n : Node) → IsStore nodes → Respects v nodes → slice_get nodes i ≡ Some n → IsChild n c → rank v (length nodes) c < rank v (length nodes) i
+pub child_lower : (nodes : List Node) (v : Valuation) (i c : ℕ) (n : Node) → IsStore nodes → Respects v nodes → slice_get nodes i ≡ Some n → IsReadBy n c → rank v (length nodes) c < rank v (length nodes) i
 child_lower nodes v i c (Root Open) is r at h = absurd h
 child_lower nodes v i c (Root Base) is r at h = absurd h
 child_lower nodes v i c (Root (Arrow a b)) is r at (inl e) =
@@ -152,13 +152,13 @@ reading_of v (Root Base) = o
 reading_of v (Root (Arrow a b)) = arrow (v a) (v b)
 reading_of v (Link up) = v up
 
-reads_of : (v : Valuation) (n : Node) → Reads v (reading_of v n) n
+reads_of : (v : Valuation) (n : Node) → ReadsNode v (reading_of v n) n
 reads_of v (Root Open) = refl
 reads_of v (Root Base) = refl
 reads_of v (Root (Arrow a b)) = refl
 reads_of v (Link up) = refl
 
-reads_same : (v w : Valuation) (s : SortTree) (n : Node) → ((c : ℕ) → IsChild n c → w c ≡ v c) → Reads v s n → Reads w s n
+reads_same : (v w : Valuation) (s : SortTree) (n : Node) → ((c : ℕ) → IsReadBy n c → w c ≡ v c) → ReadsNode v s n → ReadsNode w s n
 reads_same v w s (Root Open) same h = h
 reads_same v w s (Root Base) same h = h
 reads_same v w s (Root (Arrow a b)) same h = h ∙ (λ i. arrow (sym (same a (inl refl)) i) (sym (same b (inr refl)) i))
@@ -201,7 +201,7 @@ module _ (nodes : List Node) (marks : List Mark) (path rest : List ℕ) (top : �
   top_below = slice_get_within marks top Entered top_entered
 
   -- a child that is on the path is a part of itself
-  pub cycle : (c : ℕ) → IsStore nodes → IsChild n c → IsStarted marks c → ((w : Weight) → slice_get marks c ≡ Some (Weighed w) → ⊥) → (v : Valuation) → Respects v nodes → ⊥
+  pub cycle : (c : ℕ) → IsStore nodes → IsReadBy n c → IsStarted marks c → ((w : Weight) → slice_get marks c ≡ Some (Weighed w) → ⊥) → (v : Valuation) → Respects v nodes → ⊥
   cycle c store child started never v r =
       let below = child_below nodes top n store at_node c child in
       elim (mark_cases marks c (omega (arith, s.as_long, below))) [
@@ -217,13 +217,13 @@ module _ (nodes : List Node) (marks : List Mark) (path rest : List ℕ) (top : �
       ]
 
   -- so a child that is new goes on the path
-  pub child_entered : (c : ℕ) → IsStore nodes → IsChild n c → slice_get marks c ≡ Some New → Advances nodes marks path (set marks c Entered) (path ++ c ∷ [])
+  pub child_entered : (c : ℕ) → IsStore nodes → IsReadBy n c → slice_get marks c ≡ Some New → Advances nodes marks path (set marks c Entered) (path ++ c ∷ [])
   child_entered c store child is_new = entry_advances nodes marks path s c is_new (λ v r p i h.
       let place = slice_get_within path p i h in
       let le : p ≤ length rest = omega (arith, place, ap length last, length-append rest (top ∷ [])) in
       omega (arith, child_lower nodes v top c n store r at_node child, s.falling v r p (length rest) i top le h at_top))
 
-  module _ (w : Weight) (step : IsStep marks n (Done w)) where
+  module _ (w : Weight) (step : IsWeighingStep marks n (Done w)) where
     never_weighed : (u : Weight) → slice_get marks top ≡ Some (Weighed u) → ⊥
     never_weighed u h = entered_not_weighed u (sym top_entered ∙ h)
 
@@ -274,17 +274,17 @@ module _ (nodes : List Node) (marks : List Mark) (path rest : List ℕ) (top : �
       reads = λ i m h there. elim (weighed_place i h.0 h.1) [
         | inl (same, is) ↦
             let e = same_node m (ap (slice_get nodes) (sym same) ∙ there) in
-            subst (λ (x : Node). Reads more_valuation (more_valuation i) x) e
-            (subst (λ (x : SortTree). Reads more_valuation x n) (sym (ap more_valuation same ∙ put_same s.reading.valuation top value))
+            subst (λ (x : Node). ReadsNode more_valuation (more_valuation i) x) e
+            (subst (λ (x : SortTree). ReadsNode more_valuation x n) (sym (ap more_valuation same ∙ put_same s.reading.valuation top value))
             (reads_same s.reading.valuation more_valuation value n (λ c child. keeps c (step.0 c child)) (reads_of s.reading.valuation n)))
         | inr before ↦
             reads_same s.reading.valuation more_valuation (more_valuation i) m (λ c child. keeps c (s.reading.children i m (h.0, before) there c child))
-            (subst (λ (x : SortTree). Reads s.reading.valuation x m) (sym (keeps i (h.0, before))) (s.reading.reads i m (h.0, before) there))
+            (subst (λ (x : SortTree). ReadsNode s.reading.valuation x m) (sym (keeps i (h.0, before))) (s.reading.reads i m (h.0, before) there))
       ];
       children = λ i m h there c child. elim (weighed_place i h.0 h.1) [
         | inl (same, is) ↦
             let e = same_node m (ap (slice_get nodes) (sym same) ∙ there) in
-            still_weighed c (step.0 c (subst (λ (x : Node). IsChild x c) (sym e) child))
+            still_weighed c (step.0 c (subst (λ (x : Node). IsReadBy x c) (sym e) child))
         | inr before ↦ still_weighed c (s.reading.children i m (h.0, before) there c child)
       ];
     }
@@ -331,7 +331,7 @@ started_weighed nodes marks i s within started = elim (mark_cases marks i within
     nothing_there : (p j : ℕ) → slice_get [] p ≡ Some j → ⊥
     nothing_there p j h = cc
 
-pub last_below : (nodes : List Node) (marks : List Mark) (path : List ℕ) (top : ℕ) → IsSearch nodes marks path → IsLast path top → top < length marks
+pub last_below : (nodes : List Node) (marks : List Mark) (path : List ℕ) (top : ℕ) → IsSearch nodes marks path → IsLastOnPath path top → top < length marks
 last_below nodes marks path top s (rest, last) =
     let e : length rest + 0 ≡ length rest = omega arith in
     slice_get_within marks top Entered (s.entered (length rest) top
@@ -343,8 +343,8 @@ popped path now rest top m last is long =
     is ∙ ((λ i. take (e i) (last i)) ∙ take_at rest (top ∷ []) (length rest) refl)
 
 -- a child that is put on the path, or was on it
-pub child_advances : (nodes : List Node) (marks : List Mark) (path : List ℕ) (top : ℕ) (n : Node) (c : ℕ) (new : List Mark) (longer : List ℕ) (answer : Bool) → IsSearch nodes marks path → IsLast path top → slice_get nodes top ≡ Some n
-    → IsStore nodes → IsStep marks n (Child c) → IsEntry marks path c new longer answer → IsAdvance nodes marks path new longer answer
+pub child_advances : (nodes : List Node) (marks : List Mark) (path : List ℕ) (top : ℕ) (n : Node) (c : ℕ) (new : List Mark) (longer : List ℕ) (answer : Bool) → IsSearch nodes marks path → IsLastOnPath path top → slice_get nodes top ≡ Some n
+    → IsStore nodes → IsWeighingStep marks n (Child c) → IsEntry marks path c new longer answer → IsAdvance nodes marks path new longer answer
 child_advances nodes marks path top n c new longer true s (rest, last) at store step (is_new, marked, pushed) =
     subst (λ (ms : List Mark). Advances nodes marks path ms longer) (sym marked)
     (subst (λ (xs : List ℕ). Advances nodes marks path (set marks c Entered) xs) (sym pushed) (child_entered nodes marks path rest top n s last at c store step.0 is_new))

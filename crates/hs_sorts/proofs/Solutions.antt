@@ -9,7 +9,7 @@ use Rattle.hs_scheme.specs.Sorting.{arrows, behind, arguments, Sorts, heads, Has
 use Rattle.hs_scheme.specs.Sorted.{sort_at}
 use Rattle.hs_sorts.specs.declared.store.Node.{Node}
 use Rattle.hs_sorts.specs.Nodes.{Valuation, Respects}
-use Rattle.hs_sorts.specs.Constraints.{Agree, Claims, IsBase, IsRankedIf, sorts_with, IsRuled, BodiesWithin}
+use Rattle.hs_sorts.specs.Constraints.{Agree, Claims, IsBaseSort, IsRankedIf, sorts_with, IsRuled, BodiesWithin}
 use Rattle.hs_sorts.specs.Solving.{Realizes, Realization, LaysOut, sorts_at, Solves, EachBefore, AreRuled}
 use Rattle.hs_sorts.proofs.Arrows.{arrows_same, left_behind, argument_is}
 use Rattle.hs_sorts.proofs.Ranges.{has_in_range}
@@ -36,7 +36,7 @@ module _ (rules : List Rule) (ranks : List (Option ℕ)) (k : ℕ) (are : AreRul
 
   -- what the sorts of a sorting are
   module _ (s : Sorts) (sorting : IsSorting rules ranks k s) (v : Valuation) (r : Realizes (length rules) (length ranks) s v) where
-    start_base : IsBase 0 v
+    start_base : IsBaseSort 0 v
     start_base = r.nonterminals 0 (slice_get_within rules 0 are.start.0 are.start.1.0) ∙ sorting.start
 
     ranked_if : (a : ℕ) (rank : Option ℕ) → a < length ranks → slice_get ranks a ≡ Some rank → IsRankedIf (length rules + a) rank v
@@ -71,7 +71,7 @@ module _ (rules : List Rule) (ranks : List (Option ℕ)) (k : ℕ) (are : AreRul
     head_is (Nt g) l = refl
     head_is (Tm a) l = refl
 
-  is_sorting : (v : Valuation) → IsBase 0 v → AreRanked ranks (length rules) v → AreRuled k rules v → IsSorting rules ranks k (sorts_at (length rules) v)
+  is_sorting : (v : Valuation) → IsBaseSort 0 v → AreRanked ranks (length rules) v → AreRuled k rules v → IsSorting rules ranks k (sorts_at (length rules) v)
   is_sorting v s t b = record {
     nonterminals = λ f rule at.
         let q = b f rule (slice_get_within rules f rule at) at in
@@ -94,17 +94,17 @@ module _ (rules : List Rule) (ranks : List (Option ℕ)) (k : ℕ) (are : AreRul
       record { valuation = w.valuation; respects = w.respects; realizes = realizes_stable (length nodes) room s r.valuation w.valuation w.agrees r.realizes }
 
   module _ (laid : List Node) (out : LaysOut (length rules) (length ranks) laid) where
-    pub no_start : ((v : Valuation) → Respects v laid → IsBase 0 v → ⊥) → HasSorting rules ranks k → ⊥
+    pub no_start : ((v : Valuation) → Respects v laid → IsBaseSort 0 v → ⊥) → HasSorting rules ranks k → ⊥
     no_start never (s, sorting) =
         let v = out.any s in
         never v.valuation v.respects (start_base s sorting v.valuation v.realizes)
 
-    module _ (started : List Node) (a : Claims laid started (IsBase 0)) where
+    module _ (started : List Node) (a : Claims laid started (IsBaseSort 0)) where
       room_started : length rules + length ranks ≤ length started
       room_started = omega (arith, out.room, a.longer)
 
       at_started : (s : Sorts) → IsSorting rules ranks k s → Realization (length rules) (length ranks) started s
-      at_started s sorting = let v = out.any s in go_on laid started (IsBase 0) out.room a s v (start_base s sorting v.valuation v.realizes)
+      at_started s sorting = let v = out.any s in go_on laid started (IsBaseSort 0) out.room a s v (start_base s sorting v.valuation v.realizes)
 
       pub no_ranks : ((v : Valuation) → Respects v started → AreRanked ranks (length rules) v → ⊥) → HasSorting rules ranks k → ⊥
       no_ranks never (s, sorting) =

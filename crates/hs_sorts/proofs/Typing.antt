@@ -7,7 +7,7 @@ use Rattle.hs_scheme.specs.Tree.{Tree, Trees, node, none, more, forest, height, 
 use Rattle.hs_scheme.specs.Sorting.{SortTree, arrow, HasSort, Applied}
 use Rattle.hs_sorts.specs.declared.store.Node.{Node}
 use Rattle.hs_sorts.specs.Nodes.{Valuation}
-use Rattle.hs_sorts.specs.Constraints.{NodesBelow, AllNodesBelow, Agree, Adds, Refutes, Takes, Has}
+use Rattle.hs_sorts.specs.Constraints.{NodesBelow, AllNodesBelow, Agree, AddsNode, Refutes, TakesArgument, HasSortAt}
 use Rattle.hs_sorts.proofs.NodeLemmas.{agree_trans}
 
 module _ (at : Head → ℕ) where
@@ -68,31 +68,31 @@ module _ (at : Head → ℕ) (old : List Node) (top : ℕ) (ts : List (Tree Head
   abbrev pub Given : ℕ → Valuation → SortTree → Type 0
   Given i v k = Applied (λ h. v (at h)) (forest (take i ts)) (v top) k
 
-  pub given_all : (new : List Node) (i sort : ℕ) → length ts ≤ i → Adds old new sort (Given i) → Adds old new sort (λ v k. Applied (λ h. v (at h)) (forest ts) (v top) k)
-  given_all new i sort all a = subst (λ (us : List (Tree Head)). Adds old new sort (λ v k. Applied (λ h. v (at h)) (forest us) (v top) k)) (take_all i ts all) a
+  pub given_all : (new : List Node) (i sort : ℕ) → length ts ≤ i → AddsNode old new sort (Given i) → AddsNode old new sort (λ v k. Applied (λ h. v (at h)) (forest ts) (v top) k)
+  given_all new i sort all a = subst (λ (us : List (Tree Head)). AddsNode old new sort (λ v k. Applied (λ h. v (at h)) (forest us) (v top) k)) (take_all i ts all) a
 
-  module _ (now mid next : List Node) (i sort taken rest : ℕ) (arg : Tree Head) (within : i < length ts) (is : arg ≡ get_or ts i arg) (so_far : Adds old now sort (Given i)) where
+  module _ (now mid next : List Node) (i sort taken rest : ℕ) (arg : Tree Head) (within : i < length ts) (is : arg ≡ get_or ts i arg) (so_far : AddsNode old now sort (Given i)) where
     arg_below : NodesBelow at (length old) arg
     arg_below = subst (NodesBelow at (length old)) (sym is) (all_below_at at (length old) i ts arg within all_below)
 
     has_arg : (v w : Valuation) (a : SortTree) → Agree (length old) v w → HasSort (λ h. v (at h)) (get_or ts i arg) a → HasSort (λ h. w (at h)) arg a
     has_arg v w a same h = has_same at (length old) v w same arg a arg_below (subst (λ (t : Tree Head). HasSort (λ g. v (at g)) t a) (sym is) h)
 
-    pub no_argument : Refutes now (Has at arg) → Refutes old (λ v k. Applied (λ h. v (at h)) (forest ts) (v top) k)
+    pub no_argument : Refutes now (HasSortAt at arg) → Refutes old (λ v k. Applied (λ h. v (at h)) (forest ts) (v top) k)
     no_argument never v k r p =
         let x = argument_at (λ h. v (at h)) ts i (v top) k arg within p in
         let w = so_far.complete v (arrow x.given x.left) r x.before in
         never w.valuation x.given w.respects (has_arg v w.valuation x.given w.agrees x.has)
 
-    module _ (taken_for : Adds now mid taken (Has at arg)) where
-      pub not_taken : Refutes mid (Takes sort taken) → Refutes old (λ v k. Applied (λ h. v (at h)) (forest ts) (v top) k)
+    module _ (taken_for : AddsNode now mid taken (HasSortAt at arg)) where
+      pub not_taken : Refutes mid (TakesArgument sort taken) → Refutes old (λ v k. Applied (λ h. v (at h)) (forest ts) (v top) k)
       not_taken never v k r p =
           let x = argument_at (λ h. v (at h)) ts i (v top) k arg within p in
           let w = so_far.complete v (arrow x.given x.left) r x.before in
           let u = taken_for.complete w.valuation x.given w.respects (has_arg v w.valuation x.given w.agrees x.has) in
           never u.valuation x.left u.respects (u.agrees.at sort so_far.within ∙ (w.gives ∙ (λ j. arrow (sym u.gives j) x.left)))
 
-      pub one_more : Adds mid next rest (Takes sort taken) → Adds old next rest (Given (i + 1))
+      pub one_more : AddsNode mid next rest (TakesArgument sort taken) → AddsNode old next rest (Given (i + 1))
       one_more takes = record {
         longer = omega (arith, so_far.longer, taken_for.longer, takes.longer);
         few = takes.few;
@@ -123,13 +123,13 @@ module _ (at : Head → ℕ) (term : Tree Head) (head : Head) (ts : List (Tree H
   pub parts_below : (n : ℕ) → NodesBelow at n term → (top < n) × AllNodesBelow at n (forest ts)
   parts_below n b = let p : NodesBelow at n (node head (forest ts)) = subst (NodesBelow at n) (sym whole) b in (omega (arith, p.0), p.1)
 
-  pub adds_term : (old new : List Node) (sort : ℕ) → Adds old new sort (λ v k. Applied (λ h. v (at h)) (forest ts) (v top) k) → Adds old new sort (Has at term)
+  pub adds_term : (old new : List Node) (sort : ℕ) → AddsNode old new sort (λ v k. Applied (λ h. v (at h)) (forest ts) (v top) k) → AddsNode old new sort (HasSortAt at term)
   adds_term old new sort a =
-      subst (λ (t : Tree Head). Adds old new sort (Has at t)) whole (subst (λ (j : ℕ). Adds old new sort (λ v k. Applied (λ h. v (at h)) (forest ts) (v j) k)) is a)
+      subst (λ (t : Tree Head). AddsNode old new sort (HasSortAt at t)) whole (subst (λ (j : ℕ). AddsNode old new sort (λ v k. Applied (λ h. v (at h)) (forest ts) (v j) k)) is a)
 
-  pub refutes_term : (old : List Node) → Refutes old (λ v k. Applied (λ h. v (at h)) (forest ts) (v top) k) → Refutes old (Has at term)
+  pub refutes_term : (old : List Node) → Refutes old (λ v k. Applied (λ h. v (at h)) (forest ts) (v top) k) → Refutes old (HasSortAt at term)
   refutes_term old a =
-      subst (λ (t : Tree Head). Refutes old (Has at t)) whole (subst (λ (j : ℕ). Refutes old (λ v k. Applied (λ h. v (at h)) (forest ts) (v j) k)) is a)
+      subst (λ (t : Tree Head). Refutes old (HasSortAt at t)) whole (subst (λ (j : ℕ). Refutes old (λ v k. Applied (λ h. v (at h)) (forest ts) (v j) k)) is a)
 
 -- a list whose length is said to be 0
 pub no_items : {A : Type 0} (xs : List A) (len : ℕ) (empty : Bool) → len ≡ length xs → empty ≡ nat_eq len 0 → empty ≡ true → xs ≡ []
@@ -138,10 +138,10 @@ no_items (x ∷ xs) len empty long is h = absurd (omega (arith, long, eqb-true l
 
 -- a term without arguments has its head's node, and nothing is added
 pub leaf_node : (at : Head → ℕ) (store : List Node) (t : Tree Head) (head : Head) (us : List (Tree Head)) (top : ℕ) → length store ≤ 2 ^ 32 → node head (forest us) ≡ t → us ≡ [] → top ≡ at head
-    → NodesBelow at (length store) t → Adds store store top (Has at t)
+    → NodesBelow at (length store) t → AddsNode store store top (HasSortAt at t)
 leaf_node at store t head us top few whole none_there is below =
     let parts = parts_below at t head us top whole is (length store) below in
-    adds_term at t head us top whole is store store top (subst (λ (vs : List (Tree Head)). Adds store store top (λ v k. Applied (λ h. v (at h)) (forest vs) (v top) k)) (sym none_there) (record {
+    adds_term at t head us top whole is store store top (subst (λ (vs : List (Tree Head)). AddsNode store store top (λ v k. Applied (λ h. v (at h)) (forest vs) (v top) k)) (sym none_there) (record {
       longer = omega arith;
       few = few;
       within = parts.0;

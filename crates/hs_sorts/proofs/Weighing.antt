@@ -9,7 +9,7 @@ use Rattle.hs_sorts.specs.declared.weights.Mark.TheVariants.{New, Weighed}
 use Rattle.hs_sorts.specs.declared.weights.Step.TheVariants.{Done, Child}
 use Rattle.hs_sorts.specs.declared.store.Node.{Node}
 use Rattle.hs_sorts.specs.declared.store.Node.TheVariants.{Link}
-use Rattle.hs_sorts.specs.Weights.{Describes, IsStep}
+use Rattle.hs_sorts.specs.Weights.{Describes, IsWeighingStep}
 use Rattle.std.proofs.lemmas.Option.{get_or_from_slice_get}
 
 pub size-arrow : (a b : SortTree) → size (arrow a b) ≡ 1 + size a + size b
@@ -50,11 +50,11 @@ module _ (x y w : Weight) (a b : SortTree) (p : Describes x a) (q : Describes y 
       }
 
 -- a link to a node that is weighed, and to one that isn't
-pub link_done : (marks : List Mark) (n : Node) (up : ℕ) (w : Weight) → n ≡ Link up → slice_get marks up ≡ Some (Weighed w) → IsStep marks n (Done w)
+pub link_done : (marks : List Mark) (n : Node) (up : ℕ) (w : Weight) → n ≡ Link up → slice_get marks up ≡ Some (Weighed w) → IsWeighingStep marks n (Done w)
 link_done marks n up w is at =
-    subst (λ (m : Node). IsStep marks m (Done w)) (sym is)
+    subst (λ (m : Node). IsWeighingStep marks m (Done w)) (sym is)
     ((λ c e. (w, subst (λ (j : ℕ). slice_get marks j ≡ Some (Weighed w)) (sym e) at)), λ v s d r. subst (Describes w) (sym r) (d up w at))
 
-pub link_child : (marks : List Mark) (n : Node) (up : ℕ) → n ≡ Link up → ((w : Weight) → get_or marks up New ≡ Weighed w → ⊥) → IsStep marks n (Child up)
+pub link_child : (marks : List Mark) (n : Node) (up : ℕ) → n ≡ Link up → ((w : Weight) → get_or marks up New ≡ Weighed w → ⊥) → IsWeighingStep marks n (Child up)
 link_child marks n up is never =
-    subst (λ (m : Node). IsStep marks m (Child up)) (sym is) (refl, λ w h. never w (get_or_from_slice_get marks up (Weighed w) New h))
+    subst (λ (m : Node). IsWeighingStep marks m (Child up)) (sym is) (refl, λ w h. never w (get_or_from_slice_get marks up (Weighed w) New h))

@@ -1,6 +1,6 @@
 -- The nodes of a scheme's parts, and what terms and rules ask of the sorts of nodes.
 --     node_of          the node of a head in the body of a rule
---     Adds             a store gains a node whose sort is as is asked, and no valuation is lost
+--     AddsNode         a store gains a node whose sort is as is asked, and no valuation is lost
 --     IsRuled          what a rule asks of its nonterminal's sort
 use Rattle.std.specs.Prelude.{◌≡◌, ℕ, ◌+◌, ◌^◌, ◌<◌, ◌≤◌, List, length, slice_get, Option, Some, None, Bool, true, false}
 use Rattle.hs_scheme.specs.declared.term.Head.{Head}
@@ -40,7 +40,7 @@ pub record Extension (old new : List Node) (i : ℕ) (v : Valuation) (k : SortTr
 
 -- The new store's valuations are those of the old one that have a sort k of which P holds, with that
 -- sort for the node i.
-pub record Adds (old new : List Node) (i : ℕ) (P : Valuation → SortTree → Type 0) : Type 0 where
+pub record AddsNode (old new : List Node) (i : ℕ) (P : Valuation → SortTree → Type 0) : Type 0 where
   pub longer : length old ≤ length new
   pub few : length new ≤ 2 ^ 32
   pub within : i < length new
@@ -52,16 +52,16 @@ abbrev pub Refutes : List Node → (Valuation → SortTree → Type 0) → Type 
 Refutes old P = (v : Valuation) (k : SortTree) → Respects v old → P v k → ⊥
 
 abbrev pub IsNodeFor : List Node → List Node → (Valuation → SortTree → Type 0) → Option ℕ → Type 0
-IsNodeFor old new P (Some i) = Adds old new i P
+IsNodeFor old new P (Some i) = AddsNode old new i P
 IsNodeFor old new P None = Refutes old P
 
 -- k is a sort that is left where the function takes the argument
-abbrev pub Takes : ℕ → ℕ → Valuation → SortTree → Type 0
-Takes function argument v k = v function ≡ arrow (v argument) k
+abbrev pub TakesArgument : ℕ → ℕ → Valuation → SortTree → Type 0
+TakesArgument function argument v k = v function ≡ arrow (v argument) k
 
 -- k is a sort of the term
-abbrev pub Has : (Head → ℕ) → Tree Head → Valuation → SortTree → Type 0
-Has at t v k = HasSort (λ h. v (at h)) t k
+abbrev pub HasSortAt : (Head → ℕ) → Tree Head → Valuation → SortTree → Type 0
+HasSortAt at t v k = HasSort (λ h. v (at h)) t k
 
 -- a valuation that goes on with the new nodes
 pub record Continuation (old new : List Node) (v : Valuation) : Type 0 where
@@ -81,8 +81,8 @@ IsClaim old new P true = Claims old new P
 IsClaim old new P false = (v : Valuation) → Respects v old → P v → ⊥
 
 -- the node's sort is o
-abbrev pub IsBase : ℕ → Valuation → Type 0
-IsBase i v = v i ≡ o
+abbrev pub IsBaseSort : ℕ → Valuation → Type 0
+IsBaseSort i v = v i ≡ o
 
 -- k is what is left of the node's sort behind the sorts of `count` nodes in a row, its first arguments
 abbrev pub Leaves : ℕ → ℕ → ℕ → Valuation → SortTree → Type 0

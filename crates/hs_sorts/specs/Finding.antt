@@ -23,17 +23,17 @@ IsFinding rules ranks k (Some found) = Finds rules ranks k found
 IsFinding rules ranks k None = HasSorting rules ranks k → ⊥
 
 -- the first of `count` weights from the one at `start` on that fails, where the others pass
-abbrev pub IsFirst : (Weight → Type 0) → (Weight → Type 0) → List Weight → ℕ → ℕ → Option ℕ → Type 0
-IsFirst Fails Passes weights start count (Some i) =
+abbrev pub IsFirstWeight : (Weight → Type 0) → (Weight → Type 0) → List Weight → ℕ → ℕ → Option ℕ → Type 0
+IsFirstWeight Fails Passes weights start count (Some i) =
     (i < count) × ((w : Weight) → slice_get weights (start + i) ≡ Some w → Fails w) × ((j : ℕ) (w : Weight) → j < i → slice_get weights (start + j) ≡ Some w → Passes w)
-IsFirst Fails Passes weights start count None = (j : ℕ) (w : Weight) → j < count → slice_get weights (start + j) ≡ Some w → Passes w
+IsFirstWeight Fails Passes weights start count None = (j : ℕ) (w : Weight) → j < count → slice_get weights (start + j) ≡ Some w → Passes w
 
 -- the first whose sort has an argument other than o, and the first whose sort is larger than 1,000
 abbrev pub IsFirstHigherOrder : List Weight → ℕ → ℕ → Option ℕ → Type 0
-IsFirstHigherOrder = IsFirst (λ w. w.first_order ≡ false) (λ w. w.first_order ≡ true)
+IsFirstHigherOrder = IsFirstWeight (λ w. w.first_order ≡ false) (λ w. w.first_order ≡ true)
 
 abbrev pub IsFirstLarge : List Weight → ℕ → ℕ → Option ℕ → Type 0
-IsFirstLarge = IsFirst (λ w. 1000 < w.size) (λ w. w.size ≤ 1000)
+IsFirstLarge = IsFirstWeight (λ w. 1000 < w.size) (λ w. w.size ≤ 1000)
 
 -- whether a rule is too long, where its nonterminal's sort has so many arguments
 abbrev pub TellsLong : Rule → ℕ → Bool → Type 0

@@ -1,8 +1,8 @@
 -- Nodes that stand for sorts, and what unification does to them.
---     Fits, FitsNode     a sort is as a node says, where v gives the sorts of the nodes
---     Respects           so is the sort that v gives to each node
---     IsStore            links and arrows lead to nodes, links to smaller numbers
---     IsFlat             no link leads to a link
+--     FitsShape, FitsNode  a sort is as a node says, where v gives the sorts of the nodes
+--     Respects             so is the sort that v gives to each node
+--     IsStore              links and arrows lead to nodes, links to smaller numbers
+--     IsFlat               no link leads to a link
 use Rattle.std.specs.Prelude.{◌≡◌, ◌≢◌, ℕ, ◌+◌, ◌*◌, ◌^◌, ◌<◌, ◌≤◌, List, [], ◌∷◌, ◌++◌, All, length, slice_get, slice_set, sum_by, Option, Some, None, Bool, true, false}
 use Rattle.hs_scheme.specs.Sorting.{SortTree, o, arrow}
 use Rattle.hs_sorts.specs.declared.store.Shape.{Shape}
@@ -14,13 +14,13 @@ use Rattle.hs_sorts.specs.declared.store.Node.TheVariants.{Root, Link}
 abbrev pub Valuation : Type 0
 Valuation = ℕ → SortTree
 
-abbrev pub Fits : Valuation → SortTree → Shape → Type 0
-Fits v s Open = Unit {0}
-Fits v s Base = s ≡ o
-Fits v s (Arrow a b) = s ≡ arrow (v a) (v b)
+abbrev pub FitsShape : Valuation → SortTree → Shape → Type 0
+FitsShape v s Open = Unit {0}
+FitsShape v s Base = s ≡ o
+FitsShape v s (Arrow a b) = s ≡ arrow (v a) (v b)
 
 abbrev pub FitsNode : Valuation → SortTree → Node → Type 0
-FitsNode v s (Root shape) = Fits v s shape
+FitsNode v s (Root shape) = FitsShape v s shape
 FitsNode v s (Link up) = s ≡ v up
 
 -- the sort of each node is as the node says
@@ -99,12 +99,12 @@ pub record Merges (left right shape : Shape) (old new : List (ℕ × ℕ)) : Typ
   pub few : length new ≤ length old + 2
   pub in_range : (count : ℕ) → ShapeInRange count left → ShapeInRange count right → ShapeInRange count shape
   pub pairs_in_range : (count : ℕ) → ShapeInRange count left → ShapeInRange count right → PairsInRange count old → PairsInRange count new
-  pub onward : (v : Valuation) (s : SortTree) → Fits v s left → Fits v s right → AreOne v old → Fits v s shape × AreOne v new
-  pub back : (v : Valuation) (s : SortTree) → Fits v s shape → AreOne v new → Fits v s left × Fits v s right × AreOne v old
+  pub onward : (v : Valuation) (s : SortTree) → FitsShape v s left → FitsShape v s right → AreOne v old → FitsShape v s shape × AreOne v new
+  pub back : (v : Valuation) (s : SortTree) → FitsShape v s shape → AreOne v new → FitsShape v s left × FitsShape v s right × AreOne v old
 
 abbrev pub IsMerge : Shape → Shape → List (ℕ × ℕ) → List (ℕ × ℕ) → Option Shape → Type 0
 IsMerge left right old new (Some shape) = Merges left right shape old new
-IsMerge left right old new None = (v : Valuation) (s : SortTree) → Fits v s left → Fits v s right → ⊥
+IsMerge left right old new None = (v : Valuation) (s : SortTree) → FitsShape v s left → FitsShape v s right → ⊥
 
 -- the two nodes are one, and so are the pairs, exactly where the new store is respected and the new pairs are one
 pub record Joins (a b : ℕ) (old new : List Node) (before after : List (ℕ × ℕ)) : Type 0 where

@@ -8,7 +8,7 @@ use Rattle.hs_sorts.specs.declared.weights.Weight.{Weight}
 use Rattle.hs_sorts.specs.declared.weights.Mark.{Mark}
 use Rattle.hs_sorts.specs.declared.weights.Mark.TheVariants.{New, Entered, Weighed}
 use Rattle.hs_sorts.specs.Nodes.{Valuation, Respects}
-use Rattle.hs_sorts.specs.Weights.{Reads, IsReading, DescribeAll, MarksDescribe, IsWeighed, ChildrenWeighed}
+use Rattle.hs_sorts.specs.Weights.{ReadsNode, IsReading, DescribeAll, MarksDescribe, IsWeighed, ChildrenWeighed}
 
 abbrev pub rank : Valuation → ℕ → ℕ → ℕ
 rank v count i = size (v i) * (count + 1) + i
@@ -26,7 +26,7 @@ new_count marks = sum_by newness marks
 pub record PartReading (nodes : List Node) (marks : List Mark) : Type 0 where
   pub valuation : Valuation
   pub describes : MarksDescribe marks valuation
-  pub reads : (i : ℕ) (n : Node) → IsWeighed marks i → slice_get nodes i ≡ Some n → Reads valuation (valuation i) n
+  pub reads : (i : ℕ) (n : Node) → IsWeighed marks i → slice_get nodes i ≡ Some n → ReadsNode valuation (valuation i) n
   pub children : (i : ℕ) (n : Node) → IsWeighed marks i → slice_get nodes i ≡ Some n → ChildrenWeighed marks n
 
 pub record IsSearch (nodes : List Node) (marks : List Mark) (path : List ℕ) : Type 0 where
@@ -43,8 +43,8 @@ abbrev pub IsStarted : List Mark → ℕ → Type 0
 IsStarted marks i = slice_get marks i ≢ Some New
 
 -- the node is last on the path
-abbrev pub IsLast : List ℕ → ℕ → Type 0
-IsLast path at = (rest : List ℕ) × (path ≡ rest ++ at ∷ [])
+abbrev pub IsLastOnPath : List ℕ → ℕ → Type 0
+IsLastOnPath path at = (rest : List ℕ) × (path ≡ rest ++ at ∷ [])
 
 -- a step of the walk
 pub record Advances (nodes : List Node) (old : List Mark) (path : List ℕ) (new : List Mark) (longer : List ℕ) : Type 0 where
@@ -68,9 +68,9 @@ pub record Walks (nodes : List Node) (old new : List Mark) (path : List ℕ) (st
   pub started : IsStarted new start
   pub kept : (i : ℕ) → IsStarted old i → IsStarted new i
 
-abbrev pub IsWalk : List Node → List Mark → List Mark → List ℕ → ℕ → Bool → Type 0
-IsWalk nodes old new path start true = Walks nodes old new path start
-IsWalk nodes old new path start false = (v : Valuation) → Respects v nodes → ⊥
+abbrev pub IsNodeWalk : List Node → List Mark → List Mark → List ℕ → ℕ → Bool → Type 0
+IsNodeWalk nodes old new path start true = Walks nodes old new path start
+IsNodeWalk nodes old new path start false = (v : Valuation) → Respects v nodes → ⊥
 
 -- all nodes' weights, where all are weighed
 abbrev pub AreWeights : List Mark → Option (List Weight) → Type 0

@@ -1,5 +1,5 @@
 -- Sorts read from nodes, and what is counted of them.
---     Reads          a sort is read from a node, an open one as o
+--     ReadsNode      a sort is read from a node, an open one as o
 --     IsReading      so is each node's sort
 --     Describes      a weight has the size of a sort, counted to 1,001, and its number of arguments
 use Rattle.std.specs.Prelude.{◌≡◌, ℕ, ◌<◌, List, length, slice_get, min, Some, true, false, ◌⊎◌}
@@ -14,14 +14,14 @@ use Rattle.hs_sorts.specs.declared.weights.Step.{Step}
 use Rattle.hs_sorts.specs.declared.weights.Step.TheVariants.{Done, Child}
 use Rattle.hs_sorts.specs.Nodes.{Valuation}
 
-abbrev pub Reads : Valuation → SortTree → Node → Type 0
-Reads v s (Root Open) = s ≡ o
-Reads v s (Root Base) = s ≡ o
-Reads v s (Root (Arrow a b)) = s ≡ arrow (v a) (v b)
-Reads v s (Link up) = s ≡ v up
+abbrev pub ReadsNode : Valuation → SortTree → Node → Type 0
+ReadsNode v s (Root Open) = s ≡ o
+ReadsNode v s (Root Base) = s ≡ o
+ReadsNode v s (Root (Arrow a b)) = s ≡ arrow (v a) (v b)
+ReadsNode v s (Link up) = s ≡ v up
 
 pub record IsReading (v : Valuation) (nodes : List Node) : Type 0 where
-  pub reads : (i : ℕ) (n : Node) → slice_get nodes i ≡ Some n → Reads v (v i) n
+  pub reads : (i : ℕ) (n : Node) → slice_get nodes i ≡ Some n → ReadsNode v (v i) n
 
 -- size, number of arguments, and whether these are all o
 pub record Describes (w : Weight) (s : SortTree) : Type 0 where
@@ -41,19 +41,19 @@ abbrev pub IsWeighed : List Mark → ℕ → Type 0
 IsWeighed marks i = (w : Weight) × (slice_get marks i ≡ Some (Weighed w))
 
 -- a sort is read from this node by way of the other
-abbrev pub IsChild : Node → ℕ → Type 0
-IsChild (Root Open) c = ⊥
-IsChild (Root Base) c = ⊥
-IsChild (Root (Arrow a b)) c = (c ≡ a) ⊎ (c ≡ b)
-IsChild (Link up) c = c ≡ up
+abbrev pub IsReadBy : Node → ℕ → Type 0
+IsReadBy (Root Open) c = ⊥
+IsReadBy (Root Base) c = ⊥
+IsReadBy (Root (Arrow a b)) c = (c ≡ a) ⊎ (c ≡ b)
+IsReadBy (Link up) c = c ≡ up
 
 abbrev pub ChildrenBelow : ℕ → Node → Type 0
-ChildrenBelow count n = (c : ℕ) → IsChild n c → c < count
+ChildrenBelow count n = (c : ℕ) → IsReadBy n c → c < count
 
 abbrev pub ChildrenWeighed : List Mark → Node → Type 0
-ChildrenWeighed marks n = (c : ℕ) → IsChild n c → IsWeighed marks c
+ChildrenWeighed marks n = (c : ℕ) → IsReadBy n c → IsWeighed marks c
 
 -- either the node can be weighed, or a child has to be weighed first
-abbrev pub IsStep : List Mark → Node → Step → Type 0
-IsStep marks n (Done w) = ChildrenWeighed marks n × ((v : Valuation) (s : SortTree) → MarksDescribe marks v → Reads v s n → Describes w s)
-IsStep marks n (Child c) = IsChild n c × ((w : Weight) → slice_get marks c ≡ Some (Weighed w) → ⊥)
+abbrev pub IsWeighingStep : List Mark → Node → Step → Type 0
+IsWeighingStep marks n (Done w) = ChildrenWeighed marks n × ((v : Valuation) (s : SortTree) → MarksDescribe marks v → ReadsNode v s n → Describes w s)
+IsWeighingStep marks n (Child c) = IsReadBy n c × ((w : Weight) → slice_get marks c ≡ Some (Weighed w) → ⊥)

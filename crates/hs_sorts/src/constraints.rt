@@ -1,8 +1,8 @@
 //! What the terms and rules of a scheme ask of the sorts of its parts.
 
 ghost use Rattle.std.specs.Prelude.{◌≡◌, ◌+◌, ◌<◌, ◌≤◌, ◌^◌, length, IfOk};
-ghost use Rattle.hs_sorts.specs.Constraints.{node_of, NodesBelow, IsNodeFor, Takes, Has};
-ghost use Rattle.hs_sorts.specs.Constraints.{IsClaim, IsBase, Leaves, IsRanked, IsRankedIf, IsRuled, BodyWithin};
+ghost use Rattle.hs_sorts.specs.Constraints.{node_of, NodesBelow, IsNodeFor, TakesArgument, HasSortAt};
+ghost use Rattle.hs_sorts.specs.Constraints.{IsClaim, IsBaseSort, Leaves, IsRanked, IsRankedIf, IsRuled, BodyWithin};
 
 use crate::heads::Heads;
 use crate::store::{Shape, Store};
@@ -19,7 +19,7 @@ pub fn apply(
     requires function { function < length store.old }
     requires argument { argument < length store.old }
     requires few { length store.old ≤ 2 ^ 32 }
-    ensures { IfOk result (λ rest. IsNodeFor store.old store.new (Takes function argument) rest) }
+    ensures { IfOk result (λ rest. IsNodeFor store.old store.new (TakesArgument function argument) rest) }
 {
     let (root, shape) = store.find(function);
     match shape {
@@ -47,7 +47,7 @@ pub fn term_sort(
     requires nodes { NodesBelow (node_of heads.now.rules heads.now.first) (length store.old) term.now }
     requires few { length store.old ≤ 2 ^ 32 }
     ensures { IfOk result (λ sort. IsNodeFor store.old store.new
-        (Has (node_of heads.now.rules heads.now.first) term.now) sort) }
+        (HasSortAt (node_of heads.now.rules heads.now.first) term.now) sort) }
 {
     let mut sort = heads.node_of(term.head);
     for arg in &term.args {
@@ -70,7 +70,7 @@ pub fn term_sort(
 /// Makes the sort of a node `o`. `false` where it can't be.
 pub fn make_base(alloc: Global, store: &mut Store, node: u32) -> Result<bool, OutOfMemory>
     requires { node < length store.old }
-    ensures { IfOk result (λ yes. IsClaim store.old store.new (IsBase node) yes) }
+    ensures { IfOk result (λ yes. IsClaim store.old store.new (IsBaseSort node) yes) }
 {
     let base = store.add(Shape::Base)?;
     store.equate(alloc, node, base)

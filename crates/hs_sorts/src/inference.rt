@@ -92,7 +92,8 @@ fn find_least(alloc: Global, rules: &[Rule], ranks: &[Option<u32>]) -> Result<Le
 pub fn infer(alloc: Global, unsorted: Unsorted) -> Result<Sorted, SortFault>
     ensures ok { IfOk result (λ sorted. IsInferred unsorted sorted) }
     ensures fault { IfErr result (λ fault. IsFaultOf unsorted.rules unsorted.ranks fault) }
-    ensures accepted { IsInferable unsorted.rules unsorted.ranks → IfErr result (λ fault. fault ≡ SortFault.OutOfMemory) }
+    ensures accepted { IsInferable unsorted.rules unsorted.ranks
+        → IfErr result (λ fault. fault ≡ SortFault.OutOfMemory) }
 {
     let Unsorted {
         mut rules,

@@ -11,9 +11,11 @@ ghost use Rattle.hs_sorts.specs.Inference.{IsInferable, IsInferred, IsFaultOf};
 /// A scheme has at most one fault of its sorts, want of memory aside, and none where inference
 /// answers its sorts.
 pub fn one_fault()
-    ensures one { (rules : List Rule) (ranks : List (Option ℕ)) (a b : SortFault) → IsFaultOf rules ranks a → IsFaultOf rules ranks b
+    ensures one { (rules : List Rule) (ranks : List (Option ℕ)) (a b : SortFault) → IsFaultOf rules ranks a
+        → IsFaultOf rules ranks b
         → (a ≡ sorts.OutOfMemory) ⊎ ((b ≡ sorts.OutOfMemory) ⊎ (a ≡ b)) }
     ensures inferred { (u : UnsortedData) (s : SortedData) → IsInferred u s → IsInferable u.rules u.ranks }
-    ensures none { (rules : List Rule) (ranks : List (Option ℕ)) (fault : SortFault) → IsInferable rules ranks → IsFaultOf rules ranks fault
+    ensures none { (rules : List Rule) (ranks : List (Option ℕ)) (fault : SortFault) → IsInferable rules ranks
+        → IsFaultOf rules ranks fault
         → fault ≡ sorts.OutOfMemory }
 {}

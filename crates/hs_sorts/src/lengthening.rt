@@ -79,7 +79,8 @@ fn lengthen_params(
 ) -> Result<(), OutOfMemory>
     requires each_rule { length sorts.now ≡ length params.old.items }
     requires sorts { All (λ k. length (arguments k) ≤ 1000) sorts.now }
-    ensures { IfOk result (λ _. map (λ ns. ns.items) params.new.items ≡ naming.lengthened_params (map (λ ns. ns.items) params.old.items) sorts.now) }
+    ensures { IfOk result (λ _. map (λ ns. ns.items) params.new.items ≡ naming.lengthened_params
+        (map (λ ns. ns.items) params.old.items) sorts.now) }
 {
     for (number, sort) in sorts.iter().enumerate() {
         let names = &mut params[number];

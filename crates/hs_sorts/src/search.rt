@@ -3,7 +3,7 @@
 ghost use Rattle.std.specs.Prelude.{◌≡◌, ◌<◌, [], length, IfOk};
 ghost use Rattle.std.specs.Option.{option_map};
 ghost use Rattle.hs_sorts.specs.Nodes.{IsStore};
-ghost use Rattle.hs_sorts.specs.Search.{IsSearch, IsLast, IsAdvance, IsEntry, IsWalk, AreWeights, IsWeighing};
+ghost use Rattle.hs_sorts.specs.Search.{IsSearch, IsLastOnPath, IsAdvance, IsEntry, IsNodeWalk, AreWeights, IsWeighing};
 
 use crate::store::Node;
 use crate::weights::{Mark, Step, Weight, step_at};
@@ -21,7 +21,8 @@ impl Search {
     /// Puts a new node on the path. `false` where it isn't new.
     fn enter(&mut self, node: u32) -> Result<bool, OutOfMemory>
         requires { node < length self.old.marks.items }
-        ensures { IfOk result (λ yes. IsEntry self.old.marks.items self.old.path.items node self.new.marks.items self.new.path.items yes) }
+        ensures { IfOk result (λ yes. IsEntry self.old.marks.items self.old.path.items node
+            self.new.marks.items self.new.path.items yes) }
     {
         let Mark::New = self.marks[node as usize] else {
             return Ok(false);
@@ -36,8 +37,9 @@ impl Search {
     fn advance(&mut self, nodes: &[Node], at: u32) -> Result<bool, OutOfMemory>
         requires search { IsSearch nodes.now self.old.marks.items self.old.path.items }
         requires store { IsStore nodes.now }
-        requires last { IsLast self.old.path.items at }
-        ensures { IfOk result (λ yes. IsAdvance nodes.now self.old.marks.items self.old.path.items self.new.marks.items self.new.path.items yes) }
+        requires last { IsLastOnPath self.old.path.items at }
+        ensures { IfOk result (λ yes. IsAdvance nodes.now self.old.marks.items self.old.path.items
+            self.new.marks.items self.new.path.items yes) }
     {
         match step_at(self.marks.as_slice(), nodes[at as usize])? {
             Step::Done(weight) => {
@@ -56,7 +58,8 @@ impl Search {
         requires search { IsSearch nodes.now self.old.marks.items self.old.path.items }
         requires empty { self.old.path.items ≡ [] }
         requires store { IsStore nodes.now }
-        ensures { IfOk result (λ yes. IsWalk nodes.now self.old.marks.items self.new.marks.items self.new.path.items start yes) }
+        ensures { IfOk result (λ yes. IsNodeWalk nodes.now self.old.marks.items self.new.marks.items
+            self.new.path.items start yes) }
     {
         if !self.enter(start)? {
             return Ok(true);
@@ -71,7 +74,8 @@ impl Search {
 
     /// The weights of the nodes, or `None` where one isn't weighed.
     fn weights(&self, alloc: Global) -> Result<Option<Vec<Weight>>, OutOfMemory>
-        ensures { IfOk result (λ weights. AreWeights self.now.marks.items (option_map (λ ws. ws.items) weights)) }
+        ensures { IfOk result (λ weights. AreWeights self.now.marks.items
+            (option_map (λ ws. ws.items) weights)) }
     {
         let mut weights = Vec::with_capacity(alloc, self.marks.len())?;
         for mark in &self.marks {

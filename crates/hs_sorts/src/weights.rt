@@ -6,7 +6,7 @@ ghost use Rattle.hs_sorts.specs.declared.store.Node.{Node};
 ghost use Rattle.hs_sorts.specs.Nodes.{IsStore};
 ghost use Rattle.hs_sorts.specs.declared.store.Node.TheVariants.{Root};
 ghost use Rattle.hs_sorts.specs.declared.store.Shape.TheVariants.{Arrow};
-ghost use Rattle.hs_sorts.specs.Weights.{Describes, ChildrenBelow, IsStep};
+ghost use Rattle.hs_sorts.specs.Weights.{Describes, ChildrenBelow, IsWeighingStep};
 
 use crate::store::{Node, Shape};
 use hs_scheme::OutOfMemory;
@@ -39,7 +39,8 @@ impl Weight {
 
     /// The weight of the sort with this argument before those of the rest.
     fn arrow(argument: Weight, rest: Weight) -> Result<Weight, OutOfMemory>
-        ensures { IfOk result (λ w. (a b : SortTree) → Describes argument a → Describes rest b → Describes w (arrow a b)) }
+        ensures { IfOk result (λ w. (a b : SortTree) → Describes argument a → Describes rest b
+            → Describes w (arrow a b)) }
     {
         let Some(arity) = rest.arity.checked_add(1) else {
             return Err(OutOfMemory);
@@ -70,7 +71,7 @@ pub enum Step {
 /// What comes next at a node.
 pub fn step_at(marks: &[Mark], node: Node) -> Result<Step, OutOfMemory>
     requires { ChildrenBelow (length marks.now) node }
-    ensures { IfOk result (λ step. IsStep marks.now node step) }
+    ensures { IfOk result (λ step. IsWeighingStep marks.now node step) }
 {
     match node {
         Node::Link(up) => match marks[up as usize] {
@@ -84,7 +85,7 @@ pub fn step_at(marks: &[Mark], node: Node) -> Result<Step, OutOfMemory>
 /// The same where the node has no link.
 fn step_at_root(marks: &[Mark], shape: Shape) -> Result<Step, OutOfMemory>
     requires { ChildrenBelow (length marks.now) (Root shape) }
-    ensures { IfOk result (λ step. IsStep marks.now (Root shape) step) }
+    ensures { IfOk result (λ step. IsWeighingStep marks.now (Root shape) step) }
 {
     match shape {
         Shape::Open => Ok(Step::Done(Weight::base())),
@@ -97,7 +98,7 @@ fn step_at_root(marks: &[Mark], shape: Shape) -> Result<Step, OutOfMemory>
 fn step_at_arrow(marks: &[Mark], argument: u32, rest: u32) -> Result<Step, OutOfMemory>
     requires argument { argument < length marks.now }
     requires rest { rest < length marks.now }
-    ensures { IfOk result (λ step. IsStep marks.now (Root (Arrow argument rest)) step) }
+    ensures { IfOk result (λ step. IsWeighingStep marks.now (Root (Arrow argument rest)) step) }
 {
     let Mark::Weighed(first) = marks[argument as usize] else {
         return Ok(Step::Child(argument));

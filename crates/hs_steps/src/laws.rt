@@ -25,29 +25,36 @@ pub fn cuts_grow()
 pub fn refusals_have_a_first_step()
     ensures stuck { (rules : List Rule) (ts : List TransitionData) (n q : ℕ) (t : Tree Head) →
         IsStuck ts q t → run ts q (cut rules (n + 1) t) ≡ false }
-    ensures step { (rules : List Rule) (ts : List TransitionData) (n q p : ℕ) (t u : Tree Head) (label : Path) →
-        StepsTo rules ts q t label p u → run ts p (cut rules n u) ≡ false → run ts q (cut rules (n + 1) t) ≡ false }
+    ensures step { (rules : List Rule) (ts : List TransitionData) (n q p : ℕ) (t u : Tree Head)
+        (label : Path) →
+        StepsTo rules ts q t label p u → run ts p (cut rules n u) ≡ false
+        → run ts q (cut rules (n + 1) t) ≡ false }
     ensures only { (rules : List Rule) (ts : List TransitionData) (n q : ℕ) (t : Tree Head) →
         run ts q (cut rules (n + 1) t) ≡ false →
-        IsStuck ts q t ⊎ ((path : Path) × LeadsTo rules ts (λ p u rest. run ts p (cut rules n u) ≡ false) q t path) }
+        IsStuck ts q t ⊎ ((path : Path)
+        × LeadsTo rules ts (λ p u rest. run ts p (cut rules n u) ≡ false) q t path) }
 {}
 
 /// A step leads from a term of sort `o` to a term of sort `o`.
 pub fn steps_keep_the_sort()
-    ensures { (rules : List Rule) (terminals : ℕ) (ranks : List (Option ℕ)) (ts : List TransitionData) (s : Sorts) →
+    ensures { (rules : List Rule) (terminals : ℕ) (ranks : List (Option ℕ)) (ts : List TransitionData)
+        (s : Sorts) →
         AreSortedBy rules terminals ranks ts s →
-        (q p : ℕ) (t u : Tree Head) (label : Path) → StepsTo rules ts q t label p u → IsTreeTerm s t → IsTreeTerm s u }
+        (q p : ℕ) (t u : Tree Head) (label : Path) → StepsTo rules ts q t label p u → IsTreeTerm s t
+        → IsTreeTerm s u }
 {}
 
 /// A cut at n + 1 of a term of sort `o` is refused exactly where some path leads in at most n steps
 /// to a terminal that has no transition. So the rules are accepted exactly where no path from the
 /// start does.
 pub fn refusals_are_failing_paths()
-    ensures refusal { (rules : List Rule) (terminals : ℕ) (ranks : List (Option ℕ)) (ts : List TransitionData) (s : Sorts) →
+    ensures refusal { (rules : List Rule) (terminals : ℕ) (ranks : List (Option ℕ)) (ts : List TransitionData)
+        (s : Sorts) →
         AreSortedBy rules terminals ranks ts s →
         (n q : ℕ) (t : Tree Head) → IsTreeTerm s t →
         (run ts q (cut rules (n + 1) t) ≡ false) ↔ FailsWithin rules ts n q t }
-    ensures acceptance { (rules : List Rule) (terminals : ℕ) (ranks : List (Option ℕ)) (ts : List TransitionData) (s : Sorts) →
+    ensures acceptance { (rules : List Rule) (terminals : ℕ) (ranks : List (Option ℕ))
+        (ts : List TransitionData) (s : Sorts) →
         AreSortedBy rules terminals ranks ts s →
         Accepts rules ts ↔ ((n : ℕ) (path : Path) → Fails rules ts n 0 start path → ⊥) }
 {}
@@ -65,5 +72,6 @@ pub fn terms_have_all_arguments()
 pub fn full_rules_take_all_arguments()
     ensures { (rules : List Rule) (s : Sorts) (f : ℕ) (rule : Rule) (us : Trees Head) →
         slice_get rules f ≡ Some rule → length (arguments (s.nonterminal f)) ≡ rule.params →
-        IsTreeTerm s (node (Nt f) us) → unfolded rules f (children us) ≡ Some (subst rule.body (children us)) }
+        IsTreeTerm s (node (Nt f) us) → unfolded rules f (children us) ≡ Some
+        (subst rule.body (children us)) }
 {}

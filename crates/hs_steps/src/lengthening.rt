@@ -21,15 +21,18 @@ ghost use Rattle.hs_steps.specs.Lengthened.{IsLengthened};
 /// terms as the rules themselves. So both come after the same numbers of steps to terminals without
 /// transition, have the same tree, and are accepted both or neither.
 pub fn lengthening_keeps_the_tree()
-    ensures steps { (rules : List Rule) (terminals : ℕ) (ranks : List (Option ℕ)) (ts : List TransitionData) (s : Sorts) →
+    ensures steps { (rules : List Rule) (terminals : ℕ) (ranks : List (Option ℕ)) (ts : List TransitionData)
+        (s : Sorts) →
         AreSortedBy rules terminals ranks ts s → (ks : List SortTree) → AreSortsOf ks rules s →
         (n q p : ℕ) (t u : Tree Head) (path : Path) → IsTreeTerm s t →
         Reaches rules ts n q t path p u ↔ Reaches (lengthening rules ks) ts n q t path p u }
-    ensures failures { (rules : List Rule) (terminals : ℕ) (ranks : List (Option ℕ)) (ts : List TransitionData) (s : Sorts) →
+    ensures failures { (rules : List Rule) (terminals : ℕ) (ranks : List (Option ℕ))
+        (ts : List TransitionData) (s : Sorts) →
         AreSortedBy rules terminals ranks ts s → (ks : List SortTree) → AreSortsOf ks rules s →
         (n q : ℕ) (t : Tree Head) (path : Path) → IsTreeTerm s t →
         Fails rules ts n q t path ↔ Fails (lengthening rules ks) ts n q t path }
-    ensures acceptance { (rules : List Rule) (terminals : ℕ) (ranks : List (Option ℕ)) (ts : List TransitionData) (s : Sorts) →
+    ensures acceptance { (rules : List Rule) (terminals : ℕ) (ranks : List (Option ℕ))
+        (ts : List TransitionData) (s : Sorts) →
         AreSortedBy rules terminals ranks ts s → (ks : List SortTree) → AreSortsOf ks rules s →
         Accepts rules ts ↔ Accepts (lengthening rules ks) ts }
     ensures tree { (rules : List Rule) (terminals : ℕ) (ranks : List ℕ) (s : Sorts) (ks : List SortTree) →
@@ -45,13 +48,16 @@ pub fn lengthened_schemes_have_the_same_tree()
         HaveSameTree s.scheme.ranks u.rules s.scheme.rules }
     ensures reaching { (u : UnsortedData) (s : SortedData) → IsUnsorted u → IsSorted s → IsLengthened u s →
         (n : ℕ) (path : Path) (q : ℕ) (t : Tree Head) →
-        Reaches u.rules u.automaton.transitions n 0 start path q t ↔ Reaches s.scheme.rules s.automaton.transitions n 0 start path q t }
+        Reaches u.rules u.automaton.transitions n 0 start path q t
+        ↔ Reaches s.scheme.rules s.automaton.transitions n 0 start path q t }
     ensures failures { (u : UnsortedData) (s : SortedData) → IsUnsorted u → IsSorted s → IsLengthened u s →
         (n : ℕ) (path : Path) →
-        Fails u.rules u.automaton.transitions n 0 start path ↔ Fails s.scheme.rules s.automaton.transitions n 0 start path }
+        Fails u.rules u.automaton.transitions n 0 start path
+        ↔ Fails s.scheme.rules s.automaton.transitions n 0 start path }
     ensures refusals { (u : UnsortedData) (s : SortedData) → IsUnsorted u → IsSorted s → IsLengthened u s →
         (n : ℕ) →
-        (run u.automaton.transitions 0 (cut u.rules n start) ≡ false) ↔ (run s.automaton.transitions 0 (cut s.scheme.rules n start) ≡ false) }
+        (run u.automaton.transitions 0 (cut u.rules n start) ≡ false)
+        ↔ (run s.automaton.transitions 0 (cut s.scheme.rules n start) ≡ false) }
     ensures acceptance { (u : UnsortedData) (s : SortedData) → IsUnsorted u → IsSorted s → IsLengthened u s →
         Accepts u.rules u.automaton.transitions ↔ Accepts s.scheme.rules s.automaton.transitions }
 {}

@@ -44,13 +44,13 @@ one_full (suc k) zero (suc j) s = inl (empties k j)
 one_full (suc k) (suc i) zero s = inl refl
 one_full (suc k) (suc i) (suc j) s = one_full k i j s
 
-abbrev IsGood : ℕ → List TypeTree → Type 0
-IsGood n s = IsSet s × ((a : TypeTree) → Contains s a → IsType n a)
+abbrev IsSetInShape : ℕ → List TypeTree → Type 0
+IsSetInShape n s = IsSet s × ((a : TypeTree) → Contains s a → IsType n a)
 
-none_good : (n : ℕ) → IsGood n []
+none_good : (n : ℕ) → IsSetInShape n []
 none_good n = (no_set, λ a h. absurd (none_in a h))
 
-one_good : (n r : ℕ) → r < n → IsGood n (state r ∷ [])
+one_good : (n r : ℕ) → r < n → IsSetInShape n (state r ∷ [])
 one_good n r h = (
   one_set (state r),
   λ a c. elim (uncons (state r) a [] c) [
@@ -59,16 +59,16 @@ one_good n r h = (
   ],
 )
 
-are_sets : (n : ℕ) (ss : Env) → ((j : ℕ) → IsGood n (set_at ss j)) → AreSets n ss
+are_sets : (n : ℕ) (ss : Env) → ((j : ℕ) → IsSetInShape n (set_at ss j)) → AreSets n ss
 are_sets n ss f = record { sets = λ j. (f j).0; types = λ j a h. (f j).1 a h }
 
 pub empties_are_sets : (n k : ℕ) → AreSets n (replicate k [])
-empties_are_sets n k = are_sets n (replicate k []) (λ j. subst (IsGood n) (sym (empties k j)) (none_good n))
+empties_are_sets n k = are_sets n (replicate k []) (λ j. subst (IsSetInShape n) (sym (empties k j)) (none_good n))
 
 pub one_full_are_sets : (n k i r : ℕ) → r < n → AreSets n (set (replicate k []) i (state r ∷ []))
 one_full_are_sets n k i r h = are_sets n (set (replicate k []) i (state r ∷ [])) (λ j. elim (one_full k i j (state r ∷ [])) [
-  | inl e ↦ subst (IsGood n) (sym e) (none_good n)
-  | inr e ↦ subst (IsGood n) (sym e) (one_good n r h)
+  | inl e ↦ subst (IsSetInShape n) (sym e) (none_good n)
+  | inr e ↦ subst (IsSetInShape n) (sym e) (one_good n r h)
 ])
 
 found_in : {X : Type 0} (test : X → Bool) (xs : List X) (x : X) → find test xs ≡ Some x → Contains xs x

@@ -42,7 +42,8 @@ pub fn members_determine_sets()
 /// What follows from a list follows from each list with its entries; where the list only grows at
 /// its end, by the same support.
 pub fn follows_grows()
-    ensures more { (p : ProblemData) (E F : List EntryData) → ((e : EntryData) → Contains E e → Contains F e) →
+    ensures more { (p : ProblemData) (E F : List EntryData)
+        → ((e : EntryData) → Contains E e → Contains F e) →
         (e : EntryData) → Follows p E e → Follows p F e }
     ensures appended { (p : ProblemData) (E F : List EntryData) (s : Support) (e : EntryData) →
         FollowsBy p E s e → FollowsBy p (E ++ F) s e }
@@ -69,6 +70,7 @@ pub fn least_tables_are_equal()
 pub fn what_follows_is_in_shape()
     ensures shape { (p : ProblemData) (E : List EntryData) → IsAutomaton p.sorted.automaton →
         (e : EntryData) → Follows p E e → InShape p e }
-    ensures table { (p : ProblemData) (T : List EntryData) → IsAutomaton p.sorted.automaton → IsSupportedTable p T →
+    ensures table { (p : ProblemData) (T : List EntryData) → IsAutomaton p.sorted.automaton
+        → IsSupportedTable p T →
         (e : EntryData) → Contains T e → InShape p e }
 {}

@@ -19,7 +19,8 @@ fn extend_by(
     ty: &Ty,
     out: &mut Vec<Entry>,
 ) -> Result<(), OutOfMemory>
-    ensures { OnOk result (out.new.items ≡ out.old.items ++ plain.extended arg ty.now entry.now candidate.now) }
+    ensures { OnOk result (out.new.items
+        ≡ out.old.items ++ plain.extended arg ty.now entry.now candidate.now) }
 {
     if candidate.point == arg && candidate.ty.compare(ty) == Ordering::Equal {
         out.push(joined(alloc, entry, candidate)?)?;
@@ -36,7 +37,8 @@ fn extend(
     ty: &Ty,
     out: &mut Vec<Entry>,
 ) -> Result<(), OutOfMemory>
-    ensures { OnOk result (out.new.items ≡ out.old.items ++ flat_map (plain.extended arg ty.now entry.now) log.now) }
+    ensures { OnOk result (out.new.items ≡ out.old.items ++ flat_map
+        (plain.extended arg ty.now entry.now) log.now) }
 {
     for candidate in log {
         extend_by(alloc, entry, candidate, arg, ty, out)?;
@@ -52,7 +54,8 @@ fn extended(
     ty: &Ty,
     entries: &[Entry],
 ) -> Result<Vec<Entry>, OutOfMemory>
-    ensures { IfOk result (λ out. out.items ≡ flat_map (λ e. flat_map (plain.extended arg ty.now e) log.now) entries.now) }
+    ensures { IfOk result (λ out. out.items ≡ flat_map
+        (λ e. flat_map (plain.extended arg ty.now e) log.now) entries.now) }
 {
     let mut out = Vec::new(alloc);
     for entry in entries {

@@ -50,7 +50,8 @@ fn opening(
 fn add_if_new(alloc: Global, found: &mut Vec<Entry>, entry: &Entry) -> Result<(), OutOfMemory>
     requires { AllPairs (λ a b. a ≢ b) found.old.items }
     ensures once { OnOk result (AllPairs (λ a b. a ≢ b) found.new.items) }
-    ensures each { OnOk result ((e : EntryData) → Contains found.new.items e ↔ (Contains found.old.items e ⊎ (e ≡ entry.now))) }
+    ensures each { OnOk result ((e : EntryData) → Contains found.new.items e
+        ↔ (Contains found.old.items e ⊎ (e ≡ entry.now))) }
 {
     if contains(found.as_slice(), entry) {
         return Ok(());
@@ -63,7 +64,8 @@ fn add_if_new(alloc: Global, found: &mut Vec<Entry>, entry: &Entry) -> Result<()
 fn add_new(alloc: Global, found: &mut Vec<Entry>, entries: &[Entry]) -> Result<(), OutOfMemory>
     requires { AllPairs (λ a b. a ≢ b) found.old.items }
     ensures once { OnOk result (AllPairs (λ a b. a ≢ b) found.new.items) }
-    ensures each { OnOk result ((e : EntryData) → Contains found.new.items e ↔ (Contains found.old.items e ⊎ Contains entries.now e)) }
+    ensures each { OnOk result ((e : EntryData) → Contains found.new.items e
+        ↔ (Contains found.old.items e ⊎ Contains entries.now e)) }
 {
     for entry in entries {
         add_if_new(alloc, found, entry)?;
@@ -83,7 +85,8 @@ fn add_typed(
     requires { AllPairs (λ a b. a ≢ b) found.old.items }
     ensures once { OnOk result (AllPairs (λ a b. a ≢ b) found.new.items) }
     ensures each { OnOk result ((e : EntryData) →
-        Contains found.new.items e ↔ (Contains found.old.items e ⊎ Contains (plain.through log.now args.now ty.now (start ∷ [])) e)) }
+        Contains found.new.items e ↔ (Contains found.old.items e
+        ⊎ Contains (plain.through log.now args.now ty.now (start ∷ [])) e)) }
 {
     let entries = through(alloc, log, args, ty, vec![in alloc; start]?)?;
     add_new(alloc, found, entries.as_slice())
@@ -102,7 +105,8 @@ fn gathered(
     requires { NonterminalWithin (length problem.now.points.bodies) head }
     ensures once { IfOk result (λ found. AllPairs (λ a b. a ≢ b) found.items) }
     ensures each { IfOk result (λ found. (e : EntryData) →
-        Contains found.items e ↔ Contains (plain.all_at problem.now log.now point rule (params_of problem.now rule) head args.now) e) }
+        Contains found.items e ↔ Contains
+        (plain.all_at problem.now log.now point rule (params_of problem.now rule) head args.now) e) }
 {
     let params = parameters(problem, rule);
     let types = head_types(alloc, problem, log, rule, head)?;
@@ -128,7 +132,8 @@ pub fn conclusions(
     requires point { point < length problem.now.points.points }
     requires shape { All (InShape problem.now) log.now }
     ensures once { IfOk result (λ found. AllPairs (λ a b. a ≢ b) found.items) }
-    ensures each { IfOk result (λ found. (e : EntryData) → Contains found.items e ↔ ((e.point ≡ point) × Follows problem.now log.now e)) }
+    ensures each { IfOk result (λ found. (e : EntryData) → Contains found.items e
+        ↔ ((e.point ≡ point) × Follows problem.now log.now e)) }
 {
     let rule = problem.points.rule_of(point);
     let head = problem.points.head_of(point);

@@ -95,7 +95,8 @@ fn types_in(
     q: u32,
     out: &mut Vec<Ty>,
 ) -> Result<(), OutOfMemory>
-    ensures { OnOk result (out.new.items ≡ out.old.items ++ plain.types_in problem.now terminal q (automaton.next problem.now.sorted.automaton.transitions q terminal)) }
+    ensures { OnOk result (out.new.items ≡ out.old.items ++ plain.types_in problem.now terminal q
+        (automaton.next problem.now.sorted.automaton.transitions q terminal)) }
 {
     match problem.sorted.automaton.next(q, terminal) {
         None => {
@@ -108,7 +109,8 @@ fn types_in(
 }
 
 fn terminal_types(alloc: Global, problem: &Problem, terminal: u32) -> Result<Vec<Ty>, OutOfMemory>
-    ensures { IfOk result (λ out. out.items ≡ plain.terminal_types problem.now terminal problem.now.sorted.automaton.states) }
+    ensures { IfOk result (λ out. out.items
+        ≡ plain.terminal_types problem.now terminal problem.now.sorted.automaton.states) }
 {
     let mut out = Vec::new(alloc);
     for q in 0..problem.sorted.automaton.states() {
@@ -142,7 +144,8 @@ fn add_flow_type(
     parameter: (u32, u32),
     out: &mut Vec<Ty>,
 ) -> Result<(), OutOfMemory>
-    ensures { OnOk result (out.new.items ≡ out.old.items ++ plain.flow_type problem.now.flow.pairs parameter.0 parameter.1 entry.now) }
+    ensures { OnOk result (out.new.items
+        ≡ out.old.items ++ plain.flow_type problem.now.flow.pairs parameter.0 parameter.1 entry.now) }
 {
     if problem.flow.holds(parameter.0, parameter.1, entry.point) {
         out.push(entry.ty.copy(alloc)?)?;
@@ -166,7 +169,8 @@ fn parameter_types(
     log: &[Entry],
     parameter: (u32, u32),
 ) -> Result<Vec<Ty>, OutOfMemory>
-    ensures { IfOk result (λ out. out.items ≡ flat_map (plain.flow_type problem.now.flow.pairs parameter.0 parameter.1) log.now) }
+    ensures { IfOk result (λ out. out.items ≡ flat_map
+        (plain.flow_type problem.now.flow.pairs parameter.0 parameter.1) log.now) }
 {
     let mut out = Vec::new(alloc);
     for entry in log {

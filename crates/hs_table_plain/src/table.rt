@@ -81,8 +81,10 @@ pub fn least_table(
     budget: u32,
 ) -> Result<Option<Vec<Entry>>, OutOfMemory>
     requires { LeadsWithin problem.now.sorted.automaton }
-    ensures least { IfOk result (λ table. MatchOption table (Exceeds problem.now budget) (λ t. IsLeastTable problem.now t.items)) }
-    ensures within { IfOk result (λ table. MatchOption table (Exceeds problem.now budget) (λ t. length t.items ≤ budget)) }
+    ensures least { IfOk result (λ table. MatchOption table (Exceeds problem.now budget)
+        (λ t. IsLeastTable problem.now t.items)) }
+    ensures within { IfOk result (λ table. MatchOption table (Exceeds problem.now budget)
+        (λ t. length t.items ≤ budget)) }
 {
     let mut log = Vec::new(alloc);
     while let Some(entry) = missing(alloc, problem, log.as_slice())? {

@@ -14,7 +14,8 @@ use std::cmp::Ordering;
 fn place_of(set: &[Ty], ty: &Ty) -> Result<usize, usize>
     ensures { MatchResult result
         (λ place. with_type ty.now set.now ≡ set.now)
-        (λ place. (place ≤ length set.now) × (with_type ty.now set.now ≡ take place set.now ++ ty.now ∷ drop place set.now)) }
+        (λ place. (place ≤ length set.now)
+        × (with_type ty.now set.now ≡ take place set.now ++ ty.now ∷ drop place set.now)) }
 {
     for (place, member) in set.iter().enumerate() {
         match ty.compare(member) {

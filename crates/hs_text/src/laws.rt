@@ -10,7 +10,8 @@ ghost use Rattle.hs_text.specs.declared.verdict.Verdict.{Verdict};
 pub fn report_is_unique()
     ensures table { (p : ProblemData) (table : List EntryData) (one other : List ℕ) →
         IsTableText p table one → IsTableText p table other → one ≡ other }
-    ensures report { (p : ProblemData) (verdict : Verdict) (table : Option (List EntryData)) (removed : Option ℕ)
+    ensures report { (p : ProblemData) (verdict : Verdict) (table : Option (List EntryData))
+        (removed : Option ℕ)
         (one other : List ℕ) → IsReport p verdict table removed one → IsReport p verdict table removed other →
         one ≡ other }
 {}

@@ -69,11 +69,13 @@ impl<'a, T: Storied> Guard<'a, T> {
     pub fn tell(&mut self, seat: &mut Seat<T>)
         requires turn { seat.old.turn ≡ self.old.turn.now }
         requires holds { seat.old.known.holds ≡ true }
-        requires grown { (event : T.Event) × (T.story self.old.state ≡ seat.old.known.seen ++ event ∷ []) × (T.number event ≡ seat.old.known.number) }
+        requires grown { (event : T.Event) × (T.story self.old.state ≡ seat.old.known.seen ++ event ∷ [])
+            × (T.number event ≡ seat.old.known.number) }
         requires room { length seat.old.known.seen < 2 ^ 63 }
         ensures guard { self.new ≡ self.old }
         ensures turn { seat.new.turn ≡ seat.old.turn }
-        ensures seat { (event : T.Event) × (T.story self.old.state ≡ seat.old.known.seen ++ event ∷ []) × (seat.new.known ≡ having_told seat.old.known (event ∷ [])) }
+        ensures seat { (event : T.Event) × (T.story self.old.state ≡ seat.old.known.seen ++ event ∷ [])
+            × (seat.new.known ≡ having_told seat.old.known (event ∷ [])) }
     {
         count::<T, Brand>(self.turn, &self.state, seat);
     }

@@ -149,7 +149,8 @@ impl<T: Storied> Turn<T> {
         ensures base { seat.known.base ≡ Some (T.base result) }
         ensures begins { IsPrefix seat.known.seen (T.story result) }
         ensures own { told_by T.number 0 (T.story result) ≡ seat.known.own }
-        ensures joined { All (λ (p : ℕ × List T.Event). told_by T.number p.0 (T.story result) ≡ p.1) seat.known.joined }
+        ensures joined { All (λ (p : ℕ
+            × List T.Event). told_by T.number p.0 (T.story result) ≡ p.1) seat.known.joined }
         ensures no_others { (n : ℕ) → seat.known.splits < n → told_by T.number n (T.story result) ≡ [] }
     {
         let Turn { table, sleepers: _ } = self;

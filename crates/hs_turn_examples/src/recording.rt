@@ -58,7 +58,8 @@ fn record<R: Wait>(rt: &R, turn: &Turn<Log>, seat: &mut Seat<Log>, step: u32) ->
     ensures turn { seat.new.turn ≡ turn.now }
     ensures free { seat.new.known.holds ≡ false }
     ensures number { seat.new.known.number ≡ seat.old.known.number }
-    ensures counts { (seat.new.known.splits ≡ seat.old.known.splits) × (seat.new.known.joins ≡ seat.old.known.joins) }
+    ensures counts { (seat.new.known.splits ≡ seat.old.known.splits)
+        × (seat.new.known.joins ≡ seat.old.known.joins) }
 {
     let number = seat.number();
     let mut guard = turn.enter(rt, seat);
@@ -160,21 +161,29 @@ fn record_by_four<R: Threads + Wait + Sync>(
     seats: (Seat<Log>, Seat<Log>, Seat<Log>, Seat<Log>),
     count: u32,
 ) -> (Seat<Log>, Seat<Log>, Seat<Log>, Seat<Log>, bool)
-    requires first_two { (seats.0.turn ≡ turn.now) × (seats.0.known.holds ≡ false) × (seats.1.turn ≡ turn.now) × (seats.1.known.holds ≡ false) }
-    requires last_two { (seats.2.turn ≡ turn.now) × (seats.2.known.holds ≡ false) × (seats.3.turn ≡ turn.now) × (seats.3.known.holds ≡ false) }
-    ensures first_two { (result.0.turn ≡ turn.now) × (result.0.known.holds ≡ false) × (result.1.turn ≡ turn.now) × (result.1.known.holds ≡ false) }
-    ensures last_two { (result.2.turn ≡ turn.now) × (result.2.known.holds ≡ false) × (result.3.turn ≡ turn.now) × (result.3.known.holds ≡ false) }
+    requires first_two { (seats.0.turn ≡ turn.now) × (seats.0.known.holds ≡ false) × (seats.1.turn ≡ turn.now)
+        × (seats.1.known.holds ≡ false) }
+    requires last_two { (seats.2.turn ≡ turn.now) × (seats.2.known.holds ≡ false) × (seats.3.turn ≡ turn.now)
+        × (seats.3.known.holds ≡ false) }
+    ensures first_two { (result.0.turn ≡ turn.now) × (result.0.known.holds ≡ false)
+        × (result.1.turn ≡ turn.now) × (result.1.known.holds ≡ false) }
+    ensures last_two { (result.2.turn ≡ turn.now) × (result.2.known.holds ≡ false)
+        × (result.3.turn ≡ turn.now) × (result.3.known.holds ≡ false) }
 {
     let (a, b, c, d) = seats;
     let ((a, b, all_ab), (c, d, all_cd)) = join(
         rt,
         || -> (Seat<Log>, Seat<Log>, bool)
-            requires { (a.turn ≡ turn.now) × (a.known.holds ≡ false) × (b.turn ≡ turn.now) × (b.known.holds ≡ false) }
-            ensures { (result.0.turn ≡ turn.entry.now) × (result.0.known.holds ≡ false) × (result.1.turn ≡ turn.entry.now) × (result.1.known.holds ≡ false) }
+            requires { (a.turn ≡ turn.now) × (a.known.holds ≡ false) × (b.turn ≡ turn.now)
+                × (b.known.holds ≡ false) }
+            ensures { (result.0.turn ≡ turn.entry.now) × (result.0.known.holds ≡ false)
+                × (result.1.turn ≡ turn.entry.now) × (result.1.known.holds ≡ false) }
         { record_by_two(rt, turn, a, b, count) },
         || -> (Seat<Log>, Seat<Log>, bool)
-            requires { (c.turn ≡ turn.now) × (c.known.holds ≡ false) × (d.turn ≡ turn.now) × (d.known.holds ≡ false) }
-            ensures { (result.0.turn ≡ turn.entry.now) × (result.0.known.holds ≡ false) × (result.1.turn ≡ turn.entry.now) × (result.1.known.holds ≡ false) }
+            requires { (c.turn ≡ turn.now) × (c.known.holds ≡ false) × (d.turn ≡ turn.now)
+                × (d.known.holds ≡ false) }
+            ensures { (result.0.turn ≡ turn.entry.now) × (result.0.known.holds ≡ false)
+                × (result.1.turn ≡ turn.entry.now) × (result.1.known.holds ≡ false) }
         { record_by_two(rt, turn, c, d, count) },
     );
     (a, b, c, d, all_ab && all_cd)

@@ -5,7 +5,7 @@ use Rattle.std.proofs.lemmas.Option.{get_or_from_slice_get}
 use Rattle.std.proofs.lemmas.List.Elements.{All-head, All-tail, All-weaker, All-push}
 use Rattle.hs_table_laws.proofs.Places.{at_append, within_from, some_same}
 use Rattle.hs_types.proofs.Numbers.{within_begun, same_begun}
-use Rattle.hs_types.specs.Interned.{Begins, IsNumbering}
+use Rattle.hs_types.specs.Interned.{Begins, IsWithoutRepeats}
 use Rattle.hs_types.specs.Nodes.{items_at, AllBelow}
 
 pub Begins-push : {X : Type 0} (xs : List X) (y : X) → Begins xs (xs ++ y ∷ [])
@@ -29,8 +29,8 @@ map-push f [] x = refl
 map-push f (y ∷ xs) x = ap (λ ys. f y ∷ ys) (map-push f xs x)
 
 -- a new item makes no second number
-pub IsNumbering-push : {X : Type 0} (xs : List X) (y : X) → IsNumbering xs → (Contains xs y → ⊥) → IsNumbering (xs ++ y ∷ [])
-IsNumbering-push xs y n fresh i j x h k = elim (push_cases xs y x i h) [
+pub IsWithoutRepeats-push : {X : Type 0} (xs : List X) (y : X) → IsWithoutRepeats xs → (Contains xs y → ⊥) → IsWithoutRepeats (xs ++ y ∷ [])
+IsWithoutRepeats-push xs y n fresh i j x h k = elim (push_cases xs y x i h) [
   | inl a ↦ elim (push_cases xs y x j k) [
     | inl b ↦ n i j x a b
     | inr (e, is) ↦ absurd (fresh (i, within_from xs i y (a ∙ ap (λ z. Some z) (sym is)), read xs i y (a ∙ ap (λ z. Some z) (sym is))))

@@ -8,8 +8,9 @@ use Rattle.std.proofs.lemmas.List.{take-append-drop, take_more, take_all, drop_a
 use Rattle.std.proofs.Math.Seq.{drop-cons}
 use Rattle.hs_table.specs.Types.{TypeTree, type_cmp, IsSet}
 use Rattle.hs_table_laws.proofs.Orders.{type_cmp_total, type_same}
-use Rattle.hs_table_laws.proofs.Places.{none_in, here, uncons, later, pairs_head, pairs_tail, pairs_cons}
-use Rattle.hs_table_laws.proofs.Sets.{no_set, one_set}
+use Rattle.hs_table_laws.proofs.Places.{here, uncons, later, pairs_head, pairs_tail, pairs_cons}
+use Rattle.hs_table_laws.proofs.Sets.{one_set}
+use Rattle.hs_table_laws.proofs.Members.{only}
 use Rattle.hs_types.specs.Interned.{IsSetOf, IsUnion}
 use Rattle.hs_types.proofs.ListLemmas.{map-push}
 use Rattle.hs_types.proofs.OrderLemmas.{member_within}
@@ -48,9 +49,6 @@ union_swap s r u h = record {
 
 pub merging_swap : (s s' r r' u : List TypeTree) → Merging s s' r r' u → Merging r r' s s' u
 merging_swap s s' r r' u m = record { union = union_swap s r u m.union; first = m.second; second = m.first }
-
-only : (a b : TypeTree) → Contains (a ∷ []) b → b ≡ a
-only a b c = elim (uncons a b [] c) [ inl is ↦ is | inr there ↦ absurd (none_in b there) ]
 
 -- the first of what is left is below all else that is left
 pub merge_less : (s s' r r' u : List TypeTree) (x y : TypeTree) → Merging s (x ∷ s') r (y ∷ r') u → IsSet (x ∷ s') → IsSet (y ∷ r') → type_cmp x y ≡ Less
@@ -177,13 +175,6 @@ drop_first s i d h =
 abbrev pub IsMerged : List TypeTree → List TypeTree → ℕ → ℕ → List TypeTree → Type 0
 IsMerged s r i j u = Merging (take i s) (drop i s) (take j r) (drop j r) u
 
-pub IsMerged-start : (s r : List TypeTree) → IsMerged s r 0 0 []
-IsMerged-start s r = record {
-  union = record { ascends = no_set; exact = λ a. (λ c. inl c, λ c. elim c [ inl there ↦ there | inr there ↦ there ]) };
-  first = λ a b c d. absurd (none_in a c);
-  second = λ a b c d. absurd (none_in a c);
-}
-
 module _ (s r u : List TypeTree) (i j : ℕ) (d : TypeTree) (h : i < length s) (k : j < length r) (up : IsSet s) (up' : IsSet r) (m : IsMerged s r i j u) where
   abbrev x : TypeTree
   x = get_or s i d
@@ -246,11 +237,6 @@ IsSetOf-append xs ys s r u h k m = record {
     ],
   );
 }
-
-pub IsSetOf-short : (xs : List TypeTree) → length xs ≤ 1 → IsSetOf xs xs
-IsSetOf-short [] h = record { ascends = no_set; exact = λ a. (λ c. c, λ c. c) }
-IsSetOf-short (x ∷ []) h = record { ascends = one_set x; exact = λ a. (λ c. c, λ c. c) }
-IsSetOf-short (x ∷ y ∷ xs) h = absurd (omega arith)
 
 -- the same of numbers that stand for types
 module _ (f : ℕ → TypeTree) (n : ℕ) (xs ys ms : List ℕ) (i j a b : ℕ) (h : i < length xs) (k : j < length ys) (up : IsSet (map f xs)) (up' : IsSet (map f ys))

@@ -13,8 +13,8 @@ use Rattle.hs_types.specs.declared.ids.View.{View}
 use Rattle.hs_types.specs.declared.ids.View.TheVariants.{State, Arrow}
 use Rattle.hs_types.specs.Interned.{InternerData, type_of_id, set_of_id, env_of_id, IsView, IsInterner, Grows}
 use Rattle.hs_types.specs.Nodes.{node_type, IsInRange, items_at, types_behind, sets_over, data_of, AreNodes, Adds}
-use Rattle.hs_types.proofs.Numbers.{Grows-refl, same_type, same_set, state-arrow, type_stays, type_within, set_stays, set_within, IsInterner-empty}
-use Rattle.hs_types.proofs.ListLemmas.{Begins-push, push_cases, length-push, map-push, IsNumbering-push, items_at-begun, all_at-append, AllBelow-more, AllBelow-push, same_places}
+use Rattle.hs_types.proofs.Numbers.{Grows-refl, same_type, same_set, state-arrow, type_stays, type_within, set_stays, set_within}
+use Rattle.hs_types.proofs.ListLemmas.{Begins-push, push_cases, length-push, map-push, IsWithoutRepeats-push, items_at-begun, all_at-append, AllBelow-more, AllBelow-push, same_places}
 
 abbrev pub with_type : InternerData → TypeTree → InternerData
 with_type I t = record { types = I.types ++ t ∷ []; sets = I.sets; envs = I.envs }
@@ -134,7 +134,7 @@ module _ (nodes : List View) (sets envs : List (List ℕ)) (I : InternerData) (a
     pub AreNodes-type : AreNodes (nodes ++ n ∷ []) sets envs (with_type I (node_type I n))
     AreNodes-type = record {
       exact = record {
-        types = IsNumbering-push I.types (node_type I n) are.exact.types fresh_type;
+        types = IsWithoutRepeats-push I.types (node_type I n) are.exact.types fresh_type;
         sets = are.exact.sets;
         envs = are.exact.envs;
         set_ascends = are.exact.set_ascends;
@@ -178,7 +178,7 @@ module _ (nodes : List View) (sets envs : List (List ℕ)) (I : InternerData) (a
     AreNodes-set = record {
       exact = record {
         types = are.exact.types;
-        sets = IsNumbering-push I.sets the_set are.exact.sets fresh_set;
+        sets = IsWithoutRepeats-push I.sets the_set are.exact.sets fresh_set;
         envs = are.exact.envs;
         set_ascends = set_ascends;
         env_ascends = are.exact.env_ascends;
@@ -223,7 +223,7 @@ module _ (nodes : List View) (sets envs : List (List ℕ)) (I : InternerData) (a
       exact = record {
         types = are.exact.types;
         sets = are.exact.sets;
-        envs = IsNumbering-push I.envs the_env are.exact.envs fresh_env;
+        envs = IsWithoutRepeats-push I.envs the_env are.exact.envs fresh_env;
         set_ascends = are.exact.set_ascends;
         env_ascends = env_ascends;
         type_ascends = are.exact.type_ascends;
@@ -298,18 +298,6 @@ module _ (nodes : List View) (sets envs : List (List ℕ)) (are : AreNodes nodes
       let k = AreNodes-env nodes sets envs I are ids range new in
       subst (λ (es : List (List ℕ)). AreMore I nodes sets es) (sym is)
       (more_by I K nodes sets (envs ++ ids ∷ []) (data_by-AreNodes nodes sets (envs ++ ids ∷ []) K k) k (Grows-with_env I (items_at I.sets [] ids)))
-
--- nothing is stored
-pub AreNodes-empty : AreNodes [] [] [] (data_of [] [] [])
-AreNodes-empty = record {
-  exact = IsInterner-empty;
-  long = refl;
-  of_sets = refl;
-  of_envs = refl;
-  reads = λ t n h. absurd (cc);
-  set_range = λ k d h. absurd (omega arith);
-  env_range = λ k d h. absurd (omega arith);
-}
 
 -- what a stored node stands for is numbered by its place
 pub read_type : (I : InternerData) (nodes : List View) (sets envs : List (List ℕ)) (more : AreMore I nodes sets envs) (t : ℕ) (n : View) → IsInRange I n

@@ -5,7 +5,7 @@ use Rattle.hs_scheme.specs.Tree.{node}
 use Rattle.hs_table.specs.Types.{TypeTree, state, arrow}
 use Rattle.hs_table.specs.Entries.{EntryData}
 use Rattle.hs_table_laws.proofs.Sets.{no_set}
-use Rattle.hs_types.specs.Interned.{InternerData, type_of_id, set_of_id, env_of_id, RowData, IsRow, entry_of, IsNumbering, IsInterner, Begins, Grows}
+use Rattle.hs_types.specs.Interned.{InternerData, type_of_id, set_of_id, env_of_id, RowData, IsRow, entry_of, IsWithoutRepeats, IsInterner, Begins, Grows}
 
 pub Grows-refl : (I : InternerData) → Grows I I
 Grows-refl I = record { types = λ i x h. h; sets = λ i x h. h; envs = λ i x h. h }
@@ -51,7 +51,7 @@ module _ (I J : InternerData) (g : Grows I J) where
   row_stays r h = λ i. record { point = r.point; env = env_stays r.env h.0 i; ty = type_stays r.ty h.1 i }
 
 -- the number of an item, by what stands there
-pub same_place : {X : Type 0} (xs : List X) (d : X) (i j : ℕ) → IsNumbering xs → i < length xs → j < length xs → get_or xs i d ≡ get_or xs j d → i ≡ j
+pub same_place : {X : Type 0} (xs : List X) (d : X) (i j : ℕ) → IsWithoutRepeats xs → i < length xs → j < length xs → get_or xs i d ≡ get_or xs j d → i ≡ j
 same_place xs d i j n h k e =
     n i j (get_or xs j d) (slice_get-get_or xs i d h ∙ ap (λ x. Some x) e) (slice_get-get_or xs j d k)
 

@@ -1,7 +1,7 @@
 -- Unions that are known.
-use Rattle.std.proofs.Common.{◌≡◌, refl, sym, ◌∙◌, ap, subst, ℕ, ◌<◌, Bool, true, false, cond, ◌&&◌, nat_eq, List, [], ◌∷◌, length, map, Some, arith, Contains, ◌⊎◌, inl, inr, ◌≤◌, replicate, slice_get}
+use Rattle.std.proofs.Common.{◌≡◌, refl, sym, ◌∙◌, ap, subst, ℕ, ◌<◌, Bool, true, false, cond, nat_eq, List, [], ◌∷◌, length, map, Some, arith, Contains, ◌⊎◌, inl, inr, ◌≤◌, replicate, slice_get}
 use Rattle.std.specs.Map.{lookup}
-use Rattle.std.proofs.lemmas.Bool.{eqb-true, cases_lt}
+use Rattle.std.proofs.lemmas.Bool.{eqb-true, cases_lt, and_parts}
 use Rattle.std.proofs.lemmas.List.{length-map, length-replicate, get_or-replicate, get_or_past}
 use Rattle.std.proofs.lemmas.Option.{get_or_from_slice_get}
 use Rattle.indexmap.specs.IndexMap.{insert_entry}
@@ -10,19 +10,14 @@ use Rattle.hs_table.specs.Types.{TypeTree, IsSet}
 use Rattle.hs_table.specs.Entries.{Env, set_at}
 use Rattle.hs_types.specs.declared.unions.Pair.{Pair}
 use Rattle.hs_types.specs.contracts.unions.PairPartialEq.TheImpl.{eq-value}
-use Rattle.hs_types.specs.Interned.{InternerData, type_of_id, set_of_id, env_of_id, IsUnion, IsUnionEnv, IsInterner, Grows}
+use Rattle.hs_types.specs.Interned.{InternerData, set_of_id, env_of_id, IsUnion, IsUnionEnv, IsInterner, Grows}
 use Rattle.hs_types.specs.Unions.{Known, IsPair, Knows, KnowsMore, IsSetUnion, IsEnvUnion, AreUnions}
 use Rattle.hs_types.proofs.MergeLemmas.{union_swap}
 use Rattle.hs_types.proofs.Numbers.{set_within, set_stays, env_within, env_stays}
 
-both : (b c : Bool) → b && c ≡ true → (b ≡ true) × (c ≡ true)
-both true true h = (refl, refl)
-both true false h = absurd (cc)
-both false c h = absurd (cc)
-
 pair_same : (p q : Pair) → eq-value.it p q ≡ true → p ≡ q
 pair_same p q h =
-    let e = both (nat_eq p.first q.first) (nat_eq p.second q.second) h in
+    let e = and_parts (nat_eq p.first q.first) (nat_eq p.second q.second) h in
     λ i. record { first = eqb-true p.first q.first e.0 i; second = eqb-true p.second q.second e.1 i }
 
 -- what a look-up finds is an entry
@@ -87,18 +82,6 @@ union_second s r e h = record {
   ascends = h;
   exact = λ a. (λ c. inr c, λ c. elim c [ inl there ↦ absurd (none_in a (subst (λ (z : List TypeTree). Contains z a) e there)) | inr there ↦ there ]);
 }
-
-pub union_first : (s r : List TypeTree) → r ≡ [] → IsSet s → IsUnion s r s
-union_first s r e h = union_swap r s s (union_second r s e h)
-
--- a list of members that is empty: so is the set
-pub no_members : (I : InternerData) (s : ℕ) (ms : List ℕ) → map (type_of_id I) ms ≡ set_of_id I s → length ms ≡ 0 → set_of_id I s ≡ []
-no_members I s [] e h = sym e
-no_members I s (m ∷ ms) e h = absurd (omega arith)
-
--- the union of environments that are equal
-pub env_same : (e : Env) → ((j : ℕ) → IsSet (set_at e j)) → IsUnionEnv e e e
-env_same e h = record { long = refl; sets = λ j. union_same (set_at e j) (h j) }
 
 -- a union that is known
 module _ (I : InternerData) (sets envs : Known) (are : AreUnions I sets envs) where
@@ -167,13 +150,6 @@ module _ (I : InternerData) (sets envs : Known) (are : AreUnions I sets envs) wh
       | inr (is, same) ↦ subst (λ w. IsEnvUnion I p.first p.second w) (sym same) (env_by_pair p a b u is k)
     ];
   }
-
--- nothing is known
-pub AreUnions-none : (I : InternerData) (sets envs : Known) → sets ≡ [] → envs ≡ [] → AreUnions I sets envs
-AreUnions-none I sets envs e f = record {
-  sets = λ p u c. absurd (none_in (p, u) (subst (λ (k : Known). Contains k (p, u)) e c));
-  envs = λ p u c. absurd (none_in (p, u) (subst (λ (k : Known). Contains k (p, u)) f c));
-}
 
 -- the same, as code finds it: by numbers that are equal to those that were asked for
 pub known_set_at : (I K : InternerData) (sets envs : Known) → AreUnions I sets envs → I ≡ K → (a b u m n r : ℕ) → m ≡ a → n ≡ b → r ≡ u → Knows sets m n u → IsSetUnion K a b r

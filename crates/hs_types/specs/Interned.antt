@@ -48,13 +48,13 @@ IsView I t (State q) = type_of_id I t ≡ state q
 IsView I t (Arrow s r) = (s < length I.sets) × (r < length I.types) × (type_of_id I t ≡ arrow (set_of_id I s) (type_of_id I r))
 
 -- no item stands at two places
-abbrev pub IsNumbering : {X : Type 0} → List X → Type 0
-IsNumbering {X} xs = (i j : ℕ) (x : X) → slice_get xs i ≡ Some x → slice_get xs j ≡ Some x → i ≡ j
+abbrev pub IsWithoutRepeats : {X : Type 0} → List X → Type 0
+IsWithoutRepeats {X} xs = (i j : ℕ) (x : X) → slice_get xs i ≡ Some x → slice_get xs j ≡ Some x → i ≡ j
 
 pub record IsInterner (I : InternerData) : Type 0 where
-  pub types : IsNumbering I.types
-  pub sets : IsNumbering I.sets
-  pub envs : IsNumbering I.envs
+  pub types : IsWithoutRepeats I.types
+  pub sets : IsWithoutRepeats I.sets
+  pub envs : IsWithoutRepeats I.envs
   pub set_ascends : (s : ℕ) → IsSet (set_of_id I s)
   pub env_ascends : (e j : ℕ) → IsSet (set_at (env_of_id I e) j)
   pub type_ascends : (t : ℕ) (s : List TypeTree) (r : TypeTree) → type_of_id I t ≡ arrow s r → IsSet s

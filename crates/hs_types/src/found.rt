@@ -55,7 +55,10 @@ impl Pairs {
 
     /// Keeps the number here for the other's number.
     pub(crate) fn keep(&mut self, other: u32, own: u32) -> Result<(), OutOfMemory>
-        ensures { OnOk result (self.new.pairs.items ≡ self.old.pairs.items ++ record { other = other; own = own } ∷ []) }
+        ensures { OnOk result (self.new.pairs.items ≡ self.old.pairs.items ++ record {
+          other = other;
+          own = own;
+        } ∷ []) }
     {
         let at = other as usize;
         if self.places.len() <= at {

@@ -25,7 +25,8 @@ impl Nodes {
 
     /// The guess, where it is the set of these types.
     pub(crate) fn guessed_set(&self, guess: SetId, types: &[TyId]) -> Option<SetId>
-        ensures { IfSome result (λ own. slice_get self.now.sets own ≡ Some (map (type_of_id self.now) types.now)) }
+        ensures { IfSome result (λ own. slice_get self.now.sets own ≡ Some
+            (map (type_of_id self.now) types.now)) }
     {
         if guess.number() >= self.count_sets() || self.members(guess) != types {
             return None;
@@ -35,7 +36,8 @@ impl Nodes {
 
     /// The guess, where it is the environment of these sets.
     pub(crate) fn guessed_env(&self, guess: EnvId, sets: &[SetId]) -> Option<EnvId>
-        ensures { IfSome result (λ own. slice_get self.now.envs own ≡ Some (map (set_of_id self.now) sets.now)) }
+        ensures { IfSome result (λ own. slice_get self.now.envs own ≡ Some
+            (map (set_of_id self.now) sets.now)) }
     {
         if guess.number() >= self.count_envs() || self.sets(guess) != sets {
             return None;
@@ -71,7 +73,8 @@ impl Nodes {
     ) -> Result<SetId, OutOfMemory>
         requires range { All (λ t. t < length self.old.types) types.now }
         requires ascends { IsSet (map (type_of_id self.old) types.now) }
-        ensures ok { IfOk result (λ own. slice_get self.new.sets own ≡ Some (map (type_of_id self.old) types.now)) }
+        ensures ok { IfOk result (λ own. slice_get self.new.sets own ≡ Some
+            (map (type_of_id self.old) types.now)) }
         ensures grows { Grows self.old self.new }
     {
         if let Some(own) = self.guessed_set(guesses.set(id), types) {
@@ -90,7 +93,8 @@ impl Nodes {
         sets: &[SetId],
     ) -> Result<EnvId, OutOfMemory>
         requires { All (λ s. s < length self.old.sets) sets.now }
-        ensures ok { IfOk result (λ own. slice_get self.new.envs own ≡ Some (map (set_of_id self.old) sets.now)) }
+        ensures ok { IfOk result (λ own. slice_get self.new.envs own ≡ Some
+            (map (set_of_id self.old) sets.now)) }
         ensures grows { Grows self.old self.new }
     {
         if let Some(own) = self.guessed_env(guesses.env(id), sets) {

@@ -112,7 +112,8 @@ impl Interner {
     /// The environment with these sets. Time in proportion to their number, on average.
     pub fn env(&mut self, sets: &[SetId]) -> Result<EnvId, OutOfMemory>
         requires { All (λ s. s < length self.old.sets) sets.now }
-        ensures ok { IfOk result (λ id. slice_get self.new.envs id ≡ Some (map (set_of_id self.old) sets.now)) }
+        ensures ok { IfOk result (λ id. slice_get self.new.envs id ≡ Some
+            (map (set_of_id self.old) sets.now)) }
         ensures grows { Grows self.old self.new }
     {
         let id = self.nodes.add_env(sets)?;
@@ -195,7 +196,8 @@ impl Interner {
     ) -> Result<Vec<Row>, OutOfMemory>
         requires { All (IsRow from.now) rows.now }
         ensures rows { IfOk result (λ own. All (IsRow self.new) own.items) }
-        ensures entries { IfOk result (λ own. map (entry_of self.new) own.items ≡ map (entry_of from.now) rows.now) }
+        ensures entries { IfOk result (λ own. map (entry_of self.new) own.items ≡ map
+            (entry_of from.now) rows.now) }
         ensures grows { Grows self.old self.new }
     {
         let own = self

@@ -30,7 +30,8 @@ impl Nodes {
     fn latest_set(&mut self, latest: &mut Latest, types: &[TyId]) -> Result<SetId, OutOfMemory>
         requires range { All (λ t. t < length self.old.types) types.now }
         requires ascends { IsSet (map (type_of_id self.old) types.now) }
-        ensures ok { IfOk result (λ id. slice_get self.new.sets id ≡ Some (map (type_of_id self.old) types.now)) }
+        ensures ok { IfOk result (λ id. slice_get self.new.sets id ≡ Some
+            (map (type_of_id self.old) types.now)) }
         ensures grows { Grows self.old self.new }
     {
         let number = number_of_set(types);
@@ -51,7 +52,8 @@ impl Nodes {
         sets: &[SetId],
     ) -> Result<EnvId, OutOfMemory>
         requires { All (λ s. s < length self.old.sets) sets.now }
-        ensures ok { IfOk result (λ id. slice_get self.new.envs id ≡ Some (map (set_of_id self.old) sets.now)) }
+        ensures ok { IfOk result (λ id. slice_get self.new.envs id ≡ Some
+            (map (set_of_id self.old) sets.now)) }
         ensures grows { Grows self.old self.new }
     {
         let guess = EnvId::at(latest.single_envs.find(ty.stored()));

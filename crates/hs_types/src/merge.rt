@@ -24,7 +24,8 @@ impl Nodes {
         requires ys_ascend { IsSet (map (type_of_id self.now) ys.now) }
         ensures range { IfOk result (λ r. All (λ t. t < length self.now.types) r.items) }
         ensures union { IfOk result (λ r.
-            IsUnion (map (type_of_id self.now) xs.now) (map (type_of_id self.now) ys.now) (map (type_of_id self.now) r.items)) }
+            IsUnion (map (type_of_id self.now) xs.now) (map (type_of_id self.now) ys.now)
+            (map (type_of_id self.now) r.items)) }
     {
         let mut merged = Vec::new(alloc);
         let mut i = 0;
@@ -55,7 +56,8 @@ impl Nodes {
     pub(crate) fn sorted(&self, alloc: Global, ids: &[TyId]) -> Result<Vec<TyId>, OutOfMemory>
         requires { All (λ t. t < length self.now.types) ids.now }
         ensures range { IfOk result (λ r. All (λ t. t < length self.now.types) r.items) }
-        ensures set { IfOk result (λ r. IsSetOf (map (type_of_id self.now) ids.now) (map (type_of_id self.now) r.items)) }
+        ensures set { IfOk result (λ r. IsSetOf (map (type_of_id self.now) ids.now)
+            (map (type_of_id self.now) r.items)) }
     {
         if ids.len() <= 1 {
             return Ok(ids.to_vec(alloc)?);

@@ -176,7 +176,8 @@ impl Nodes {
     pub(crate) fn add_set(&mut self, types: &[TyId]) -> Result<SetId, OutOfMemory>
         requires range { All (λ t. t < length self.old.types) types.now }
         requires ascends { IsSet (map (type_of_id self.old) types.now) }
-        ensures ok { IfOk result (λ id. slice_get self.new.sets id ≡ Some (map (type_of_id self.old) types.now)) }
+        ensures ok { IfOk result (λ id. slice_get self.new.sets id ≡ Some
+            (map (type_of_id self.old) types.now)) }
         ensures grows { Grows self.old self.new }
     {
         let place = add_set(self.alloc, &mut self.sets, types)?;
@@ -186,7 +187,8 @@ impl Nodes {
     /// The number of the environment of these sets.
     pub(crate) fn add_env(&mut self, sets: &[SetId]) -> Result<EnvId, OutOfMemory>
         requires { All (λ s. s < length self.old.sets) sets.now }
-        ensures ok { IfOk result (λ id. slice_get self.new.envs id ≡ Some (map (set_of_id self.old) sets.now)) }
+        ensures ok { IfOk result (λ id. slice_get self.new.envs id ≡ Some
+            (map (set_of_id self.old) sets.now)) }
         ensures grows { Grows self.old self.new }
     {
         let place = add_env(self.alloc, &mut self.envs, sets)?;

@@ -2,7 +2,7 @@
 
 ghost use Rattle.std.specs.Prelude.{◌≡◌, ◌<◌, All, IfOk, OnOk, Some, length, map, slice_get};
 ghost use Rattle.hs_types.specs.Interned.{type_of_id, env_of_id, IsRow, entry_of, Grows};
-ghost use Rattle.hs_types.specs.Found.{AreTypes, AreEnvs, AreFound};
+ghost use Rattle.hs_types.specs.Found.{StandForTypes, AreEnvs, AreFound};
 
 use crate::found::{ImportedNumbers, Pairs};
 use crate::guesses::Guesses;
@@ -22,9 +22,9 @@ impl Nodes {
         id: TyId,
     ) -> Result<TyId, OutOfMemory>
         requires id { id < length from.now.types }
-        requires found { AreTypes from.now self.old found.old.pairs.items }
+        requires found { StandForTypes from.now self.old found.old.pairs.items }
         ensures ok { IfOk result (λ own. slice_get self.new.types own ≡ Some (type_of_id from.now id)) }
-        ensures found { OnOk result (AreTypes from.now self.new found.new.pairs.items) }
+        ensures found { OnOk result (StandForTypes from.now self.new found.new.pairs.items) }
         ensures grows { Grows self.old self.new }
     {
         if let Some(own) = found.find(id.stored()) {
@@ -71,7 +71,8 @@ impl Nodes {
         requires found { AreFound from.now self.old found.old.types.pairs.items found.old.envs.pairs.items }
         ensures row { IfOk result (λ r. IsRow self.new r) }
         ensures entry { IfOk result (λ r. entry_of self.new r ≡ entry_of from.now row) }
-        ensures found { OnOk result (AreFound from.now self.new found.new.types.pairs.items found.new.envs.pairs.items) }
+        ensures found { OnOk result (AreFound from.now self.new found.new.types.pairs.items
+            found.new.envs.pairs.items) }
         ensures grows { Grows self.old self.new }
     {
         let env = self.find_env(alloc, guesses, &mut found.envs, from, row.env)?;
@@ -94,7 +95,8 @@ impl Nodes {
     ) -> Result<Vec<Row>, OutOfMemory>
         requires { All (IsRow from.now) rows.now }
         ensures rows { IfOk result (λ own. All (IsRow self.new) own.items) }
-        ensures entries { IfOk result (λ own. map (entry_of self.new) own.items ≡ map (entry_of from.now) rows.now) }
+        ensures entries { IfOk result (λ own. map (entry_of self.new) own.items ≡ map
+            (entry_of from.now) rows.now) }
         ensures grows { Grows self.old self.new }
     {
         found.clear();

@@ -60,7 +60,8 @@ impl Unions {
 
     /// Forgets all unions where they are too many.
     fn make_room(&mut self)
-        ensures { (p : AnyPair) (u : ℕ) → Contains self.new.known.entries (p, u) → Contains self.old.known.entries (p, u) }
+        ensures { (p : AnyPair) (u : ℕ) → Contains self.new.known.entries (p, u)
+            → Contains self.old.known.entries (p, u) }
     {
         if self.known.len() >= MOST_KNOWN {
             self.known.clear();

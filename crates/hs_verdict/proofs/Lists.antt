@@ -9,12 +9,12 @@ use Rattle.hs_scheme.specs.Flow.{pairs_of}
 use Rattle.hs_steps.proofs.Terms.{same_some}
 use Rattle.hs_table_laws.proofs.Places.{none_in, here, later, uncons}
 
-pub record Image {A B : Type 0} (f : A → B) (xs : List A) (i : ℕ) (y : B) : Type 0 where
+pub record PreimageAt {A B : Type 0} (f : A → B) (xs : List A) (i : ℕ) (y : B) : Type 0 where
   pub item : A
   pub at : slice_get xs i ≡ Some item
   pub is : f item ≡ y
 
-pub place-map : {A B : Type 0} (f : A → B) (xs : List A) (i : ℕ) (y : B) → slice_get (map f xs) i ≡ Some y → Image f xs i y
+pub place-map : {A B : Type 0} (f : A → B) (xs : List A) (i : ℕ) (y : B) → slice_get (map f xs) i ≡ Some y → PreimageAt f xs i y
 place-map f [] i y e = absurd (cc)
 place-map f (x ∷ xs) zero y e = record { item = x; at = refl; is = same_some (f x) y e }
 place-map f (x ∷ xs) (suc i) y e = let r = place-map f xs i y e in record { item = r.item; at = r.at; is = r.is }

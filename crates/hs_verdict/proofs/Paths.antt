@@ -18,7 +18,7 @@ use Rattle.hs_steps.proofs.Terms.{applied-none, Unfolding, unfolding_of}
 use Rattle.hs_steps.proofs.Sorted.{step_sorted, as_many}
 use Rattle.hs_verdict.specs.Premises.{IsSortedProblem}
 use Rattle.hs_verdict.specs.Closures.{Closure, read, stands_for}
-use Rattle.hs_verdict.proofs.Lists.{Image, place-map}
+use Rattle.hs_verdict.proofs.Lists.{PreimageAt, place-map}
 use Rattle.hs_verdict.proofs.TermLemmas.{AreTerms}
 use Rattle.hs_verdict.proofs.Counts.{problem_sorts, sorted_by, nonterminal_count, full_body}
 use Rattle.hs_verdict.proofs.Moves.{nonterminal_move}
@@ -105,7 +105,7 @@ module _ (p : ProblemData) (given : IsSortedProblem p) (term : ℕ → Tree Head
       let qs : List ℕ = x.fails.step.0 in
       let there : next ts q b ≡ Some qs = x.fails.step.1 in
       let child : IsChild b qs (children (forest us)) x.fails.label x.fails.state u = x.fails.step.2 in
-      let im : Image (read term) zs child.place u = place-map (read term) zs child.place u (subst (λ (vs : List (Tree Head)). slice_get vs child.place ≡ Some u) (children-forest us) child.term) in
+      let im : PreimageAt (read term) zs child.place u = place-map (read term) zs child.place u (subst (λ (vs : List (Tree Head)). slice_get vs child.place ≡ Some u) (children-forest us) child.term) in
       let move : u ≡ stands_for term im.item [] = sym im.is ∙ sym (applied-none (read term im.item)) in
       record {
         states = qs;

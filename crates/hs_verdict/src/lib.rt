@@ -38,7 +38,8 @@ pub fn complete_tables_have_the_start()
 pub fn acceptance_is_no_failing_path()
     ensures { (p : ProblemData) → IsSortedProblem p →
         Accepts p.sorted.scheme.rules p.sorted.automaton.transitions
-        ↔ ((n : ℕ) (path : Path) → Fails p.sorted.scheme.rules p.sorted.automaton.transitions n 0 start path → ⊥) }
+        ↔ ((n : ℕ) (path : Path) → Fails p.sorted.scheme.rules p.sorted.automaton.transitions n 0 start path
+        → ⊥) }
 {}
 
 /// So where a closed table over a closed flow lacks the start entry, the automaton accepts the value

@@ -24,7 +24,7 @@ use Rattle.hs_core.specs.declared.answers.Taken.TheVariants.{Item, Quiet, Idle, 
 use Rattle.hs_core.specs.declared.answers.Published.{Published}
 use Rattle.hs_core.specs.declared.answers.Published.TheVariants.{Known, Added, Over as NoRoom}
 use Rattle.hs_core.specs.Core.{CoreData, IsCore, state_of, log_of, stepped}
-use Rattle.hs_core.specs.Answers.{Takes, Publishes, Passes}
+use Rattle.hs_core.specs.Answers.{Takes, Publishes, AddsOrPasses}
 use Rattle.hs_core.specs.Draining.{SameFlight}
 use Rattle.hs_core.proofs.Moving.{state_same, state_stepped}
 use Rattle.hs_shared.specs.Seats.{SeatData, Sees}
@@ -72,7 +72,7 @@ same_flight a b base story t = ap (λ (s : State). s.flight t) (state_same a b b
 
 -- publications, from a core with the same state
 module _ (core found new : CoreData) (base : found.base ≡ core.base) (story : found.story ≡ core.story) (worker ticket : ℕ) (d : Deduction) where
-  passes_flight : (kept : Option Deduction) → Passes found worker ticket d new kept → SameFlight found new
+  passes_flight : (kept : Option Deduction) → AddsOrPasses found worker ticket d new kept → SameFlight found new
   passes_flight None is t = ap (λ (s : State). s.flight t) (state_stepped found new worker (passes ticket d) (found.spare - 1) is)
   passes_flight (Some k) is t = ap (λ (c : CoreData). (state_of c).flight t) is
 

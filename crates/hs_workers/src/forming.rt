@@ -32,7 +32,8 @@ fn keep_new(
     found: &mut Vec<Deduced>,
 ) -> Result<(), OutOfMemory>
     requires { All (λ d. IsRow replica.now.ids d.row) formed.items }
-    ensures { IfOk result (λ _. KeepsNew replica.now.ids replica.now.log formed.items found.old.items found.new.items) }
+    ensures { IfOk result (λ _. KeepsNew replica.now.ids replica.now.log formed.items found.old.items
+        found.new.items) }
 {
     for deduced in formed {
         if !knows(replica, deduced.row) {
@@ -55,7 +56,8 @@ fn form_at(
     requires shape { All (InShape problem.now) replica.old.log }
     ensures log { replica.new.log ≡ replica.old.log }
     ensures grows { Grows replica.old.ids replica.new.ids }
-    ensures found { IfOk result (λ found. AreAllAt problem.now replica.new.ids replica.new.log points.now place found.items) }
+    ensures found { IfOk result (λ found. AreAllAt problem.now replica.new.ids replica.new.log points.now
+        place found.items) }
 {
     let mut found = Vec::new(alloc);
     for point in points {
@@ -75,7 +77,8 @@ fn form_seed(
     requires { point < length problem.now.points.points }
     ensures log { replica.new.log ≡ replica.old.log }
     ensures grows { Grows replica.old.ids replica.new.ids }
-    ensures found { IfOk result (λ found. AreFormed problem.now replica.new.ids replica.new.log (Work.Seed point) found.items) }
+    ensures found { IfOk result (λ found. AreFormed problem.now replica.new.ids replica.new.log
+        (Work.Seed point) found.items) }
 {
     let formed = seed_conclusions(alloc, problem, replica, point)?;
     let mut found = Vec::new(alloc);
@@ -96,7 +99,8 @@ fn form_place(
     requires dependents { HasDependents problem.now.points problem.now.flow.pairs dependents.now }
     ensures log { replica.new.log ≡ replica.old.log }
     ensures grows { Grows replica.old.ids replica.new.ids }
-    ensures found { IfOk result (λ found. AreFormed problem.now replica.new.ids replica.new.log (Work.Place place) found.items) }
+    ensures found { IfOk result (λ found. AreFormed problem.now replica.new.ids replica.new.log
+        (Work.Place place) found.items) }
 {
     let points = dependents.list(replica.row(place).point);
     form_at(alloc, problem, points, replica, place)
@@ -115,7 +119,8 @@ pub(crate) fn form(
     requires dependents { HasDependents problem.now.points problem.now.flow.pairs dependents.now }
     ensures log { replica.new.log ≡ replica.old.log }
     ensures grows { Grows replica.old.ids replica.new.ids }
-    ensures found { IfOk result (λ found. AreFormed problem.now replica.new.ids replica.new.log work found.items) }
+    ensures found { IfOk result (λ found. AreFormed problem.now replica.new.ids replica.new.log work
+        found.items) }
 {
     match work {
         Work::Seed(point) => form_seed(alloc, problem, replica, point),

@@ -101,7 +101,8 @@ fn publish_job<'p>(
     requires formed { IsFormed hold.old.core.base.problem replica.now.ids replica.now.log job.now }
     ensures goes { StepsInHold seat.old seat.new hold.old hold.new }
     ensures flight { SameFlight hold.old.core hold.new.core }
-    ensures closed { IsTrue result → IsClosedWork hold.new.core.base.problem (log_of hold.new.core) job.now.work }
+    ensures closed { IsTrue result
+        → IsClosedWork hold.new.core.base.problem (log_of hold.new.core) job.now.work }
 {
     if !going {
         return false;
@@ -125,11 +126,13 @@ fn settle<'p>(
     going: bool,
 ) -> bool
     requires holds { IsHolding seat.old hold.old }
-    requires flies { (state_of hold.old.core).flight job.now.ticket ≡ Some (record { worker = seat.old.known.number; work = job.now.work }) }
+    requires flies { (state_of hold.old.core).flight job.now.ticket ≡ Some
+        (record { worker = seat.old.known.number; work = job.now.work }) }
     requires begins { IsPrefix replica.now.log (log_of hold.old.core) }
     requires formed { IsFormed hold.old.core.base.problem replica.now.ids replica.now.log job.now }
     ensures goes { StepsInHold seat.old seat.new hold.old hold.new }
-    ensures flight { (ticket : ℕ) → (state_of hold.new.core).flight ticket ≡ put job.now.ticket None (state_of hold.old.core).flight ticket }
+    ensures flight { (ticket : ℕ) → (state_of hold.new.core).flight ticket ≡ put job.now.ticket None
+        (state_of hold.old.core).flight ticket }
 {
     if publish_job(hold, seat, replica, job, going) {
         hold.finish(seat, job.ticket);
@@ -235,14 +238,16 @@ pub(crate) fn turn<'p>(
     requires holds { IsHolding seat.old hold.old }
     requires carries { Carries seat.old.known.number (state_of hold.old.core).flight (keys jobs.old.items) }
     requires begins { IsPrefix replica.old.log (log_of hold.old.core) }
-    requires formed { All (IsFormed hold.old.core.base.problem replica.old.ids replica.old.log) jobs.old.items }
+    requires formed { All (IsFormed hold.old.core.base.problem replica.old.ids replica.old.log)
+        jobs.old.items }
     requires none { rows.old.items ≡ [] }
     ensures goes { StepsInHold seat.old seat.new hold.old hold.new }
     ensures fits { CanExtend replica.new rows.new.items }
     ensures begins { IsPrefix (extended replica.new rows.new.items) (log_of hold.new.core) }
     ensures carries { Carries seat.new.known.number (state_of hold.new.core).flight (keys jobs.new.items) }
     ensures unformed { All IsUnformed jobs.new.items }
-    ensures works { All (λ j. IsWork hold.new.core.base.problem (extended replica.new rows.new.items) j.work) jobs.new.items }
+    ensures works { All (λ j. IsWork hold.new.core.base.problem
+        (extended replica.new rows.new.items) j.work) jobs.new.items }
 {
     let done = replace(jobs, Vec::new(alloc));
     let _entries = replica.len();

@@ -68,7 +68,8 @@ fn work_each<'p, R: Threads + Wait + Sync, G: Gate + Sync>(
         seats,
         count,
         &|_, seat: &mut RestedSeat|
-            requires { HasDependents problem.now.points problem.now.flow.pairs dependents.now × RestsSeated table.now problem.now seat.old }
+            requires { HasDependents problem.now.points problem.now.flow.pairs dependents.now
+                × RestsSeated table.now problem.now seat.old }
             ensures { RestsIn table.entry.now seat.new }
         { run_worker(rt, alloc, table, problem, dependents, gate, bell, seat) },
     );
@@ -254,7 +255,8 @@ pub fn saturate<'p, R: Threads + Wait + Sync, G: Gate + Sync>(
     requires least { 1 ≤ budget }
     requires greatest { budget ≤ 1000000 }
     requires dependents { HasDependents problem.now.points problem.now.flow.pairs dependents.now }
-    ensures done { IfOk result (IsSharedDone (record { problem = problem.now; budget = budget; first = first }) workers) }
+    ensures done { IfOk result (IsSharedDone
+        (record { problem = problem.now; budget = budget; first = first }) workers) }
     ensures verdict { IfOk result (λ done. HasClosedFlow problem.now → IsVerdict problem.now done) }
 {
     is_sorted_problem(problem);

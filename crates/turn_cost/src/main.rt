@@ -90,10 +90,12 @@ fn four_turns<R: Threads + Wait + Sync>(
     join(
         rt,
         ||
-            requires { (a.turn ≡ turn.now) × (a.known.holds ≡ false) × (b.turn ≡ turn.now) × (b.known.holds ≡ false) }
+            requires { (a.turn ≡ turn.now) × (a.known.holds ≡ false) × (b.turn ≡ turn.now)
+                × (b.known.holds ≡ false) }
         { two_turns(rt, turn, a, b, rounds) },
         ||
-            requires { (c.turn ≡ turn.now) × (c.known.holds ≡ false) × (d.turn ≡ turn.now) × (d.known.holds ≡ false) }
+            requires { (c.turn ≡ turn.now) × (c.known.holds ≡ false) × (d.turn ≡ turn.now)
+                × (d.known.holds ≡ false) }
         { two_turns(rt, turn, c, d, rounds) },
     );
 }

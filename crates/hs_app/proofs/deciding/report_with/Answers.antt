@@ -1,4 +1,5 @@
 use Rattle.std.proofs.Common.{◌≡◌, ◌≢◌, sym, ◌∙◌, subst, List, All, AllPairs, Some}
+use Rattle.std.proofs.lemmas.Option.{same_Some}
 use Rattle.hs_scheme.specs.Automaton.{IsAutomaton}
 use Rattle.hs_scheme.specs.Problem.{ProblemData}
 use Rattle.hs_table.specs.Entries.{EntryData, InShape}
@@ -6,12 +7,9 @@ use Rattle.hs_core.specs.Core.{log_of}
 use Rattle.hs_app.proofs.CoreLemmas.{core_supports, core_shape}
 use Rattle.hs_app.proofs.deciding.report_with.Goals as goal
 
-some_same : {A : Type 0} (x y : A) → Some x ≡ Some y → x ≡ y
-some_same x y e = (cc)
-
 -- what holds of the log holds of the entries that are shown
 shown : (P : List EntryData → Type 0) (log entries table : List EntryData) → P log → entries ≡ log → Some entries ≡ Some table → P table
-shown P log entries table h e f = subst P (sym e ∙ some_same entries table f) h
+shown P log entries table h e f = subst P (sym e ∙ same_Some entries table f) h
 
 pub report-requires-2-clause-shape : goal.report-requires-2-clause-shape
 report-requires-2-clause-shape c = λ table e.

@@ -2,7 +2,7 @@ use Rattle.std.proofs.Common.{◌≡◌, ◌∙◌, ap, subst, ◌+◌, [], ◌�
 use Rattle.std.specs.Ordering.{nat_cmp, is_lt}
 use Rattle.std.proofs.lemmas.List.Sorted.{IsPartitionPoint-from_clause}
 use Rattle.hs_table.specs.Entries.{EntryData}
-use Rattle.hs_checker.specs.Order.{IsStart}
+use Rattle.hs_checker.specs.Order.{IsStartOfPoint}
 use Rattle.hs_checker.proofs.Between.{parted_less}
 use Rattle.hs_checker.proofs.IndexLemmas.{points_up, length-map}
 use Rattle.hs_checker.proofs.StartLemmas.{start_of, starts_more, start_past}
@@ -28,7 +28,7 @@ returns c =
     let news = c.push-2.new.self.items in
     let e : c.loop-point.point-counter ≡ c.args.points = omega arith in
     let long : length news ≡ c.args.points + 1 = omega (arith, e, c.loop-point.invariant.long, ap length c.in_ok-push-2.ensures.items, length-append c.loop-point.starts.items (length rows ∷ [])) in
-    let own = subst (λ n. IsStart es c.args.points n) (length-map f rows) (start_past (λ (e : EntryData). e.point) es c.args.points c.requires.within) in
+    let own = subst (λ n. IsStartOfPoint es c.args.points n) (length-map f rows) (start_past (λ (e : EntryData). e.point) es c.args.points c.requires.within) in
     record {
       each = starts_more (λ (e : EntryData). e.point) es c.loop-point.starts.items news c.args.points (length rows) c.in_ok-push-2.ensures.items (c.loop-point.invariant.long ∙ e) own c.loop-point.invariant.each;
       within = λ x k. omega (arith, long, c.requires.within x k);

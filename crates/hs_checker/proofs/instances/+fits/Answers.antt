@@ -2,7 +2,7 @@ use Rattle.std.proofs.Common.{◌≡◌, sym, ◌∙◌, ap, subst, ◌-◌, ℕ
 use Rattle.std.proofs.lemmas.List.{take_all}
 use Rattle.hs_table.specs.Types.{TypeTree}
 use Rattle.hs_table.specs.TypeView.{type_of}
-use Rattle.hs_checker.specs.Slots.{HasTypesAt, Fits}
+use Rattle.hs_checker.specs.Slots.{HasTypesAt, FitsSets}
 use Rattle.hs_checker.proofs.InstanceLemmas.{fits_arrow}
 use Rattle.hs_checker.proofs.instances.+fits.Goals as goal
 
@@ -15,8 +15,8 @@ returns-then-have_entries t c =
     let exact = fits_arrow E us u c.in-Arrow.set.items c.in-Arrow.rest.value c.args.ty.now (sym c.in-Some.ensures.value) is in
     let front : take (length us - 1) (drop 1 us) ≡ drop 1 us = take_all _ (drop 1 us) (omega (arith, length-drop 1 us)) in
     let has = subst (λ (s : List TypeTree). HasTypesAt E u s) c.as_slice.ensures.value (c.have_entries.ensures.0 c.if-have_entries.true) in (
-      λ h. exact.0 (has, subst (λ (vs : List ℕ). Fits E vs c.in-Arrow.rest.value) front (subst (λ (z : TypeTree). Fits E (take (length us - 1) (drop 1 us)) z) c.deref.ensures (c.fits.ensures.0 h))),
-      λ h. c.fits.ensures.1 (subst (λ (z : TypeTree). Fits E (take (length us - 1) (drop 1 us)) z) (sym c.deref.ensures) (subst (λ (vs : List ℕ). Fits E vs c.in-Arrow.rest.value) (sym front) (exact.1 h).1)),
+      λ h. exact.0 (has, subst (λ (vs : List ℕ). FitsSets E vs c.in-Arrow.rest.value) front (subst (λ (z : TypeTree). FitsSets E (take (length us - 1) (drop 1 us)) z) c.deref.ensures (c.fits.ensures.0 h))),
+      λ h. c.fits.ensures.1 (subst (λ (z : TypeTree). FitsSets E (take (length us - 1) (drop 1 us)) z) (sym c.deref.ensures) (subst (λ (vs : List ℕ). FitsSets E vs c.in-Arrow.rest.value) (sym front) (exact.1 h).1)),
     )
 
 pub returns-else-have_entries : goal.returns-else-have_entries

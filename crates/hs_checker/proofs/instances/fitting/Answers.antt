@@ -1,6 +1,6 @@
 use Rattle.std.proofs.Common.{◌≡◌, sym, ◌∙◌, subst, true, false, List, length, arith, Contains, ◌↔◌}
 use Rattle.hs_table.specs.Types.{TypeTree}
-use Rattle.hs_checker.specs.Slots.{Fits}
+use Rattle.hs_checker.specs.Slots.{FitsSets}
 use Rattle.hs_checker.proofs.Once.{all_given, one_given}
 use Rattle.hs_checker.proofs.InstanceLemmas.{fitting_pushed, fitting_passed}
 use Rattle.hs_checker.proofs.instances.fitting.Goals as goal
@@ -30,4 +30,4 @@ pub returns : goal.returns
 returns c =
     let none : length c.loop-ty.ty-iterator.rest.items ≡ 0 = omega (arith, c.in-None.ensures.steps.0, c.loop-ty.ty-iterator.rest.ok.0) in
     let all = all_given c.loop-ty.yielded c.loop-ty.ty-iterator.rest.items c.args.types.items none c.loop-ty.invariant.whole in
-    λ t. subst (λ (ts : List TypeTree). Contains c.loop-ty.found.items t ↔ (Contains ts t × Fits c.args.index.now c.args.args.now t)) all (c.loop-ty.invariant.each t)
+    λ t. subst (λ (ts : List TypeTree). Contains c.loop-ty.found.items t ↔ (Contains ts t × FitsSets c.args.index.now c.args.args.now t)) all (c.loop-ty.invariant.each t)

@@ -1,7 +1,7 @@
 use Rattle.std.proofs.Common.{◌∙◌, ap, ℕ, List, [], replicate}
 use Rattle.std.specs.Option.{option_copied}
 use Rattle.hs_table.specs.Types.{TypeTree, arrows}
-use Rattle.hs_checker.specs.Slots.{Fits}
+use Rattle.hs_checker.specs.Slots.{FitsSets}
 use Rattle.hs_checker.proofs.TypeLemmas.{or_same, same_part, lacking_type, reading_types}
 use Rattle.hs_checker.proofs.terminals.add_types_in.Goals as goal
 
@@ -11,9 +11,9 @@ returns-in_ok-add_fitting-in-None c = λ t.
     let sets = c.as_slice.ensures.value ∙ (c.in_ok-sets-in-None.ensures ∙ ap (λ (n : ℕ). replicate n none) c.rank.ensures) in
     let made = c.in_ok-ty-in-None.ensures ∙ λ i. arrows (sets i) (c.state.ensures i) in
     or_same _ _ _ _ (c.in_ok-add_fitting-in-None.ensures t)
-    (same_part _ _ (Fits c.args.index.now c.args.args.now t) (lacking_type c.args.problem.now c.args.terminal c.args.q c.in_ok-ty-in-None.ty (option_copied c.transition.result) c.transition.ensures (ap option_copied c.in-None.is) made t))
+    (same_part _ _ (FitsSets c.args.index.now c.args.args.now t) (lacking_type c.args.problem.now c.args.terminal c.args.q c.in_ok-ty-in-None.ty (option_copied c.transition.result) c.transition.ensures (ap option_copied c.in-None.is) made t))
 
 pub returns-in_ok-add_child_types-in-Some : goal.returns-in_ok-add_child_types-in-Some
 returns-in_ok-add_child_types-in-Some c = λ t.
     or_same _ _ _ _ (c.in_ok-add_child_types-in-Some.ensures t)
-    (same_part _ _ (Fits c.args.index.now c.args.args.now t) (reading_types c.args.problem.now c.args.terminal c.args.q c.in-Some.to.now (option_copied c.transition.result) c.transition.ensures (ap option_copied c.in-Some.is) t))
+    (same_part _ _ (FitsSets c.args.index.now c.args.args.now t) (reading_types c.args.problem.now c.args.terminal c.args.q c.in-Some.to.now (option_copied c.transition.result) c.transition.ensures (ap option_copied c.in-Some.is) t))

@@ -1,10 +1,10 @@
 -- the states marked so far have transitions
 use Rattle.std.proofs.Common.{◌≡◌, ℕ, length, slice_get, Some, true}
-use Rattle.hs_checker.specs.Slots.{Moves}
+use Rattle.hs_checker.specs.Slots.{HasMove}
 use Rattle.hs_checker.proofs.terminals.moving.Given as goal
 
 abbrev pub invariant-loop-place : goal.invariant-loop-place
 invariant-loop-place l = record {
   long : length l.marks.items ≡ l.automaton.states;
-  marked : (q : ℕ) → slice_get l.marks.items q ≡ Some true → Moves l.automaton.transitions l.terminal l.most q;
+  marked : (q : ℕ) → slice_get l.marks.items q ≡ Some true → HasMove l.automaton.transitions l.terminal l.most q;
 }

@@ -4,7 +4,7 @@ use Rattle.hs_table.specs.Types.{TypeTree}
 use Rattle.hs_table.specs.declared.ty.Ty.{Ty}
 use Rattle.hs_table_plain.specs.Enumeration.{terminal_types, types_in}
 use Rattle.hs_table_plain.proofs.Members.{two_steps}
-use Rattle.hs_checker.specs.Slots.{Fits}
+use Rattle.hs_checker.specs.Slots.{FitsSets}
 use Rattle.hs_checker.proofs.TypeLemmas.{terminal_types_more, both_parts, or_nothing}
 use Rattle.hs_checker.proofs.InstanceLemmas.{barren_unfit}
 use Rattle.hs_checker.proofs.terminals.terminal_instances.Goals as goal
@@ -16,14 +16,14 @@ loop-q-preserved c =
     let E = c.args.index.now in
     let us = c.args.args.now in
     let q = c.loop-q.q in
-    let more = λ (t : TypeTree). both_parts _ _ _ (Fits E us t) (terminal_types_more p c.args.terminal q t) in
+    let more = λ (t : TypeTree). both_parts _ _ _ (FitsSets E us t) (terminal_types_more p c.args.terminal q t) in
     elim c.if-not-is_marked.branch [
       | then-not-is_marked+in_ok-add_types_in w ↦ λ t.
-          two_steps _ _ _ _ _ (subst (λ (v : Vec Ty Global). Contains v.items t ↔ (Contains c.loop-q.found.items t ⊎ (Contains (types_in p c.args.terminal q (next p.sorted.automaton.transitions q c.args.terminal)) t × Fits E us t)))
+          two_steps _ _ _ _ _ (subst (λ (v : Vec Ty Global). Contains v.items t ↔ (Contains c.loop-q.found.items t ⊎ (Contains (types_in p c.args.terminal q (next p.sorted.automaton.transitions q c.args.terminal)) t × FitsSets E us t)))
           (sym w.found-is) (w.in_ok-add_types_in.ensures t)) (c.loop-q.invariant t) (more t)
       | else-not-is_marked w ↦ λ t.
           let both = c.in_ok-barren.ensures q (subst (λ (ms : List Bool). slice_get ms q ≡ Some true) c.as_slice.ensures.value (c.is_marked.ensures w.if-not-is_marked.false)) in
-          two_steps _ _ _ _ _ (subst (λ (v : Vec Ty Global). Contains v.items t ↔ (Contains c.loop-q.found.items t ⊎ (Contains (types_in p c.args.terminal q (next p.sorted.automaton.transitions q c.args.terminal)) t × Fits E us t)))
+          two_steps _ _ _ _ _ (subst (λ (v : Vec Ty Global). Contains v.items t ↔ (Contains c.loop-q.found.items t ⊎ (Contains (types_in p c.args.terminal q (next p.sorted.automaton.transitions q c.args.terminal)) t × FitsSets E us t)))
           (sym w.found-is) (or_nothing _ _ (barren_unfit p E us c.args.terminal q t (c.are_bare-bare.ensures both.0) both.1))) (c.loop-q.invariant t) (more t)
     ]
 
@@ -31,4 +31,4 @@ pub returns : goal.returns
 returns c = λ t.
     let p = c.args.problem.now in
     let e : c.loop-q.q ≡ p.sorted.automaton.states = omega (arith, c.states-q-end.ensures) in
-    subst (λ (n : ℕ). Contains c.loop-q.found.items t ↔ (Contains (terminal_types p c.args.terminal n) t × Fits c.args.index.now c.args.args.now t)) e (c.loop-q.invariant t)
+    subst (λ (n : ℕ). Contains c.loop-q.found.items t ↔ (Contains (terminal_types p c.args.terminal n) t × FitsSets c.args.index.now c.args.args.now t)) e (c.loop-q.invariant t)

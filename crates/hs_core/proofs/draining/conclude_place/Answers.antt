@@ -4,7 +4,7 @@ use Rattle.std.proofs.lemmas.List.Elements.{Contains-get_or}
 use Rattle.hs_types.specs.Interned.{entry_of}
 use Rattle.hs_history.specs.Story.{Base}
 use Rattle.hs_core.specs.Core.{log_of}
-use Rattle.hs_core.proofs.Moving.{Moves, HasAll, moves_same, moves_asked, moves_trans, place_ready, point_within, dependent_within, in_log_still, has_more, has_new, closed_at_end}
+use Rattle.hs_core.proofs.Moving.{Moves, HasAllThatFollow, moves_same, moves_asked, moves_trans, place_ready, point_within, dependent_within, in_log_still, has_more, has_new, closed_at_end}
 use Rattle.hs_core.proofs.draining.conclude_place.Goals as goal
 
 pub list-dependent-items-requires : goal.list-dependent-items-requires
@@ -55,7 +55,7 @@ loop-dependent-preserved c =
         | inl below ↦ has_more a.base.problem (log_of a) c.args.place (get_or items k 0) b e later.alone (c.loop-dependent.invariant.all k below)
         | inr above ↦
             let same : n ≡ k = omega arith in
-            subst (λ j. HasAll a.base.problem (log_of a) c.args.place (get_or items j 0) (log_of e)) same
+            subst (λ j. HasAllThatFollow a.base.problem (log_of a) c.args.place (get_or items j 0) (log_of e)) same
             (has_new a b m e c.args.place (get_or items n 0) c.in_ok-found.found.items c.requires.place c.loop-dependent.invariant.moves.alone c.in_ok-publish_all.ensures.ids c.in_ok-found.ensures.found (MatchBool-at_true _ _ c.if-not-branch.false c.in_ok-publish_all.ensures.all))
       ];
     }

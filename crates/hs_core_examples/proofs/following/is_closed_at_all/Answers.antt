@@ -1,7 +1,8 @@
 use Rattle.std.proofs.Common.{sym, ◌∙◌, subst, List, All, get_or}
+use Rattle.std.proofs.lemmas.List.{get_or_default}
 use Rattle.hs_table.specs.Entries.{EntryData, InShape}
 use Rattle.hs_core_examples.specs.Following.{IsClosedAt}
-use Rattle.hs_core_examples.proofs.Lists.{any_default, one_more, all_of_them}
+use Rattle.hs_core_examples.proofs.Lists.{one_more, all_of_them}
 use Rattle.hs_core_examples.proofs.following.is_closed_at_all.Goals as goal
 
 pub is_closed_at-requires : goal.is_closed_at-requires
@@ -15,7 +16,7 @@ loop-point-preserved c =
     record {
       log = c.is_closed_at.ensures.log ∙ c.loop-point.invariant.log;
       closed =
-          one_more (IsClosedAt c.args.problem.now log c.args.work) points n (get_or points n 0) c.loop-point-test.true (any_default points n 0 (get_or points n 0) c.loop-point-test.true) c.loop-point.invariant.closed
+          one_more (IsClosedAt c.args.problem.now log c.args.work) points n (get_or points n 0) c.loop-point-test.true (get_or_default points n 0 (get_or points n 0) c.loop-point-test.true) c.loop-point.invariant.closed
           (subst (λ (xs : List EntryData). IsClosedAt c.args.problem.now xs c.args.work (get_or points n 0)) c.loop-point.invariant.log (c.in_ok-is_closed_at.ensures.closed c.if-not-branch.false));
     }
 

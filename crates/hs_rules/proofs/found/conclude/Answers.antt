@@ -5,7 +5,7 @@ use Rattle.hs_rules.specs.Conclusions.{DeducedData}
 use Rattle.hs_rules.specs.Slots.{slots, FilledData}
 use Rattle.hs_rules.specs.Filling.{fixed_of, AreFilled}
 use Rattle.hs_rules.specs.Joins.{PartialData, ArePlaced, AreJoined}
-use Rattle.hs_rules.specs.Found.{HeadData, seek, IsRowOf, HasRow, LeadsTo, IsConclusion, IsFound}
+use Rattle.hs_rules.specs.Found.{HeadData, seek, IsRowOf, HasRow, HeadLeadsTo, IsConclusion, HasEnvFound}
 use Rattle.hs_rules.proofs.Lists.{on_ok_map}
 use Rattle.hs_rules.proofs.FoundLemmas.{filled_placed, rows_conclude, conclude_rows}
 use Rattle.hs_rules.proofs.found.conclude.Goals as goal
@@ -56,5 +56,5 @@ returns-clause-all c =
     let joined = subst (λ (n : ℕ). AreJoined K log (length (env_of_id ids n)) (env_of_id ids n) fs partials) (ap (λ (x : HeadData). x.own) c.head.view_is)
     (subst (λ (gs : List FilledData). AreJoined K log (length (env_of_id ids c.head.inside.own)) (env_of_id ids c.head.inside.own) gs partials) c.as_slice-3.ensures c.in_ok-partials.ensures.joined) in
     on_ok_map c.add_all.result ((x : PartialData) → Contains c.as_slice-4.result.now x → HasRow s.point h x c.add_all.new.found.list.items)
-    ((args : List (ℕ × ℕ)) (env : Env) → LeadsTo ids log s h args env → IsFound K s h env c.add_all.new.found.list.items)
+    ((args : List (ℕ × ℕ)) (env : Env) → HeadLeadsTo ids log s h args env → HasEnvFound K s h env c.add_all.new.found.list.items)
     (λ all. conclude_rows ids K log s h fs partials filled joined c.add_all.new.found.list.items (λ x there. all x (subst (λ (xs : List PartialData). Contains xs x) (sym c.as_slice-4.ensures) there))) c.add_all.ensures.all

@@ -1,6 +1,6 @@
 use Rattle.std.proofs.Common.{sym, subst, List, inl, inr, Contains}
 use Rattle.std.proofs.lemmas.List.{take_all}
-use Rattle.hs_rules.specs.Found.{HeadData, seek, LeadsTo, IsFound}
+use Rattle.hs_rules.specs.Found.{HeadData, seek, HeadLeadsTo, HasEnvFound}
 use Rattle.hs_rules.proofs.Lists.{taken_cases}
 use Rattle.hs_rules.proofs.KeepLemmas.{keeps_then}
 use Rattle.hs_rules.proofs.FoundLemmas.{known_later, envs_later, leads_later, conclusion_earlier, conclusion_later, found_later}
@@ -45,8 +45,8 @@ loop-head-preserved c =
       all = λ x there args env leads. elim (taken_cases c.args.heads.now c.loop-head.head-index item x c.loop-head-test.true c.head-item.is there) [
         | inl was ↦ found_later J K s x env c.loop-head.found.list.items c.conclude.new.found.list.items h c.in_ok-conclude.ensures.keeps (c.loop-head.invariant.all x was args env leads)
         | inr is ↦
-            subst (λ (y : HeadData). IsFound K s y env c.conclude.new.found.list.items) (sym is)
-            (c.in_ok-conclude.ensures.all args env (leads_later I J log later s item g same known args env (subst (λ (y : HeadData). LeadsTo I log s y args env) is leads)))
+            subst (λ (y : HeadData). HasEnvFound K s y env c.conclude.new.found.list.items) (sym is)
+            (c.in_ok-conclude.ensures.all args env (leads_later I J log later s item g same known args env (subst (λ (y : HeadData). HeadLeadsTo I log s y args env) is leads)))
       ];
     }
 

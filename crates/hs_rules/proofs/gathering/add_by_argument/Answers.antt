@@ -7,9 +7,9 @@ use Rattle.hs_table.specs.Entries.{Env, EntryData, InShape}
 use Rattle.hs_table_laws.proofs.Places.{within_from, to_take, member_at, read_from}
 use Rattle.hs_types.specs.Interned.{InternerData, type_of_id, set_of_id, env_of_id, entry_of, IsInterner}
 use Rattle.hs_rules.specs.Conclusions.{DeducedData, Uses}
-use Rattle.hs_rules.specs.Found.{SearchData, HeadData, HaveEnvs, RowsAre, LeadsTo, IsConclusion, IsFound}
+use Rattle.hs_rules.specs.Found.{SearchData, HeadData, HaveEnvs, RowsAre, HeadLeadsTo, IsConclusion, HasEnvFound}
 use Rattle.hs_rules.specs.Heads.{Asks}
-use Rattle.hs_rules.specs.Parts.{ArePart, HasAll, UsesArgument, IsPlaceOf}
+use Rattle.hs_rules.specs.Parts.{ArePart, HasAll, UsesArgument, IsOnlyPlaceOf}
 use Rattle.hs_rules.proofs.Lists.{along, on_ok_map, on_ok_both}
 use Rattle.hs_rules.proofs.ConcludeLemmas.{part_more, all_reached, heads_envs, argument_used, used_argument, there, fixed_uses, argument_kind}
 use Rattle.hs_rules.proofs.PartLemmas.{can_search_later}
@@ -33,7 +33,7 @@ heads_asking-requires-clause-search c =
     let e0 = entry_of c.args.replica.now.ids row in
     let point = c.args.search.now.point in
     let of : PointData = record { rule = c.args.spot.now.rule; head = c.args.head; args = c.args.search.now.args.now } in
-    let is_place = subst (λ (x : PointsData). IsPlaceOf x point e0.point arg) (ap (λ (q : ProblemData). q.points) c.problem.view_is) c.in-Some.ensures in
+    let is_place = subst (λ (x : PointsData). IsOnlyPlaceOf x point e0.point arg) (ap (λ (q : ProblemData). q.points) c.problem.view_is) c.in-Some.ensures in
     let e0_is = read_from log c.args.place e0 (record { point = 0; env = []; ty = state 0 }) c.row-row.ensures.entry in
     record {
       indexed = c.requires.search.indexed;
@@ -48,7 +48,7 @@ heads_asking-requires-clause-arg c =
     let e0 = entry_of c.args.replica.now.ids c.row-row.result in
     let point = c.args.search.now.point in
     let of : PointData = record { rule = c.args.spot.now.rule; head = c.args.head; args = c.args.search.now.args.now } in
-    let is_place = subst (λ (x : PointsData). IsPlaceOf x point e0.point c.in-Some.arg) (ap (λ (q : ProblemData). q.points) c.problem.view_is) c.in-Some.ensures in
+    let is_place = subst (λ (x : PointsData). IsOnlyPlaceOf x point e0.point c.in-Some.arg) (ap (λ (q : ProblemData). q.points) c.problem.view_is) c.in-Some.ensures in
     within_from c.args.search.now.args.now c.in-Some.arg e0.point (there p c.args.replica.now.log c.args.search.now.limit point c.in-Some.arg c.args.place of c.requires.at e0 c.row-row.ensures.entry c.requires.place is_place)
 
 pub conclude_all-requires-clause-search : goal.conclude_all-requires-clause-search
@@ -60,7 +60,7 @@ conclude_all-requires-clause-search c =
     let e0 = entry_of c.args.replica.now.ids row in
     let point = c.args.search.now.point in
     let of : PointData = record { rule = c.args.spot.now.rule; head = c.args.head; args = c.args.search.now.args.now } in
-    let is_place = subst (λ (x : PointsData). IsPlaceOf x point e0.point arg) (ap (λ (q : ProblemData). q.points) c.problem.view_is) c.in-Some.ensures in
+    let is_place = subst (λ (x : PointsData). IsOnlyPlaceOf x point e0.point arg) (ap (λ (q : ProblemData). q.points) c.problem.view_is) c.in-Some.ensures in
     let e0_is = read_from log c.args.place e0 (record { point = 0; env = []; ty = state 0 }) c.row-row.ensures.entry in
     can_search_later c.args.replica.now c.heads_asking.new.replica c.args.search.now.args.now c.args.search.now.limit (Some (record { arg = c.in-Some.arg; place = c.args.place })) c.in_ok-heads.ensures.kept
     (record {
@@ -88,7 +88,7 @@ conclude_all-requires-clause-envs c = λ h there_.
     let s : SearchData = record { point = point; args = c.args.search.now.args.now; limit = limit; fixed = Some (record { arg = arg; place = place }) } in
     let E = take s.limit log in
     let of : PointData = record { rule = c.args.spot.now.rule; head = c.args.head; args = s.args } in
-    let is_place = subst (λ (x : PointsData). IsPlaceOf x point e0.point arg) (ap (λ (q : ProblemData). q.points) c.problem.view_is) c.in-Some.ensures in
+    let is_place = subst (λ (x : PointsData). IsOnlyPlaceOf x point e0.point arg) (ap (λ (q : ProblemData). q.points) c.problem.view_is) c.in-Some.ensures in
     let same = c.in_ok-heads.ensures.kept.log in
     let heads = c.in_ok-heads.heads.items in
     let are = c.in_ok-heads.ensures.heads in
@@ -113,7 +113,7 @@ returns-clause-part c =
     let s : SearchData = record { point = point; args = c.args.search.now.args.now; limit = limit; fixed = Some (record { arg = arg; place = place }) } in
     let E = take s.limit log in
     let of : PointData = record { rule = c.args.spot.now.rule; head = c.args.head; args = s.args } in
-    let is_place = subst (λ (x : PointsData). IsPlaceOf x point e0.point arg) (ap (λ (q : ProblemData). q.points) c.problem.view_is) c.in-Some.ensures in
+    let is_place = subst (λ (x : PointsData). IsOnlyPlaceOf x point e0.point arg) (ap (λ (q : ProblemData). q.points) c.problem.view_is) c.in-Some.ensures in
     let same = c.in_ok-heads.ensures.kept.log in
     let heads = c.in_ok-heads.heads.items in
     let are = c.in_ok-heads.ensures.heads in
@@ -143,16 +143,16 @@ returns-clause-all c =
     let s : SearchData = record { point = point; args = c.args.search.now.args.now; limit = limit; fixed = Some (record { arg = arg; place = place }) } in
     let E = take s.limit log in
     let of : PointData = record { rule = c.args.spot.now.rule; head = c.args.head; args = s.args } in
-    let is_place = subst (λ (x : PointsData). IsPlaceOf x point e0.point arg) (ap (λ (q : ProblemData). q.points) c.problem.view_is) c.in-Some.ensures in
+    let is_place = subst (λ (x : PointsData). IsOnlyPlaceOf x point e0.point arg) (ap (λ (q : ProblemData). q.points) c.problem.view_is) c.in-Some.ensures in
     let same = c.in_ok-heads.ensures.kept.log in
     let heads = c.in_ok-heads.heads.items in
     let are = c.in_ok-heads.ensures.heads in
     let new = c.conclude_all.new.found.list.items in
     let wanted = Asks arg (type_of_id I row.ty) in
     let shapes = λ (e : EntryData) (m : Contains E e). All-contains (InShape p) E e c.requires.spot.shapes m in
-    let all = along (λ i. OnOk c.conclude_all.result ((h : HeadData) → Contains (c.as_slice.ensures i) h → (args : List (ℕ × ℕ)) (env : Env) → LeadsTo J (same i) s h args env → IsFound K s h env new)) c.conclude_all.ensures.all in
+    let all = along (λ i. OnOk c.conclude_all.result ((h : HeadData) → Contains (c.as_slice.ensures i) h → (args : List (ℕ × ℕ)) (env : Env) → HeadLeadsTo J (same i) s h args env → HasEnvFound K s h env new)) c.conclude_all.ensures.all in
     let numbers = subst (λ (ids : InternerData). IsInterner ids) c.interner.ensures c.numbers_are_exact.ensures in
-    on_ok_map c.conclude_all.result ((h : HeadData) → Contains heads h → (args : List (ℕ × ℕ)) (env : Env) → LeadsTo J log s h args env → IsFound K s h env new) (HasAll p K E s.point (UsesArgument place) new)
+    on_ok_map c.conclude_all.result ((h : HeadData) → Contains heads h → (args : List (ℕ × ℕ)) (env : Env) → HeadLeadsTo J log s h args env → HasEnvFound K s h env new) (HasAll p K E s.point (UsesArgument place) new)
     (λ each. all_reached p log s of c.requires.at refl shapes J K c.conclude_all.ensures.kept.grows wanted (UsesArgument place) heads new are each
     (λ sup e f here_is used. argument_kind p log limit point arg place of c.requires.at e0 c.row-row.ensures.entry c.requires.place is_place J numbers sup e f here_is used)) all
 

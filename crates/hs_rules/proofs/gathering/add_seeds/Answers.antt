@@ -3,7 +3,7 @@ use Rattle.hs_table_laws.proofs.Places.{none_in}
 use Rattle.hs_scheme.specs.Points.{PointData}
 use Rattle.hs_table.specs.Entries.{Env, EntryData, InShape}
 use Rattle.hs_rules.specs.Conclusions.{DeducedData, AnySupport}
-use Rattle.hs_rules.specs.Found.{SearchData, HeadData, RowsAre, LeadsTo, IsConclusion, IsFound}
+use Rattle.hs_rules.specs.Found.{SearchData, HeadData, RowsAre, HeadLeadsTo, IsConclusion, HasEnvFound}
 use Rattle.hs_rules.specs.Heads.{AsksNothing}
 use Rattle.hs_rules.specs.Parts.{ArePart, HasAll}
 use Rattle.hs_rules.proofs.Lists.{along, on_ok_map, on_ok_both}
@@ -58,7 +58,7 @@ returns-clause-all c =
     let are = c.in_ok-heads.ensures.heads in
     let new = c.conclude_all.new.found.list.items in
     let shapes : (e : EntryData) → Contains E e → InShape p e = λ e m. absurd (none_in e m) in
-    let all = along (λ i. OnOk c.conclude_all.result ((h : HeadData) → Contains (c.as_slice.ensures i) h → (args : List (ℕ × ℕ)) (env : Env) → LeadsTo J (same i) s h args env → IsFound K s h env new)) c.conclude_all.ensures.all in
-    on_ok_map c.conclude_all.result ((h : HeadData) → Contains heads h → (args : List (ℕ × ℕ)) (env : Env) → LeadsTo J log s h args env → IsFound K s h env new) (HasAll p K E s.point (AnySupport) new)
+    let all = along (λ i. OnOk c.conclude_all.result ((h : HeadData) → Contains (c.as_slice.ensures i) h → (args : List (ℕ × ℕ)) (env : Env) → HeadLeadsTo J (same i) s h args env → HasEnvFound K s h env new)) c.conclude_all.ensures.all in
+    on_ok_map c.conclude_all.result ((h : HeadData) → Contains heads h → (args : List (ℕ × ℕ)) (env : Env) → HeadLeadsTo J log s h args env → HasEnvFound K s h env new) (HasAll p K E s.point (AnySupport) new)
     (λ each. all_reached p log s of c.requires.at refl shapes J K c.conclude_all.ensures.kept.grows (AsksNothing) (AnySupport) heads new are each
     (λ sup e f here_is k. (chosen_nothing p f.are, λ ids is picked. picked))) all

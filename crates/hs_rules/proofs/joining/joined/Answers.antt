@@ -3,7 +3,7 @@ use Rattle.hs_table.specs.Entries.{EntryData}
 use Rattle.hs_table_laws.proofs.Members.{taken_next}
 use Rattle.hs_types.specs.Interned.{env_of_id}
 use Rattle.hs_rules.specs.Slots.{FilledData}
-use Rattle.hs_rules.specs.Joins.{PartialData, FillsBy, CanExtend, IsMadeOf, IsCovered, AreJoined}
+use Rattle.hs_rules.specs.Joins.{PartialData, FillsBy, CanFill, IsMadeOf, IsCovered, AreJoined}
 use Rattle.hs_rules.proofs.KeepLemmas.{keeps_none, keeps_then}
 use Rattle.hs_rules.proofs.JoinLemmas.{joined_none, joined_next, can_extend}
 use Rattle.hs_rules.proofs.joining.joined.Goals as goal
@@ -19,7 +19,7 @@ loop-slot-init c =
 
 pub extended-requires : goal.extended-requires
 extended-requires c =
-    subst (λ (xs : List PartialData). CanExtend c.loop-slot.replica.ids c.loop-slot.replica.log xs c.slot-item.result) (sym c.as_slice.ensures)
+    subst (λ (xs : List PartialData). CanFill c.loop-slot.replica.ids c.loop-slot.replica.log xs c.slot-item.result) (sym c.as_slice.ensures)
     (can_extend c.loop-slot.replica.ids c.args.replica.now.log c.loop-slot.replica.log (length (env_of_id c.args.replica.now.ids c.args.own)) (env_of_id c.args.replica.now.ids c.args.own)
     (take c.loop-slot.slot-index c.args.slots.now) c.slot-item.result c.loop-slot.partials.items c.loop-slot.invariant.kept.log c.loop-slot.invariant.joined
     (c.requires.placed c.slot-item.result (c.loop-slot.slot-index, c.loop-slot-test.true, sym c.slot-item.is)))

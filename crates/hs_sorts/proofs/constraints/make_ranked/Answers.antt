@@ -1,7 +1,7 @@
 use Rattle.std.proofs.Common.{subst}
 use Rattle.std.proofs.lemmas.Result.{IfOk-weaker}
 use Rattle.hs_scheme.specs.Sorting.{o}
-use Rattle.hs_sorts.specs.Constraints.{IsNodeFor, IsClaim, IsBase, Leaves, IsRanked}
+use Rattle.hs_sorts.specs.Constraints.{IsNodeFor, IsClaim, IsBaseSort, Leaves, IsRanked}
 use Rattle.hs_sorts.proofs.Claiming.{ended, ranked_by}
 use Rattle.hs_sorts.proofs.constraints.make_ranked.Goals as goal
 
@@ -13,7 +13,7 @@ returns-in_default c =
 
 pub returns : goal.returns
 returns c =
-    IfOk-weaker c.make_base.result (IsClaim c.rest_behind.new.store c.make_base.new.store (IsBase c.in-Some.rest))
+    IfOk-weaker c.make_base.result (IsClaim c.rest_behind.new.store c.make_base.new.store (IsBaseSort c.in-Some.rest))
     (IsClaim c.args.store.now c.make_base.new.store (IsRanked c.args.node c.args.rank)) (λ answer e.
     ranked_by c.args.store.now c.args.node c.args.rank c.in_ok-first.ensures.before c.requires c.add_all.new.self c.make_base.new.store c.in_ok-first.first answer
     c.in_ok-first.ensures.added.0 c.in_ok-first.ensures.added.1

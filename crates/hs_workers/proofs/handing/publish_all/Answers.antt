@@ -1,5 +1,6 @@
-use Rattle.std.proofs.Common.{◌≡◌, refl, sym, ◌∙◌, ap, subst, ℕ, zero, suc, ◌<◌, List, [], ◌∷◌, length, get_or, Contains, arith, inl, inr}
+use Rattle.std.proofs.Common.{◌≡◌, refl, sym, ◌∙◌, ap, subst, get_or, Contains, arith, inl, inr}
 use Rattle.std.proofs.lemmas.Bool.{cases_lt}
+use Rattle.std.proofs.lemmas.List.{get_or_default}
 use Rattle.hs_types.specs.Interned.{entry_of}
 use Rattle.hs_rules.specs.Conclusions.{DeducedData, IsDeduced}
 use Rattle.hs_history.specs.Story.{Base}
@@ -7,11 +8,6 @@ use Rattle.hs_core.specs.Core.{log_of}
 use Rattle.hs_workers.proofs.WorkingLemmas.{in_whole}
 use Rattle.hs_workers.proofs.HoldLemmas.{goes_none, goes_trans, prefix_trans, still_holds}
 use Rattle.hs_workers.proofs.handing.publish_all.Goals as goal
-
-any_default : {X : Type 0} (xs : List X) (n : ℕ) (a b : X) → n < length xs → get_or xs n a ≡ get_or xs n b
-any_default [] n a b lt = absurd (omega arith)
-any_default (x ∷ xs) zero a b lt = λ i. x
-any_default (x ∷ xs) (suc n) a b lt = any_default xs n a b (omega arith)
 
 pub publish_one-requires-clause-holds : goal.publish_one-requires-clause-holds
 publish_one-requires-clause-holds c = c.loop-deduced.invariant.goes.holds
@@ -52,7 +48,7 @@ loop-deduced-preserved c =
         | inl below ↦ in_whole (log_of c.loop-deduced.hold.core) (log_of c.publish_one.new.hold.core) (entry_of ids (get_or found k d).row) now.goes.log (before.there k d below)
         | inr above ↦
             let same : n ≡ k = omega arith in
-            let at : c.deduced-item.result ≡ get_or found k d = c.deduced-item.is ∙ any_default found n c.deduced-item.result d c.loop-deduced-test.true ∙ ap (λ i. get_or found i d) same in
+            let at : c.deduced-item.result ≡ get_or found k d = c.deduced-item.is ∙ get_or_default found n c.deduced-item.result d c.loop-deduced-test.true ∙ ap (λ i. get_or found i d) same in
             subst (λ (x : DeducedData). Contains (log_of c.publish_one.new.hold.core) (entry_of ids x.row)) at (c.in_ok-publish_one.ensures.there c.if-not-branch.false)
       ];
     }

@@ -1,14 +1,14 @@
 use Rattle.std.proofs.Common.{◌≡◌, sym, ◌∙◌, ap, subst, ℕ, List, map, length, get_or, Contains, Bor, arith}
 use Rattle.hs_table.specs.Entries.{EntryData}
 use Rattle.hs_scheme.specs.Flow.{IsAscending}
-use Rattle.hs_checker.specs.Order.{index_cmp, IsIndex, AreStarts}
+use Rattle.hs_checker.specs.Order.{index_cmp, IsInIndexOrder, AreStartsOfPoints}
 use Rattle.hs_checker.proofs.StartLemmas.{none_of, part_up, part_has, index_part, once_part}
 use Rattle.hs_checker.proofs.index.Index.at_point.Goals as goal
 
 -- what is known of the fields is known of the slices of them
-moved : (rows sliced : List (Bor EntryData)) (starts items : List ℕ) → sliced ≡ rows → items ≡ starts → AreStarts (map (λ (r : Bor EntryData). r.now) rows) starts → AreStarts (map (λ (r : Bor EntryData). r.now) sliced) items
+moved : (rows sliced : List (Bor EntryData)) (starts items : List ℕ) → sliced ≡ rows → items ≡ starts → AreStartsOfPoints (map (λ (r : Bor EntryData). r.now) rows) starts → AreStartsOfPoints (map (λ (r : Bor EntryData). r.now) sliced) items
 moved rows sliced starts items e f h =
-    subst (λ (xs : List ℕ). AreStarts (map (λ (r : Bor EntryData). r.now) sliced) xs) (sym f) (subst (λ (rs : List (Bor EntryData)). AreStarts (map (λ (r : Bor EntryData). r.now) rs) starts) (sym e) h)
+    subst (λ (xs : List ℕ). AreStartsOfPoints (map (λ (r : Bor EntryData). r.now) sliced) xs) (sym f) (subst (λ (rs : List (Bor EntryData)). AreStartsOfPoints (map (λ (r : Bor EntryData). r.now) rs) starts) (sym e) h)
 
 pub returns-then-place-starts-clause-has : goal.returns-then-place-starts-clause-has
 returns-then-place-starts-clause-has c = λ e. (
@@ -40,7 +40,7 @@ pub returns-clause-sorted : goal.returns-clause-sorted
 returns-clause-sorted c =
     let f : Bor EntryData → EntryData = λ r. r.now in
     index_part c.as_slice-rows.result.now (get_or c.as_slice-starts.result.now c.args.point 0) _
-    (subst (λ (rs : List (Bor EntryData)). IsIndex (map f rs)) (sym c.as_slice-rows.ensures.value) c.self.invariant.sorted)
+    (subst (λ (rs : List (Bor EntryData)). IsInIndexOrder (map f rs)) (sym c.as_slice-rows.ensures.value) c.self.invariant.sorted)
 
 pub returns-clause-once : goal.returns-clause-once
 returns-clause-once c =

@@ -8,7 +8,7 @@ use Rattle.hs_scheme.specs.Flow.{IsAscending}
 use Rattle.hs_scheme.specs.Problem.{ProblemData}
 use Rattle.hs_table.specs.Entries.{EntryData, InShape}
 use Rattle.hs_table_laws.proofs.Places.{within_from}
-use Rattle.hs_checker.specs.Order.{index_cmp, IsIndex, AreStarts}
+use Rattle.hs_checker.specs.Order.{index_cmp, IsInIndexOrder, AreStartsOfPoints}
 use Rattle.hs_checker.proofs.IndexLemmas.{index_total, index_same, index_sorted}
 use Rattle.hs_checker.proofs.Once.{once_ascends, once_has, dedup-map, ascending_sorted}
 use Rattle.hs_checker.proofs.index.Index.of.Goals as goal
@@ -21,10 +21,10 @@ module _ (olds mids news : List (Bor EntryData)) (made : news ≡ dedup (λ (a b
   image : map f news ≡ dedup (λ a b. is_eq (index_cmp a b)) (map f mids)
   image = ap (map f) made ∙ dedup-map f (λ a b. is_eq (index_cmp a b)) mids
 
-  rows_once : IsIndex (map f mids) → IsAscending index_cmp (map f news)
+  rows_once : IsInIndexOrder (map f mids) → IsAscending index_cmp (map f news)
   rows_once up = once_ascends index_cmp index_total index_same (map f mids) (map f news) up image
 
-  rows_up : IsIndex (map f mids) → IsIndex (map f news)
+  rows_up : IsInIndexOrder (map f mids) → IsInIndexOrder (map f news)
   rows_up up = ascending_sorted index_cmp index_total (map f news) (rows_once up)
 
   rows_same : IsPermutation olds mids → (e : EntryData) → Contains (map f news) e ↔ Contains (map f olds) e
@@ -36,7 +36,7 @@ starts_of-requires-clause-sorted c =
     let news = c.dedup_by.new.self.items in
     let made : news ≡ dedup (λ (a b : Bor EntryData). is_eq (index_cmp a.now b.now)) mids = dedup_same _ (λ (a b : Bor EntryData). is_eq (index_cmp a.now b.now)) _ (λ x y b g x2 y2 k. search rules) mids news c.dedup_by.ensures.filtered in
     let up = index_sorted mids (c.in_ok-sort_by.ensures.sorted (λ (a b : Bor EntryData). is_lt (index_cmp a.now b.now)) (ranks_by index_total (λ (r : Bor EntryData). r.now)) (answers_always _ _ _ (λ f a r g h. search rules))) in
-    subst (λ (rs : List (Bor EntryData)). IsIndex (map f rs)) (sym c.as_slice.ensures.value) (rows_up c.in_ok-rows.rows.items mids news made up)
+    subst (λ (rs : List (Bor EntryData)). IsInIndexOrder (map f rs)) (sym c.as_slice.ensures.value) (rows_up c.in_ok-rows.rows.items mids news made up)
 
 pub starts_of-requires-clause-within : goal.starts_of-requires-clause-within
 starts_of-requires-clause-within c = λ e k.
@@ -58,7 +58,7 @@ invariant_of-result c =
     record {
       sorted = rows_up c.in_ok-rows.rows.items mids news made up;
       once = rows_once c.in_ok-rows.rows.items mids news made up;
-      starts = subst (λ (rs : List (Bor EntryData)). AreStarts (map f rs) c.in_ok-starts.starts.items) c.as_slice.ensures.value c.in_ok-starts.ensures;
+      starts = subst (λ (rs : List (Bor EntryData)). AreStartsOfPoints (map f rs) c.in_ok-starts.starts.items) c.as_slice.ensures.value c.in_ok-starts.ensures;
     }
 
 pub returns : goal.returns

@@ -4,7 +4,7 @@ use Rattle.hs_scheme.specs.declared.flow.FlowPair.{FlowPair}
 use Rattle.hs_scheme.specs.declared.flow.HeadPair.{HeadPair}
 use Rattle.hs_scheme.specs.declared.flow.Pair.TheVariants.{OfFlow, OfHead}
 use Rattle.hs_scheme.proofs.DemandLemmas.{read-slice_get}
-use Rattle.hs_flow.specs.Pairs.{Has, IsReady, Extends}
+use Rattle.hs_flow.specs.Pairs.{HasBaseAt, IsReady, Extends}
 use Rattle.hs_flow.specs.Analysis.{AnalysisData, IsAnalysis}
 use Rattle.hs_flow.proofs.ListLemmas.{list-read}
 use Rattle.hs_flow.proofs.PairLemmas.{extends_same}
@@ -52,7 +52,7 @@ overflow_add-self-2 c =
 pub invariant_of-self-2 : goal.invariant_of-self-2
 invariant_of-self-2 c =
     let next : slice_get c.self.inside.pairs.found c.self.inside.taken ≡ Some (OfFlow c.args.flow) = subst (λ (x : AnalysisData). slice_get x.pairs.found x.taken ≡ Some (OfFlow c.args.flow)) (sym c.self.view_is) c.requires.next in
-    let bases = subst (λ (xs : List HeadPair). (x : HeadPair) → Contains xs x → Has c.spread_flow.new.self (record { rule = c.args.flow.rule; param = c.args.flow.param; base = x.rule; given = x.given }))
+    let bases = subst (λ (xs : List HeadPair). (x : HeadPair) → Contains xs x → HasBaseAt c.spread_flow.new.self (record { rule = c.args.flow.rule; param = c.args.flow.param; base = x.rule; given = x.given }))
     (sym (list-read c.self.inside.heads c.args.flow.point c.list-heads.result.now c.list-heads.ensures)) c.in_ok-spread_flow.ensures.bases in
     step_flow c.spread_flow.new.self c.self.inside.taken c.self.inside.flows c.self.inside.heads (extended c.self.inside.pairs c.spread_flow.new.self c.self.inside.taken c.self.inside.flows c.self.inside.heads c.spread_flow.ensures.extends c.self.invariant)
     c.args.flow c.push.new.self (extended_at c.self.inside.pairs c.spread_flow.new.self c.self.inside.taken (OfFlow c.args.flow) c.spread_flow.ensures.extends next) c.in_ok-push.ensures.pushed bases

@@ -4,7 +4,7 @@ use Rattle.hs_scheme.specs.declared.flow.FlowPair.{FlowPair}
 use Rattle.hs_scheme.specs.declared.flow.HeadPair.{HeadPair}
 use Rattle.hs_scheme.specs.declared.flow.Pair.TheVariants.{OfFlow, OfHead}
 use Rattle.hs_scheme.proofs.DemandLemmas.{read-slice_get}
-use Rattle.hs_flow.specs.Pairs.{Has, IsReady}
+use Rattle.hs_flow.specs.Pairs.{HasBaseAt, IsReady}
 use Rattle.hs_flow.specs.Analysis.{AnalysisData, IsAnalysis}
 use Rattle.hs_flow.proofs.ListLemmas.{list-read}
 use Rattle.hs_flow.proofs.AnalysisLemmas.{extended, extended_at, step_head, flows_found}
@@ -37,7 +37,7 @@ overflow_add-self c =
 pub invariant_of-self-2 : goal.invariant_of-self-2
 invariant_of-self-2 c =
     let next : slice_get c.self.inside.pairs.found c.self.inside.taken ≡ Some (OfHead c.args.head) = subst (λ (x : AnalysisData). slice_get x.pairs.found x.taken ≡ Some (OfHead c.args.head)) (sym c.self.view_is) c.requires.next in
-    let bases = subst (λ (xs : List FlowPair). (x : FlowPair) → Contains xs x → Has c.spread_head.new.self (record { rule = x.rule; param = x.param; base = c.args.head.rule; given = c.args.head.given }))
+    let bases = subst (λ (xs : List FlowPair). (x : FlowPair) → Contains xs x → HasBaseAt c.spread_head.new.self (record { rule = x.rule; param = x.param; base = c.args.head.rule; given = c.args.head.given }))
     (sym (list-read c.self.inside.flows c.args.head.point c.list-flows.result.now c.list-flows.ensures)) c.in_ok-spread_head.ensures.bases in
     step_head c.spread_head.new.self c.self.inside.taken c.self.inside.flows c.self.inside.heads (extended c.self.inside.pairs c.spread_head.new.self c.self.inside.taken c.self.inside.flows c.self.inside.heads c.spread_head.ensures.extends c.self.invariant)
     c.args.head c.push.new.self (extended_at c.self.inside.pairs c.spread_head.new.self c.self.inside.taken (OfHead c.args.head) c.spread_head.ensures.extends next) c.in_ok-push.ensures.pushed bases

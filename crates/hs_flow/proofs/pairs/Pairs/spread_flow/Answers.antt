@@ -5,7 +5,7 @@ use Rattle.hs_scheme.specs.declared.flow.HeadPair.{HeadPair}
 use Rattle.hs_scheme.specs.declared.flow.Pair.TheVariants.{OfFlow, OfHead}
 use Rattle.hs_scheme.specs.Points.{points_of}
 use Rattle.hs_flow.specs.Bases.{HasBase}
-use Rattle.hs_flow.specs.Pairs.{PairsData, Has, IsReady, Extends}
+use Rattle.hs_flow.specs.Pairs.{PairsData, HasBaseAt, IsReady, Extends}
 use Rattle.hs_flow.proofs.PairLemmas.{nothing_in, only_in, extends_same, extends_then, extends_keep, extends_has}
 use Rattle.hs_flow.proofs.NotingLemmas.{number_at}
 use Rattle.hs_flow.proofs.pairs.Pairs.spread_flow.Goals as goal
@@ -46,9 +46,9 @@ loop-head-preserved c =
       | then-not-is_flagged+in_ok-pass_once w ↦ record {
         extends = subst (Extends c.args.self.now) (sym w.self-is) (extends_then c.args.self.now mid w.pass_once.new.self c.loop-head.invariant.extends w.pass_once.ensures.extends);
         ready = subst IsReady (sym w.self-is) w.in_ok-pass_once.ensures.ready;
-        so_far = subst (λ (x : PairsData). (h : HeadPair) → Contains (take (i + 1) c.args.heads.now) h → Has x (record { rule = c.args.flow.rule; param = c.args.flow.param; base = h.rule; given = h.given })) (sym w.self-is) (λ h there. elim (cases h there) [
+        so_far = subst (λ (x : PairsData). (h : HeadPair) → Contains (take (i + 1) c.args.heads.now) h → HasBaseAt x (record { rule = c.args.flow.rule; param = c.args.flow.param; base = h.rule; given = h.given })) (sym w.self-is) (λ h there. elim (cases h there) [
           | inl was ↦ extends_has mid w.pass_once.new.self w.pass_once.ensures.extends _ (c.loop-head.invariant.so_far h was)
-          | inr last ↦ subst (λ (h : HeadPair). Has w.pass_once.new.self (record { rule = c.args.flow.rule; param = c.args.flow.param; base = h.rule; given = h.given })) (sym last) w.in_ok-pass_once.ensures.base
+          | inr last ↦ subst (λ (h : HeadPair). HasBaseAt w.pass_once.new.self (record { rule = c.args.flow.rule; param = c.args.flow.param; base = h.rule; given = h.given })) (sym last) w.in_ok-pass_once.ensures.base
         ]);
       }
       | else-not-is_flagged w ↦
@@ -56,18 +56,18 @@ loop-head-preserved c =
           c.loop-head.invariant.extends c.args.flow.rule c.args.flow.param c.number-number.result c.number-number.ensures.number in
           let flag = number_at c.self.inside.points.now c.self.inside.users.now a c.args.self.now mid c.self.view_is c.self.invariant c.params-params.result.now c.params-params.ensures.params
           c.loop-head.invariant.extends this.rule this.given c.number-flag.result c.number-flag.ensures.number in
-          let known : Has mid (record { rule = c.args.flow.rule; param = c.args.flow.param; base = this.rule; given = this.given }) =
+          let known : HasBaseAt mid (record { rule = c.args.flow.rule; param = c.args.flow.param; base = this.rule; given = this.given }) =
           subst (λ (x : PairsData). HasBase (points_of mid.rules).params x.bases (record { rule = c.args.flow.rule; param = c.args.flow.param; base = this.rule; given = this.given })) c.self-in-loop-head.view_is
           (c.is_flagged.ensures w.if-not-is_flagged.false (points_of mid.rules).params (record { rule = c.args.flow.rule; param = c.args.flow.param; base = this.rule; given = this.given }) number flag) in
           record {
             extends = subst (Extends c.args.self.now) (sym w.self-is) c.loop-head.invariant.extends;
             ready = subst IsReady (sym w.self-is) c.loop-head.invariant.ready;
-            so_far = subst (λ (x : PairsData). (h : HeadPair) → Contains (take (i + 1) c.args.heads.now) h → Has x (record { rule = c.args.flow.rule; param = c.args.flow.param; base = h.rule; given = h.given })) (sym w.self-is) (λ h there. elim (cases h there) [
+            so_far = subst (λ (x : PairsData). (h : HeadPair) → Contains (take (i + 1) c.args.heads.now) h → HasBaseAt x (record { rule = c.args.flow.rule; param = c.args.flow.param; base = h.rule; given = h.given })) (sym w.self-is) (λ h there. elim (cases h there) [
               | inl was ↦ c.loop-head.invariant.so_far h was
-              | inr last ↦ subst (λ (h : HeadPair). Has mid (record { rule = c.args.flow.rule; param = c.args.flow.param; base = h.rule; given = h.given })) (sym last) known
+              | inr last ↦ subst (λ (h : HeadPair). HasBaseAt mid (record { rule = c.args.flow.rule; param = c.args.flow.param; base = h.rule; given = h.given })) (sym last) known
             ]);
           }
     ]
 
 pub returns-clause-bases : goal.returns-clause-bases
-returns-clause-bases c = subst (λ (xs : List HeadPair). (h : HeadPair) → Contains xs h → Has c.loop-head.self (record { rule = c.args.flow.rule; param = c.args.flow.param; base = h.rule; given = h.given })) (take_all c.loop-head.head-index c.args.heads.now c.loop-head-test.false) c.loop-head.invariant.so_far
+returns-clause-bases c = subst (λ (xs : List HeadPair). (h : HeadPair) → Contains xs h → HasBaseAt c.loop-head.self (record { rule = c.args.flow.rule; param = c.args.flow.param; base = h.rule; given = h.given })) (take_all c.loop-head.head-index c.args.heads.now c.loop-head-test.false) c.loop-head.invariant.so_far

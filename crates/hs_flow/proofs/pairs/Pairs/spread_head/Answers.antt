@@ -5,7 +5,7 @@ use Rattle.hs_scheme.specs.declared.flow.FlowPair.{FlowPair}
 use Rattle.hs_scheme.specs.declared.flow.Pair.TheVariants.{OfFlow, OfHead}
 use Rattle.hs_scheme.specs.Points.{points_of}
 use Rattle.hs_flow.specs.Bases.{HasBase}
-use Rattle.hs_flow.specs.Pairs.{PairsData, Has, IsReady, Extends}
+use Rattle.hs_flow.specs.Pairs.{PairsData, HasBaseAt, IsReady, Extends}
 use Rattle.hs_flow.proofs.PairLemmas.{nothing_in, only_in, extends_same, extends_then, extends_keep, extends_has}
 use Rattle.hs_flow.proofs.NotingLemmas.{number_at}
 use Rattle.hs_flow.proofs.pairs.Pairs.spread_head.Goals as goal
@@ -46,9 +46,9 @@ loop-flow-preserved c =
       | then-not-is_flagged+in_ok-pass_once w ↦ record {
         extends = subst (Extends c.args.self.now) (sym w.self-is) (extends_then c.args.self.now mid w.pass_once.new.self c.loop-flow.invariant.extends w.pass_once.ensures.extends);
         ready = subst IsReady (sym w.self-is) w.in_ok-pass_once.ensures.ready;
-        so_far = subst (λ (x : PairsData). (f : FlowPair) → Contains (take (i + 1) c.args.flows.now) f → Has x (record { rule = f.rule; param = f.param; base = c.args.head.rule; given = c.args.head.given })) (sym w.self-is) (λ f there. elim (cases f there) [
+        so_far = subst (λ (x : PairsData). (f : FlowPair) → Contains (take (i + 1) c.args.flows.now) f → HasBaseAt x (record { rule = f.rule; param = f.param; base = c.args.head.rule; given = c.args.head.given })) (sym w.self-is) (λ f there. elim (cases f there) [
           | inl was ↦ extends_has mid w.pass_once.new.self w.pass_once.ensures.extends _ (c.loop-flow.invariant.so_far f was)
-          | inr last ↦ subst (λ (f : FlowPair). Has w.pass_once.new.self (record { rule = f.rule; param = f.param; base = c.args.head.rule; given = c.args.head.given })) (sym last) w.in_ok-pass_once.ensures.base
+          | inr last ↦ subst (λ (f : FlowPair). HasBaseAt w.pass_once.new.self (record { rule = f.rule; param = f.param; base = c.args.head.rule; given = c.args.head.given })) (sym last) w.in_ok-pass_once.ensures.base
         ]);
       }
       | else-not-is_flagged w ↦
@@ -56,18 +56,18 @@ loop-flow-preserved c =
           c.loop-flow.invariant.extends this.rule this.param c.number-number.result c.number-number.ensures.number in
           let flag = number_at c.self.inside.points.now c.self.inside.users.now a c.args.self.now mid c.self.view_is c.self.invariant c.params-params.result.now c.params-params.ensures.params
           c.loop-flow.invariant.extends c.args.head.rule c.args.head.given c.number-flag.result c.number-flag.ensures.number in
-          let known : Has mid (record { rule = this.rule; param = this.param; base = c.args.head.rule; given = c.args.head.given }) =
+          let known : HasBaseAt mid (record { rule = this.rule; param = this.param; base = c.args.head.rule; given = c.args.head.given }) =
           subst (λ (x : PairsData). HasBase (points_of mid.rules).params x.bases (record { rule = this.rule; param = this.param; base = c.args.head.rule; given = c.args.head.given })) c.self-in-loop-flow.view_is
           (c.is_flagged.ensures w.if-not-is_flagged.false (points_of mid.rules).params (record { rule = this.rule; param = this.param; base = c.args.head.rule; given = c.args.head.given }) number flag) in
           record {
             extends = subst (Extends c.args.self.now) (sym w.self-is) c.loop-flow.invariant.extends;
             ready = subst IsReady (sym w.self-is) c.loop-flow.invariant.ready;
-            so_far = subst (λ (x : PairsData). (f : FlowPair) → Contains (take (i + 1) c.args.flows.now) f → Has x (record { rule = f.rule; param = f.param; base = c.args.head.rule; given = c.args.head.given })) (sym w.self-is) (λ f there. elim (cases f there) [
+            so_far = subst (λ (x : PairsData). (f : FlowPair) → Contains (take (i + 1) c.args.flows.now) f → HasBaseAt x (record { rule = f.rule; param = f.param; base = c.args.head.rule; given = c.args.head.given })) (sym w.self-is) (λ f there. elim (cases f there) [
               | inl was ↦ c.loop-flow.invariant.so_far f was
-              | inr last ↦ subst (λ (f : FlowPair). Has mid (record { rule = f.rule; param = f.param; base = c.args.head.rule; given = c.args.head.given })) (sym last) known
+              | inr last ↦ subst (λ (f : FlowPair). HasBaseAt mid (record { rule = f.rule; param = f.param; base = c.args.head.rule; given = c.args.head.given })) (sym last) known
             ]);
           }
     ]
 
 pub returns-clause-bases : goal.returns-clause-bases
-returns-clause-bases c = subst (λ (xs : List FlowPair). (f : FlowPair) → Contains xs f → Has c.loop-flow.self (record { rule = f.rule; param = f.param; base = c.args.head.rule; given = c.args.head.given })) (take_all c.loop-flow.flow-index c.args.flows.now c.loop-flow-test.false) c.loop-flow.invariant.so_far
+returns-clause-bases c = subst (λ (xs : List FlowPair). (f : FlowPair) → Contains xs f → HasBaseAt c.loop-flow.self (record { rule = f.rule; param = f.param; base = c.args.head.rule; given = c.args.head.given })) (take_all c.loop-flow.flow-index c.args.flows.now c.loop-flow-test.false) c.loop-flow.invariant.so_far
