@@ -79,12 +79,13 @@ impl<'a> Analysis<'a> {
         })
     }
 
-    /// The pairs, in the order in which they were found.
-    fn found(&self) -> &[Pair]
-        ensures found { result.now ≡ self.now.pairs.found }
-        ensures supported { IsSupported self.now.pairs.rules result.now }
+    /// The pairs, in the order in which they were found. All else is given back.
+    fn into_found(self) -> Vec<Pair>
+        ensures found { result.items ≡ self.entry.pairs.found }
+        ensures supported { IsSupported self.entry.pairs.rules result.items }
     {
-        self.pairs.found()
+        let Analysis { pairs, .. } = self;
+        pairs.into_found()
     }
 
     /// Takes the next pair, which is this flow pair: finds what is demanded from it and a head pair
@@ -203,6 +204,7 @@ pub fn analyse(
     let rules = scheme.rules.as_slice();
     let mut analysis = Analysis::new(alloc, rules, points, &users, max)?;
     analysis.run()?;
-    let table = table(alloc, points.params(), analysis.found())?;
+    let found = analysis.into_found();
+    let table = table(alloc, points.params(), found)?;
     Ok(table)
 }

@@ -78,6 +78,15 @@ impl<'a> Pairs<'a> {
         self.found.as_slice()
     }
 
+    /// The pairs, in the order in which they were found. All else is given back.
+    pub(crate) fn into_found(self) -> Vec<Pair>
+        ensures found { result.items ≡ self.entry.found }
+        ensures supported { IsSupported self.entry.rules result.items }
+    {
+        let Pairs { found, .. } = self;
+        found
+    }
+
     /// Whether a point has this parameter at its head.
     pub(crate) fn is_used(&self, rule: u32, param: u32) -> bool
         ensures { IsFalse result → (p : ℕ) → IsUser (points_of self.now.rules).points rule param p → ⊥ }

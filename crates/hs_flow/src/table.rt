@@ -66,19 +66,21 @@ fn add_sorted(
     Ok(())
 }
 
-/// The flow pairs in ascending order, parameter by parameter.
+/// The flow pairs in ascending order, parameter by parameter. The pairs found are given back before
+/// these are put together.
 fn ascending(
     alloc: Global,
     params: &Parameters,
-    found: &[Pair],
+    found: Vec<Pair>,
 ) -> Result<Vec<FlowPair>, OutOfMemory>
-    requires once { AllPairs (λ a b. a ≢ b) found.now }
+    requires once { AllPairs (λ a b. a ≢ b) found.items }
     requires parameters { (f : AnyFlowPair) →
-        Contains found.now (OfFlow f) → IsParameter params.now f.rule f.param }
-    ensures permutation { IfOk result (λ pairs. IsPermutation (flows_in found.now) pairs.items) }
+        Contains found.items (OfFlow f) → IsParameter params.now f.rule f.param }
+    ensures permutation { IfOk result (λ pairs. IsPermutation (flows_in found.items) pairs.items) }
     ensures ascending { IfOk result (λ pairs. IsAscending flow_cmp pairs.items) }
 {
-    let lists = by_parameter(alloc, params, found)?;
+    let lists = by_parameter(alloc, params, found.as_slice())?;
+    drop(found);
     let mut pairs = Vec::new(alloc);
     let mut sorted = Vec::new(alloc);
     for number in 0..lists.len() {
@@ -104,19 +106,19 @@ fn heads_of(alloc: Global, found: &[Pair]) -> Result<Vec<HeadPair>, OutOfMemory>
 pub(crate) fn table(
     alloc: Global,
     params: &Parameters,
-    found: &[Pair],
+    found: Vec<Pair>,
 ) -> Result<FlowTable, OutOfMemory>
-    requires once { AllPairs (λ a b. a ≢ b) found.now }
+    requires once { AllPairs (λ a b. a ≢ b) found.items }
     requires parameters { (f : AnyFlowPair) →
-        Contains found.now (OfFlow f) → IsParameter params.now f.rule f.param }
+        Contains found.items (OfFlow f) → IsParameter params.now f.rule f.param }
     ensures same { IfOk result (λ table.
-        (q : AnyPair) → Contains found.now q ↔ Contains (pairs_of table.pairs table.heads) q) }
+        (q : AnyPair) → Contains found.items q ↔ Contains (pairs_of table.pairs table.heads) q) }
     ensures ascending { IfOk result IsFlowTable }
-    ensures len { IfOk result (λ table. length table.pairs + length table.heads ≡ length found.now) }
+    ensures len { IfOk result (λ table. length table.pairs + length table.heads ≡ length found.items) }
 {
-    let pairs = ascending(alloc, params, found)?;
-    let mut heads = heads_of(alloc, found)?;
+    let mut heads = heads_of(alloc, found.as_slice())?;
     heads.sort_unstable();
+    let pairs = ascending(alloc, params, found)?;
     let made = FlowTable::of(alloc, params, pairs, heads)?;
     Ok(made)
 }

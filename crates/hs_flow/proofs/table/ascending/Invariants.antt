@@ -7,6 +7,6 @@ use Rattle.hs_flow.proofs.table.ascending.Given as goal
 
 abbrev pub invariant-loop-number : goal.invariant-loop-number
 invariant-loop-number l = record {
-  permutation : IsPermutation (below_number l.params l.number (flows_in l.found)) l.pairs.items;
+  permutation : IsPermutation (below_number l.params l.number (flows_in l.fn.found.items)) l.pairs.items;
   ascending : IsAscending flow_cmp l.pairs.items;
 }
