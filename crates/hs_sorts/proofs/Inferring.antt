@@ -116,7 +116,7 @@ module _ (rules : List Rule) (ranks : List (Option ℕ)) (are : AreRules rules (
   number = length rules
 
   abbrev weights : List Weight
-  weights = found.weights.items
+  weights = found.weights
 
   abbrev low : Valuation
   low = f.weighing.valuation

@@ -1,3 +1,4 @@
+pub mod Cells
 pub mod Lists
 pub mod NodeLemmas
 pub mod Flattening
@@ -13,7 +14,6 @@ pub mod Solutions
 pub mod Weighing
 pub mod Searching
 pub mod Readings
-pub mod Scanning
 pub mod Lengthenings
 pub mod Inferring
 pub mod FullRules

@@ -1,6 +1,6 @@
 -- Stores that grow, and valuations that grow with them.
-use Rattle.std.proofs.Common.{◌≡◌, ◌≢◌, refl, sym, ◌∙◌, ap, subst, cond, ℕ, zero, suc, ◌+◌, ◌-◌, ◌^◌, ◌<◌, ◌≤◌, List, [], ◌∷◌, ◌++◌, length, set, get_or, slice_get, Some, ◌⊎◌, inl, inr, arith, length-append, length-set, true, false, nat_eq, nat_lt}
-use Rattle.std.proofs.lemmas.Option.{same_Some, slice_get_within, slice_get_read, get_or_from_slice_get}
+use Rattle.std.proofs.Common.{◌≡◌, ◌≢◌, refl, sym, ◌∙◌, ap, subst, cond, ℕ, zero, suc, ◌+◌, ◌-◌, ◌^◌, ◌<◌, ◌≤◌, List, [], ◌∷◌, ◌++◌, length, set, slice_get, Some, ◌⊎◌, inl, inr, arith, length-append, length-set, true, false, nat_eq, nat_lt}
+use Rattle.std.proofs.lemmas.Option.{same_Some, slice_get_within, get_or_from_slice_get}
 use Rattle.std.proofs.lemmas.Bool.{eqb-true, eqb-false, lt-ltb, le-ltb}
 use Rattle.std.proofs.lemmas.List.Sums.{sum_by-set}
 use Rattle.hs_scheme.specs.Sorting.{SortTree, arrow}
@@ -165,15 +165,5 @@ module _ (nodes : List Node) (at up top : ℕ) (is : IsStore nodes) (first : sli
             (r.fits at (Link top) (get_set_same nodes at (Link top) within) ∙ sym (r.fits up (Link top) still)));
       }
 
-  pub shortened_store : IsStore (set nodes at (Link top))
-  shortened_store =
-      let below : up < at = is.in_range at (Link up) first in
-      let lower : top < up = is.in_range up (Link top) second in
-      store_set nodes at (Link top) (slice_get_within nodes at (Link up) first) is (omega arith)
-
 pub link_below : (nodes : List Node) (at up : ℕ) → IsStore nodes → slice_get nodes at ≡ Some (Link up) → (up < at) × (at < length nodes)
 link_below nodes at up is h = (is.in_range at (Link up) h, slice_get_within nodes at (Link up) h)
-
--- what a read of the nodes behind a store gives
-pub read_at : (nodes inside : List Node) (i : ℕ) (x : Node) → inside ≡ nodes → i < length nodes → x ≡ get_or inside i x → slice_get nodes i ≡ Some x
-read_at nodes inside i x is within h = slice_get_read nodes (length nodes) i x refl within (h ∙ ap (λ (xs : List Node). get_or xs i x) is)

@@ -1,10 +1,11 @@
 -- The steps of the walk that weighs the nodes.
-use Rattle.std.proofs.Common.{◌≡◌, ◌≢◌, refl, sym, ◌∙◌, ap, subst, cond, ℕ, ◌+◌, ◌*◌, ◌<◌, ◌≤◌, List, [], ◌∷◌, ◌++◌, length, slice_get, get_or, set, take, replicate, ◌-◌, length-set, length-append, Option, Some, None, Bool, true, false, nat_eq, ◌⊎◌, inl, inr, arith}
+use Rattle.std.proofs.Common.{◌≡◌, ◌≢◌, refl, sym, ◌∙◌, ap, subst, cond, ℕ, ◌+◌, ◌*◌, ◌<◌, ◌≤◌, List, [], ◌∷◌, ◌++◌, length, slice_get, get_or, set, take, replicate, ◌-◌, length-set, length-append, Some, Bool, true, false, nat_eq, ◌⊎◌, inl, inr, arith}
 use Rattle.std.proofs.Math.Nat.{mul-le-mul_left}
 use Rattle.std.proofs.lemmas.Bool.{eqb-true, eq-eqb}
-use Rattle.std.proofs.lemmas.List.{take_at, length-replicate}
+use Rattle.std.proofs.lemmas.List.{take_at, length-map, length-replicate}
 use Rattle.std.proofs.lemmas.List.Sums.{sum_by-set}
-use Rattle.std.proofs.lemmas.Option.{same_Some, slice_get_within, get_or_from_slice_get, slice_get-get_or}
+use Rattle.std.specs.Option.{option_map}
+use Rattle.std.proofs.lemmas.Option.{same_Some, slice_get_within, slice_get-map, get_or_from_slice_get, slice_get-get_or}
 use Rattle.hs_scheme.specs.Sorting.{SortTree, o, arrow, size}
 use Rattle.hs_sorts.specs.declared.store.Shape.TheVariants.{Open, Base, Arrow}
 use Rattle.hs_sorts.specs.declared.store.Node.{Node}
@@ -14,8 +15,8 @@ use Rattle.hs_sorts.specs.declared.weights.Mark.{Mark}
 use Rattle.hs_sorts.specs.declared.weights.Mark.TheVariants.{New, Entered, Weighed}
 use Rattle.hs_sorts.specs.declared.weights.Step.TheVariants.{Done, Child}
 use Rattle.hs_sorts.specs.Nodes.{Valuation, Respects, IsStore}
-use Rattle.hs_sorts.specs.Weights.{ReadsNode, Describes, IsWeighed, IsReadBy, ChildrenBelow, IsWeighingStep}
-use Rattle.hs_sorts.specs.Search.{rank, newness, new_count, PartReading, IsSearch, IsStarted, IsLastOnPath, Advances, IsAdvance, IsEntry, AreWeights, IsWeighing}
+use Rattle.hs_sorts.specs.Weights.{ReadsNode, Describes, weighed, weight_in, weights_in, IsWeighed, IsReadBy, ChildrenBelow, IsWeighingStep}
+use Rattle.hs_sorts.specs.Search.{rank, newness, new_count, PartReading, IsSearch, IsStarted, IsLastOnPath, Advances, IsAdvance, IsEntry, Weighing}
 use Rattle.hs_sorts.proofs.Lists.{get_set_same, get_set_other, get_left, get_right, get_append, get_replicate}
 use Rattle.hs_sorts.proofs.NodeLemmas.{here_or_not, written, one_place}
 use Rattle.hs_sorts.proofs.Weighing.{size-arrow}
@@ -45,10 +46,10 @@ child_lower nodes v i c (Link up) is r at e =
     let low : up < i = is.in_range i (Link up) at in
     omega (arith, ap (λ s. size s * (length nodes + 1)) fit, ap (λ j. size (v j) * (length nodes + 1)) e, e)
 
-entered_not_weighed : (w : Weight) → Some Entered ≡ Some (Weighed w) → ⊥
+entered_not_weighed : (w : Weight) → Some Entered ≡ Some (weighed w) → ⊥
 entered_not_weighed w h = cc
 
-new_not_weighed : (w : Weight) → Some New ≡ Some (Weighed w) → ⊥
+new_not_weighed : (w : Weight) → Some New ≡ Some (weighed w) → ⊥
 new_not_weighed w h = cc
 
 new_not_entered : Some New ≡ Some Entered → ⊥
@@ -62,14 +63,14 @@ count_set marks i x y h =
 -- a mark that is weighed after a node was put on the path was so before
 weighed_before : (marks : List Mark) (i j : ℕ) → i < length marks → IsWeighed (set marks i Entered) j → IsWeighed marks j
 weighed_before marks i j within (w, h) =
-    let x = written marks i j Entered (Weighed w) within h in
+    let x = written marks i j Entered (weighed w) within h in
     elim (here_or_not i j) [
       | inl same ↦ absurd (entered_not_weighed w (ap (λ m. Some m) (sym (x.there same))))
       | inr other ↦ (w, x.elsewhere other)
     ]
 
-weighed_after : (marks : List Mark) (i j : ℕ) (y : Mark) → ((w : Weight) → slice_get marks i ≡ Some (Weighed w) → ⊥) → IsWeighed marks j → IsWeighed (set marks i y) j
-weighed_after marks i j y never (w, h) = (w, get_set_other marks i j y (λ e. never w (subst (λ (k : ℕ). slice_get marks k ≡ Some (Weighed w)) e h)) ∙ h)
+weighed_after : (marks : List Mark) (i j : ℕ) (y : Mark) → ((w : Weight) → slice_get marks i ≡ Some (weighed w) → ⊥) → IsWeighed marks j → IsWeighed (set marks i y) j
+weighed_after marks i j y never (w, h) = (w, get_set_other marks i j y (λ e. never w (subst (λ (k : ℕ). slice_get marks k ≡ Some (weighed w)) e h)) ∙ h)
 
 module _ (nodes : List Node) (marks : List Mark) (path : List ℕ) (s : IsSearch nodes marks path) where
   -- a new node is put on the path
@@ -120,7 +121,7 @@ module _ (nodes : List Node) (marks : List Mark) (path : List ℕ) (s : IsSearch
       reading = record {
         valuation = s.reading.valuation;
         describes = λ i w h. let b = weighed_before marks c i in_marks (w, h) in
-            s.reading.describes i w ((written marks c i Entered (Weighed w) in_marks h).elsewhere (λ e. new_not_weighed b.0 (sym is_new ∙ (ap (slice_get marks) (sym e) ∙ b.1))));
+            s.reading.describes i w ((written marks c i Entered (weighed w) in_marks h).elsewhere (λ e. new_not_weighed b.0 (sym is_new ∙ (ap (slice_get marks) (sym e) ∙ b.1))));
         reads = λ i n h at. s.reading.reads i n (weighed_before marks c i in_marks h) at;
         children = λ i n h at d child. weighed_after marks c d Entered (λ w e. new_not_weighed w (sym is_new ∙ e)) (s.reading.children i n (weighed_before marks c i in_marks h) at d child);
       };
@@ -183,7 +184,7 @@ mark_cases marks i within = by_mark (get_or marks i New) (slice_get-get_or marks
     by_mark : (m : Mark) → slice_get marks i ≡ Some m → (slice_get marks i ≡ Some New) ⊎ ((slice_get marks i ≡ Some Entered) ⊎ IsWeighed marks i)
     by_mark New h = inl h
     by_mark Entered h = inr (inl h)
-    by_mark (Weighed w) h = inr (inr (w, h))
+    by_mark (Weighed first_order size arity) h = inr (inr (record { size = size; arity = arity; first_order = first_order }, h))
 
 module _ (nodes : List Node) (marks : List Mark) (path rest : List ℕ) (top : ℕ) (n : Node) (s : IsSearch nodes marks path) (last : path ≡ rest ++ top ∷ []) (at_node : slice_get nodes top ≡ Some n) where
   at_top : slice_get path (length rest) ≡ Some top
@@ -201,7 +202,7 @@ module _ (nodes : List Node) (marks : List Mark) (path rest : List ℕ) (top : �
   top_below = slice_get_within marks top Entered top_entered
 
   -- a child that is on the path is a part of itself
-  pub cycle : (c : ℕ) → IsStore nodes → IsReadBy n c → IsStarted marks c → ((w : Weight) → slice_get marks c ≡ Some (Weighed w) → ⊥) → (v : Valuation) → Respects v nodes → ⊥
+  pub cycle : (c : ℕ) → IsStore nodes → IsReadBy n c → IsStarted marks c → ((w : Weight) → slice_get marks c ≡ Some (weighed w) → ⊥) → (v : Valuation) → Respects v nodes → ⊥
   cycle c store child started never v r =
       let below = child_below nodes top n store at_node c child in
       elim (mark_cases marks c (omega (arith, s.as_long, below))) [
@@ -224,7 +225,7 @@ module _ (nodes : List Node) (marks : List Mark) (path rest : List ℕ) (top : �
       omega (arith, child_lower nodes v top c n store r at_node child, s.falling v r p (length rest) i top le h at_top))
 
   module _ (w : Weight) (step : IsWeighingStep marks n (Done w)) where
-    never_weighed : (u : Weight) → slice_get marks top ≡ Some (Weighed u) → ⊥
+    never_weighed : (u : Weight) → slice_get marks top ≡ Some (weighed u) → ⊥
     never_weighed u h = entered_not_weighed u (sym top_entered ∙ h)
 
     abbrev value : SortTree
@@ -235,24 +236,24 @@ module _ (nodes : List Node) (marks : List Mark) (path rest : List ℕ) (top : �
 
     -- a weighed node keeps its sort
     keeps : (i : ℕ) → IsWeighed marks i → more_valuation i ≡ s.reading.valuation i
-    keeps i (u, h) = put_other s.reading.valuation top value i (λ e. never_weighed u (subst (λ (k : ℕ). slice_get marks k ≡ Some (Weighed u)) e h))
+    keeps i (u, h) = put_other s.reading.valuation top value i (λ e. never_weighed u (subst (λ (k : ℕ). slice_get marks k ≡ Some (weighed u)) e h))
 
     describes_value : Describes w value
     describes_value = step.1 s.reading.valuation value s.reading.describes (reads_of s.reading.valuation n)
 
-    still_weighed : (c : ℕ) → IsWeighed marks c → IsWeighed (set marks top (Weighed w)) c
-    still_weighed c h = weighed_after marks top c (Weighed w) never_weighed h
+    still_weighed : (c : ℕ) → IsWeighed marks c → IsWeighed (set marks top (weighed w)) c
+    still_weighed c h = weighed_after marks top c (weighed w) never_weighed h
 
-    weighed_place : (i : ℕ) (u : Weight) → slice_get (set marks top (Weighed w)) i ≡ Some (Weighed u) → ((i ≡ top) × (u ≡ w)) ⊎ (slice_get marks i ≡ Some (Weighed u))
+    weighed_place : (i : ℕ) (u : Weight) → slice_get (set marks top (weighed w)) i ≡ Some (weighed u) → ((i ≡ top) × (u ≡ w)) ⊎ (slice_get marks i ≡ Some (weighed u))
     weighed_place i u h =
-        let x = written marks top i (Weighed w) (Weighed u) top_below h in
+        let x = written marks top i (weighed w) (weighed u) top_below h in
         elim (here_or_not top i) [
           | inl same ↦ inl (same, same_weight u w (x.there same))
           | inr other ↦ inr (x.elsewhere other)
         ]
       where
-        same_weight : (a b : Weight) → Weighed a ≡ Weighed b → a ≡ b
-        same_weight a b e = cc
+        same_weight : (a b : Weight) → weighed a ≡ weighed b → a ≡ b
+        same_weight a b e = ap weight_in e
 
     not_top_in_front : (p i : ℕ) → slice_get rest p ≡ Some i → i ≢ top
     not_top_in_front p i h e =
@@ -262,7 +263,7 @@ module _ (nodes : List Node) (marks : List Mark) (path rest : List ℕ) (top : �
     same_node : (m : Node) → slice_get nodes top ≡ Some m → n ≡ m
     same_node m h = same_Some n m (sym at_node ∙ h)
 
-    more_reading : PartReading nodes (set marks top (Weighed w))
+    more_reading : PartReading nodes (set marks top (weighed w))
     more_reading = record {
       valuation = more_valuation;
       describes = λ i u h. elim (weighed_place i u h) [
@@ -289,15 +290,15 @@ module _ (nodes : List Node) (marks : List Mark) (path rest : List ℕ) (top : �
       ];
     }
 
-    entered_elsewhere : (i : ℕ) → slice_get (set marks top (Weighed w)) i ≡ Some Entered → (slice_get marks i ≡ Some Entered) × (i ≢ top)
+    entered_elsewhere : (i : ℕ) → slice_get (set marks top (weighed w)) i ≡ Some Entered → (slice_get marks i ≡ Some Entered) × (i ≢ top)
     entered_elsewhere i h =
-        let other : i ≢ top = λ e. entered_not_weighed w (sym h ∙ (ap (slice_get (set marks top (Weighed w))) e ∙ get_set_same marks top (Weighed w) top_below)) in
-        ((written marks top i (Weighed w) Entered top_below h).elsewhere other, other)
+        let other : i ≢ top = λ e. entered_not_weighed w (sym h ∙ (ap (slice_get (set marks top (weighed w))) e ∙ get_set_same marks top (weighed w) top_below)) in
+        ((written marks top i (weighed w) Entered top_below h).elsewhere other, other)
 
-    weighed_search : IsSearch nodes (set marks top (Weighed w)) rest
+    weighed_search : IsSearch nodes (set marks top (weighed w)) rest
     weighed_search = record {
-      as_long = length-set marks top (Weighed w) ∙ s.as_long;
-      entered = λ p i h. get_set_other marks top i (Weighed w) (not_top_in_front p i h) ∙ s.entered p i (in_front p i h);
+      as_long = length-set marks top (weighed w) ∙ s.as_long;
+      entered = λ p i h. get_set_other marks top i (weighed w) (not_top_in_front p i h) ∙ s.entered p i (in_front p i h);
       on_path = λ i h.
           let x = entered_elsewhere i h in
           let p = s.on_path i x.0 in
@@ -310,13 +311,13 @@ module _ (nodes : List Node) (marks : List Mark) (path rest : List ℕ) (top : �
       reading = more_reading;
     }
 
-    pub weighed_advances : Advances nodes marks path (set marks top (Weighed w)) rest
+    pub weighed_advances : Advances nodes marks path (set marks top (weighed w)) rest
     weighed_advances = record {
       search = weighed_search;
-      smaller = omega (arith, count_set marks top Entered (Weighed w) top_entered, ap length last, length-append rest (top ∷ []));
+      smaller = omega (arith, count_set marks top Entered (weighed w) top_entered, ap length last, length-append rest (top ∷ []));
       kept = λ i h e. elim (here_or_not top i) [
-        | inl same ↦ new_not_weighed w (sym e ∙ (ap (slice_get (set marks top (Weighed w))) same ∙ get_set_same marks top (Weighed w) top_below))
-        | inr other ↦ h (sym (get_set_other marks top i (Weighed w) other) ∙ e)
+        | inl same ↦ new_not_weighed w (sym e ∙ (ap (slice_get (set marks top (weighed w))) same ∙ get_set_same marks top (weighed w) top_below))
+        | inr other ↦ h (sym (get_set_other marks top i (weighed w) other) ∙ e)
       ];
     }
 
@@ -373,9 +374,9 @@ search_none nodes marks path all empty = record {
   falling = λ v r p q i j l h k. absurd (nothing_on path p i empty h);
   reading = record {
     valuation = λ _. o;
-    describes = λ i w h. absurd (new_not_weighed w (ap (λ m. Some m) (sym (is_new i (Weighed w) h))));
-    reads = λ i n h at. absurd (new_not_weighed h.0 (ap (λ m. Some m) (sym (is_new i (Weighed h.0) h.1))));
-    children = λ i n h at. absurd (new_not_weighed h.0 (ap (λ m. Some m) (sym (is_new i (Weighed h.0) h.1))));
+    describes = λ i w h. absurd (new_not_weighed w (ap (λ m. Some m) (sym (is_new i (weighed w) h))));
+    reads = λ i n h at. absurd (new_not_weighed h.0 (ap (λ m. Some m) (sym (is_new i (weighed h.0) h.1))));
+    children = λ i n h at. absurd (new_not_weighed h.0 (ap (λ m. Some m) (sym (is_new i (weighed h.0) h.1))));
   };
 }
   where
@@ -387,27 +388,15 @@ pub all_weighed : (nodes : List Node) (marks : List Mark) (path : List ℕ) → 
 all_weighed nodes marks path s empty started i within =
     started_weighed nodes marks i (subst (IsSearch nodes marks) empty s) within (started i (omega (arith, s.as_long)))
 
-pub weighing : (nodes : List Node) (marks : List Mark) (path : List ℕ) (found : Option (List Weight)) → IsSearch nodes marks path → path ≡ [] → ((i : ℕ) → i < length nodes → IsStarted marks i) → AreWeights marks found → IsWeighing nodes found
-weighing nodes marks path None s empty started never = λ v r. never (all_weighed nodes marks path s empty started)
-weighing nodes marks path (Some weights) s empty started (as_long, at) =
+pub weighing : (nodes : List Node) (marks : List Mark) (path : List ℕ) → IsSearch nodes marks path → path ≡ [] → ((i : ℕ) → i < length nodes → IsStarted marks i) → Weighing nodes (weights_in marks)
+weighing nodes marks path s empty started =
     let all = all_weighed nodes marks path s empty started in
     record {
-      as_long = as_long ∙ s.as_long;
+      as_long = length-map marks weight_in ∙ s.as_long;
       valuation = s.reading.valuation;
       reading = record { reads = λ i n h. s.reading.reads i n (all i (omega (arith, slice_get_within nodes i n h, s.as_long))) h };
-      describes = λ i w h. s.reading.describes i w (at i w h);
+      describes = λ i w h.
+          let x = all i (omega (arith, slice_get_within (weights_in marks) i w h, length-map marks weight_in)) in
+          let same : x.0 ≡ w = same_Some x.0 w (sym (slice_get-map weight_in marks i ∙ ap (option_map weight_in) x.1) ∙ h) in
+          subst (λ (y : Weight). Describes y (s.reading.valuation i)) same (s.reading.describes i x.0 x.1);
     }
-
--- the weights so far, and one more
-pub weights_more : (marks : List Mark) (weights more : List Weight) (i : ℕ) (w : Weight) → i ≤ length marks → slice_get marks i ≡ Some (Weighed w) → more ≡ weights ++ w ∷ [] → length weights ≡ i
-    → ((j : ℕ) (u : Weight) → slice_get weights j ≡ Some u → slice_get marks j ≡ Some (Weighed u)) → (length more ≡ i + 1) × ((j : ℕ) (u : Weight) → slice_get more j ≡ Some u → slice_get marks j ≡ Some (Weighed u))
-weights_more marks weights more i w within at pushed long was = (
-  ap length pushed ∙ (length-append weights (w ∷ []) ∙ ap (λ n. n + 1) long),
-  λ j u h. elim (get_append weights (w ∷ []) j u (ap (λ (ws : List Weight). slice_get ws j) (sym pushed) ∙ h)) [
-    | inl e ↦ was j u e
-    | inr l ↦
-        let e = one_place w u l.place l.at in
-        let same : j ≡ i = omega (arith, l.is, e.0, long) in
-        ap (slice_get marks) same ∙ (at ∙ ap (λ (x : Weight). Some (Weighed x)) e.1)
-  ],
-)

@@ -1,16 +1,20 @@
 -- Sizes of sorts, and what a weight says of an arrow.
-use Rattle.std.proofs.Common.{◌≡◌, refl, sym, ◌∙◌, ap, subst, ℕ, ◌+◌, ◌<◌, List, length, slice_get, get_or, min, Some, arith}
+use Rattle.std.proofs.Common.{◌≡◌, refl, sym, ◌∙◌, ap, subst, ℕ, ◌+◌, ◌<◌, List, length, slice_get, get_or, min, Option, Some, None, inl, inr, arith}
 use Rattle.std.proofs.lemmas.List.Elements.{All-cons, All-head, All-tail}
+use Rattle.std.specs.Prelude.{unwrap_or}
+use Rattle.std.specs.Option.{option_map}
+use Rattle.std.proofs.lemmas.List.{length-map}
 use Rattle.hs_scheme.specs.Tree.{node, none, more, children}
 use Rattle.hs_scheme.specs.Sorting.{SortTree, o, arrow, size, arguments, IsFirstOrder}
 use Rattle.hs_sorts.specs.declared.weights.Weight.{Weight}
 use Rattle.hs_sorts.specs.declared.weights.Mark.{Mark}
-use Rattle.hs_sorts.specs.declared.weights.Mark.TheVariants.{New, Weighed}
+use Rattle.hs_sorts.specs.declared.weights.Mark.TheVariants.{New, Entered, Weighed}
 use Rattle.hs_sorts.specs.declared.weights.Step.TheVariants.{Done, Child}
 use Rattle.hs_sorts.specs.declared.store.Node.{Node}
-use Rattle.hs_sorts.specs.declared.store.Node.TheVariants.{Link}
-use Rattle.hs_sorts.specs.Weights.{Describes, IsWeighingStep}
-use Rattle.std.proofs.lemmas.Option.{get_or_from_slice_get}
+use Rattle.hs_sorts.specs.declared.store.Node.TheVariants.{Root, Link}
+use Rattle.hs_sorts.specs.declared.store.Shape.TheVariants.{Arrow}
+use Rattle.hs_sorts.specs.Weights.{Describes, weighed, unweighed, weight_in, weights_in, IsWeightIn, IsWeighingStep}
+use Rattle.std.proofs.lemmas.Option.{get_or_from_slice_get, slice_get-get_or, slice_get-map, slice_get_read}
 
 pub size-arrow : (a b : SortTree) → size (arrow a b) ≡ 1 + size a + size b
 size-arrow a (node u ks) = omega arith
@@ -50,11 +54,38 @@ module _ (x y w : Weight) (a b : SortTree) (p : Describes x a) (q : Describes y 
       }
 
 -- a link to a node that is weighed, and to one that isn't
-pub link_done : (marks : List Mark) (n : Node) (up : ℕ) (w : Weight) → n ≡ Link up → slice_get marks up ≡ Some (Weighed w) → IsWeighingStep marks n (Done w)
+pub link_done : (marks : List Mark) (n : Node) (up : ℕ) (w : Weight) → n ≡ Link up → slice_get marks up ≡ Some (weighed w) → IsWeighingStep marks n (Done w)
 link_done marks n up w is at =
     subst (λ (m : Node). IsWeighingStep marks m (Done w)) (sym is)
-    ((λ c e. (w, subst (λ (j : ℕ). slice_get marks j ≡ Some (Weighed w)) (sym e) at)), λ v s d r. subst (Describes w) (sym r) (d up w at))
+    ((λ c e. (w, subst (λ (j : ℕ). slice_get marks j ≡ Some (weighed w)) (sym e) at)), λ v s d r. subst (Describes w) (sym r) (d up w at))
 
-pub link_child : (marks : List Mark) (n : Node) (up : ℕ) → n ≡ Link up → ((w : Weight) → get_or marks up New ≡ Weighed w → ⊥) → IsWeighingStep marks n (Child up)
+pub link_child : (marks : List Mark) (n : Node) (up : ℕ) → n ≡ Link up → ((w : Weight) → get_or marks up New ≡ weighed w → ⊥) → IsWeighingStep marks n (Child up)
 link_child marks n up is never =
-    subst (λ (m : Node). IsWeighingStep marks m (Child up)) (sym is) (refl, λ w h. never w (get_or_from_slice_get marks up (Weighed w) New h))
+    subst (λ (m : Node). IsWeighingStep marks m (Child up)) (sym is) (refl, λ w h. never w (get_or_from_slice_get marks up (weighed w) New h))
+
+-- an arrow both of whose parts are weighed
+pub arrow_done : (marks : List Mark) (a b : ℕ) (x y w : Weight) → get_or marks a New ≡ weighed x → get_or marks b New ≡ weighed y → a < length marks → b < length marks
+    → ((s t : SortTree) → Describes x s → Describes y t → Describes w (arrow s t)) → IsWeighingStep marks (Root (Arrow a b)) (Done w)
+arrow_done marks a b x y w p q below under all =
+    let first : slice_get marks a ≡ Some (weighed x) = slice_get-get_or marks a New below ∙ ap (λ m. Some m) p in
+    let second : slice_get marks b ≡ Some (weighed y) = slice_get-get_or marks b New under ∙ ap (λ m. Some m) q in (
+      λ c e. elim e [
+        | inl f ↦ (x, subst (λ (j : ℕ). slice_get marks j ≡ Some (weighed x)) (sym f) first)
+        | inr f ↦ (y, subst (λ (j : ℕ). slice_get marks j ≡ Some (weighed y)) (sym f) second)
+      ],
+      λ v s d r. subst (Describes w) (sym r) (all (v a) (v b) (d a x first) (d b y second)),
+    )
+
+-- the weight of a mark, or what stands for it
+pub weight_or : (m : Mark) (found : Option Weight) → IsWeightIn m found → unwrap_or found unweighed ≡ weight_in m
+weight_or m (Some w) e = sym (ap weight_in e)
+weight_or New None never = refl
+weight_or Entered None never = refl
+weight_or (Weighed first_order size arity) None never = absurd (never (record { size = size; arity = arity; first_order = first_order }) refl)
+
+pub weight_at : (marks : List Mark) (weights : List Weight) (i : ℕ) (m : Mark) (found : Option Weight) → weights_in marks ≡ weights → i < length weights → m ≡ get_or marks i m → IsWeightIn m found
+    → slice_get weights i ≡ Some (unwrap_or found unweighed)
+weight_at marks weights i m found is within h e =
+    let inside : i < length marks = omega (arith, within, ap length is, length-map marks weight_in) in
+    subst (λ (ws : List Weight). slice_get ws i ≡ Some (unwrap_or found unweighed)) is
+    (slice_get-map weight_in marks i ∙ (ap (option_map weight_in) (slice_get_read marks (length marks) i m refl inside h) ∙ ap (λ w. Some w) (sym (weight_or m found e))))

@@ -15,7 +15,7 @@ pub record Finds (rules : List Rule) (ranks : List (Option ℕ)) (k : ℕ) (foun
   pub store : IsStore found.store
   pub flat : IsFlat found.store
   pub solves : Solves rules ranks k found.store
-  pub weighing : Weighing found.store found.weights.items
+  pub weighing : Weighing found.store found.weights
 
 -- they are found exactly where the first k rules have a sorting
 abbrev pub IsFinding : List Rule → List (Option ℕ) → ℕ → Option Found → Type 0

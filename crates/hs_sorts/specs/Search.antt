@@ -17,7 +17,7 @@ rank v count i = size (v i) * (count + 1) + i
 abbrev pub newness : Mark → ℕ
 newness New = 1
 newness Entered = 0
-newness (Weighed w) = 0
+newness (Weighed first_order size arity) = 0
 
 abbrev pub new_count : List Mark → ℕ
 new_count marks = sum_by newness marks
@@ -71,11 +71,6 @@ pub record Walks (nodes : List Node) (old new : List Mark) (path : List ℕ) (st
 abbrev pub IsNodeWalk : List Node → List Mark → List Mark → List ℕ → ℕ → Bool → Type 0
 IsNodeWalk nodes old new path start true = Walks nodes old new path start
 IsNodeWalk nodes old new path start false = (v : Valuation) → Respects v nodes → ⊥
-
--- all nodes' weights, where all are weighed
-abbrev pub AreWeights : List Mark → Option (List Weight) → Type 0
-AreWeights marks (Some weights) = (length weights ≡ length marks) × ((i : ℕ) (w : Weight) → slice_get weights i ≡ Some w → slice_get marks i ≡ Some (Weighed w))
-AreWeights marks None = ((i : ℕ) → i < length marks → IsWeighed marks i) → ⊥
 
 -- the sorts that are read from the nodes, with their weights
 pub record Weighing (nodes : List Node) (weights : List Weight) : Type 0 where

@@ -12,19 +12,19 @@ ghost use Rattle.hs_sorts.specs.Finding.{IsFinding, IsFirstHigherOrder, IsFirstL
 use crate::reading::read_sort;
 use crate::search::weigh;
 use crate::solve::solve;
-use crate::store::{Node, Store};
-use crate::weights::Weight;
+use crate::store::Store;
+use crate::weights::Weights;
 use hs_scheme::{MAX_ARGUMENTS, MAX_PARAMETERS, OutOfMemory, Rule, Sort, Term};
 use std::alloc::Global;
 
 /// The greatest size that a nonterminal's sort may have.
-pub const MAX_SORT_SIZE: u32 = 1_000;
+pub const MAX_SORT_SIZE: u16 = 1_000;
 
 /// The nodes of a scheme's first rules, with the weights of their sorts.
 #[derive(Drop)]
 pub struct Found {
     pub store: Store,
-    pub weights: Vec<Weight>,
+    pub weights: Weights,
 }
 
 /// The least sorting of the first `count` rules, as nodes, or `None` where they have no sorting.
@@ -42,19 +42,20 @@ pub fn find(
     let Some(store) = solve(alloc, rules, ranks, count)? else {
         return Ok(None);
     };
-    let Some(weights) = weigh(alloc, store.nodes())? else {
+    let Some(weights) = weigh(alloc, &store)? else {
         return Ok(None);
     };
     Ok(Some(Found { store, weights }))
 }
 
 /// The first of `count` nodes from `start` on whose sort has an argument other than `o`.
-pub fn first_higher_order(weights: &[Weight], start: u32, count: u32) -> Option<u32>
+pub fn first_higher_order(weights: &Weights, start: u32, count: u32) -> Option<u32>
     requires { start + count ≤ length weights.now }
     ensures { IsFirstHigherOrder weights.now start count result }
 {
     for terminal in 0..count {
-        if !weights[start as usize + terminal as usize].first_order {
+        let weight = weights.at(start as usize + terminal as usize);
+        if !weight.first_order {
             return Some(terminal);
         }
     }
@@ -62,12 +63,13 @@ pub fn first_higher_order(weights: &[Weight], start: u32, count: u32) -> Option<
 }
 
 /// The first of the first `count` nodes whose sort is larger than a nonterminal's sort may be.
-pub fn first_large(weights: &[Weight], count: u32) -> Option<u32>
+pub fn first_large(weights: &Weights, count: u32) -> Option<u32>
     requires { count ≤ length weights.now }
     ensures { IsFirstLarge weights.now 0 count result }
 {
     for rule in 0..count {
-        if weights[rule as usize].size > MAX_SORT_SIZE {
+        let weight = weights.at(rule as usize);
+        if weight.size > MAX_SORT_SIZE {
             return Some(rule);
         }
     }
@@ -93,13 +95,13 @@ fn is_too_long(rule: &Rule, arity: u32) -> bool
 }
 
 /// The first rule that is too long, where the weights of the nonterminals come first.
-pub fn first_too_long(rules: &[Rule], weights: &[Weight]) -> Option<u32>
+pub fn first_too_long(rules: &[Rule], weights: &Weights) -> Option<u32>
     requires many { length rules.now ≤ length weights.now }
     requires few { length rules.now ≤ 2 ^ 32 }
     ensures { IsFirstLong rules.now weights.now result }
 {
     for (number, rule) in rules.iter().enumerate() {
-        if is_too_long(rule, weights[number].arity) {
+        if is_too_long(rule, weights.at(number).arity) {
             return Some(number as u32);
         }
     }
@@ -109,20 +111,20 @@ pub fn first_too_long(rules: &[Rule], weights: &[Weight]) -> Option<u32>
 /// The sorts of the first `count` nodes.
 pub fn read_sorts(
     alloc: Global,
-    nodes: &[Node],
-    weights: &[Weight],
+    store: &Store,
+    weights: &Weights,
     count: u32,
 ) -> Result<Vec<Sort>, OutOfMemory>
-    requires store { IsStore nodes.now }
-    requires flat { IsFlat nodes.now }
-    requires weights { Weighing nodes.now weights.now }
-    requires count { count ≤ length nodes.now }
+    requires store { IsStore store.now }
+    requires flat { IsFlat store.now }
+    requires weights { Weighing store.now weights.now }
+    requires count { count ≤ length store.now }
     requires small { (i : ℕ) → i < count → size_at weights.now i ≤ 1000 }
-    ensures { IfOk result (λ sorts. AreSorts nodes.now count sorts.items) }
+    ensures { IfOk result (λ sorts. AreSorts store.now count sorts.items) }
 {
     let mut sorts = Vec::with_capacity(alloc, count as usize)?;
     for node in 0..count {
-        sorts.push(read_sort(alloc, nodes, weights, node)?)?;
+        sorts.push(read_sort(alloc, store, weights, node)?)?;
     }
     Ok(sorts)
 }
@@ -130,7 +132,7 @@ pub fn read_sorts(
 /// The numbers of arguments of the sorts of `count` nodes from `start` on.
 pub fn arities(
     alloc: Global,
-    weights: &[Weight],
+    weights: &Weights,
     start: u32,
     count: usize,
 ) -> Result<Vec<u32>, OutOfMemory>
@@ -139,7 +141,7 @@ pub fn arities(
 {
     let mut arities = Vec::with_capacity(alloc, count)?;
     for place in 0..count {
-        arities.push(weights[start as usize + place].arity)?;
+        arities.push(weights.at(start as usize + place).arity)?;
     }
     Ok(arities)
 }

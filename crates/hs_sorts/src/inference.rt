@@ -54,7 +54,7 @@ fn find_least(alloc: Global, rules: &[Rule], ranks: &[Option<u32>]) -> Result<Le
         return Err(SortFault::IllSorted { rule });
     };
     let number = rules.len() as u32;
-    let weights = found.weights.as_slice();
+    let weights = &found.weights;
     if let Some(terminal) = first_higher_order(weights, number, ranks.len() as u32) {
         return Err(SortFault::TerminalNotFirstOrder { terminal });
     }
@@ -64,7 +64,7 @@ fn find_least(alloc: Global, rules: &[Rule], ranks: &[Option<u32>]) -> Result<Le
     if let Some(rule) = first_too_long(rules, weights) {
         return Err(SortFault::RuleTooLong { rule });
     }
-    let sorts = read_sorts(alloc, found.store.nodes(), weights, number)?;
+    let sorts = read_sorts(alloc, &found.store, weights, number)?;
     let ranks = arities(alloc, weights, number, ranks.len())?;
     Ok(Least { sorts, ranks })
 }

@@ -7,8 +7,8 @@ ghost use Rattle.hs_sorts.specs.Search.{Weighing};
 ghost use Rattle.hs_sorts.specs.Reading as reading;
 ghost use Rattle.hs_sorts.specs.Reading.{size_at, IsSplit};
 
-use crate::store::{Node, Shape};
-use crate::weights::Weight;
+use crate::store::{Node, Shape, Store};
+use crate::weights::Weights;
 use hs_scheme::{OutOfMemory, Sort};
 use std::alloc::Global;
 
@@ -25,15 +25,15 @@ fn parts(shape: Shape) -> Option<(u32, u32)>
 
 /// The nodes of the first argument and of what is left, or `None` where the sort is `o`. Takes
 /// constant time, since no link leads to a link.
-fn split(nodes: &[Node], node: u32) -> Option<(u32, u32)>
-    requires store { IsStore nodes.now }
-    requires flat { IsFlat nodes.now }
-    requires node { node < length nodes.now }
-    ensures { IsSplit nodes.now node result }
+fn split(store: &Store, node: u32) -> Option<(u32, u32)>
+    requires store { IsStore store.now }
+    requires flat { IsFlat store.now }
+    requires node { node < length store.now }
+    ensures { IsSplit store.now node result }
 {
-    match nodes[node as usize] {
+    match store.node_at(node) {
         Node::Root(shape) => parts(shape),
-        Node::Link(up) => match nodes[up as usize] {
+        Node::Link(up) => match store.node_at(up) {
             Node::Root(shape) => parts(shape),
             Node::Link(_top) => None,
         },
@@ -44,21 +44,21 @@ fn split(nodes: &[Node], node: u32) -> Option<(u32, u32)>
 /// is at most 1,000 in size.
 pub fn read_sort(
     alloc: Global,
-    nodes: &[Node],
-    weights: &[Weight],
+    store: &Store,
+    weights: &Weights,
     node: u32,
 ) -> Result<Sort, OutOfMemory>
-    requires store { IsStore nodes.now }
-    requires flat { IsFlat nodes.now }
-    requires weights { Weighing nodes.now weights.now }
-    requires node { node < length nodes.now }
+    requires store { IsStore store.now }
+    requires flat { IsFlat store.now }
+    requires weights { Weighing store.now weights.now }
+    requires node { node < length store.now }
     requires small { size_at weights.now node ≤ 1000 }
-    ensures { IfOk result (λ sort. (v : Valuation) → IsReading v nodes.now → sort ≡ v node) }
+    ensures { IfOk result (λ sort. (v : Valuation) → IsReading v store.now → sort ≡ v node) }
 {
     let mut args = Vec::new(alloc);
     let mut at = node;
-    while let Some((argument, rest)) = split(nodes, at) {
-        args.push(read_sort(alloc, nodes, weights, argument)?)?;
+    while let Some((argument, rest)) = split(store, at) {
+        args.push(read_sort(alloc, store, weights, argument)?)?;
         at = rest;
     }
     Ok(Sort { args })

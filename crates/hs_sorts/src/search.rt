@@ -1,12 +1,11 @@
 //! The walk over the nodes that weighs each after its children.
 
 ghost use Rattle.std.specs.Prelude.{◌≡◌, ◌<◌, [], length, IfOk};
-ghost use Rattle.std.specs.Option.{option_map};
 ghost use Rattle.hs_sorts.specs.Nodes.{IsStore};
-ghost use Rattle.hs_sorts.specs.Search.{IsSearch, IsLastOnPath, IsAdvance, IsEntry, IsNodeWalk, AreWeights, IsWeighing};
+ghost use Rattle.hs_sorts.specs.Search.{IsSearch, IsLastOnPath, IsAdvance, IsEntry, IsNodeWalk, IsWeighing};
 
-use crate::store::Node;
-use crate::weights::{Mark, Step, Weight, step_at};
+use crate::store::Store;
+use crate::weights::{Mark, Step, Weights, step_at};
 use hs_scheme::OutOfMemory;
 use std::alloc::Global;
 
@@ -34,16 +33,16 @@ impl Search {
 
     /// Weighs the last node of the path, or goes on to a child that has to be weighed first.
     /// `false` where that child is on the path, so that a sort would be a part of itself.
-    fn advance(&mut self, nodes: &[Node], at: u32) -> Result<bool, OutOfMemory>
-        requires search { IsSearch nodes.now self.old.marks.items self.old.path.items }
-        requires store { IsStore nodes.now }
+    fn advance(&mut self, store: &Store, at: u32) -> Result<bool, OutOfMemory>
+        requires search { IsSearch store.now self.old.marks.items self.old.path.items }
+        requires store { IsStore store.now }
         requires last { IsLastOnPath self.old.path.items at }
-        ensures { IfOk result (λ yes. IsAdvance nodes.now self.old.marks.items self.old.path.items
+        ensures { IfOk result (λ yes. IsAdvance store.now self.old.marks.items self.old.path.items
             self.new.marks.items self.new.path.items yes) }
     {
-        match step_at(self.marks.as_slice(), nodes[at as usize])? {
+        match step_at(self.marks.as_slice(), store.node_at(at))? {
             Step::Done(weight) => {
-                self.marks[at as usize] = Mark::Weighed(weight);
+                self.marks[at as usize] = Mark::weighed(weight);
                 let _ = self.path.pop();
                 Ok(true)
             }
@@ -53,60 +52,45 @@ impl Search {
 
     /// Weighs a node and all nodes that its sort is read from. `false` where a sort would be a
     /// part of itself.
-    fn walk(&mut self, nodes: &[Node], start: u32) -> Result<bool, OutOfMemory>
-        requires start { start < length nodes.now }
-        requires search { IsSearch nodes.now self.old.marks.items self.old.path.items }
+    fn walk(&mut self, store: &Store, start: u32) -> Result<bool, OutOfMemory>
+        requires start { start < length store.now }
+        requires search { IsSearch store.now self.old.marks.items self.old.path.items }
         requires empty { self.old.path.items ≡ [] }
-        requires store { IsStore nodes.now }
-        ensures { IfOk result (λ yes. IsNodeWalk nodes.now self.old.marks.items self.new.marks.items
+        requires store { IsStore store.now }
+        ensures { IfOk result (λ yes. IsNodeWalk store.now self.old.marks.items self.new.marks.items
             self.new.path.items start yes) }
     {
         if !self.enter(start)? {
             return Ok(true);
         }
         while let Some(at) = self.path.last().copied() {
-            if !self.advance(nodes, at)? {
+            if !self.advance(store, at)? {
                 return Ok(false);
             }
         }
         Ok(true)
-    }
-
-    /// The weights of the nodes, or `None` where one isn't weighed.
-    fn weights(&self, alloc: Global) -> Result<Option<Vec<Weight>>, OutOfMemory>
-        ensures { IfOk result (λ weights. AreWeights self.now.marks.items
-            (option_map (λ ws. ws.items) weights)) }
-    {
-        let mut weights = Vec::with_capacity(alloc, self.marks.len())?;
-        for mark in &self.marks {
-            let Mark::Weighed(weight) = *mark else {
-                return Ok(None);
-            };
-            weights.push(weight)?;
-        }
-        Ok(Some(weights))
     }
 }
 
 /// The weights of the sorts that the nodes stand for, where the sort of an open node is `o`, or
 /// `None` where some sort would be a part of itself. Time and memory are linear in the number of
 /// nodes: a sort that many nodes have a part in is weighed once, however large it is as a tree.
-pub fn weigh(alloc: Global, nodes: &[Node]) -> Result<Option<Vec<Weight>>, OutOfMemory>
-    requires { IsStore nodes.now }
-    ensures { IfOk result (λ weights. IsWeighing nodes.now (option_map (λ ws. ws.items) weights)) }
+pub fn weigh(alloc: Global, store: &Store) -> Result<Option<Weights>, OutOfMemory>
+    ensures { IfOk result (λ weights. IsWeighing store.now weights) }
 {
-    let mut marks = Vec::with_capacity(alloc, nodes.len())?;
-    for _node in nodes {
+    let count = store.len();
+    let mut marks = Vec::with_capacity(alloc, count)?;
+    for _node in 0..count {
         marks.push(Mark::New)?;
     }
     let mut search = Search {
         marks,
         path: Vec::new(alloc),
     };
-    for start in 0..nodes.len() {
-        if !search.walk(nodes, start as u32)? {
+    for start in 0..count {
+        if !search.walk(store, start as u32)? {
             return Ok(None);
         }
     }
-    search.weights(alloc)
+    Ok(Some(Weights::of(search.marks)))
 }

@@ -1,11 +1,12 @@
 //! Unknown sorts as shared nodes, and unification over them.
 
 ghost use Rattle.std.specs.Prelude.{◌≡◌, ◌+◌, ◌++◌, ◌∷◌, [], ◌<◌, ◌≤◌, ◌^◌};
-ghost use Rattle.std.specs.Prelude.{IfOk, length, replicate, slice_get, Some, min, max};
+ghost use Rattle.std.specs.Prelude.{IfOk, length, replicate, slice_get, slice_set, Some, min, max};
 ghost use Rattle.hs_sorts.specs.declared.store.Shape.TheVariants.{Open};
 ghost use Rattle.hs_sorts.specs.declared.store.Node.TheVariants.{Root, Link};
-ghost use Rattle.hs_sorts.specs.Nodes.{Valuation, Respects, IsStore, ShapeInRange, IsSameStore, FlatBelow, IsFlat, AreRoots};
+ghost use Rattle.hs_sorts.specs.Nodes.{Valuation, Respects, IsStore, ShapeInRange, NodeInRange, IsSameStore, FlatBelow, IsFlat, AreRoots};
 ghost use Rattle.hs_sorts.specs.Nodes.{linked, with_arrow, IsRootOf, IsMerge, IsJoin, IsEquation};
+ghost use Rattle.hs_sorts.specs.Cells.{node_in};
 
 use hs_scheme::OutOfMemory;
 use std::alloc::Global;
@@ -28,22 +29,58 @@ pub enum Node {
     Link(u32),
 }
 
+/// How a node is kept: in 12 bytes, where a `Node` has 16.
+#[derive(Clone, Copy, Debug, Drop)]
+enum Cell {
+    Open,
+    Base,
+    Arrow(u32, u32),
+    Link(u32),
+}
+
+impl Cell {
+    /// How this node is kept.
+    fn of(node: Node) -> Cell
+        ensures { node_in result ≡ node }
+    {
+        match node {
+            Node::Root(Shape::Open) => Cell::Open,
+            Node::Root(Shape::Base) => Cell::Base,
+            Node::Root(Shape::Arrow(argument, rest)) => Cell::Arrow(argument, rest),
+            Node::Link(up) => Cell::Link(up),
+        }
+    }
+
+    /// The node that is kept so.
+    fn node(self) -> Node
+        ensures { result ≡ node_in self }
+    {
+        match self {
+            Cell::Open => Node::Root(Shape::Open),
+            Cell::Base => Node::Root(Shape::Base),
+            Cell::Arrow(argument, rest) => Node::Root(Shape::Arrow(argument, rest)),
+            Cell::Link(up) => Node::Link(up),
+        }
+    }
+}
+
 /// Nodes by number, counted from 0, of which there are at most 2^32.
 #[derive(Drop)]
 pub struct Store {
-    nodes: Vec<Node>,
+    cells: Vec<Cell>,
 }
 
 impl Model for Store {
     ghost use Rattle.std.specs.Prelude.{List};
     ghost use Rattle.hs_sorts.specs.declared.store.Node.{Node};
     ghost use Rattle.hs_sorts.specs.Nodes.{IsStore};
+    ghost use Rattle.hs_sorts.specs.Cells.{nodes_in};
 
     ghost Value = { List Node };
 
-    ghost view = { λ s. s.nodes.items };
+    ghost view = { λ s. nodes_in s.cells.items };
 
-    ghost invariant = { λ s. IsStore s.nodes.items };
+    ghost invariant = { λ s. IsStore (nodes_in s.cells.items) };
 }
 
 impl Store {
@@ -52,16 +89,34 @@ impl Store {
         ensures { result ≡ [] }
     {
         Store {
-            nodes: Vec::new(alloc),
+            cells: Vec::new(alloc),
         }
     }
 
-    /// The nodes, by number.
-    pub fn nodes(&self) -> &[Node]
-        ensures nodes { result.now ≡ self.now }
+    /// The number of nodes.
+    pub fn len(&self) -> usize
+        ensures len { result ≡ length self.now }
         ensures store { IsStore self.now }
     {
-        self.nodes.as_slice()
+        self.cells.len()
+    }
+
+    /// A node.
+    pub fn node_at(&self, number: u32) -> Node
+        requires { number < length self.now }
+        ensures node { slice_get self.now number ≡ Some result }
+        ensures store { IsStore self.now }
+    {
+        self.cells[number as usize].node()
+    }
+
+    /// Puts a node in the place of another.
+    fn put(&mut self, number: u32, node: Node)
+        requires within { number < length self.old }
+        requires in_range { NodeInRange (length self.old) number node }
+        ensures { self.new ≡ slice_set self.old number node }
+    {
+        self.cells[number as usize] = Cell::of(node);
     }
 
     /// Adds a node, and gives its number. More than 2^32 nodes are want of memory.
@@ -72,10 +127,10 @@ impl Store {
         ensures before { IfOk result (λ _. IsStore self.old) }
         ensures few { IfOk result (λ _. length self.old < 2 ^ 32) }
     {
-        let Ok(node) = u32::try_from(self.nodes.len()) else {
+        let Ok(node) = u32::try_from(self.cells.len()) else {
             return Err(OutOfMemory);
         };
-        self.nodes.push(Node::Root(shape))?;
+        self.cells.push(Cell::of(Node::Root(shape)))?;
         Ok(node)
     }
 
@@ -87,7 +142,7 @@ impl Store {
         ensures before { IfOk result (λ _. IsStore self.old) }
         ensures few { IfOk result (λ _. length self.new ≤ 2 ^ 32) }
     {
-        let Ok(first) = u32::try_from(self.nodes.len()) else {
+        let Ok(first) = u32::try_from(self.cells.len()) else {
             return Err(OutOfMemory);
         };
         for _added in 0..count {
@@ -106,18 +161,19 @@ impl Store {
         ensures few { IfOk result (λ _. length self.old < 2 ^ 32) }
     {
         let rest = self.add(Shape::Open)?;
-        self.nodes[root as usize] = Node::Root(Shape::Arrow(argument, rest));
+        self.put(root, Node::Root(Shape::Arrow(argument, rest)));
         Ok(rest)
     }
 
     /// Turns the link from `at` to `up` to where the link from `up` leads, if there is one.
     fn shorten(&mut self, at: u32, up: u32)
-        requires { slice_get self.old at ≡ Some (Link up) }
+        requires link { slice_get self.old at ≡ Some (Link up) }
+        requires within { up < length self.old }
         ensures same { IsSameStore self.old self.new }
         ensures flat { FlatBelow at self.old → FlatBelow (at + 1) self.new }
     {
-        if let Node::Link(top) = self.nodes[up as usize] {
-            self.nodes[at as usize] = Node::Link(top);
+        if let Node::Link(top) = self.node_at(up) {
+            self.put(at, Node::Link(top));
         }
     }
 
@@ -127,8 +183,8 @@ impl Store {
         ensures same { IsSameStore self.old self.new }
         ensures flat { IsFlat self.new }
     {
-        for node in 0..self.nodes.len() {
-            if let Node::Link(up) = self.nodes[node] {
+        for node in 0..self.len() {
+            if let Node::Link(up) = self.node_at(node as u32) {
                 self.shorten(node as u32, up);
             }
         }
@@ -142,7 +198,7 @@ impl Store {
     {
         let mut at = node;
         loop {
-            match self.nodes[at as usize] {
+            match self.node_at(at) {
                 Node::Root(shape) => return (at, shape),
                 Node::Link(up) => {
                     self.shorten(at, up);
@@ -160,8 +216,8 @@ impl Store {
     {
         let first = a.min(b);
         let second = a.max(b);
-        self.nodes[first as usize] = Node::Root(shape);
-        self.nodes[second as usize] = Node::Link(first);
+        self.put(first, Node::Root(shape));
+        self.put(second, Node::Link(first));
     }
 
     /// Makes two nodes one, where no more than the pairs are to be one after it. `false` where the
@@ -188,7 +244,7 @@ impl Store {
         requires { node < length self.now }
         ensures { (v : Valuation) → Respects v self.now → v node ≡ v result }
     {
-        match self.nodes[node as usize] {
+        match self.node_at(node) {
             Node::Root(_shape) => node,
             Node::Link(up) => up,
         }

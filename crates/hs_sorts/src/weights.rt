@@ -1,24 +1,26 @@
 //! The occurs check, with the sizes of the sorts that the nodes stand for.
 
-ghost use Rattle.std.specs.Prelude.{◌≡◌, ◌<◌, length, slice_get, Some, IfOk, IfSome};
+ghost use Rattle.std.specs.Prelude.{◌≡◌, ◌<◌, length, slice_get, Some, IfOk};
 ghost use Rattle.hs_scheme.specs.Sorting.{SortTree, o, arrow};
 ghost use Rattle.hs_sorts.specs.declared.store.Node.{Node};
 ghost use Rattle.hs_sorts.specs.Nodes.{IsStore};
 ghost use Rattle.hs_sorts.specs.declared.store.Node.TheVariants.{Root};
 ghost use Rattle.hs_sorts.specs.declared.store.Shape.TheVariants.{Arrow};
-ghost use Rattle.hs_sorts.specs.Weights.{Describes, ChildrenBelow, IsWeighingStep};
+ghost use Rattle.hs_sorts.specs.Weights as weights;
+ghost use Rattle.hs_sorts.specs.Weights.{Describes, ChildrenBelow, IsWeightIn, weights_in, IsWeighingStep};
 
 use crate::store::{Node, Shape};
 use hs_scheme::OutOfMemory;
+use std::marker::Model;
 
 /// Sizes are counted to this number.
-pub const COUNTED_SIZE: u32 = 1_001;
+pub const COUNTED_SIZE: u16 = 1_001;
 
 /// What is counted of a sort.
 #[derive(Clone, Copy, Debug, Drop)]
 pub struct Weight {
     /// The size, or 1,001 where it is greater.
-    pub size: u32,
+    pub size: u16,
     /// The number of arguments.
     pub arity: u32,
     /// Whether all arguments are `o`.
@@ -26,6 +28,17 @@ pub struct Weight {
 }
 
 impl Weight {
+    /// What stands for the weight of a node that isn't weighed.
+    fn unweighed() -> Weight
+        ensures { result ≡ weights.unweighed }
+    {
+        Weight {
+            size: 0,
+            arity: 0,
+            first_order: false,
+        }
+    }
+
     /// The weight of `o`.
     fn base() -> Weight
         ensures { Describes result o }
@@ -54,12 +67,82 @@ impl Weight {
     }
 }
 
-/// How far a node is: not yet come to, on the path, or weighed.
+/// How far a node is: not yet come to, on the path, or weighed. There are as many marks as nodes, and
+/// the fields of a weight stand in the order in which a mark has 8 bytes.
 #[derive(Clone, Copy, Debug, Drop)]
 pub enum Mark {
     New,
     Entered,
-    Weighed(Weight),
+    Weighed {
+        first_order: bool,
+        size: u16,
+        arity: u32,
+    },
+}
+
+impl Mark {
+    /// The mark of a node of this weight.
+    pub fn weighed(weight: Weight) -> Mark
+        ensures { result ≡ weights.weighed weight }
+    {
+        Mark::Weighed {
+            first_order: weight.first_order,
+            size: weight.size,
+            arity: weight.arity,
+        }
+    }
+
+    /// The weight, where the node is weighed.
+    pub fn weight(self) -> Option<Weight>
+        ensures { IsWeightIn self result }
+    {
+        match self {
+            Mark::Weighed {
+                first_order,
+                size,
+                arity,
+            } => Some(Weight {
+                size,
+                arity,
+                first_order,
+            }),
+            _ => None,
+        }
+    }
+}
+
+/// The weights of nodes, by number, as the marks of a walk that has weighed them. Contracts see the
+/// list of the weights.
+#[derive(Drop)]
+pub struct Weights {
+    marks: Vec<Mark>,
+}
+
+impl Model for Weights {
+    ghost use Rattle.std.specs.Prelude.{List};
+    ghost use Rattle.hs_sorts.specs.declared.weights.Weight.{Weight};
+    ghost use Rattle.hs_sorts.specs.Weights.{weights_in};
+
+    ghost Value = { List Weight };
+
+    ghost view = { λ s. weights_in s.marks.items };
+}
+
+impl Weights {
+    /// The weights in these marks. Takes no memory.
+    pub fn of(marks: Vec<Mark>) -> Weights
+        ensures { result ≡ weights_in marks.items }
+    {
+        Weights { marks }
+    }
+
+    /// The weight of a node.
+    pub fn at(&self, node: usize) -> Weight
+        requires { node < length self.now }
+        ensures { slice_get self.now node ≡ Some result }
+    {
+        self.marks[node].weight().unwrap_or(Weight::unweighed())
+    }
 }
 
 /// A node's weight, or a child that has to be weighed first.
@@ -74,9 +157,9 @@ pub fn step_at(marks: &[Mark], node: Node) -> Result<Step, OutOfMemory>
     ensures { IfOk result (λ step. IsWeighingStep marks.now node step) }
 {
     match node {
-        Node::Link(up) => match marks[up as usize] {
-            Mark::Weighed(weight) => Ok(Step::Done(weight)),
-            _ => Ok(Step::Child(up)),
+        Node::Link(up) => match marks[up as usize].weight() {
+            Some(weight) => Ok(Step::Done(weight)),
+            None => Ok(Step::Child(up)),
         },
         Node::Root(shape) => step_at_root(marks, shape),
     }
@@ -100,10 +183,10 @@ fn step_at_arrow(marks: &[Mark], argument: u32, rest: u32) -> Result<Step, OutOf
     requires rest { rest < length marks.now }
     ensures { IfOk result (λ step. IsWeighingStep marks.now (Root (Arrow argument rest)) step) }
 {
-    let Mark::Weighed(first) = marks[argument as usize] else {
+    let Some(first) = marks[argument as usize].weight() else {
         return Ok(Step::Child(argument));
     };
-    let Mark::Weighed(second) = marks[rest as usize] else {
+    let Some(second) = marks[rest as usize].weight() else {
         return Ok(Step::Child(rest));
     };
     let weight = Weight::arrow(first, second)?;

@@ -3,4 +3,4 @@ use Rattle.hs_sorts.specs.Finding.{AreSorts}
 use Rattle.hs_sorts.proofs.found.read_sorts.Given as goal
 
 abbrev pub invariant-loop-node : goal.invariant-loop-node
-invariant-loop-node l = AreSorts l.nodes l.node l.sorts.items
+invariant-loop-node l = AreSorts l.store l.node l.sorts.items

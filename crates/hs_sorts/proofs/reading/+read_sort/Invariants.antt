@@ -11,9 +11,9 @@ decreases-read_sort l = size_at l.weights.now l.node
 
 abbrev pub invariant-loop-argument : goal.invariant-loop-argument
 invariant-loop-argument l = record {
-  within : l.at < length l.nodes;
+  within : l.at < length l.store;
   smaller : size_at l.weights l.at ≤ size_at l.weights l.node;
-  reads : (v : Valuation) → IsReading v l.nodes → v l.node ≡ with_arguments l.args.items (v l.at);
+  reads : (v : Valuation) → IsReading v l.store → v l.node ≡ with_arguments l.args.items (v l.at);
 }
 
 abbrev pub decreases-loop-argument : goal.decreases-loop-argument

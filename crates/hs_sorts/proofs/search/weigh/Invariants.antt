@@ -5,11 +5,11 @@ use Rattle.hs_sorts.specs.Search.{IsSearch, IsStarted}
 use Rattle.hs_sorts.proofs.search.weigh.Given as goal
 
 abbrev pub invariant-loop-node : goal.invariant-loop-node
-invariant-loop-node l = l.marks.items ≡ replicate l._node-index New
+invariant-loop-node l = l.marks.items ≡ replicate l._node New
 
 abbrev pub invariant-loop-start : goal.invariant-loop-start
 invariant-loop-start l = record {
-  search : IsSearch l.nodes l.search.marks.items l.search.path.items;
+  search : IsSearch l.store l.search.marks.items l.search.path.items;
   empty : l.search.path.items ≡ [];
   started : (i : ℕ) → i < l.start → IsStarted l.search.marks.items i;
 }

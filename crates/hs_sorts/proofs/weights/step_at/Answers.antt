@@ -5,16 +5,16 @@ use Rattle.hs_sorts.specs.Weights.{ChildrenBelow}
 use Rattle.hs_sorts.proofs.Weighing.{link_done, link_child}
 use Rattle.hs_sorts.proofs.weights.step_at.Goals as goal
 
-pub bounds : goal.bounds
-bounds c = subst (ChildrenBelow (length c.args.marks.now)) c.in-Link.is c.requires c.in-Link.up refl
+pub bounds-marks-up : goal.bounds-marks-up
+bounds-marks-up c = subst (ChildrenBelow (length c.args.marks.now)) c.in-Link.is c.requires c.in-Link.up refl
 
 pub step_at_root-requires : goal.step_at_root-requires
 step_at_root-requires c = subst (ChildrenBelow (length c.args.marks.now)) c.in-Root.is c.requires
 
-pub returns-in-Weighed : goal.returns-in-Weighed
-returns-in-Weighed c =
+pub returns-in-Some : goal.returns-in-Some
+returns-in-Some c =
     let below : c.in-Link.up < length c.args.marks.now = subst (ChildrenBelow (length c.args.marks.now)) c.in-Link.is c.requires c.in-Link.up refl in
-    link_done c.args.marks.now c.args.node c.in-Link.up c.in-Weighed.weight c.in-Link.is (slice_get-get_or c.args.marks.now c.in-Link.up New below ∙ ap (λ m. Some m) c.in-Weighed.is)
+    link_done c.args.marks.now c.args.node c.in-Link.up c.in-Some.weight c.in-Link.is (slice_get-get_or c.args.marks.now c.in-Link.up New below ∙ ap (λ m. Some m) c.in-Some.ensures)
 
-pub returns-in_default : goal.returns-in_default
-returns-in_default c = link_child c.args.marks.now c.args.node c.in-Link.up c.in-Link.is c.in_default.not-Weighed
+pub returns-in-None : goal.returns-in-None
+returns-in-None c = link_child c.args.marks.now c.args.node c.in-Link.up c.in-Link.is c.in-None.ensures

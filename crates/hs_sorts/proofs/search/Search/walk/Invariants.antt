@@ -5,7 +5,7 @@ use Rattle.hs_sorts.proofs.search.Search.walk.Given as goal
 
 abbrev pub invariant-loop-at : goal.invariant-loop-at
 invariant-loop-at l = record {
-  search : IsSearch l.nodes l.self.marks.items l.self.path.items;
+  search : IsSearch l.store l.self.marks.items l.self.path.items;
   started : IsStarted l.self.marks.items l.start;
   kept : (i : ℕ) → IsStarted l.fn.self.marks.items i → IsStarted l.self.marks.items i;
 }
