@@ -1,19 +1,17 @@
 -- Lists of places that gain a place.
-use Rattle.std.proofs.Common.{◌≡◌, ◌≢◌, refl, sym, ◌∙◌, ap, subst, ℕ, ◌+◌, ◌-◌, ◌≤◌, Bool, true, false, nat_eq, ◌&&◌, List, [], ◌∷◌, ◌++◌, length, get_or, slice_get, Some, None, Option, length-append, arith, ◌⊎◌, inl, inr, Contains, cond}
+use Rattle.std.proofs.Common.{◌≡◌, refl, sym, ◌∙◌, ap, subst, ℕ, zero, suc, ◌<◌, Bool, true, false, nat_eq, ◌&&◌, List, [], ◌∷◌, length, get_or, set, Some, None, Option, unwrap_or, arith, ◌⊎◌, inl, inr, Contains, cond}
 use Rattle.std.specs.Bool.{Decides}
 use Rattle.std.specs.Map.{lookup}
 use Rattle.std.specs.Option.{option_map_or}
-use Rattle.std.proofs.lemmas.Bool.{eqb-true, eq-eqb, cases_lt, and_parts}
-use Rattle.std.proofs.lemmas.Option.{slice_get-get_or}
-use Rattle.std.proofs.lemmas.List.{get_or_append_left, get_or_push}
-use Rattle.std.proofs.lemmas.List.Elements.{All-append, All-cons, Contains-append_left, Contains-append_cases, Contains-push}
+use Rattle.std.proofs.lemmas.Bool.{eqb-true, eq-eqb, and_parts}
 use Rattle.indexmap.specs.IndexMap.{IndexMap, get}
 use Rattle.smallvec.specs.SmallVec.{SmallVec}
-use Rattle.hs_table_laws.proofs.Members.{only}
+use Rattle.hs_scheme.proofs.DemandLemmas.{slice_get-read}
+use Rattle.hs_replica.specs.declared.lists.Lists.{Lists}
 use Rattle.hs_replica.specs.declared.key.Key.{Key}
 use Rattle.hs_replica.specs.declared.key.Key.TheVariants.{At, Typed, Asking, Taking}
 use Rattle.hs_replica.specs.contracts.key.KeyPartialEq.TheImpl.{eq-value}
-use Rattle.hs_replica.specs.Index.{RisesTo, AddsAt, list_at}
+use Rattle.hs_replica.specs.Index.{RisesTo, AddsTo, AddsAt, row_at, keyed_at, list_at}
 
 key_true : (a b : Key) → eq-value.it a b ≡ true → a ≡ b
 key_true (At p) (At q) h = ap At (eqb-true p q h)
@@ -45,101 +43,155 @@ key_own (Typed p t) = rw (eq-eqb p p refl, eq-eqb t t refl)
 key_own (Asking p j t) = rw (eq-eqb p p refl, eq-eqb j j refl, eq-eqb t t refl)
 key_own (Taking p j t) = rw (eq-eqb p p refl, eq-eqb j j refl, eq-eqb t t refl)
 
-pub key_same : (a b : Key) → Decides (eq-value.it a b) (a ≡ b)
+key_same : (a b : Key) → Decides (eq-value.it a b) (a ≡ b)
 key_same a b = (key_true a b, λ e. subst (λ (c : Key). eq-value.it a c ≡ true) e (key_own a))
 
-last_at : (xs : List ℕ) (k : ℕ) → length xs ≡ k + 1 → slice_get xs (length xs - 1) ≡ Some (get_or xs k 0)
-last_at xs k long = let e : length xs - 1 ≡ k = omega arith in ap (slice_get xs) e ∙ slice_get-get_or xs k 0 (omega arith)
-
--- the place at the end of an ascending list, of which it isn't the last yet
-rises_push : (place : ℕ) (xs : List ℕ) → ((x : ℕ) → slice_get xs (length xs - 1) ≡ Some x → x ≡ place → ⊥) → RisesTo place xs → RisesTo place (xs ++ place ∷ [])
-rises_push place xs apart r = record {
-  ascending = λ k lt. elim (cases_lt (k + 1) (length xs)) [
-    | inl less ↦
-        let a : get_or (xs ++ place ∷ []) k 0 ≡ get_or xs k 0 = get_or_append_left xs (place ∷ []) 0 k (omega arith) in
-        let b : get_or (xs ++ place ∷ []) (k + 1) 0 ≡ get_or xs (k + 1) 0 = get_or_append_left xs (place ∷ []) 0 (k + 1) less in
-        omega (arith, a, b, r.ascending k less)
-    | inr more ↦
-        let long : length xs ≡ k + 1 = omega (arith, length-append xs (place ∷ [])) in
-        let a : get_or (xs ++ place ∷ []) k 0 ≡ get_or xs k 0 = get_or_append_left xs (place ∷ []) 0 k (omega arith) in
-        let b : get_or (xs ++ place ∷ []) (k + 1) 0 ≡ place = get_or_push xs place 0 (k + 1) long in
-        let other : get_or xs k 0 ≢ place = apart (get_or xs k 0) (last_at xs k long) in
-        omega (arith, a, b, r.below k 0 (omega arith), other)
-  ];
-  below = All-append (λ x. x ≤ place) xs (place ∷ []) r.below (All-cons (λ x. x ≤ place) place [] (omega arith) (λ k d lt. absurd (omega arith)));
-}
-
-none_some : (x : ℕ) → None ≡ Some x → ⊥
-none_some x e = (cc)
-
-pub nothing_last : (xs : List ℕ) → xs ≡ [] → (x : ℕ) → slice_get xs (length xs - 1) ≡ Some x → ⊥
-nothing_last xs none x e = none_some x (subst (λ (ys : List ℕ). slice_get ys (length ys - 1) ≡ Some x) none e)
-
-pub adds_same : (key : Key) (place : ℕ) (old new : Key → List ℕ) → ((k : Key) → new k ≡ old k) → AddsAt key place old new
-adds_same key place old new same = record {
+adds_same : {K : Type 0} (key : K) (place : ℕ) (old new : K → List ℕ) → ((k : K) → new k ≡ old k) → AddsAt key place old new
+adds_same {K} key place old new same = record {
   only = λ k i h. inl (subst (λ (xs : List ℕ). Contains xs i) (same k) h);
   keeps = λ k i h. subst (λ (xs : List ℕ). Contains xs i) (sym (same k)) h;
   rises = λ k r. subst (λ (xs : List ℕ). RisesTo place xs) (sym (same k)) r;
 }
 
--- the place goes behind the list of one key, of which it isn't the last yet
-module _ (old new : Key → List ℕ) (key : Key) (place : ℕ) (is : (k : Key) → new k ≡ cond (eq-value.it key k) (old key ++ place ∷ []) (old k)) where
-  abbrev grown : Bool → Key → List ℕ
-  grown b k = cond b (old key ++ place ∷ []) (old k)
-
-  here : (b : Bool) (k : Key) → eq-value.it key k ≡ b → b ≡ true → k ≡ key
-  here b k e f = sym ((key_same key k).0 (e ∙ f))
-
-  pushed_only : (k : Key) (i : ℕ) (b : Bool) → eq-value.it key k ≡ b → Contains (grown b k) i → Contains (old k) i ⊎ ((i ≡ place) × (k ≡ key))
-  pushed_only k i true e h = elim (Contains-append_cases (old key) (place ∷ []) i h) [
-    | inl was ↦ inl (subst (λ (j : Key). Contains (old j) i) (sym (here true k e refl)) was)
-    | inr last ↦ inr (only place i last, here true k e refl)
-  ]
-  pushed_only k i false e h = inl h
-
-  pushed_keeps : (k : Key) (i : ℕ) (b : Bool) → eq-value.it key k ≡ b → Contains (old k) i → Contains (grown b k) i
-  pushed_keeps k i true e h = Contains-append_left (old key) (place ∷ []) i (subst (λ (j : Key). Contains (old j) i) (here true k e refl) h)
-  pushed_keeps k i false e h = h
-
-  pushed_rises : ((x : ℕ) → slice_get (old key) (length (old key) - 1) ≡ Some x → x ≡ place → ⊥) → (k : Key) (b : Bool) → eq-value.it key k ≡ b → RisesTo place (old k) → RisesTo place (grown b k)
-  pushed_rises apart k true e r = rises_push place (old key) apart (subst (λ (j : Key). RisesTo place (old j)) (here true k e refl) r)
-  pushed_rises apart k false e r = r
-
-  pub adds_push : ((x : ℕ) → slice_get (old key) (length (old key) - 1) ≡ Some x → x ≡ place → ⊥) → AddsAt key place old new
-  adds_push apart = record {
-    only = λ k i h. pushed_only k i (eq-value.it key k) refl (subst (λ (xs : List ℕ). Contains xs i) (is k) h);
-    keeps = λ k i h. subst (λ (xs : List ℕ). Contains xs i) (sym (is k)) (pushed_keeps k i (eq-value.it key k) refl h);
-    rises = λ k r. subst (λ (xs : List ℕ). RisesTo place xs) (sym (is k)) (pushed_rises apart k (eq-value.it key k) refl r);
+-- one list gains the place, and all others stay
+module _ {K : Type 0} (key : K) (place : ℕ) (old new : K → List ℕ) (to : AddsTo place (old key) (new key)) (same : (k : K) → (new k ≡ old k) ⊎ (k ≡ key)) where
+  adds_in : AddsAt key place old new
+  adds_in = record {
+    only = λ k i h. elim (same k) [
+      | inl e ↦ inl (subst (λ (xs : List ℕ). Contains xs i) e h)
+      | inr e ↦ elim (to.only i (subst (λ (j : K). Contains (new j) i) e h)) [
+        | inl was ↦ inl (subst (λ (j : K). Contains (old j) i) (sym e) was)
+        | inr last ↦ inr (last, e)
+      ]
+    ];
+    keeps = λ k i h. elim (same k) [
+      | inl e ↦ subst (λ (xs : List ℕ). Contains xs i) (sym e) h
+      | inr e ↦ subst (λ (j : K). Contains (new j) i) (sym e) (to.keeps i (subst (λ (j : K). Contains (old j) i) e h))
+    ];
+    rises = λ k r. elim (same k) [
+      | inl e ↦ subst (λ (xs : List ℕ). RisesTo place xs) (sym e) r
+      | inr e ↦ subst (λ (j : K). RisesTo place (new j)) (sym e) (to.rises (subst (λ (j : K). RisesTo place (old j)) e r))
+    ];
   }
 
-  pub pushed_there : Contains (new key) place
-  pushed_there = subst (λ (xs : List ℕ). Contains xs place) (sym (is key ∙ ap (λ b. grown b key) (key_own key))) (Contains-push (old key) place)
+adds_between : (place : ℕ) (a b c d : List ℕ) → a ≡ b → c ≡ d → AddsTo place a c → AddsTo place b d
+adds_between place a b c d e f to = subst (λ (xs : List ℕ). AddsTo place b xs) f (subst (λ (xs : List ℕ). AddsTo place xs c) e to)
 
--- a map in which the key has this list now
-written : (test : Bool) (w : SmallVec ℕ) (was now : Option (SmallVec ℕ)) → now ≡ cond test (Some w) was
-    → option_map_or (λ (v : SmallVec ℕ). v.items) now [] ≡ cond test w.items (option_map_or (λ (v : SmallVec ℕ). v.items) was [])
-written true w was now e = ap (λ (o : Option (SmallVec ℕ)). option_map_or (λ (v : SmallVec ℕ). v.items) o []) e
-written false w was now e = ap (λ (o : Option (SmallVec ℕ)). option_map_or (λ (v : SmallVec ℕ). v.items) o []) e
+-- the list of a point is written
+row_written : (rows : List (SmallVec ℕ)) (n : ℕ) (w : SmallVec ℕ) → n < length rows → row_at (set rows n w) n ≡ w.items
+row_written [] n w lt = absurd (omega arith)
+row_written (r ∷ rows) zero w lt = refl
+row_written (r ∷ rows) (suc n) w lt = row_written rows n w (omega arith)
 
-module _ {S : Type 0} (old new : IndexMap Key (SmallVec ℕ) S) (key : Key) where
-  pub list_had : (v : SmallVec ℕ) → Some v ≡ get eq-value.it old key → list_at old key ≡ v.items
-  list_had v e = ap (λ (o : Option (SmallVec ℕ)). option_map_or (λ (w : SmallVec ℕ). w.items) o []) (sym e)
+row_other : (rows : List (SmallVec ℕ)) (n k : ℕ) (w : SmallVec ℕ) → (k ≡ n → ⊥) → row_at (set rows n w) k ≡ row_at rows k
+row_other [] n k w apart = refl
+row_other (r ∷ rows) zero zero w apart = absurd (apart refl)
+row_other (r ∷ rows) zero (suc k) w apart = refl
+row_other (r ∷ rows) (suc n) zero w apart = refl
+row_other (r ∷ rows) (suc n) (suc k) w apart = row_other rows n k w (λ e. apart (ap suc e))
 
-  pub list_lacked : None ≡ get eq-value.it old key → list_at old key ≡ []
-  list_lacked e = ap (λ (o : Option (SmallVec ℕ)). option_map_or (λ (w : SmallVec ℕ). w.items) o []) (sym e)
+module _ (old mid : List (SmallVec ℕ)) (point place : ℕ) (v w : SmallVec ℕ) (same : (p : ℕ) → row_at mid p ≡ row_at old p) (lt : point < length mid) (is : v ≡ get_or mid point v) where
+  pub point_added : AddsTo place v.items w.items → AddsAt point place (row_at old) (row_at (set mid point w))
+  point_added to = adds_in point place (row_at old) (row_at (set mid point w))
+      (adds_between place v.items (row_at old point) w.items (row_at (set mid point w) point) (sym had ∙ same point) (sym (row_written mid point w lt)) to)
+      (λ p. by p (nat_eq p point) refl)
+    where
+      had : row_at mid point ≡ v.items
+      had = ap (λ (o : Option (SmallVec ℕ)). option_map_or (λ (x : SmallVec ℕ). x.items) o []) (slice_get-read mid point v lt (sym is))
 
-  pub lists_unchanged : new.entries ≡ old.entries → (k : Key) → list_at new k ≡ list_at old k
-  lists_unchanged e k = ap (λ es. option_map_or (λ (w : SmallVec ℕ). w.items) (lookup (eq-value.it k) es) []) e
+      by : (p : ℕ) (b : Bool) → nat_eq p point ≡ b → (row_at (set mid point w) p ≡ row_at old p) ⊎ (p ≡ point)
+      by p true e = inr (eqb-true p point e)
+      by p false e = inl (row_other mid point p w (λ f. let yes = eq-eqb p point f in absurd (cc)) ∙ same p)
 
-  module _ (w : SmallVec ℕ) (updates : (k : Key) → get eq-value.it new k ≡ cond (eq-value.it key k) (Some w) (get eq-value.it old k)) where
-    pub lists_grow : (place : ℕ) → w.items ≡ list_at old key ++ place ∷ [] → (k : Key) → list_at new k ≡ cond (eq-value.it key k) (list_at old key ++ place ∷ []) (list_at old k)
-    lists_grow place is k = written (eq-value.it key k) w (get eq-value.it old k) (get eq-value.it new k) (updates k) ∙ ap (λ (xs : List ℕ). cond (eq-value.it key k) xs (list_at old k)) is
+  pub point_written : w.items ≡ row_at (set mid point w) point
+  point_written = sym (row_written mid point w lt)
 
-    same_list : (b : Bool) (k : Key) → eq-value.it key k ≡ b → cond b (list_at old key) (list_at old k) ≡ list_at old k
-    same_list true k e = ap (list_at old) ((key_same key k).0 e)
-    same_list false k e = refl
+-- what a key has, or an empty list
+pub had_items : (o : Option (SmallVec ℕ)) (v : SmallVec ℕ) → v.items ≡ [] → (unwrap_or o v).items ≡ option_map_or (λ (x : SmallVec ℕ). x.items) o []
+had_items None v none = none
+had_items (Some x) v none = refl
 
-    pub lists_stay : w.items ≡ list_at old key → (k : Key) → list_at new k ≡ list_at old k
-    lists_stay is k =
-        written (eq-value.it key k) w (get eq-value.it old k) (get eq-value.it new k) (updates k)
-        ∙ (ap (λ (xs : List ℕ). cond (eq-value.it key k) xs (list_at old k)) is ∙ same_list (eq-value.it key k) k refl)
+-- the list of a key is written
+module _ {S : Type 0} (old : IndexMap Key (SmallVec ℕ) S) (new : List (Key × SmallVec ℕ)) (key : Key) (place : ℕ) (v w : SmallVec ℕ) (had : v.items ≡ keyed_at old key)
+    (updates : (k : Key) → lookup (eq-value.it k) new ≡ cond (eq-value.it key k) (Some w) (get eq-value.it old k)) where
+  abbrev items : Option (SmallVec ℕ) → List ℕ
+  items o = option_map_or (λ (x : SmallVec ℕ). x.items) o []
+
+  abbrev now_at : Key → List ℕ
+  now_at k = items (lookup (eq-value.it k) new)
+
+  pub key_written : w.items ≡ now_at key
+  key_written = sym (ap items (updates key ∙ ap (λ b. cond b (Some w) (get eq-value.it old key)) ((key_same key key).1 refl)))
+
+  pub key_added : AddsTo place v.items w.items → AddsAt key place (keyed_at old) now_at
+  key_added to = adds_in key place (keyed_at old) now_at
+      (adds_between place v.items (keyed_at old key) w.items (now_at key) had key_written to)
+      (λ k. by k (eq-value.it key k) refl)
+    where
+      by : (k : Key) (b : Bool) → eq-value.it key k ≡ b → (now_at k ≡ keyed_at old k) ⊎ (k ≡ key)
+      by k true e = inr (sym ((key_same key k).0 e))
+      by k false e = inl (ap items (updates k ∙ ap (λ b. cond b (Some w) (get eq-value.it old k)) e))
+
+-- all lists, of which those of points or the table gain the place
+module _ (old new : Lists) (place : ℕ) where
+  pub at_adds : (point : ℕ) → new.keyed ≡ old.keyed → AddsAt point place (row_at old.at.items) (row_at new.at.items) → AddsAt (At point) place (list_at old) (list_at new)
+  at_adds point same f = record { only = only; keeps = keeps; rises = rises }
+    where
+      stays : (k : Key) → keyed_at new.keyed k ≡ keyed_at old.keyed k
+      stays k = ap (λ m. keyed_at m k) same
+
+      only : (k : Key) (i : ℕ) → Contains (list_at new k) i → Contains (list_at old k) i ⊎ ((i ≡ place) × (k ≡ At point))
+      only (At p) i h = elim (f.only p i h) [ inl was ↦ inl was | inr last ↦ inr (last.0, ap At last.1) ]
+      only (Typed p t) i h = inl (subst (λ (xs : List ℕ). Contains xs i) (stays (Typed p t)) h)
+      only (Asking p j t) i h = inl (subst (λ (xs : List ℕ). Contains xs i) (stays (Asking p j t)) h)
+      only (Taking p j t) i h = inl (subst (λ (xs : List ℕ). Contains xs i) (stays (Taking p j t)) h)
+
+      keeps : (k : Key) (i : ℕ) → Contains (list_at old k) i → Contains (list_at new k) i
+      keeps (At p) i h = f.keeps p i h
+      keeps (Typed p t) i h = subst (λ (xs : List ℕ). Contains xs i) (sym (stays (Typed p t))) h
+      keeps (Asking p j t) i h = subst (λ (xs : List ℕ). Contains xs i) (sym (stays (Asking p j t))) h
+      keeps (Taking p j t) i h = subst (λ (xs : List ℕ). Contains xs i) (sym (stays (Taking p j t))) h
+
+      rises : (k : Key) → RisesTo place (list_at old k) → RisesTo place (list_at new k)
+      rises (At p) r = f.rises p r
+      rises (Typed p t) r = subst (λ (xs : List ℕ). RisesTo place xs) (sym (stays (Typed p t))) r
+      rises (Asking p j t) r = subst (λ (xs : List ℕ). RisesTo place xs) (sym (stays (Asking p j t))) r
+      rises (Taking p j t) r = subst (λ (xs : List ℕ). RisesTo place xs) (sym (stays (Taking p j t))) r
+
+  pub keyed_adds : (key : Key) → new.at.items ≡ old.at.items → AddsAt key place (keyed_at old.keyed) (keyed_at new.keyed) → AddsAt key place (list_at old) (list_at new)
+  keyed_adds key same f = record { only = only; keeps = keeps; rises = rises }
+    where
+      stays : (p : ℕ) → row_at new.at.items p ≡ row_at old.at.items p
+      stays p = ap (λ rows. row_at rows p) same
+
+      only : (k : Key) (i : ℕ) → Contains (list_at new k) i → Contains (list_at old k) i ⊎ ((i ≡ place) × (k ≡ key))
+      only (At p) i h = inl (subst (λ (xs : List ℕ). Contains xs i) (stays p) h)
+      only (Typed p t) i h = f.only (Typed p t) i h
+      only (Asking p j t) i h = f.only (Asking p j t) i h
+      only (Taking p j t) i h = f.only (Taking p j t) i h
+
+      keeps : (k : Key) (i : ℕ) → Contains (list_at old k) i → Contains (list_at new k) i
+      keeps (At p) i h = subst (λ (xs : List ℕ). Contains xs i) (sym (stays p)) h
+      keeps (Typed p t) i h = f.keeps (Typed p t) i h
+      keeps (Asking p j t) i h = f.keeps (Asking p j t) i h
+      keeps (Taking p j t) i h = f.keeps (Taking p j t) i h
+
+      rises : (k : Key) → RisesTo place (list_at old k) → RisesTo place (list_at new k)
+      rises (At p) r = subst (λ (xs : List ℕ). RisesTo place xs) (sym (stays p)) r
+      rises (Typed p t) r = f.rises (Typed p t) r
+      rises (Asking p j t) r = f.rises (Asking p j t) r
+      rises (Taking p j t) r = f.rises (Taking p j t) r
+
+-- the list of a key that is not a point's stands in the table
+pub in_table : (lists : Lists) (key : Key) → ((p : ℕ) → key ≡ At p → ⊥) → keyed_at lists.keyed key ≡ list_at lists key
+in_table lists (At p) apart = absurd (apart p refl)
+in_table lists (Typed p t) apart = refl
+in_table lists (Asking p j t) apart = refl
+in_table lists (Taking p j t) apart = refl
+
+-- no list has a place
+pub nothing_listed : (lists : Lists) → lists.at.items ≡ [] → lists.keyed.entries ≡ [] → (k : Key) → list_at lists k ≡ []
+nothing_listed lists at keyed (At p) = ap (λ rows. row_at rows p) at
+nothing_listed lists at keyed (Typed p t) = ap (λ es. option_map_or (λ (x : SmallVec ℕ). x.items) (lookup (eq-value.it (Typed p t)) es) []) keyed
+nothing_listed lists at keyed (Asking p j t) = ap (λ es. option_map_or (λ (x : SmallVec ℕ). x.items) (lookup (eq-value.it (Asking p j t)) es) []) keyed
+nothing_listed lists at keyed (Taking p j t) = ap (λ es. option_map_or (λ (x : SmallVec ℕ). x.items) (lookup (eq-value.it (Taking p j t)) es) []) keyed

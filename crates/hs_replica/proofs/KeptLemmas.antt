@@ -19,7 +19,7 @@ use Rattle.hs_replica.specs.declared.key.Key.{Key}
 use Rattle.hs_replica.specs.declared.key.Key.TheVariants.{At, Typed, Asking, Taking}
 use Rattle.hs_replica.specs.Places.{Question, here, typed, asks, takes, Meets, Answers, ArePlaces}
 use Rattle.hs_replica.specs.Replica.{ReplicaData, IsReplica, KeepsLog}
-use Rattle.hs_replica.specs.Index.{log_of, question, IsKey, IsIndex, IsKept}
+use Rattle.hs_replica.specs.Index.{log_of, question, IsKey, RisesTo, IsIndex, IsKept}
 use Rattle.hs_replica.proofs.RowLemmas.{same_key}
 
 row_true : (a b : RowData) → eq-value.it a b ≡ true → a ≡ b
@@ -192,3 +192,34 @@ on_err (Err e) p = p
 
 pub at_ok : {T E : Type 0} (r : Result T E) (x : T) (P : T → Type 0) → r ≡ Ok x → IfOk r P → P x
 at_ok {T} {E} r x P is h = subst (λ (s : Result T E). IfOk s P) is h
+
+-- nothing is kept yet
+pub kept_none : (ids : InternerData) (room : ℕ) (list : Key → List ℕ) → ((k : Key) → list k ≡ []) → IsKept ids [] room 0 0 list
+kept_none ids room list none = record {
+  known = λ k d lt. absurd (omega arith);
+  distinct = λ i j d lt less. absurd (omega arith);
+  short = omega arith;
+  fits = omega arith;
+  within = omega arith;
+  index = record {
+    known = λ k i h. absurd (not_in k i h);
+    sound = λ k i h. absurd (not_in k i h);
+    complete = λ i q lt a. absurd (omega arith);
+    rises = λ k. subst (λ (xs : List ℕ). RisesTo 0 xs) (sym (none k)) (record { ascending = λ k lt. absurd (omega arith); below = λ k d lt. absurd (omega arith) });
+  };
+}
+  where
+    not_in : (k : Key) (i : ℕ) → Contains (list k) i → ⊥
+    not_in k i h = let g = subst (λ (xs : List ℕ). Contains xs i) (none k) h in absurd (omega (arith, g.1))
+
+-- more places are listed
+pub kept_index : (ids : InternerData) (rows : List RowData) (room reserved indexed more : ℕ) (list new : Key → List ℕ) → IsKept ids rows room reserved indexed list
+    → more ≤ length rows → IsIndex ids (log_of ids rows) more new → IsKept ids rows room reserved more new
+kept_index ids rows room reserved indexed more list new was within index =
+    record { known = was.known; distinct = was.distinct; short = was.short; fits = was.fits; within = within; index = index }
+
+-- more rows have room
+pub kept_reserved : (ids : InternerData) (rows : List RowData) (room later reserved more indexed : ℕ) (list : Key → List ℕ) → IsKept ids rows room reserved indexed list → more ≤ later
+    → IsKept ids rows later more indexed list
+kept_reserved ids rows room later reserved more indexed list was fits =
+    record { known = was.known; distinct = was.distinct; short = was.short; fits = fits; within = was.within; index = was.index }

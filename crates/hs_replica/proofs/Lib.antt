@@ -1,3 +1,4 @@
+pub mod PushLemmas
 pub mod GainLemmas
 pub mod SetLemmas
 pub mod EnvLemmas

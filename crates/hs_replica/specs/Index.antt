@@ -1,5 +1,5 @@
 -- How places are kept by what they answer.
---     list_at lists k       the list of this key
+--     list_at lists k       the list of this key, by `row_at` or `keyed_at`
 --     question ids k        what the key asks for
 --     IsIndex               the lists have just the places that answer what their keys ask for, of the first n
 --     Gains, HasAll         lists that gain a place
@@ -11,6 +11,7 @@ use Rattle.smallvec.specs.SmallVec.{SmallVec}
 use Rattle.hs_table.specs.Types.{TypeTree}
 use Rattle.hs_table.specs.Entries.{Env, EntryData, Has}
 use Rattle.hs_types.specs.Interned.{InternerData, RowData, type_of_id, env_of_id, entry_of, IsRow}
+use Rattle.hs_replica.specs.declared.lists.Lists.{Lists}
 use Rattle.hs_replica.specs.declared.key.Key.{Key}
 use Rattle.hs_replica.specs.declared.key.Key.TheVariants.{At, Typed, Asking, Taking}
 use Rattle.hs_replica.specs.contracts.key.KeyPartialEq.TheImpl.{eq-value}
@@ -20,9 +21,19 @@ use Rattle.hs_replica.specs.Places.{Question, here, typed, asks, takes, IsState,
 abbrev pub log_of : InternerData → List RowData → List EntryData
 log_of ids rows = map (entry_of ids) rows
 
--- the list of this key, empty where there is none
-abbrev pub list_at : {S : Type 0} → IndexMap Key (SmallVec ℕ) S → Key → List ℕ
-list_at lists k = option_map_or (λ (v : SmallVec ℕ). v.items) (get eq-value.it lists k) []
+-- the list of this number, and the list of this key in a table, empty where there is none
+abbrev pub row_at : List (SmallVec ℕ) → ℕ → List ℕ
+row_at rows p = option_map_or (λ (v : SmallVec ℕ). v.items) (slice_get rows p) []
+
+abbrev pub keyed_at : {S : Type 0} → IndexMap Key (SmallVec ℕ) S → Key → List ℕ
+keyed_at keyed k = option_map_or (λ (v : SmallVec ℕ). v.items) (get eq-value.it keyed k) []
+
+-- the list of this key
+abbrev pub list_at : Lists → Key → List ℕ
+list_at lists (At p) = row_at lists.at.items p
+list_at lists (Typed p t) = keyed_at lists.keyed (Typed p t)
+list_at lists (Asking p j t) = keyed_at lists.keyed (Asking p j t)
+list_at lists (Taking p j t) = keyed_at lists.keyed (Taking p j t)
 
 abbrev pub question : InternerData → Key → Question
 question ids (At p) = here p
@@ -56,11 +67,17 @@ pub record IsIndex (ids : InternerData) (log : List EntryData) (n : ℕ) (list :
   pub complete : (i : ℕ) (q : Question) → i < n → Answers log i q → IsListed ids list i q
   pub rises : (k : Key) → RisesTo n (list k)
 
+-- the list gains nothing but the place
+pub record AddsTo (place : ℕ) (old new : List ℕ) : Type 0 where
+  pub only : (i : ℕ) → Contains new i → Contains old i ⊎ (i ≡ place)
+  pub keeps : (i : ℕ) → Contains old i → Contains new i
+  pub rises : RisesTo place old → RisesTo place new
+
 -- the list of this key gains nothing but the place, and the others stay
-pub record AddsAt (key : Key) (place : ℕ) (old new : Key → List ℕ) : Type 0 where
-  pub only : (k : Key) (i : ℕ) → Contains (new k) i → Contains (old k) i ⊎ ((i ≡ place) × (k ≡ key))
-  pub keeps : (k : Key) (i : ℕ) → Contains (old k) i → Contains (new k) i
-  pub rises : (k : Key) → RisesTo place (old k) → RisesTo place (new k)
+pub record AddsAt {K : Type 0} (key : K) (place : ℕ) (old new : K → List ℕ) : Type 0 where
+  pub only : (k : K) (i : ℕ) → Contains (new k) i → Contains (old k) i ⊎ ((i ≡ place) × (k ≡ key))
+  pub keeps : (k : K) (i : ℕ) → Contains (old k) i → Contains (new k) i
+  pub rises : (k : K) → RisesTo place (old k) → RisesTo place (new k)
 
 -- the lists gain nothing but the place, under keys that ask for what P holds of
 pub record Gains (ids : InternerData) (P : Question → Type 0) (place : ℕ) (old new : Key → List ℕ) : Type 0 where
@@ -90,11 +107,15 @@ abbrev pub TakesBy : ℕ → TypeTree → Question → Type 0
 TakesBy point ty (takes p j a) = (p ≡ point) × Takes ty j a
 TakesBy point ty q = ⊥
 
+-- the list of the row's point and type begins with the place
+abbrev pub BeginsTyped : RowData → ℕ → (Key → List ℕ) → Type 0
+BeginsTyped row place list = slice_get (list (Typed row.point row.ty)) 0 ≡ Some place
+
 -- what the row's environment asks for, where its type is a state, and what its type takes, where the list of its point and type begins
 -- with the place
 abbrev pub PlaysRole : InternerData → RowData → (Key → List ℕ) → ℕ → Question → Type 0
 PlaysRole ids row list place (asks p j a) = IsState (type_of_id ids row.ty) × AsksIn row.point (env_of_id ids row.env) (asks p j a)
-PlaysRole ids row list place (takes p j a) = (slice_get (list (Typed row.point row.ty)) 0 ≡ Some place) × TakesBy row.point (type_of_id ids row.ty) (takes p j a)
+PlaysRole ids row list place (takes p j a) = BeginsTyped row place list × TakesBy row.point (type_of_id ids row.ty) (takes p j a)
 PlaysRole ids row list place q = ⊥
 
 -- what a replica keeps: room for so many rows, and the lists of the first of them

@@ -2,10 +2,10 @@
 
 ghost use Rattle.std.specs.Prelude.{◌≡◌, ◌+◌, ◌^◌, ◌<◌, ◌≤◌, ◌↔◌, All, IfOk, OnOk, Some, IsTrue, length, slice_get};
 ghost use Rattle.hs_types.specs.Interned.{type_of_id, set_of_id, env_of_id, IsRow};
-ghost use Rattle.hs_replica.specs.Index.{list_at, log_of, IsIndex, Gains, HasAll, AsksAt, AsksIn, TakesAt, TakesBy, PlaysRole};
+ghost use Rattle.hs_replica.specs.Index.{list_at, log_of, IsIndex, Gains, HasAll, AsksAt, AsksIn, TakesAt, TakesBy, BeginsTyped, PlaysRole};
 
 use crate::key::Key;
-use crate::lists::{Lists, add_once, list_of};
+use crate::lists::{Lists, add_once};
 use hs_scheme::OutOfMemory;
 use hs_types::{EnvId, Interner, Row, SetId, TyId, View};
 
@@ -110,16 +110,6 @@ fn add_taking(
     Ok(())
 }
 
-/// Whether the place is the first of the list.
-fn begins_with(list: &[u32], place: u32) -> bool
-    ensures { IsTrue result ↔ (slice_get list.now 0 ≡ Some place) }
-{
-    match list.first() {
-        Some(first) => *first == place,
-        None => false,
-    }
-}
-
 /// Lists the place, which is listed by its point and its type, under what its environment asks for,
 /// or under what its type takes, where no entry before it has its point and its type.
 fn add_roles(
@@ -127,8 +117,10 @@ fn add_roles(
     interner: &Interner,
     row: Row,
     place: u32,
+    first: bool,
 ) -> Result<(), OutOfMemory>
-    requires { IsRow interner.now row }
+    requires row { IsRow interner.now row }
+    requires first { IsTrue first ↔ BeginsTyped row place (list_at lists.old) }
     ensures gains { Gains interner.now (PlaysRole interner.now row (list_at lists.old) place) place
         (list_at lists.old) (list_at lists.new) }
     ensures all { OnOk result (HasAll interner.now
@@ -137,7 +129,7 @@ fn add_roles(
     if let View::State(_) = interner.view(row.ty) {
         return add_asking(lists, interner, row.point, row.env, place);
     }
-    if begins_with(list_of(lists, Key::Typed(row.point, row.ty)), place) {
+    if first {
         return add_taking(lists, interner, row.point, row.ty, place);
     }
     Ok(())
@@ -161,8 +153,8 @@ pub(crate) fn add_place(
     interner.numbers_are_exact();
     let row = rows[place as usize];
     add_once(lists, Key::At(row.point), place)?;
-    add_once(lists, Key::Typed(row.point, row.ty), place)?;
-    add_roles(lists, interner, row, place)
+    let first = add_once(lists, Key::Typed(row.point, row.ty), place)?;
+    add_roles(lists, interner, row, place, first)
 }
 
 /// Lists the places from `indexed` on. After a refusal of memory `indexed` says how many are listed.

@@ -13,7 +13,7 @@ use crate::key::Key;
 use crate::lists::{Lists, below, list_of};
 use hs_scheme::OutOfMemory;
 use hs_types::{ImportedNumbers, Interner, Row};
-use indexmap::{IndexMap, IndexSet};
+use indexmap::IndexSet;
 use std::alloc::Global;
 use std::marker::Model;
 
@@ -68,7 +68,7 @@ impl Replica {
         Replica {
             interner: Interner::new(alloc),
             rows: IndexSet::new(alloc),
-            lists: IndexMap::new(alloc),
+            lists: Lists::new(alloc),
             reserved: 0,
             indexed: 0,
         }
@@ -220,8 +220,9 @@ impl Replica {
     ///
     /// An entry is listed by its point and by its point and type. If its type is a state, it is
     /// listed by each type in its environment, too; if it is an arrow and no entry before it has its
-    /// point and type, by each type in the sets of its type. A place in a list costs 4 bytes, and a
-    /// list with its first four places about 64. Time is in proportion to the places, on average.
+    /// point and type, by each type in the sets of its type. A place in a list costs 4 bytes beyond
+    /// the first four, and a list with these about 64; that of a point 32, which each point below
+    /// takes, too. Time is in proportion to the places, and to the points that are new, on average.
     pub fn index(&mut self) -> Result<(), OutOfMemory>
         ensures ok { OnOk result (self.new.indexed ≡ length self.new.log) }
         ensures kept { self.new ≡ record self.old { indexed = self.new.indexed } }

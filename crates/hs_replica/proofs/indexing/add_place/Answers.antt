@@ -14,8 +14,8 @@ returns-in_err-add_once-clause-index c =
     index_kept ids (log_of ids rows) c.args.place (entry_of ids row) at (list_at c.args.lists.now) (list_at c.add_once.new.lists) c.requires.index
     (here_gains ids c.numbers_are_exact.ensures (log_of ids rows) c.args.place row at known (list_at c.args.lists.now) c.requires.index (list_at c.add_once.new.lists) c.in_err-add_once.ensures.adds)
 
-pub returns-in_err-add_once-2-clause-index : goal.returns-in_err-add_once-2-clause-index
-returns-in_err-add_once-2-clause-index c =
+pub returns-in_err-first-clause-index : goal.returns-in_err-first-clause-index
+returns-in_err-first-clause-index c =
     let ids = c.args.interner.now in
     let rows = c.args.rows.now in
     let row = c.index-rows-place.result in
@@ -23,7 +23,7 @@ returns-in_err-add_once-2-clause-index c =
     let known = (row_known ids rows c.args.place row c.requires.place c.index-rows-place.is c.requires.rows).1 in
     index_kept ids (log_of ids rows) c.args.place (entry_of ids row) at (list_at c.args.lists.now) (list_at c.add_once-2.new.lists) c.requires.index
     (typed_gains ids c.numbers_are_exact.ensures (log_of ids rows) c.args.place row at known (list_at c.args.lists.now) c.requires.index (list_at c.add_once.new.lists) c.in_ok-add_once.ensures.adds
-    (list_at c.add_once-2.new.lists) c.in_err-add_once-2.ensures.adds)
+    (list_at c.add_once-2.new.lists) c.in_err-first.ensures.adds)
 
 pub returns-clause-index : goal.returns-clause-index
 returns-clause-index c =
@@ -34,7 +34,7 @@ returns-clause-index c =
     let known = (row_known ids rows c.args.place row c.requires.place c.index-rows-place.is c.requires.rows).1 in
     index_kept ids (log_of ids rows) c.args.place (entry_of ids row) at (list_at c.args.lists.now) (list_at c.add_roles.new.lists) c.requires.index
     (role_gains ids c.numbers_are_exact.ensures (log_of ids rows) c.args.place row at known (list_at c.args.lists.now) c.requires.index (list_at c.add_once.new.lists) c.in_ok-add_once.ensures.adds
-    c.in_ok-add_once.ensures.there (list_at c.add_once-2.new.lists) c.in_ok-add_once-2.ensures.adds c.in_ok-add_once-2.ensures.there (list_at c.add_roles.new.lists) c.add_roles.ensures.gains)
+    c.in_ok-add_once.ensures.there (list_at c.add_once-2.new.lists) c.in_ok-first.ensures.adds c.in_ok-first.ensures.there (list_at c.add_roles.new.lists) c.add_roles.ensures.gains)
 
 pub returns-clause-ok : goal.returns-clause-ok
 returns-clause-ok c =
@@ -46,7 +46,7 @@ returns-clause-ok c =
     on_ok_weaker c.add_roles.result
     (λ all. index_more ids (log_of ids rows) c.args.place (entry_of ids row) at (list_at c.args.lists.now) (list_at c.add_roles.new.lists) c.requires.index
     (role_gains ids c.numbers_are_exact.ensures (log_of ids rows) c.args.place row at known (list_at c.args.lists.now) c.requires.index (list_at c.add_once.new.lists) c.in_ok-add_once.ensures.adds
-    c.in_ok-add_once.ensures.there (list_at c.add_once-2.new.lists) c.in_ok-add_once-2.ensures.adds c.in_ok-add_once-2.ensures.there (list_at c.add_roles.new.lists) c.add_roles.ensures.gains)
+    c.in_ok-add_once.ensures.there (list_at c.add_once-2.new.lists) c.in_ok-first.ensures.adds c.in_ok-first.ensures.there (list_at c.add_roles.new.lists) c.add_roles.ensures.gains)
     (role_all ids c.numbers_are_exact.ensures (log_of ids rows) c.args.place row at known (list_at c.args.lists.now) c.requires.index (list_at c.add_once.new.lists) c.in_ok-add_once.ensures.adds
-    c.in_ok-add_once.ensures.there (list_at c.add_once-2.new.lists) c.in_ok-add_once-2.ensures.adds c.in_ok-add_once-2.ensures.there (list_at c.add_roles.new.lists) c.add_roles.ensures.gains all))
+    c.in_ok-add_once.ensures.there (list_at c.add_once-2.new.lists) c.in_ok-first.ensures.adds c.in_ok-first.ensures.there (list_at c.add_roles.new.lists) c.add_roles.ensures.gains all))
     c.add_roles.ensures.all

@@ -1,4 +1,4 @@
-use Rattle.std.proofs.Common.{◌≡◌, sym, ◌∙◌, subst, ℕ, List, slice_get, Some, true≢false}
+use Rattle.std.proofs.Common.{sym, ◌∙◌, true≢false}
 use Rattle.std.proofs.lemmas.Result.{on_ok_weaker}
 use Rattle.hs_types.specs.Interned.{type_of_id, set_of_id}
 use Rattle.hs_replica.specs.Index.{list_at}
@@ -15,14 +15,14 @@ pub returns-in-State-clause-all : goal.returns-in-State-clause-all
 returns-in-State-clause-all c =
     on_ok_weaker c.add_asking.result (state_all c.args.interner.now c.args.row (list_at c.args.lists.now) c.args.place c.in-State.field-0 c.in-State.ensures (list_at c.add_asking.new.lists)) c.add_asking.ensures.all
 
-pub returns-then-begins_with-clause-gains : goal.returns-then-begins_with-clause-gains
-returns-then-begins_with-clause-gains c =
+pub returns-then-first-clause-gains : goal.returns-then-first-clause-gains
+returns-then-first-clause-gains c =
     arrow_gains c.args.interner.now c.args.row (list_at c.args.lists.now) c.args.place
-    (subst (λ (xs : List ℕ). slice_get xs 0 ≡ Some c.args.place) c.list_of.ensures (c.begins_with.ensures.0 c.if-begins_with.true))
+    (c.requires.first.0 c.if-first.true)
     (list_at c.args.lists.now) (list_at c.add_taking.new.lists) c.add_taking.ensures.gains
 
-pub returns-then-begins_with-clause-all : goal.returns-then-begins_with-clause-all
-returns-then-begins_with-clause-all c =
+pub returns-then-first-clause-all : goal.returns-then-first-clause-all
+returns-then-first-clause-all c =
     let ids = c.args.interner.now in
     on_ok_weaker c.add_taking.result
     (arrow_all ids c.args.row (list_at c.args.lists.now) c.args.place (set_of_id ids c.in_default.field-0) (type_of_id ids c.in_default.field-1) c.in_default.ensures.2 (list_at c.add_taking.new.lists)) c.add_taking.ensures.all
@@ -34,4 +34,4 @@ pub returns-clause-all : goal.returns-clause-all
 returns-clause-all c =
     let ids = c.args.interner.now in
     later_all ids c.args.row (list_at c.args.lists.now) c.args.place (set_of_id ids c.in_default.field-0) (type_of_id ids c.in_default.field-1) c.in_default.ensures.2 (list_at c.args.lists.now)
-    (λ h. true≢false (sym (c.begins_with.ensures.1 (subst (λ (xs : List ℕ). slice_get xs 0 ≡ Some c.args.place) (sym c.list_of.ensures) h)) ∙ c.if-begins_with.false))
+    (λ h. true≢false (sym (c.requires.first.1 h) ∙ c.if-first.false))
