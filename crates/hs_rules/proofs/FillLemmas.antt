@@ -12,7 +12,8 @@ use Rattle.hs_types.specs.Interned.{InternerData, type_of_id, set_of_id}
 use Rattle.hs_replica.specs.Places.{typed, ArePlaces}
 use Rattle.hs_rules.specs.declared.search.Fixed.{Fixed}
 use Rattle.hs_rules.specs.Slots.{SlotData, slots_of, slots, FixedData, FilledData, Respects, IsCandidate, Picked, none_left, pick}
-use Rattle.hs_rules.specs.Filling.{entry_at, fixed_of, IsFilled, AreFilled, GainsFilled, LacksCandidate}
+use Rattle.hs_rules.specs.Filling.{entry_at, fixed_of, IsFilled, AreFilled, GainsFilled, LacksCandidate, LacksSlot}
+use Rattle.hs_rules.specs.Shut.{AreShut}
 use Rattle.hs_rules.proofs.Lists.{read_other}
 use Rattle.hs_rules.proofs.SlotLemmas.{into_slots}
 
@@ -155,12 +156,16 @@ slot_filled E fixed s c (pick {x = x} {xs = xs} {place = place} {e = e} h k) = e
   | inr there ↦ slot_filled E fixed s there k
 ]
 
-pub nothing_picked : (E : List EntryData) (fixed : Option FixedData) (us : List ℕ) (sets : Env) (j u : ℕ) → slice_get us j ≡ Some u → LacksCandidate E u (set_at sets j) → (args : List (ℕ × ℕ)) (es : List EntryData)
-    → Picked (λ x. x.arg) (IsCandidate E fixed) (slots 0 us sets) args es → ⊥
-nothing_picked E fixed us sets j u at lacks args es k =
+pub nothing_filled : (E : List EntryData) (fixed : Option FixedData) (us : List ℕ) (sets : Env) (j u : ℕ) → slice_get us j ≡ Some u → LacksSlot E fixed j u (set_at sets j) → AreShut E fixed (slots 0 us sets)
+nothing_filled E fixed us sets j u at lacks args es k =
     let s : SlotData = record { arg = 0 + j; point = u; ty = lacks.ty } in
+    let z : 0 + j ≡ j = omega arith in
     let f = slot_filled E fixed s (into_slots 0 us sets j u lacks.ty at lacks.among) k in
-    lacks.none f.0 f.1 f.2.at f.2.point f.2.ty
+    lacks.none f.0 f.1 (subst (λ (n : ℕ). IsCandidate E fixed (record { arg = n; point = u; ty = lacks.ty }) f.0 f.1) z f.2)
+
+pub nothing_picked : (E : List EntryData) (fixed : Option FixedData) (us : List ℕ) (sets : Env) (j u : ℕ) → slice_get us j ≡ Some u → LacksCandidate E u (set_at sets j) → AreShut E fixed (slots 0 us sets)
+nothing_picked E fixed us sets j u at lacks =
+    nothing_filled E fixed us sets j u at (record { ty = lacks.ty; among = lacks.among; none = λ place e c. lacks.none place e c.at c.point c.ty })
 
 pub set_of_place : (I : InternerData) (ids : List ℕ) (j : ℕ) → j < length ids → set_of_id I (get_or ids j 0) ≡ set_at (map (set_of_id I) ids) j
 set_of_place I [] j lt = absurd (omega arith)

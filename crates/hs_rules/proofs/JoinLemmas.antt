@@ -1,5 +1,5 @@
 -- Environments joined slot by slot.
-use Rattle.std.proofs.Common.{◌≡◌, refl, sym, ◌∙◌, ap, subst, ℕ, ◌<◌, ◌≤◌, Bool, true, false, List, [], ◌∷◌, ◌++◌, length, take, get_or, slice_get, Some, arith, ◌⊎◌, inl, inr, Contains}
+use Rattle.std.proofs.Common.{◌≡◌, refl, sym, ◌∙◌, ap, subst, ℕ, ◌<◌, ◌≤◌, Bool, true, false, List, [], ◌∷◌, ◌++◌, length, take, get_or, slice_get, slice_index_or, Some, arith, ◌⊎◌, inl, inr, Contains}
 use Rattle.std.specs.Bool.{OnTrue}
 use Rattle.std.specs.List.{list_any}
 use Rattle.std.proofs.lemmas.Map.Made.{is_member-Decides}
@@ -125,6 +125,40 @@ module _ (I K : InternerData) (log : List EntryData) (n : ℕ) (own : Env) (fs :
           join = subst (λ (es : List EntryData). IsJoin n own es (env_of_id K c.item.env)) (sym l.entries_are) (next_join (env_of_id I before.item.env) l.entry (env_of_id K c.item.env) l.entries c.union before.join);
         };
   }
+
+-- a list of one
+pub single : (xs : List ℕ) → length xs ≡ 1 → xs ≡ slice_index_or xs 0 0 ∷ []
+single [] e = absurd (omega (arith, e))
+single (x ∷ []) e = refl
+single (x ∷ y ∷ xs) e = absurd (omega (arith, e))
+
+-- one more slot with one candidate
+pub joined_more : (I K : InternerData) (log : List EntryData) (n : ℕ) (own : Env) (fs : List FilledData) (f : FilledData) (old new : PartialData) → AreJoined I log n own fs (old ∷ [])
+    → (place : ℕ) (entry : EntryData) → f.places ≡ place ∷ [] → slice_get log place ≡ Some entry → new.args ≡ old.args ++ (f.arg, place) ∷ [] → new.env < length K.envs → IsUnionEnv (env_of_id I old.env) entry.env (env_of_id K new.env)
+    → AreJoined K log n own (fs ++ f ∷ []) (new ∷ [])
+joined_more I K log n own fs f old new joined place entry is at args within union =
+    joined_next I K log n own fs f (old ∷ []) (new ∷ []) joined
+    (λ x there. subst (λ (y : PartialData). IsMadeOf I K log (old ∷ []) f y) (sym (only new x there)) (record {
+      from = old;
+      among = here old [];
+      made = record {
+        place = place;
+        entry = entry;
+        fills = record { among = subst (λ (ps : List ℕ). Contains ps place) (sym is) (here place []); at = at };
+        args = args;
+        within = within;
+        union = union;
+      };
+    }))
+    (λ from there k e fills.
+    let place_is = only place k (subst (λ (ps : List ℕ). Contains ps k) is fills.among) in
+    let same : entry ≡ e = some_same entry e (sym at ∙ (ap (λ (i : ℕ). slice_get log i) (sym place_is) ∙ fills.at)) in
+    subst (λ (y : PartialData). IsCovered I K y e (new ∷ [])) (sym (only old from there)) (record {
+      item = new;
+      there = here new [];
+      within = within;
+      union = subst (λ (x : EntryData). IsUnionEnv (env_of_id I old.env) x.env (env_of_id K new.env)) same union;
+    }))
 
 -- no slots
 pub joined_none : (I : InternerData) (log : List EntryData) (own : ℕ) (found : List PartialData) (x : PartialData) → own < length I.envs → IsEnv (length (env_of_id I own)) (env_of_id I own)

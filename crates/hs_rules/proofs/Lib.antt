@@ -15,4 +15,5 @@ pub mod RankLemmas
 pub mod SourceLemmas
 pub mod SeedLemmas
 pub mod ConcludeLemmas
+pub mod ShutLemmas
 pub mod PartLemmas

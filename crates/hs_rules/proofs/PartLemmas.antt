@@ -1,12 +1,11 @@
 -- Conclusions as they are gathered.
-use Rattle.std.proofs.Common.{◌≡◌, ◌≢◌, refl, sym, ◌∙◌, ap, subst, ℕ, zero, suc, ◌<◌, List, [], ◌∷◌, length, map, drop, get_or, slice_get, slice_index, Option, Some, arith, AllPairs, Contains, ◌⊎◌, inl, inr, ◌↔◌}
+use Rattle.std.proofs.Common.{◌≡◌, ◌≢◌, refl, sym, ◌∙◌, ap, subst, ℕ, zero, suc, ◌<◌, List, [], ◌∷◌, length, map, drop, get_or, slice_get, slice_index, Option, Some, arith, AllPairs, Contains, ◌⊎◌, inl, inr}
 use Rattle.std.proofs.lemmas.Option.{slice_get-get_or}
 use Rattle.std.proofs.lemmas.List.{length-map}
 use Rattle.std.proofs.lemmas.List.Elements.{Contains-append_cases}
 use Rattle.hs_scheme.specs.declared.term.Head.{Head}
 use Rattle.hs_scheme.specs.declared.term.Head.TheVariants.{Var, Nt, Tm}
-use Rattle.hs_scheme.specs.declared.points.Argument.{Argument}
-use Rattle.hs_scheme.specs.Points.{PointData, PointsData, IsArgument, NonterminalWithin, ParameterWithin, point_at, points_of}
+use Rattle.hs_scheme.specs.Points.{PointData, PointsData, NonterminalWithin, ParameterWithin, point_at, points_of}
 use Rattle.hs_scheme.specs.Problem.{ProblemData}
 use Rattle.hs_table.specs.declared.support.HeadBy.{HeadBy}
 use Rattle.hs_table.specs.declared.support.HeadBy.TheVariants.{Terminal, Rule, Param}

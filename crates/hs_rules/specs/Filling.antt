@@ -4,7 +4,8 @@
 --     IsFilled       the places are those of the slot's candidates
 --     AreFilled      so it is for slots, one by one
 --     GainsFilled    so it is for what was added
---     LacksCandidate   a slot of a set has no candidate
+--     LacksCandidate   for a type of a set the log has nothing at the point
+--     LacksSlot        the slot of a type of a set has no candidates
 use Rattle.std.specs.Prelude.{◌≡◌, ℕ, ◌^◌, ◌<◌, ◌≤◌, List, [], ◌∷◌, ◌++◌, length, slice_get, slice_index_or, Option, Some, None, Contains, ◌↔◌}
 use Rattle.hs_table.specs.Types.{TypeTree, state}
 use Rattle.hs_table.specs.Entries.{EntryData}
@@ -53,3 +54,9 @@ pub record LacksCandidate (E : List EntryData) (point : ℕ) (set : List TypeTre
   pub ty : TypeTree
   pub among : Contains set ty
   pub none : (place : ℕ) (e : EntryData) → slice_get E place ≡ Some e → e.point ≡ point → e.ty ≡ ty → ⊥
+
+-- for one type of the set of this argument nothing is a candidate
+pub record LacksSlot (E : List EntryData) (fixed : Option FixedData) (arg point : ℕ) (set : List TypeTree) : Type 0 where
+  pub ty : TypeTree
+  pub among : Contains set ty
+  pub none : (place : ℕ) (e : EntryData) → IsCandidate E fixed (record { arg = arg; point = point; ty = ty }) place e → ⊥

@@ -4,4 +4,5 @@ pub mod Filling
 pub mod Joins
 pub mod Found
 pub mod Heads
+pub mod Shut
 pub mod Parts

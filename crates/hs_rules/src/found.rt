@@ -11,7 +11,7 @@ ghost use Rattle.hs_rules.specs.Found.{HeadData, seek, HasKnownNumbers, HaveEnvs
 
 use crate::deduced::Deduced;
 use crate::joining::{FEW, Partial, joined};
-use crate::search::{Search, fill, is_open};
+use crate::search::{Search, fill};
 use hs_replica::Replica;
 use hs_scheme::OutOfMemory;
 use hs_table::HeadBy;
@@ -188,10 +188,9 @@ fn conclude(
         HasEnvFound replica.new.ids (seek search.now) head.now env found.new.list.items) }
     ensures kept { KeepsLog replica.old replica.new }
 {
-    if !is_open(replica, search, head.sets.as_slice()) {
+    let Some(slots) = fill(alloc, replica, search, head.sets.as_slice())? else {
         return Ok(());
-    }
-    let slots = fill(alloc, replica, search, head.sets.as_slice())?;
+    };
     let partials = joined(alloc, replica, head.own, slots.as_slice())?;
     add_all(alloc, found, search.point, head, partials.as_slice())
 }

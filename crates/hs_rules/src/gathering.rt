@@ -1,9 +1,10 @@
 //! Conclusions by the kinds of their supports.
 
 ghost use Rattle.std.specs.Prelude.{◌≡◌, ◌^◌, ◌<◌, ◌∷◌, [], ℕ, IfOk, MatchOption, OnOk, Some, None, length, slice_get, take, Contains};
+ghost use Rattle.std.specs.Bool.{OnFalse};
 ghost use Rattle.hs_scheme.specs.Points.{IsArgument};
-ghost use Rattle.hs_table.specs.Entries.{params_of};
-ghost use Rattle.hs_table.specs.Follows.{head_premise};
+ghost use Rattle.hs_table.specs.Entries.{EntryData, params_of};
+ghost use Rattle.hs_table.specs.Follows.{head_premise, Support, FollowsBy};
 ghost use Rattle.hs_replica.specs.Replica.{KeepsLog};
 ghost use Rattle.hs_rules.specs.Conclusions.{DeducedData, AnySupport, Uses};
 ghost use Rattle.hs_rules.specs.Filling.{CanSearch};
@@ -12,6 +13,7 @@ ghost use Rattle.hs_rules.specs.Heads.{IsParameterSpot, IsHeadWithin};
 ghost use Rattle.hs_rules.specs.Parts.{ArePart, HasAll, UsesArgument, IsOnlyPlaceOf};
 
 use crate::found::{Found, conclude_all};
+use crate::nonterminals::is_body_open;
 use crate::search::{Fixed, Search};
 use crate::sources::{heads_all, heads_asking, heads_at, heads_nothing};
 use crate::spot::Spot;
@@ -78,6 +80,26 @@ pub(crate) fn add_by_argument(
     conclude_all(alloc, replica, &search, heads.as_slice(), found)
 }
 
+/// Whether something may follow with the entry at the place as the head's. Of a nonterminal's type
+/// the slots are asked for candidates, before anything of it is copied. Takes no memory.
+fn may_follow(spot: &Spot, replica: &Replica, search: &Search, head: Head, place: u32) -> bool
+    requires search { CanSearch replica.now search.now.args.now search.now.limit search.now.fixed }
+    requires free { search.now.fixed ≡ None }
+    requires head { IsHeadWithin spot.now.problem.now spot.now.params head }
+    requires at { slice_get spot.now.problem.now.points.points search.now.point ≡ Some
+        (record { rule = spot.now.rule; head = head; args = search.now.args.now }) }
+    requires place { place < search.now.limit }
+    ensures { OnFalse result ((s : Support) (e : EntryData) → e.point ≡ search.now.point →
+        FollowsBy spot.now.problem.now (take search.now.limit replica.now.log) s e
+        → head_premise s.head ≡ place ∷ [] → ⊥) }
+{
+    match head {
+        Head::Nt(nonterminal) => is_body_open(spot, replica, search, nonterminal, place),
+        Head::Tm(_) => true,
+        Head::Var(_) => true,
+    }
+}
+
 /// Adds what follows with the entry at the place as the head's.
 pub(crate) fn add_by_head(
     alloc: Global,
@@ -110,6 +132,9 @@ pub(crate) fn add_by_head(
         (λ s. head_premise s.head ≡ place ∷ []) found.new.list.items) }
     ensures kept { KeepsLog replica.old replica.new }
 {
+    if !may_follow(spot, replica, search, head, place) {
+        return Ok(());
+    }
     let heads = heads_at(alloc, spot, replica, search, head, place)?;
     conclude_all(alloc, replica, search, heads.as_slice(), found)
 }

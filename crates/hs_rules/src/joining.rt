@@ -1,6 +1,6 @@
 //! Environments joined slot by slot.
 
-ghost use Rattle.std.specs.Prelude.{◌≡◌, ◌<◌, ◌++◌, ◌∷◌, ◌⊎◌, [], ℕ, List, length, Contains, IfOk, OnOk};
+ghost use Rattle.std.specs.Prelude.{◌≡◌, ◌<◌, ◌++◌, ◌∷◌, ◌⊎◌, [], ℕ, List, length, Contains, IfOk, IfSome, OnOk};
 ghost use Rattle.hs_table.specs.Entries.{EntryData, IsEnv};
 ghost use Rattle.hs_types.specs.Interned.{env_of_id};
 ghost use Rattle.hs_replica.specs.Replica.{KeepsLog};
@@ -177,6 +177,36 @@ fn extended(
     Ok(out.list)
 }
 
+/// The environment that the slots lead to where each has just one candidate, as most have: then no
+/// lists are kept. `None` where a slot has more or none.
+fn joined_only(
+    alloc: Global,
+    replica: &mut Replica,
+    own: EnvId,
+    slots: &[Filled],
+) -> Result<Option<Partial>, OutOfMemory>
+    requires own { own < length replica.old.ids.envs }
+    requires is_env { IsEnv (length (env_of_id replica.old.ids own)) (env_of_id replica.old.ids own) }
+    requires placed { (f : FilledData) → Contains slots.now f
+        → ArePlaced replica.old.log (length (env_of_id replica.old.ids own)) f }
+    ensures joined { IfOk result (λ only. IfSome only (λ x. AreJoined replica.new.ids replica.old.log
+        (length (env_of_id replica.old.ids own)) (env_of_id replica.old.ids own) slots.now (x ∷ []))) }
+    ensures kept { KeepsLog replica.old replica.new }
+{
+    let mut env = own;
+    let mut args = SmallVec::new(alloc);
+    for slot in slots {
+        let places = slot.places.as_slice();
+        if places.len() != 1 {
+            return Ok(None);
+        }
+        let candidate = replica.row(places[0]).env;
+        env = replica.union_envs(env, candidate)?;
+        args.push((slot.arg, places[0]))?;
+    }
+    Ok(Some(Partial { env, args }))
+}
+
 /// The environments that the slots lead to from the head's own, each once, with one choice of
 /// candidates for each.
 ///
@@ -197,6 +227,10 @@ pub(crate) fn joined(
     ensures kept { KeepsLog replica.old replica.new }
 {
     let mut partials: PartialList = SmallVec::new(alloc);
+    if let Some(only) = joined_only(alloc, replica, own, slots)? {
+        partials.push(only)?;
+        return Ok(partials);
+    }
     partials.push(Partial {
         env: own,
         args: SmallVec::new(alloc),

@@ -1,12 +1,13 @@
 //! Where conclusions are sought, and the candidates for the slots there.
 
-ghost use Rattle.std.specs.Prelude.{◌≡◌, ◌<◌, ◌↔◌, ℕ, List, length, map, take, slice_get, Some, All, Contains, IfOk, OnOk};
+ghost use Rattle.std.specs.Prelude.{◌≡◌, ◌<◌, ◌↔◌, ℕ, length, map, take, slice_get, Some, All, Contains, IfOk, MatchOption};
 ghost use Rattle.std.specs.List.Sorted.{IsStrictlyIncreasing};
 ghost use Rattle.hs_table.specs.Entries.{EntryData};
 ghost use Rattle.hs_types.specs.Interned.{type_of_id, set_of_id};
-ghost use Rattle.std.specs.Bool.{OnFalse};
-ghost use Rattle.hs_rules.specs.Slots.{slots_of, slots, IsCandidate, Picked};
-ghost use Rattle.hs_rules.specs.Filling.{CanSearch, fixed_of, AreFilled, GainsFilled, LacksCandidate};
+ghost use Rattle.std.specs.Bool.{OnFalse, OnTrue};
+ghost use Rattle.hs_rules.specs.Slots.{slots_of, slots, IsCandidate};
+ghost use Rattle.hs_rules.specs.Filling.{CanSearch, fixed_of, AreFilled, GainsFilled, LacksCandidate, LacksSlot};
+ghost use Rattle.hs_rules.specs.Shut.{AreShut};
 
 use hs_replica::Replica;
 use hs_scheme::OutOfMemory;
@@ -105,7 +106,8 @@ fn places_for(
     below(alloc, replica.with_type(point, ty), search.limit)
 }
 
-/// Adds the slots of one argument.
+/// Adds the slots of one argument, and answers whether each has candidates. It ends at the first
+/// that has none.
 fn fill_set(
     alloc: Global,
     replica: &Replica,
@@ -114,19 +116,24 @@ fn fill_set(
     point: u32,
     set: SetId,
     out: &mut Slots,
-) -> Result<(), OutOfMemory>
+) -> Result<bool, OutOfMemory>
     requires search { CanSearch replica.now search.now.args.now search.now.limit search.now.fixed }
     requires set { set < length replica.now.ids.sets }
     requires point { slice_get search.now.args.now arg ≡ Some point }
-    ensures { OnOk result (GainsFilled (take search.now.limit replica.now.log)
+    ensures filled { IfOk result (λ all. OnTrue all (GainsFilled (take search.now.limit replica.now.log)
         (fixed_of replica.now.log search.now.fixed)
-        (slots_of arg point (set_of_id replica.now.ids set)) out.old.items out.new.items) }
+        (slots_of arg point (set_of_id replica.now.ids set)) out.old.items out.new.items)) }
+    ensures lacks { IfOk result (λ all. OnFalse all (LacksSlot (take search.now.limit replica.now.log)
+        (fixed_of replica.now.log search.now.fixed) arg point (set_of_id replica.now.ids set))) }
 {
     for ty in replica.interner().members(set) {
         let places = places_for(alloc, replica, search, arg, point, *ty)?;
+        if places.is_empty() {
+            return Ok(false);
+        }
         out.push(Filled { arg, places })?;
     }
-    Ok(())
+    Ok(true)
 }
 
 /// Whether there may be candidates for the slots of this type at this point: some place below the
@@ -169,10 +176,9 @@ pub(crate) fn is_open(replica: &Replica, search: &Search, sets: &[SetId]) -> boo
     requires search { CanSearch replica.now search.now.args.now search.now.limit search.now.fixed }
     requires sets { All (λ s. s < length replica.now.ids.sets) sets.now }
     requires long { length sets.now ≡ length search.now.args.now }
-    ensures { OnFalse result ((args : List (ℕ × ℕ)) (es : List EntryData) →
-        Picked (λ s. s.arg) (IsCandidate (take search.now.limit replica.now.log)
-        (fixed_of replica.now.log search.now.fixed))
-        (slots 0 search.now.args.now (map (set_of_id replica.now.ids) sets.now)) args es → ⊥) }
+    ensures { OnFalse result (AreShut (take search.now.limit replica.now.log)
+        (fixed_of replica.now.log search.now.fixed)
+        (slots 0 search.now.args.now (map (set_of_id replica.now.ids) sets.now))) }
 {
     let args = search.args;
     for (arg, set) in sets.iter().enumerate() {
@@ -183,26 +189,32 @@ pub(crate) fn is_open(replica: &Replica, search: &Search, sets: &[SetId]) -> boo
     true
 }
 
-/// The slots for these sets, one set for each argument.
+/// The slots for these sets, one set for each argument; `None` where one of them has no candidates.
 pub(crate) fn fill(
     alloc: Global,
     replica: &Replica,
     search: &Search,
     sets: &[SetId],
-) -> Result<Slots, OutOfMemory>
+) -> Result<Option<Slots>, OutOfMemory>
     requires search { CanSearch replica.now search.now.args.now search.now.limit search.now.fixed }
     requires sets { All (λ s. s < length replica.now.ids.sets) sets.now }
     requires long { length sets.now ≡ length search.now.args.now }
-    ensures { IfOk result (λ out. AreFilled (take search.now.limit replica.now.log)
+    ensures { IfOk result (λ slots_or. MatchOption slots_or (AreShut (take search.now.limit replica.now.log)
         (fixed_of replica.now.log search.now.fixed)
-        (slots 0 search.now.args.now (map (set_of_id replica.now.ids) sets.now)) out.items) }
+        (slots 0 search.now.args.now (map (set_of_id replica.now.ids) sets.now)))
+        (λ out. AreFilled (take search.now.limit replica.now.log)
+        (fixed_of replica.now.log search.now.fixed)
+        (slots 0 search.now.args.now (map (set_of_id replica.now.ids) sets.now)) out.items)) }
 {
     let mut out = SmallVec::new(alloc);
     let args = search.args;
     for (arg, set) in sets.iter().enumerate() {
-        fill_set(
+        let complete = fill_set(
             alloc, replica, search, arg as u32, args[arg], *set, &mut out,
         )?;
+        if !complete {
+            return Ok(None);
+        }
     }
-    Ok(out)
+    Ok(Some(out))
 }

@@ -4,9 +4,10 @@ use Rattle.hs_types.specs.Interned.{set_of_id, env_of_id}
 use Rattle.hs_rules.specs.Conclusions.{DeducedData}
 use Rattle.hs_rules.specs.Slots.{slots, FilledData}
 use Rattle.hs_rules.specs.Filling.{fixed_of, AreFilled}
+use Rattle.hs_rules.specs.Shut.{AreShut}
 use Rattle.hs_rules.specs.Joins.{PartialData, ArePlaced, AreJoined}
 use Rattle.hs_rules.specs.Found.{HeadData, seek, IsRowOf, HasRow, HeadLeadsTo, IsConclusion, HasEnvFound}
-use Rattle.hs_rules.proofs.Lists.{on_ok_map}
+use Rattle.hs_rules.proofs.Lists.{on_ok_map, match_some}
 use Rattle.hs_rules.proofs.FoundLemmas.{filled_placed, rows_conclude, conclude_rows}
 use Rattle.hs_rules.proofs.found.conclude.Goals as goal
 
@@ -16,11 +17,14 @@ joined-requires-clause-placed c = λ f there.
     let log = c.args.replica.now.log in
     let s = seek c.args.search.now in
     let h = c.args.head.now in
-    let sets_is = c.as_slice-2.ensures ∙ ap (λ (x : HeadData). x.sets) c.head.view_is in
-    let filled = subst (λ (xs : List ℕ). AreFilled (take s.limit log) (fixed_of log s.fixed) (slots 0 s.args (map (set_of_id ids) xs)) c.in_ok-slots.slots.items) sets_is c.in_ok-slots.ensures in
+    let sets_is = c.as_slice.ensures ∙ ap (λ (x : HeadData). x.sets) c.head.view_is in
+    let seen = c.as_slice.result.now in
+    let are = match_some c.in_ok-slots.field-0 c.in-Some.slots (AreShut (take s.limit log) (fixed_of log s.fixed) (slots 0 s.args (map (set_of_id ids) seen)))
+    (λ out. AreFilled (take s.limit log) (fixed_of log s.fixed) (slots 0 s.args (map (set_of_id ids) seen)) out.items) c.in-Some.is c.in_ok-slots.ensures in
+    let filled = subst (λ (xs : List ℕ). AreFilled (take s.limit log) (fixed_of log s.fixed) (slots 0 s.args (map (set_of_id ids) xs)) c.in-Some.slots.items) sets_is are in
     subst (λ (n : ℕ). ArePlaced log (length (env_of_id ids n)) f) (sym (ap (λ (x : HeadData). x.own) c.head.view_is))
-    (filled_placed log s.limit (fixed_of log s.fixed) s.args (map (set_of_id ids) h.sets) c.in_ok-slots.slots.items (length (env_of_id ids h.own)) filled c.requires.envs f
-    (subst (λ (fs : List FilledData). Contains fs f) c.as_slice-3.ensures there))
+    (filled_placed log s.limit (fixed_of log s.fixed) s.args (map (set_of_id ids) h.sets) c.in-Some.slots.items (length (env_of_id ids h.own)) filled c.requires.envs f
+    (subst (λ (fs : List FilledData). Contains fs f) c.as_slice-2.ensures there))
 
 pub returns-clause-only : goal.returns-clause-only
 returns-clause-only c =
@@ -29,17 +33,20 @@ returns-clause-only c =
     let log = c.args.replica.now.log in
     let s = seek c.args.search.now in
     let h = c.args.head.now in
-    let fs = c.in_ok-slots.slots.items in
+    let fs = c.in-Some.slots.items in
     let partials = c.in_ok-partials.partials.items in
-    let sets_is = c.as_slice-2.ensures ∙ ap (λ (x : HeadData). x.sets) c.head.view_is in
-    let filled = subst (λ (xs : List ℕ). AreFilled (take s.limit log) (fixed_of log s.fixed) (slots 0 s.args (map (set_of_id ids) xs)) fs) sets_is c.in_ok-slots.ensures in
+    let sets_is = c.as_slice.ensures ∙ ap (λ (x : HeadData). x.sets) c.head.view_is in
+    let seen = c.as_slice.result.now in
+    let are = match_some c.in_ok-slots.field-0 c.in-Some.slots (AreShut (take s.limit log) (fixed_of log s.fixed) (slots 0 s.args (map (set_of_id ids) seen)))
+    (λ out. AreFilled (take s.limit log) (fixed_of log s.fixed) (slots 0 s.args (map (set_of_id ids) seen)) out.items) c.in-Some.is c.in_ok-slots.ensures in
+    let filled = subst (λ (xs : List ℕ). AreFilled (take s.limit log) (fixed_of log s.fixed) (slots 0 s.args (map (set_of_id ids) xs)) fs) sets_is are in
     let joined = subst (λ (n : ℕ). AreJoined K log (length (env_of_id ids n)) (env_of_id ids n) fs partials) (ap (λ (x : HeadData). x.own) c.head.view_is)
-    (subst (λ (gs : List FilledData). AreJoined K log (length (env_of_id ids c.head.inside.own)) (env_of_id ids c.head.inside.own) gs partials) c.as_slice-3.ensures c.in_ok-partials.ensures.joined) in
-    on_ok_map c.add_all.result ((d : DeducedData) → Contains c.add_all.new.found.list.items d → Contains c.args.found.now.list.items d ⊎ IsRowOf s.point h c.as_slice-4.result.now d)
+    (subst (λ (gs : List FilledData). AreJoined K log (length (env_of_id ids c.head.inside.own)) (env_of_id ids c.head.inside.own) gs partials) c.as_slice-2.ensures c.in_ok-partials.ensures.joined) in
+    on_ok_map c.add_all.result ((d : DeducedData) → Contains c.add_all.new.found.list.items d → Contains c.args.found.now.list.items d ⊎ IsRowOf s.point h c.as_slice-3.result.now d)
     ((d : DeducedData) → Contains c.add_all.new.found.list.items d → Contains c.args.found.now.list.items d ⊎ IsConclusion ids K log s h d)
     (λ some d there. elim (some d there) [
       | inl was ↦ inl was
-      | inr row ↦ inr (rows_conclude ids K log s h fs partials filled joined d (subst (λ (xs : List PartialData). IsRowOf s.point h xs d) c.as_slice-4.ensures row))
+      | inr row ↦ inr (rows_conclude ids K log s h fs partials filled joined d (subst (λ (xs : List PartialData). IsRowOf s.point h xs d) c.as_slice-3.ensures row))
     ]) c.add_all.ensures.only
 
 pub returns-clause-all : goal.returns-clause-all
@@ -49,12 +56,15 @@ returns-clause-all c =
     let log = c.args.replica.now.log in
     let s = seek c.args.search.now in
     let h = c.args.head.now in
-    let fs = c.in_ok-slots.slots.items in
+    let fs = c.in-Some.slots.items in
     let partials = c.in_ok-partials.partials.items in
-    let sets_is = c.as_slice-2.ensures ∙ ap (λ (x : HeadData). x.sets) c.head.view_is in
-    let filled = subst (λ (xs : List ℕ). AreFilled (take s.limit log) (fixed_of log s.fixed) (slots 0 s.args (map (set_of_id ids) xs)) fs) sets_is c.in_ok-slots.ensures in
+    let sets_is = c.as_slice.ensures ∙ ap (λ (x : HeadData). x.sets) c.head.view_is in
+    let seen = c.as_slice.result.now in
+    let are = match_some c.in_ok-slots.field-0 c.in-Some.slots (AreShut (take s.limit log) (fixed_of log s.fixed) (slots 0 s.args (map (set_of_id ids) seen)))
+    (λ out. AreFilled (take s.limit log) (fixed_of log s.fixed) (slots 0 s.args (map (set_of_id ids) seen)) out.items) c.in-Some.is c.in_ok-slots.ensures in
+    let filled = subst (λ (xs : List ℕ). AreFilled (take s.limit log) (fixed_of log s.fixed) (slots 0 s.args (map (set_of_id ids) xs)) fs) sets_is are in
     let joined = subst (λ (n : ℕ). AreJoined K log (length (env_of_id ids n)) (env_of_id ids n) fs partials) (ap (λ (x : HeadData). x.own) c.head.view_is)
-    (subst (λ (gs : List FilledData). AreJoined K log (length (env_of_id ids c.head.inside.own)) (env_of_id ids c.head.inside.own) gs partials) c.as_slice-3.ensures c.in_ok-partials.ensures.joined) in
-    on_ok_map c.add_all.result ((x : PartialData) → Contains c.as_slice-4.result.now x → HasRow s.point h x c.add_all.new.found.list.items)
+    (subst (λ (gs : List FilledData). AreJoined K log (length (env_of_id ids c.head.inside.own)) (env_of_id ids c.head.inside.own) gs partials) c.as_slice-2.ensures c.in_ok-partials.ensures.joined) in
+    on_ok_map c.add_all.result ((x : PartialData) → Contains c.as_slice-3.result.now x → HasRow s.point h x c.add_all.new.found.list.items)
     ((args : List (ℕ × ℕ)) (env : Env) → HeadLeadsTo ids log s h args env → HasEnvFound K s h env c.add_all.new.found.list.items)
-    (λ all. conclude_rows ids K log s h fs partials filled joined c.add_all.new.found.list.items (λ x there. all x (subst (λ (xs : List PartialData). Contains xs x) (sym c.as_slice-4.ensures) there))) c.add_all.ensures.all
+    (λ all. conclude_rows ids K log s h fs partials filled joined c.add_all.new.found.list.items (λ x there. all x (subst (λ (xs : List PartialData). Contains xs x) (sym c.as_slice-3.ensures) there))) c.add_all.ensures.all

@@ -37,6 +37,9 @@ conclude_all-requires-clause-envs c = λ h there.
     subst (λ (l : List EntryData). HaveEnvs (take s.limit l) s.args (length (env_of_id J h.own))) (sym same)
     (heads_envs p E of J (ComesFrom c.args.place) heads s.args c.args.spot.now.params c.requires.spot.params_are are c.requires.envs h (subst (λ (hs : List HeadData). Contains hs h) c.as_slice.ensures there))
 
+pub returns-then-not-may_follow-clause-all : goal.returns-then-not-may_follow-clause-all
+returns-then-not-may_follow-clause-all c = λ s e here_is follows by. absurd (c.if-not-may_follow.ensures s e here_is follows by)
+
 pub returns-clause-part : goal.returns-clause-part
 returns-clause-part c =
     let p = c.args.spot.now.problem.now in

@@ -1,20 +1,36 @@
-use Rattle.std.proofs.Common.{refl, sym, ◌∙◌, ap, subst, ℕ, List, ◌∷◌, [], ◌++◌, length, take, Contains}
-use Rattle.hs_table.specs.Entries.{EntryData}
+use Rattle.std.proofs.Common.{refl, sym, ◌∙◌, ap, subst, ℕ, List, ◌∷◌, [], ◌++◌, length, take, Option, IfSome, Contains}
+use Rattle.hs_table.specs.Entries.{Env, EntryData, IsEnv}
 use Rattle.hs_table_laws.proofs.Members.{taken_next}
 use Rattle.hs_types.specs.Interned.{env_of_id}
+use Rattle.hs_types.proofs.Numbers.{env_within, env_stays}
 use Rattle.hs_rules.specs.Slots.{FilledData}
 use Rattle.hs_rules.specs.Joins.{PartialData, FillsBy, CanFill, IsMadeOf, IsCovered, AreJoined}
-use Rattle.hs_rules.proofs.KeepLemmas.{keeps_none, keeps_then}
+use Rattle.hs_rules.proofs.KeepLemmas.{keeps_then}
 use Rattle.hs_rules.proofs.JoinLemmas.{joined_none, joined_next, can_extend}
 use Rattle.hs_rules.proofs.joining.joined.Goals as goal
 
+pub returns-in-Some-clause-joined : goal.returns-in-Some-clause-joined
+returns-in-Some-clause-joined c =
+    let I = c.args.replica.now.ids in
+    let own = env_of_id I c.args.own in
+    let J = c.joined_only.new.replica.ids in
+    let log = c.args.replica.now.log in
+    let slots = c.args.slots.now in
+    subst (λ (xs : List PartialData). AreJoined J log (length own) own slots xs) (sym (c.in_ok-push.ensures.ok ∙ ap (λ xs. xs ++ c.in-Some.only ∷ []) c.new-partials.ensures.items))
+    (subst (λ (o : Option PartialData). IfSome o (λ x. AreJoined J log (length own) own slots (x ∷ []))) c.in-Some.is c.in_ok-only.ensures.joined)
+
 pub loop-slot-init : goal.loop-slot-init
 loop-slot-init c =
+    let I = c.args.replica.now.ids in
+    let J = c.joined_only.new.replica.ids in
+    let g = c.joined_only.ensures.kept.grows in
     let x : PartialData = record { env = c.args.own; args = c.new.result.items } in
+    let stays = env_stays I J g c.args.own c.requires.own in
     record {
-      kept = keeps_none c.args.replica.now;
-      joined = joined_none c.args.replica.now.ids c.args.replica.now.log c.args.own c.push.new.self.items x c.requires.own c.requires.is_env
-          (c.in_ok-push.ensures.ok ∙ ap (λ xs. xs ++ x ∷ []) c.new-partials.ensures.items) refl c.new.ensures.items;
+      kept = c.joined_only.ensures.kept;
+      joined = subst (λ (e : Env). AreJoined J c.args.replica.now.log (length e) e [] c.push-2.new.self.items) stays
+          (joined_none J c.args.replica.now.log c.args.own c.push-2.new.self.items x (env_within I J g c.args.own c.requires.own) (subst (λ (e : Env). IsEnv (length e) e) (sym stays) c.requires.is_env)
+          (c.in_ok-push-2.ensures.ok ∙ ap (λ xs. xs ++ x ∷ []) c.new-partials.ensures.items) refl c.new.ensures.items);
     }
 
 pub extended-requires : goal.extended-requires

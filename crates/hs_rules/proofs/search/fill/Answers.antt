@@ -1,9 +1,12 @@
-use Rattle.std.proofs.Common.{sym, subst, ◌+◌, ◌<◌, List, ◌++◌, map, take, get_or, arith, length}
+use Rattle.std.proofs.Common.{sym, ◌∙◌, ap, subst, ◌+◌, ◌<◌, List, ◌++◌, map, take, get_or, arith, length}
+use Rattle.std.proofs.lemmas.Bool.{OnTrue_at, OnFalse_at}
 use Rattle.std.proofs.lemmas.Option.{slice_get-get_or}
+use Rattle.hs_table.specs.Types.{TypeTree}
 use Rattle.hs_types.specs.Interned.{set_of_id}
 use Rattle.hs_rules.specs.Slots.{SlotData, FilledData, slots, slots_of}
-use Rattle.hs_rules.specs.Filling.{fixed_of, AreFilled}
-use Rattle.hs_rules.proofs.FillLemmas.{filled_append, next_of_args}
+use Rattle.hs_rules.specs.Filling.{fixed_of, AreFilled, LacksSlot}
+use Rattle.hs_rules.proofs.Lists.{read_other}
+use Rattle.hs_rules.proofs.FillLemmas.{filled_append, next_of_args, nothing_filled, set_of_place}
 use Rattle.hs_rules.proofs.search.fill.Goals as goal
 
 pub loop-arg-preserved : goal.loop-arg-preserved
@@ -18,8 +21,22 @@ loop-arg-preserved c =
     let s = c.index-sets-arg.result in
     let small : k < length args = omega (arith, c.requires.long, c.loop-arg-test.true) in
     let old = slots 0 (take k args) (map (set_of_id ids) (take k sets)) in
-    let g = c.in_ok-fill_set.ensures in
+    let g = OnTrue_at c.if-not-complete.false c.in_ok-complete.ensures.filled in
     subst (λ (fs : List FilledData). AreFilled E fixed (slots 0 (take (k + 1) args) (map (set_of_id ids) (take (k + 1) sets))) fs) (sym g.is)
     (subst (λ (ss : List SlotData). AreFilled E fixed ss (c.loop-arg.out.items ++ g.added))
     (sym (next_of_args ids k args sets u s c.requires.long c.loop-arg-test.true (slice_get-get_or args k 0 small) c.index-sets-arg.is))
     (filled_append E fixed old (slots_of k u (set_of_id ids s)) c.loop-arg.out.items g.added c.loop-arg.invariant g.filled))
+
+pub returns-then-not-complete : goal.returns-then-not-complete
+returns-then-not-complete c =
+    let ids = c.args.replica.now.ids in
+    let log = c.args.replica.now.log in
+    let s = c.args.search.now in
+    let E = take s.limit log in
+    let sets = c.args.sets.now in
+    let k = c.loop-arg.arg in
+    let u = get_or s.args.now k 0 in
+    let small : k < length s.args.now = omega (arith, c.requires.long, c.loop-arg-test.true) in
+    let set_is = ap (set_of_id ids) (sym (read_other sets k c.index-sets-arg.result 0 c.loop-arg-test.true (sym c.index-sets-arg.is))) ∙ set_of_place ids sets k c.loop-arg-test.true in
+    nothing_filled E (fixed_of log s.fixed) s.args.now (map (set_of_id ids) sets) k u (slice_get-get_or s.args.now k 0 small)
+    (subst (λ (t : List TypeTree). LacksSlot E (fixed_of log s.fixed) k u t) set_is (OnFalse_at c.if-not-complete.true c.in_ok-complete.ensures.lacks))
