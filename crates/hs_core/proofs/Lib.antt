@@ -3,3 +3,5 @@ pub mod Keeping
 pub mod Stepping
 pub mod Slots
 pub mod Moving
+pub mod Turning
+pub mod Passing

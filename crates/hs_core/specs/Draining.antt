@@ -2,14 +2,19 @@
 --     weight          how many works can still be done: it falls with each work that is done
 --     GoesAlone       this worker alone did some steps
 --     EndsAtRest      nothing is left to do, or no work is given out any more
-use Rattle.std.specs.Prelude.{◌≡◌, ℕ, ◌+◌, ◌-◌, ◌*◌, ◌++◌, length, None, Contains}
+--     IsNextSeed      the seed of the point is the work that is given out next
+--     passed_by       a core once the worker has taken the seed of the point and closed it
+--     Closes          the work under a ticket is closed, or given back
+use Rattle.std.specs.Prelude.{◌≡◌, ℕ, ◌+◌, ◌-◌, ◌*◌, ◌∷◌, ◌++◌, List, length, Bool, true, false, None, Contains, Result, Ok, Err}
 use Rattle.hs_table.specs.Follows.{FollowsBy}
 use Rattle.hs_types.specs.Interned.{IsRow, entry_of}
 use Rattle.hs_rules.specs.Conclusions.{DeducedData}
-use Rattle.hs_history.specs.Story.{Story}
+use Rattle.hs_history.specs.declared.step.Work.{Work}
+use Rattle.hs_history.specs.declared.step.Work.TheVariants.{Seed}
+use Rattle.hs_history.specs.Story.{takes, finishes, gives_back, Story}
 use Rattle.hs_history.specs.CoreStep.{GoesOn}
 use Rattle.hs_history.specs.History.{IsAtRest}
-use Rattle.hs_core.specs.Core.{CoreData, state_of, log_of}
+use Rattle.hs_core.specs.Core.{CoreData, state_of, log_of, stepped}
 use Rattle.hs_core.specs.Answers.{AreOfWorker}
 
 abbrev pub weight : CoreData → ℕ
@@ -38,3 +43,18 @@ IsThere c d = Contains (log_of c) (entry_of c.ids d.row)
 
 abbrev pub EndsAtRest : CoreData → Type 0
 EndsAtRest c = (state_of c).kept ≡ None → GoesOn c.base (log_of c) → IsAtRest (state_of c)
+
+-- works are given out, and the seed of the point is the first one
+pub record IsNextSeed (c : CoreData) (point : ℕ) : Type 0 where
+  pub none_kept : (state_of c).kept ≡ None
+  pub goes_on : GoesOn c.base (log_of c)
+  pub rest : List Work
+  pub pending : (state_of c).pending ≡ Seed point ∷ rest
+
+abbrev pub passed_by : CoreData → ℕ → ℕ → ℕ → CoreData
+passed_by c worker point spare = stepped (stepped c worker (takes (Seed point) 0) spare) worker (finishes 0) spare
+
+abbrev pub Closes : {E : Type 0} → CoreData → ℕ → ℕ → Result Bool E → CoreData → Type 0
+Closes old worker ticket (Ok true) new = new ≡ stepped old worker (finishes ticket) old.spare
+Closes old worker ticket (Ok false) new = new ≡ stepped old worker (gives_back ticket) old.spare
+Closes old worker ticket (Err e) new = new ≡ stepped old worker (gives_back ticket) old.spare

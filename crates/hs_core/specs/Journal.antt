@@ -3,6 +3,7 @@
 --     kind_of, ticket_of           what is done at an event, and under which ticket
 --     due_for, due_after           what has to be due at an event; what is due after it
 --     Reader                       who acts and what is due, with the changes of these that are still to come
+--     taken_at, finished_at        the two steps of a seed that is taken and closed at once
 --     step_at, beyond              the step that a mark stands for; the reader behind it
 --     steps_read                   the steps that marks stand for
 --     IsKept                       the changes are just those that the marks name, and behind the last mark this is who acted and what is due
@@ -96,6 +97,13 @@ opened actors dues = record { actor = record { worker = 0; ticket = 0 }; due = r
 
 abbrev pub step_of : Kind → Actor → Due → Step
 step_of kind actor due = record { worker = actor.worker; event = event_of kind actor.ticket due }
+
+-- the steps of a seed that is taken and closed at once
+abbrev pub taken_at : ℕ → ℕ → ℕ → Step
+taken_at worker ticket point = record { worker = worker; event = Take (Seed point) ticket }
+
+abbrev pub finished_at : ℕ → ℕ → Step
+finished_at worker ticket = record { worker = worker; event = Finish ticket }
 
 abbrev pub step_at : Reader → Mark → Step
 step_at r m = step_of m.kind (pick m.changed r.actor r.actors) (pick m.jumped r.due r.dues)

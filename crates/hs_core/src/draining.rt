@@ -1,12 +1,12 @@
 //! The works that are left, done by one worker.
 
-ghost use Rattle.std.specs.Prelude.{◌≡◌, ◌<◌, ◌≤◌, ◌++◌, ℕ, All, IfOk, OnOk, MatchBool, IsSome, length};
+ghost use Rattle.std.specs.Prelude.{◌≡◌, ◌<◌, ◌≤◌, ◌++◌, ℕ, All, IfOk, OnOk, IsTrue, MatchBool, IsSome, length};
 ghost use Rattle.hs_flow.specs.Dependents.{HasDependents};
 ghost use Rattle.hs_history.specs.Story.{Story};
-ghost use Rattle.hs_history.specs.CoreStep.{Holds, IsClosedWork, IsClosedPlace};
+ghost use Rattle.hs_history.specs.CoreStep.{Holds, CanFinish, IsClosedWork, IsClosedPlace};
 ghost use Rattle.hs_history.specs.History.{IsWork};
 ghost use Rattle.hs_core.specs.Core.{state_of, log_of};
-ghost use Rattle.hs_core.specs.Draining.{weight, GoesAlone, SameFlight, NothingFlies, IsReady, IsThere, EndsAtRest};
+ghost use Rattle.hs_core.specs.Draining.{weight, GoesAlone, SameFlight, NothingFlies, IsReady, IsThere, EndsAtRest, IsNextSeed, Closes};
 ghost use Rattle.hs_core.specs.Saturation.{IsDrained, GivesBack, Drains};
 
 use crate::answers::{Drained, Published, Taken};
@@ -117,6 +117,66 @@ fn conclude(
     }
 }
 
+/// Ends the work under the ticket, which the worker holds: closes it where `all` says that all that
+/// follows by it was published, and else gives it back. Answers `all`.
+fn close(
+    core: &mut Core,
+    worker: u32,
+    ticket: u32,
+    all: Result<bool, OutOfMemory>,
+) -> Result<bool, OutOfMemory>
+    requires holds { Holds (state_of core.old) worker ticket }
+    requires closed { IfOk all (λ all. IsTrue all →
+        CanFinish core.old.base (state_of core.old) worker ticket) }
+    ensures same { result ≡ all }
+    ensures closes { Closes core.old worker ticket all core.new }
+{
+    match all {
+        Ok(true) => {
+            core.finish(worker, ticket);
+            Ok(true)
+        }
+        Ok(false) => {
+            core.give_back(worker, ticket);
+            Ok(false)
+        }
+        Err(refused) => {
+            core.give_back(worker, ticket);
+            Err(refused)
+        }
+    }
+}
+
+/// Passes the gate and does the seed of the point, which is the work that is given out next, as this
+/// worker. Answers whether the budget had room for what follows by it. Where nothing follows, as at
+/// most points, the seed is taken and closed without a look at the tickets.
+fn seed_turn<G: Gate>(
+    alloc: Global,
+    core: &mut Core,
+    worker: u32,
+    point: u32,
+    gate: &G,
+) -> Result<bool, OutOfMemory>
+    requires next { IsNextSeed core.old point }
+    requires flight { NothingFlies core.old }
+    requires spare { 1 ≤ core.old.spare }
+    ensures goes { GoesAlone worker core.old core.new }
+    ensures flight { NothingFlies core.new }
+    ensures more { IfOk result (λ more. MatchBool more (weight core.new < weight core.old)
+        (EndsAtRest core.new)) }
+{
+    core.is_core();
+    gate.before(worker, Work::Seed(point));
+    let found = core.at_seed(alloc, point)?;
+    if found.is_empty() {
+        core.pass_seed(worker, point);
+        return Ok(true);
+    }
+    let ticket = core.take_seed(worker, point);
+    let all = publish_all(core, worker, ticket, found);
+    close(core, worker, ticket, all)
+}
+
 /// Takes a work as this worker, passes the gate and does the work. Answers whether there was one and
 /// the budget had room for what follows by it.
 fn turn<G: Gate>(
@@ -135,25 +195,16 @@ fn turn<G: Gate>(
         (EndsAtRest core.new)) }
 {
     core.reserve_some()?;
+    if let Some(point) = core.next_seed() {
+        return seed_turn(alloc, core, worker, point, gate);
+    }
     core.is_core();
     let Taken::Item { work, ticket } = core.take(worker) else {
         return Ok(false);
     };
     gate.before(worker, work);
-    match conclude(alloc, core, dependents, worker, work, ticket) {
-        Ok(true) => {
-            core.finish(worker, ticket);
-            Ok(true)
-        }
-        Ok(false) => {
-            core.give_back(worker, ticket);
-            Ok(false)
-        }
-        Err(refused) => {
-            core.give_back(worker, ticket);
-            Err(refused)
-        }
-    }
+    let all = conclude(alloc, core, dependents, worker, work, ticket);
+    close(core, worker, ticket, all)
 }
 
 /// Does the works that are pending, as this worker, until nothing is left or `take` gives out none.

@@ -2,7 +2,7 @@
 
 ghost use Rattle.std.specs.Prelude.{◌≡◌, ◌==◌, ◌+◌, ◌<◌, ◌≤◌, ◌^◌, ◌∷◌, ◌++◌, [], false, length, vec_len, vec_capacity, OnOk, OnErr};
 ghost use Rattle.std.specs.Iterator.{YieldsFirst, item_count};
-ghost use Rattle.hs_core.specs.Journal.{following, work_after, due_after, event_of, kind_of, ticket_of, due_for, pick, left, only};
+ghost use Rattle.hs_core.specs.Journal.{following, work_after, due_after, event_of, kind_of, ticket_of, due_for, step_of, taken_at, finished_at, pick, left, only};
 
 use hs_history::{Event, Step, Work};
 use hs_scheme::OutOfMemory;
@@ -250,6 +250,26 @@ impl Journal {
         Ok(())
     }
 
+    /// Adds the step of this kind by the actor, at which this is due. There is room.
+    #[inline(always)]
+    fn mark(&mut self, kind: Kind, actor: Actor, due: Due)
+        requires { 1 ≤ self.old.room }
+        ensures steps { self.new.steps ≡ self.old.steps ++ step_of kind actor due ∷ [] }
+        ensures room { self.new.room + 1 ≡ self.old.room }
+    {
+        let mark = Mark {
+            kind,
+            changed: is_other_actor(actor, self.actor),
+            jumped: is_other_due(due, self.due),
+        };
+        push_actor(&mut self.actors, mark.changed, actor);
+        push_due(&mut self.dues, mark.jumped, due);
+        self.marks.push_reserved(mark);
+        self.actor = actor;
+        self.due = after(kind, due);
+        self.room -= 1;
+    }
+
     /// Adds a step. There is room.
     pub(crate) fn push(&mut self, step: Step)
         requires { 1 ≤ self.old.room }
@@ -261,17 +281,25 @@ impl Journal {
             ticket: ticket_at(step.event),
         };
         let due = due_at(step.event, self.due);
-        let mark = Mark {
-            kind: kind_at(step.event),
-            changed: is_other_actor(actor, self.actor),
-            jumped: is_other_due(due, self.due),
+        self.mark(kind_at(step.event), actor, due);
+    }
+
+    /// Adds two steps, for which there is room: the worker takes the seed of the point under the
+    /// ticket, and closes it. Costs less than two calls of `push`.
+    pub(crate) fn push_passed(&mut self, worker: u32, ticket: u32, point: u32)
+        requires { 2 ≤ self.old.room }
+        ensures steps { self.new.steps ≡ (self.old.steps ++ taken_at worker ticket point ∷ [])
+            ++ finished_at worker ticket ∷ [] }
+        ensures room { self.new.room + 2 ≡ self.old.room }
+    {
+        let actor = Actor { worker, ticket };
+        let due = Due {
+            work: Work::Seed(point),
+            place: self.due.place,
         };
-        push_actor(&mut self.actors, mark.changed, actor);
-        push_due(&mut self.dues, mark.jumped, due);
-        self.marks.push_reserved(mark);
-        self.actor = actor;
-        self.due = after(mark.kind, due);
-        self.room -= 1;
+        self.mark(Kind::Taking, actor, due);
+        let due = self.due;
+        self.mark(Kind::Finishing, actor, due);
     }
 
     /// The number of steps.

@@ -98,11 +98,11 @@ impl<'p> Model for Core<'p> {
 fn all_seeds(alloc: Global, n: u32) -> Result<VecDeque<Work>, OutOfMemory>
     ensures { IfOk result (λ pending. pending.items ≡ seeds n) }
 {
-    let mut pending = VecDeque::with_capacity(alloc, n as usize)?;
+    let mut pending = Vec::with_capacity(alloc, n as usize)?;
     for point in 0..n {
-        pending.push_back(Work::Seed(point))?;
+        pending.push_reserved(Work::Seed(point));
     }
-    Ok(pending)
+    Ok(VecDeque::from_vec(pending))
 }
 
 impl<'p> Core<'p> {
@@ -170,6 +170,7 @@ impl<'p> Core<'p> {
 
     /// Makes room for an event where there is none, and then for some more behind it, so that most
     /// calls do nothing. After a refusal of memory nothing has changed.
+    #[inline(always)]
     pub fn reserve_some(&mut self) -> Result<(), OutOfMemory>
         ensures same { OnOk result (self.new ≡ record self.old { spare = self.new.spare }) }
         ensures some { OnOk result (1 ≤ self.new.spare) }

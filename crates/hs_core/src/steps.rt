@@ -1,12 +1,14 @@
 //! The steps of workers on a core.
 
-ghost use Rattle.std.specs.Prelude.{◌≡◌, ◌-◌, ◌<◌, ◌≤◌, ◌∷◌, ◌++◌, [], length, IfOk};
+ghost use Rattle.std.specs.Prelude.{◌≡◌, ◌-◌, ◌<◌, ◌≤◌, ◌∷◌, ◌++◌, [], length, IfOk, IfSome};
+ghost use Rattle.hs_history.specs.declared.step.Work.TheVariants.{Seed};
 ghost use Rattle.hs_table.specs.Follows.{FollowsBy};
 ghost use Rattle.hs_types.specs.Interned.{IsRow, entry_of, Grows};
 ghost use Rattle.hs_history.specs.Story.{takes, adds, passes, finishes, gives_back};
-ghost use Rattle.hs_history.specs.CoreStep.{CanAdd, CanPass, CanFinish, Holds};
+ghost use Rattle.hs_history.specs.CoreStep.{CanTake, CanAdd, CanPass, CanFinish, Holds, IsClosedSeed};
 ghost use Rattle.hs_core.specs.Core.{state_of, log_of, deduction_of, stepped};
 ghost use Rattle.hs_core.specs.Answers.{Takes, Publishes};
+ghost use Rattle.hs_core.specs.Draining.{NothingFlies, IsNextSeed, passed_by};
 ghost use Rattle.hs_core.specs.Inside.{KnowsStart};
 
 use crate::answers::{Published, Taken};
@@ -17,6 +19,9 @@ use hs_history::{Event, Flight, Step, Work};
 use hs_rules::Deduced;
 use hs_scheme::OutOfMemory;
 use hs_types::{Interner, Row};
+
+/// The ticket of a work that is taken where nothing is in flight, and closed at once.
+const ONLY_TICKET: u32 = 0;
 
 impl<'p> Core<'p> {
     /// Takes a pending work for the worker, where there is one: the one that has been pending longest.
@@ -46,6 +51,58 @@ impl<'p> Core<'p> {
         });
         self.spare -= 1;
         Taken::Item { work, ticket }
+    }
+
+    /// The point whose seed `take` would give out. Takes no memory, and constant time.
+    pub(crate) fn next_seed(&self) -> Option<u32>
+        ensures { IfSome result (IsNextSeed self.now) }
+    {
+        let Some(first) = self.pending.front() else {
+            return None;
+        };
+        let Work::Seed(point) = *first else {
+            return None;
+        };
+        if self.found().is_some() {
+            return None;
+        }
+        if self.past.is_some() {
+            return None;
+        }
+        Some(point)
+    }
+
+    /// Takes the seed of the point, which `next_seed` names, for the worker, and answers its ticket.
+    pub(crate) fn take_seed(&mut self, worker: u32, point: u32) -> u32
+        requires next { IsNextSeed self.old point }
+        requires spare { 1 ≤ self.old.spare }
+        ensures can { CanTake self.old.base (state_of self.old) (Seed point) result }
+        ensures stepped { self.new ≡ stepped self.old worker (takes (Seed point) result)
+            (self.old.spare - 1) }
+    {
+        let _ = self.pending.pop_front();
+        let work = Work::Seed(point);
+        let ticket = self.tickets.insert(Flight { worker, work });
+        self.journal.push(Step {
+            worker,
+            event: Event::Take { work, ticket },
+        });
+        self.spare -= 1;
+        ticket
+    }
+
+    /// Takes the seed of the point, which `next_seed` names, for the worker, and closes it at once.
+    /// Nothing is in flight, and nothing follows at the point from no entry.
+    pub(crate) fn pass_seed(&mut self, worker: u32, point: u32)
+        requires next { IsNextSeed self.old point }
+        requires flight { NothingFlies self.old }
+        requires closed { IsClosedSeed self.old.base.problem (log_of self.old) point }
+        requires spare { 1 ≤ self.old.spare }
+        ensures { self.new ≡ passed_by self.old worker point (self.old.spare - 1) }
+    {
+        let _ = self.pending.pop_front();
+        self.journal.push_passed(worker, ONLY_TICKET, point);
+        self.spare -= 1;
     }
 
     /// The same deduction in the numbers of this core's interner.

@@ -1,123 +1,91 @@
-use Rattle.std.proofs.Common.{ap, ◌∙◌, arith}
-use Rattle.std.proofs.lemmas.Bool.{MatchBool-at_true, MatchBool-at_false}
-use Rattle.hs_history.specs.Story.{finishes, gives_back}
-use Rattle.hs_core.specs.Core.{CoreData, state_of}
-use Rattle.hs_core.proofs.Moving.{Moves, moves_same, alone_same, alone_trans, nothing_flies, not_taken, holds_new, holds_then, taken_work, work_taken, turn_goes, turn_flight_finished, turn_flight_given, turn_lighter, kept_ends}
+use Rattle.std.proofs.Common.{sym, ap, subst, ◌∙◌, Bool, Result}
+use Rattle.hs_scheme.specs.declared.memory.OutOfMemory.{OutOfMemory}
+use Rattle.hs_history.specs.CoreStep.{IsClosedWork, CanFinish}
+use Rattle.hs_core.specs.Core.{CoreData, state_of, log_of}
+use Rattle.hs_core.proofs.Moving.{Moves, alone_same, nothing_flies, not_taken, holds_new, holds_then, taken_work, work_taken}
+use Rattle.hs_core.proofs.Turning.{TurnEnds, closed_turn, turn_behind, may_close}
 use Rattle.hs_core.proofs.draining.turn.Goals as goal
 
-pub returns-in_default : goal.returns-in_default
-returns-in_default g c =
+pub returns-in_default-take : goal.returns-in_default-take
+returns-in_default-take g c =
     let r = c.in_ok-reserve_some.ensures.same in
     let base = ap (λ (x : CoreData). x.base) r in
     let story = ap (λ (x : CoreData). x.story) r in
     let free = nothing_flies c.args.core.now c.reserve_some.new.self base story c.requires.flight in
-    let n = not_taken c.args.worker c.reserve_some.new.self c.take.new.self c.take.result c.in_default.not-Item free c.take.ensures in
+    let n = not_taken c.args.worker c.reserve_some.new.self c.take.new.self c.take.result c.in_default-take.not-Item free c.take.ensures in
     record {
       goes = alone_same c.args.core.now c.take.new.self (ap (λ (x : CoreData). x.base) n.0 ∙ base) (ap (λ (x : CoreData). x.story) n.0 ∙ story);
       flight = λ t. ap (λ (x : CoreData). (state_of x).flight t) n.0 ∙ free t;
       more = n.1;
     }
 
-pub conclude-requires-clause-holds : goal.conclude-requires-clause-holds
-conclude-requires-clause-holds g c = (c.in-Item.work, holds_new c.reserve_some.new.self c.take.new.self c.in-Item.work c.in-Item.ticket _ c.in-Item.ensures.1)
+pub conclude-all-requires-clause-holds : goal.conclude-all-requires-clause-holds
+conclude-all-requires-clause-holds g c = (c.in-Item.work, holds_new c.reserve_some.new.self c.take.new.self c.in-Item.work c.in-Item.ticket _ c.in-Item.ensures.1)
 
-pub conclude-requires-clause-work : goal.conclude-requires-clause-work
-conclude-requires-clause-work g c =
+pub conclude-all-requires-clause-work : goal.conclude-all-requires-clause-work
+conclude-all-requires-clause-work g c =
     work_taken c.args.worker c.reserve_some.new.self c.take.new.self c.in-Item.work c.in-Item.ticket _ (taken_work c.reserve_some.new.self c.in-Item.work c.is_core.ensures.legal c.in-Item.ensures.0.pending) c.in-Item.ensures.1
 
-pub finish-requires : goal.finish-requires
-finish-requires g c =
+pub close-requires-clause-holds : goal.close-requires-clause-holds
+close-requires-clause-holds g c =
     let r = c.in_ok-reserve_some.ensures.same in
+    let a = c.reserve_some.new.self in
+    let b = c.take.new.self in
+    let e = c.conclude-all.new.core in
+    let free = nothing_flies c.args.core.now a (ap (λ (x : CoreData). x.base) r) (ap (λ (x : CoreData). x.story) r) c.requires.flight in
+    let moves : Moves c.args.worker b e = record { alone = c.conclude-all.ensures.goes; flight = c.conclude-all.ensures.flight; lighter = c.conclude-all.ensures.weight } in
+    (c.in-Item.work, holds_then a b e e c.in-Item.work c.in-Item.ticket _ 0 free c.in-Item.ensures.0 c.in-Item.ensures.1 moves)
+
+pub close-requires-clause-closed : goal.close-requires-clause-closed
+close-requires-clause-closed g c =
+    let r = c.in_ok-reserve_some.ensures.same in
+    let a = c.reserve_some.new.self in
+    let b = c.take.new.self in
+    let e = c.conclude-all.new.core in
+    let free = nothing_flies c.args.core.now a (ap (λ (x : CoreData). x.base) r) (ap (λ (x : CoreData). x.story) r) c.requires.flight in
+    let moves : Moves c.args.worker b e = record { alone = c.conclude-all.ensures.goes; flight = c.conclude-all.ensures.flight; lighter = c.conclude-all.ensures.weight } in
+    let holds = holds_then a b e e c.in-Item.work c.in-Item.ticket _ 0 free c.in-Item.ensures.0 c.in-Item.ensures.1 moves in
+    may_close (IsClosedWork e.base.problem (log_of e) c.in-Item.work) _ (CanFinish e.base (state_of e) c.args.worker c.in-Item.ticket) c.conclude-all.result
+    (λ closed. record { work = c.in-Item.work; holds = holds; closed = closed }) c.conclude-all.ensures.closed
+
+pub returns-clause-goes : goal.returns-clause-goes
+returns-clause-goes g c =
+    let r = c.in_ok-reserve_some.ensures.same in
+    let a = c.reserve_some.new.self in
+    let b = c.take.new.self in
+    let e = c.conclude-all.new.core in
+    let d = c.close.new.core in
     let base = ap (λ (x : CoreData). x.base) r in
     let story = ap (λ (x : CoreData). x.story) r in
-    let free = nothing_flies c.args.core.now c.reserve_some.new.self base story c.requires.flight in
-    let moves : Moves c.args.worker c.take.new.self c.conclude.new.core = record { alone = c.conclude.ensures.goes; flight = c.conclude.ensures.flight; lighter = c.conclude.ensures.weight } in
-    record {
-      work = c.in-Item.work;
-      holds = holds_then c.reserve_some.new.self c.take.new.self c.conclude.new.core c.conclude.new.core c.in-Item.work c.in-Item.ticket _ 0 free c.in-Item.ensures.0 c.in-Item.ensures.1 moves;
-      closed = MatchBool-at_true _ _ c.in-Ok-true.field-0-test c.in-Ok-true.ensures.closed;
-    }
+    let free = nothing_flies c.args.core.now a base story c.requires.flight in
+    let moves : Moves c.args.worker b e = record { alone = c.conclude-all.ensures.goes; flight = c.conclude-all.ensures.flight; lighter = c.conclude-all.ensures.weight } in
+    let ends = closed_turn a b e d c.in-Item.work c.in-Item.ticket _ free c.in-Item.ensures.0 c.in-Item.ensures.1 moves (IsClosedWork e.base.problem (log_of e) c.in-Item.work) c.conclude-all.result c.close.ensures.closes c.conclude-all.ensures.closed in
+    (turn_behind c.args.core.now a base story d c.close.result (subst (λ (x : Result Bool OutOfMemory). TurnEnds c.args.worker a d x) (sym c.close.ensures.same) ends)).goes
 
-pub give_back-requires : goal.give_back-requires
-give_back-requires g c =
+pub returns-clause-flight : goal.returns-clause-flight
+returns-clause-flight g c =
     let r = c.in_ok-reserve_some.ensures.same in
+    let a = c.reserve_some.new.self in
+    let b = c.take.new.self in
+    let e = c.conclude-all.new.core in
+    let d = c.close.new.core in
     let base = ap (λ (x : CoreData). x.base) r in
     let story = ap (λ (x : CoreData). x.story) r in
-    let free = nothing_flies c.args.core.now c.reserve_some.new.self base story c.requires.flight in
-    let moves : Moves c.args.worker c.take.new.self c.conclude.new.core = record { alone = c.conclude.ensures.goes; flight = c.conclude.ensures.flight; lighter = c.conclude.ensures.weight } in
-    (c.in-Item.work, holds_then c.reserve_some.new.self c.take.new.self c.conclude.new.core c.conclude.new.core c.in-Item.work c.in-Item.ticket _ 0 free c.in-Item.ensures.0 c.in-Item.ensures.1 moves)
+    let free = nothing_flies c.args.core.now a base story c.requires.flight in
+    let moves : Moves c.args.worker b e = record { alone = c.conclude-all.ensures.goes; flight = c.conclude-all.ensures.flight; lighter = c.conclude-all.ensures.weight } in
+    let ends = closed_turn a b e d c.in-Item.work c.in-Item.ticket _ free c.in-Item.ensures.0 c.in-Item.ensures.1 moves (IsClosedWork e.base.problem (log_of e) c.in-Item.work) c.conclude-all.result c.close.ensures.closes c.conclude-all.ensures.closed in
+    (turn_behind c.args.core.now a base story d c.close.result (subst (λ (x : Result Bool OutOfMemory). TurnEnds c.args.worker a d x) (sym c.close.ensures.same) ends)).flight
 
-pub give_back-requires-in-Err : goal.give_back-requires-in-Err
-give_back-requires-in-Err g c =
+pub returns-clause-more : goal.returns-clause-more
+returns-clause-more g c =
     let r = c.in_ok-reserve_some.ensures.same in
+    let a = c.reserve_some.new.self in
+    let b = c.take.new.self in
+    let e = c.conclude-all.new.core in
+    let d = c.close.new.core in
     let base = ap (λ (x : CoreData). x.base) r in
     let story = ap (λ (x : CoreData). x.story) r in
-    let free = nothing_flies c.args.core.now c.reserve_some.new.self base story c.requires.flight in
-    let moves : Moves c.args.worker c.take.new.self c.conclude.new.core = record { alone = c.conclude.ensures.goes; flight = c.conclude.ensures.flight; lighter = c.conclude.ensures.weight } in
-    (c.in-Item.work, holds_then c.reserve_some.new.self c.take.new.self c.conclude.new.core c.conclude.new.core c.in-Item.work c.in-Item.ticket _ 0 free c.in-Item.ensures.0 c.in-Item.ensures.1 moves)
-
-pub returns-in-Ok-true-clause-goes : goal.returns-in-Ok-true-clause-goes
-returns-in-Ok-true-clause-goes g c =
-    let r = c.in_ok-reserve_some.ensures.same in
-    let base = ap (λ (x : CoreData). x.base) r in
-    let story = ap (λ (x : CoreData). x.story) r in
-    let free = nothing_flies c.args.core.now c.reserve_some.new.self base story c.requires.flight in
-    let moves : Moves c.args.worker c.take.new.self c.conclude.new.core = record { alone = c.conclude.ensures.goes; flight = c.conclude.ensures.flight; lighter = c.conclude.ensures.weight } in
-    alone_trans c.args.core.now c.reserve_some.new.self c.finish.new.self (alone_same c.args.core.now c.reserve_some.new.self base story) (turn_goes c.reserve_some.new.self c.take.new.self c.conclude.new.core c.finish.new.self c.in-Item.work c.in-Item.ticket _ _ free c.in-Item.ensures.0 c.in-Item.ensures.1 moves (finishes c.in-Item.ticket) c.finish.ensures)
-
-pub returns-in-Ok-true-clause-flight : goal.returns-in-Ok-true-clause-flight
-returns-in-Ok-true-clause-flight g c =
-    let r = c.in_ok-reserve_some.ensures.same in
-    let base = ap (λ (x : CoreData). x.base) r in
-    let story = ap (λ (x : CoreData). x.story) r in
-    let free = nothing_flies c.args.core.now c.reserve_some.new.self base story c.requires.flight in
-    let moves : Moves c.args.worker c.take.new.self c.conclude.new.core = record { alone = c.conclude.ensures.goes; flight = c.conclude.ensures.flight; lighter = c.conclude.ensures.weight } in
-    turn_flight_finished c.reserve_some.new.self c.take.new.self c.conclude.new.core c.finish.new.self c.in-Item.work c.in-Item.ticket _ _ free c.in-Item.ensures.0 c.in-Item.ensures.1 moves c.finish.ensures
-
-pub returns-in-Ok-true-clause-more : goal.returns-in-Ok-true-clause-more
-returns-in-Ok-true-clause-more g c =
-    let r = c.in_ok-reserve_some.ensures.same in
-    let base = ap (λ (x : CoreData). x.base) r in
-    let story = ap (λ (x : CoreData). x.story) r in
-    let free = nothing_flies c.args.core.now c.reserve_some.new.self base story c.requires.flight in
-    let moves : Moves c.args.worker c.take.new.self c.conclude.new.core = record { alone = c.conclude.ensures.goes; flight = c.conclude.ensures.flight; lighter = c.conclude.ensures.weight } in
-    omega (arith, turn_lighter c.reserve_some.new.self c.take.new.self c.conclude.new.core c.finish.new.self c.in-Item.work c.in-Item.ticket _ _ free c.in-Item.ensures.0 c.in-Item.ensures.1 moves c.finish.ensures, (moves_same {me = c.args.worker} c.args.core.now c.reserve_some.new.self base story).lighter)
-
-pub returns-in-Ok-false-clause-goes : goal.returns-in-Ok-false-clause-goes
-returns-in-Ok-false-clause-goes g c =
-    let r = c.in_ok-reserve_some.ensures.same in
-    let base = ap (λ (x : CoreData). x.base) r in
-    let story = ap (λ (x : CoreData). x.story) r in
-    let free = nothing_flies c.args.core.now c.reserve_some.new.self base story c.requires.flight in
-    let moves : Moves c.args.worker c.take.new.self c.conclude.new.core = record { alone = c.conclude.ensures.goes; flight = c.conclude.ensures.flight; lighter = c.conclude.ensures.weight } in
-    alone_trans c.args.core.now c.reserve_some.new.self c.give_back.new.self (alone_same c.args.core.now c.reserve_some.new.self base story) (turn_goes c.reserve_some.new.self c.take.new.self c.conclude.new.core c.give_back.new.self c.in-Item.work c.in-Item.ticket _ _ free c.in-Item.ensures.0 c.in-Item.ensures.1 moves (gives_back c.in-Item.ticket) c.give_back.ensures)
-
-pub returns-in-Ok-false-clause-flight : goal.returns-in-Ok-false-clause-flight
-returns-in-Ok-false-clause-flight g c =
-    let r = c.in_ok-reserve_some.ensures.same in
-    let base = ap (λ (x : CoreData). x.base) r in
-    let story = ap (λ (x : CoreData). x.story) r in
-    let free = nothing_flies c.args.core.now c.reserve_some.new.self base story c.requires.flight in
-    let moves : Moves c.args.worker c.take.new.self c.conclude.new.core = record { alone = c.conclude.ensures.goes; flight = c.conclude.ensures.flight; lighter = c.conclude.ensures.weight } in
-    turn_flight_given c.reserve_some.new.self c.take.new.self c.conclude.new.core c.give_back.new.self c.in-Item.work c.in-Item.ticket _ _ free c.in-Item.ensures.0 c.in-Item.ensures.1 moves c.give_back.ensures
-
-pub returns-in-Ok-false-clause-more : goal.returns-in-Ok-false-clause-more
-returns-in-Ok-false-clause-more g c = kept_ends c.args.worker c.conclude.new.core c.give_back.new.self c.in-Item.ticket _ (MatchBool-at_false _ _ c.in-Ok-false.field-0-test c.in-Ok-false.ensures.closed) c.give_back.ensures
-
-pub returns-in-Err-clause-goes : goal.returns-in-Err-clause-goes
-returns-in-Err-clause-goes g c =
-    let r = c.in_ok-reserve_some.ensures.same in
-    let base = ap (λ (x : CoreData). x.base) r in
-    let story = ap (λ (x : CoreData). x.story) r in
-    let free = nothing_flies c.args.core.now c.reserve_some.new.self base story c.requires.flight in
-    let moves : Moves c.args.worker c.take.new.self c.conclude.new.core = record { alone = c.conclude.ensures.goes; flight = c.conclude.ensures.flight; lighter = c.conclude.ensures.weight } in
-    alone_trans c.args.core.now c.reserve_some.new.self c.give_back-in-Err.new.self (alone_same c.args.core.now c.reserve_some.new.self base story) (turn_goes c.reserve_some.new.self c.take.new.self c.conclude.new.core c.give_back-in-Err.new.self c.in-Item.work c.in-Item.ticket _ _ free c.in-Item.ensures.0 c.in-Item.ensures.1 moves (gives_back c.in-Item.ticket) c.give_back-in-Err.ensures)
-
-pub returns-in-Err-clause-flight : goal.returns-in-Err-clause-flight
-returns-in-Err-clause-flight g c =
-    let r = c.in_ok-reserve_some.ensures.same in
-    let base = ap (λ (x : CoreData). x.base) r in
-    let story = ap (λ (x : CoreData). x.story) r in
-    let free = nothing_flies c.args.core.now c.reserve_some.new.self base story c.requires.flight in
-    let moves : Moves c.args.worker c.take.new.self c.conclude.new.core = record { alone = c.conclude.ensures.goes; flight = c.conclude.ensures.flight; lighter = c.conclude.ensures.weight } in
-    turn_flight_given c.reserve_some.new.self c.take.new.self c.conclude.new.core c.give_back-in-Err.new.self c.in-Item.work c.in-Item.ticket _ _ free c.in-Item.ensures.0 c.in-Item.ensures.1 moves c.give_back-in-Err.ensures
+    let free = nothing_flies c.args.core.now a base story c.requires.flight in
+    let moves : Moves c.args.worker b e = record { alone = c.conclude-all.ensures.goes; flight = c.conclude-all.ensures.flight; lighter = c.conclude-all.ensures.weight } in
+    let ends = closed_turn a b e d c.in-Item.work c.in-Item.ticket _ free c.in-Item.ensures.0 c.in-Item.ensures.1 moves (IsClosedWork e.base.problem (log_of e) c.in-Item.work) c.conclude-all.result c.close.ensures.closes c.conclude-all.ensures.closed in
+    (turn_behind c.args.core.now a base story d c.close.result (subst (λ (x : Result Bool OutOfMemory). TurnEnds c.args.worker a d x) (sym c.close.ensures.same) ends)).more

@@ -1,28 +1,10 @@
-use Rattle.std.proofs.Common.{◌≡◌, ◌∙◌, ◌∷◌, ◌++◌, [], arith}
-use Rattle.hs_core.specs.declared.journal.Mark.{Mark}
+use Rattle.std.proofs.Common.{◌≡◌, ◌∙◌, ◌∷◌, ◌++◌, []}
 use Rattle.hs_core.specs.Journal.{event_of}
-use Rattle.hs_core.proofs.Keeping.{kept_pushed, read_pushed, event_kept}
+use Rattle.hs_core.proofs.Keeping.{event_kept}
 use Rattle.hs_core.proofs.journal.Journal.push.Goals as goal
-
-pub invariant_of-self : goal.invariant_of-self
-invariant_of-self c =
-    let a = c.self.inside in
-    let m : Mark = record { kind = c.kind_at.result; changed = c.is_other_actor.result; jumped = c.is_other_due.result } in (
-      kept_pushed a.actors.items c.push_actor.new.actors.items a.dues.items c.push_due.new.dues.items a.marks.items c.push_reserved.new.self.items m
-          (record { worker = c.args.step.worker; ticket = c.ticket_at.result }) a.actor c.due_at-due.result a.due c.self.invariant.0 c.is_other_actor.ensures c.is_other_due.ensures c.push_actor.ensures.items
-          c.push_due.ensures.items c.push_reserved.ensures.items c.after-self-inside.result c.after-self-inside.ensures,
-      omega (arith, c.self.invariant.1, c.push_reserved.ensures.len, c.push_reserved.ensures.capacity),
-      omega (arith, c.self.invariant.2, c.push_actor.ensures.len, c.push_actor.ensures.capacity),
-      omega (arith, c.self.invariant.3, c.push_due.ensures.len, c.push_due.ensures.capacity),
-    )
 
 pub returns-clause-steps : goal.returns-clause-steps
 returns-clause-steps c =
-    let a = c.self.inside in
-    let m : Mark = record { kind = c.kind_at.result; changed = c.is_other_actor.result; jumped = c.is_other_due.result } in
     let event : event_of c.kind_at.result c.ticket_at.result c.due_at-due.result ≡ c.args.step.event =
-    (λ i. event_of (c.kind_at.ensures i) (c.ticket_at.ensures i) (c.due_at-due.ensures i)) ∙ event_kept c.args.step.event a.due in
-    read_pushed a.actors.items c.push_actor.new.actors.items a.dues.items c.push_due.new.dues.items a.marks.items c.push_reserved.new.self.items m
-    (record { worker = c.args.step.worker; ticket = c.ticket_at.result }) a.actor c.due_at-due.result a.due c.self.invariant.0 c.is_other_actor.ensures c.is_other_due.ensures c.push_actor.ensures.items
-    c.push_due.ensures.items c.push_reserved.ensures.items
-    ∙ (λ i. (c.self.view_is i).steps ++ (record { worker = c.args.step.worker; event = event i }) ∷ [])
+    (λ i. event_of (c.kind_at.ensures i) (c.ticket_at.ensures i) (c.due_at-due.ensures i)) ∙ event_kept c.args.step.event c.self.inside.due in
+    c.mark.ensures.steps ∙ (λ i. c.args.self.now.steps ++ (record { worker = c.args.step.worker; event = event i }) ∷ [])
