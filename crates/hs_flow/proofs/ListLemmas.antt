@@ -20,13 +20,12 @@ on_err (Err e) P p = p
 pub list-read : {T : Type 0} (lists : List (List T)) (k : ℕ) (xs : List T) → slice_get lists k ≡ Some xs → list_of lists k ≡ xs
 list-read {T} lists k xs at = ap (λ (o : Option (List T)). unwrap_or o []) at
 
--- one more empty list
-pub mapped-push : {T : Type 0} (rows : List (Vec T Global)) (v : Vec T Global) → v.items ≡ [] → ((k : ℕ) → list_of (map (λ (r : Vec T Global). r.items) rows) k ≡ [])
-    → (k : ℕ) → list_of (map (λ (r : Vec T Global). r.items) (rows ++ v ∷ [])) k ≡ []
-mapped-push [] v e so_far zero = e
-mapped-push [] v e so_far (suc k) = refl
-mapped-push (r ∷ rows) v e so_far zero = so_far zero
-mapped-push (r ∷ rows) v e so_far (suc k) = mapped-push rows v e (λ j. so_far (suc j)) k
+-- one more empty list, among rows that are read so
+pub mapped-push : {T R : Type 0} (items : R → List T) (rows : List R) (v : R) → items v ≡ [] → ((k : ℕ) → list_of (map items rows) k ≡ []) → (k : ℕ) → list_of (map items (rows ++ v ∷ [])) k ≡ []
+mapped-push items [] v e so_far zero = e
+mapped-push items [] v e so_far (suc k) = refl
+mapped-push items (r ∷ rows) v e so_far zero = so_far zero
+mapped-push items (r ∷ rows) v e so_far (suc k) = mapped-push items rows v e (λ j. so_far (suc j)) k
 
 -- a list in the place of another
 list-set : {T : Type 0} (lists : List (List T)) (n : ℕ) (xs : List T) → n < length lists → (k : ℕ) → list_of (set lists n xs) k ≡ cond (nat_eq k n) xs (list_of lists k)
@@ -40,43 +39,40 @@ list-set {T} lists n xs lt k = by (nat_eq k n) refl
     by false e = unwrap_or-slice_get (set lists n xs) k [] ∙ (get_or-set_other lists n k xs [] (other e) ∙ sym (unwrap_or-slice_get lists k []))
 
 -- the row of this number is replaced, among the rows as which lists are kept
-module _ {T : Type 0} (rows : List (Vec T Global)) (n : ℕ) (old new : Vec T Global) (lists : List (List T)) (view : map (λ (r : Vec T Global). r.items) rows ≡ lists)
+module _ {T R : Type 0} (items : R → List T) (rows : List R) (n : ℕ) (old new : R) (lists : List (List T)) (view : map items rows ≡ lists)
     (lt : n < length lists) (is : old ≡ get_or rows n old) where
-  abbrev items : Vec T Global → List T
-  items r = r.items
-
   within : n < length rows
   within = omega (arith, lt, ap (λ (ls : List (List T)). length ls) view, length-map rows items)
 
-  pub row_is : list_of lists n ≡ old.items
+  pub row_is : list_of lists n ≡ items old
   row_is =
       ap (λ (ls : List (List T)). list_of ls n) (sym view)
       ∙ (ap (λ (o : Option (List T)). unwrap_or o []) (slice_get-map items rows n ∙ ap (option_map items) (slice_get-read rows n old within (sym is))))
 
-  pub row_set : (k : ℕ) → list_of (map items (set rows n new)) k ≡ cond (nat_eq k n) new.items (list_of lists k)
-  row_set k = ap (λ (ls : List (List T)). list_of ls k) (map-set items rows n new ∙ ap (λ (ls : List (List T)). set ls n new.items) view) ∙ list-set lists n new.items lt k
+  pub row_set : (k : ℕ) → list_of (map items (set rows n new)) k ≡ cond (nat_eq k n) (items new) (list_of lists k)
+  row_set k = ap (λ (ls : List (List T)). list_of ls k) (map-set items rows n new ∙ ap (λ (ls : List (List T)). set ls n (items new)) view) ∙ list-set lists n (items new) lt k
 
-  pub row_pushed : (x : T) → new.items ≡ old.items ++ x ∷ [] → IsPushed n x lists (map items (set rows n new))
+  pub row_pushed : (x : T) → items new ≡ items old ++ x ∷ [] → IsPushed n x lists (map items (set rows n new))
   row_pushed x pushed = record {
     len = length-map (set rows n new) items ∙ (length-set rows n new ∙ (sym (length-map rows items) ∙ ap (λ (ls : List (List T)). length ls) view));
     each = λ k. row_set k ∙ by k (nat_eq k n) refl;
   }
     where
-      by : (k : ℕ) (t : Bool) → nat_eq k n ≡ t → cond t new.items (list_of lists k) ≡ cond t (list_of lists k ++ x ∷ []) (list_of lists k)
+      by : (k : ℕ) (t : Bool) → nat_eq k n ≡ t → cond t (items new) (list_of lists k) ≡ cond t (list_of lists k ++ x ∷ []) (list_of lists k)
       by k true e = pushed ∙ ap (λ (xs : List T). xs ++ x ∷ []) (sym (ap (λ (j : ℕ). list_of lists j) (eqb-true k n e) ∙ row_is))
       by k false e = refl
 
-  pub row_same : new.items ≡ old.items → map items (set rows n new) ≡ lists
+  pub row_same : items new ≡ items old → map items (set rows n new) ≡ lists
   row_same same = map-set_same items rows n new old (same ∙ ap items is) ∙ view
 
 -- a flag of the row is set
 module _ (rows : List (Vec Bool Global)) (n flag : ℕ) (old new : Vec Bool Global) (lists : List (List Bool)) (view : map (λ (r : Vec Bool Global). r.items) rows ≡ lists)
     (lt : n < length lists) (is : old ≡ get_or rows n old) (step : (j : ℕ) → (slice_get new.items j ≡ Some true) ↔ ((slice_get old.items j ≡ Some true) ⊎ (j ≡ flag))) where
   pub row_flags : (k j : ℕ) → HasFlag (map (λ (r : Vec Bool Global). r.items) (set rows n new)) k j ↔ (HasFlag lists k j ⊎ ((k ≡ n) × (j ≡ flag)))
-  row_flags k j = subst (λ (xs : List Bool). (slice_get xs j ≡ Some true) ↔ (HasFlag lists k j ⊎ ((k ≡ n) × (j ≡ flag)))) (sym (row_set rows n old new lists view lt is k)) (by (nat_eq k n) refl)
+  row_flags k j = subst (λ (xs : List Bool). (slice_get xs j ≡ Some true) ↔ (HasFlag lists k j ⊎ ((k ≡ n) × (j ≡ flag)))) (sym (row_set (λ (r : Vec Bool Global). r.items) rows n old new lists view lt is k)) (by (nat_eq k n) refl)
     where
       here : nat_eq k n ≡ true → list_of lists k ≡ old.items
-      here e = ap (λ (m : ℕ). list_of lists m) (eqb-true k n e) ∙ row_is rows n old new lists view lt is
+      here e = ap (λ (m : ℕ). list_of lists m) (eqb-true k n e) ∙ row_is (λ (r : Vec Bool Global). r.items) rows n old new lists view lt is
 
       by : (t : Bool) → nat_eq k n ≡ t → (slice_get (cond t new.items (list_of lists k)) j ≡ Some true) ↔ (HasFlag lists k j ⊎ ((k ≡ n) × (j ≡ flag)))
       by true e = (

@@ -6,7 +6,7 @@ ghost use Rattle.hs_scheme.specs.Points.{NonterminalWithin};
 ghost use Rattle.hs_scheme.specs.Dependents.{HeadReads, IsDependent};
 ghost use Rattle.hs_flow.specs.Dependents.{HasDependents, AddsTo, HasPoint};
 
-use crate::lists::Lists;
+use crate::short_lists::ShortLists;
 use hs_scheme::{FlowPair, FlowTable, Head, OutOfMemory, Points, Problem};
 use std::alloc::Global;
 use std::marker::Model;
@@ -18,7 +18,7 @@ use std::marker::Model;
 /// Contracts see the list of the points' lists.
 #[derive(Debug, Drop)]
 pub struct Dependents {
-    lists: Lists<u32>,
+    lists: ShortLists,
 }
 
 impl Model for Dependents {
@@ -30,7 +30,7 @@ impl Model for Dependents {
 }
 
 /// Adds the point to the list of this number, unless it is the last there.
-fn add_once(lists: &mut Lists<u32>, number: u32, point: u32) -> Result<(), OutOfMemory>
+fn add_once(lists: &mut ShortLists, number: u32, point: u32) -> Result<(), OutOfMemory>
     requires { number < length lists.old }
     ensures { OnOk result (AddsTo (λ p. p ≡ number) point lists.old lists.new) }
 {
@@ -43,7 +43,7 @@ fn add_once(lists: &mut Lists<u32>, number: u32, point: u32) -> Result<(), OutOf
 }
 
 /// Adds the point to the lists of its arguments.
-fn add_to_arguments(lists: &mut Lists<u32>, args: &[u32], point: u32) -> Result<(), OutOfMemory>
+fn add_to_arguments(lists: &mut ShortLists, args: &[u32], point: u32) -> Result<(), OutOfMemory>
     requires { All (λ a. a < length lists.old) args.now }
     ensures { OnOk result (AddsTo (Contains args.now) point lists.old lists.new) }
 {
@@ -54,7 +54,7 @@ fn add_to_arguments(lists: &mut Lists<u32>, args: &[u32], point: u32) -> Result<
 }
 
 /// Adds the point to the lists of the points of these flow pairs.
-fn add_to_flow(lists: &mut Lists<u32>, flow: &[FlowPair], point: u32) -> Result<(), OutOfMemory>
+fn add_to_flow(lists: &mut ShortLists, flow: &[FlowPair], point: u32) -> Result<(), OutOfMemory>
     requires { All (λ (f : FlowPair). f.point < length lists.old) flow.now }
     ensures { OnOk result (AddsTo (HasPoint flow.now) point lists.old lists.new) }
 {
@@ -66,7 +66,7 @@ fn add_to_flow(lists: &mut Lists<u32>, flow: &[FlowPair], point: u32) -> Result<
 
 /// Adds the point to the lists of those from which the types of its head come.
 fn add_to_head(
-    lists: &mut Lists<u32>,
+    lists: &mut ShortLists,
     points: &Points,
     flow: &FlowTable,
     rule: u32,
@@ -88,7 +88,7 @@ fn add_to_head(
 
 /// Adds the point to the lists of all those of which it is a dependent.
 fn add_point(
-    lists: &mut Lists<u32>,
+    lists: &mut ShortLists,
     points: &Points,
     flow: &FlowTable,
     point: u32,
@@ -113,7 +113,7 @@ pub(crate) fn lists_of(
     requires { All (λ (f : FlowPair). f.point < length points.now.points) flow.now.pairs }
     ensures { IfOk result (HasDependents points.now flow.now.pairs) }
 {
-    let mut lists = Lists::empty(alloc, points.count() as usize)?;
+    let mut lists = ShortLists::empty(alloc, points.count() as usize)?;
     for point in 0..points.count() {
         add_point(&mut lists, points, flow, point)?;
     }

@@ -7,6 +7,7 @@ mod dependents;
 mod fault;
 mod lists;
 mod pairs;
+mod short_lists;
 mod table;
 mod users;
 

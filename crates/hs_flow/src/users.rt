@@ -5,7 +5,7 @@ ghost use Rattle.std.specs.Prelude.{length, sum, OnOk, IfOk, if◌then◌else◌
 ghost use Rattle.hs_scheme.specs.Parameters.{IsParameter};
 ghost use Rattle.hs_flow.specs.Users.{users_of, IsUserMap};
 
-use crate::lists::Lists;
+use crate::short_lists::ShortLists;
 use hs_scheme::{Head, OutOfMemory, Parameters, Points};
 use std::alloc::Global;
 
@@ -13,7 +13,7 @@ use std::alloc::Global;
 #[derive(Drop)]
 pub(crate) struct Users {
     params: Parameters,
-    lists: Lists<u32>,
+    lists: ShortLists,
 }
 
 impl Users {
@@ -40,7 +40,7 @@ impl Users {
         ensures { IfOk result (IsUserMap points.now.points) }
     {
         let params = points.params().copy(alloc)?;
-        let lists = Lists::empty(alloc, params.count() as usize)?;
+        let lists = ShortLists::empty(alloc, params.count() as usize)?;
         let mut users = Users { params, lists };
         for point in 0..points.count() {
             if let Head::Var(param) = points.head_of(point) {

@@ -13,9 +13,9 @@ returns-clause-flags c =
 pub returns-clause-new : goal.returns-clause-new
 returns-clause-new c =
     subst (λ (xs : List Bool). IfOk c.set_in.result (TellsNew (slice_get xs c.args.flag ≡ Some true)))
-    (sym (row_is c.self.inside.rows.items c.args.number c.index_mut-row.result.now c.set_in.new.row c.args.self.now c.self.view_is c.requires.number c.index_mut-row.ensures.value)) c.set_in.ensures.new
+    (sym (row_is (λ r. r.items) c.self.inside.rows.items c.args.number c.index_mut-row.result.now c.set_in.new.row c.args.self.now c.self.view_is c.requires.number c.index_mut-row.ensures.value)) c.set_in.ensures.new
 
 pub returns-clause-same : goal.returns-clause-same
 returns-clause-same c =
-    on_err_weaker c.set_in.result (row_same c.self.inside.rows.items c.args.number c.index_mut-row.result.now c.set_in.new.row c.args.self.now c.self.view_is c.requires.number c.index_mut-row.ensures.value)
+    on_err_weaker c.set_in.result (row_same (λ r. r.items) c.self.inside.rows.items c.args.number c.index_mut-row.result.now c.set_in.new.row c.args.self.now c.self.view_is c.requires.number c.index_mut-row.ensures.value)
     c.set_in.ensures.same

@@ -8,5 +8,5 @@ pub loop-preserved : goal.loop-preserved
 loop-preserved g c = record {
   long = omega (arith, ap (λ (rs : List (Vec g.row.T.Denot Global)). length rs) c.in_ok-push.ensures.items, length-append c.loop.rows.items (c.new.result ∷ []), c.loop.invariant.long);
   empty = subst (λ (rs : List (Vec g.row.T.Denot Global)). (k : ℕ) → list_of (map (λ (r : Vec g.row.T.Denot Global). r.items) rs) k ≡ []) (sym c.in_ok-push.ensures.items)
-      (mapped-push c.loop.rows.items c.new.result c.new.ensures.items c.loop.invariant.empty);
+      (mapped-push (λ (r : Vec g.row.T.Denot Global). r.items) c.loop.rows.items c.new.result c.new.ensures.items c.loop.invariant.empty);
 }
