@@ -28,6 +28,7 @@ use Rattle.hs_scheme.specs.declared.term.Head.TheVariants.{Tm}
 use Rattle.hs_scheme.specs.Points.{PointData, PointsData, point_at, points_of}
 use Rattle.hs_checker.specs.declared.flow.Kind.{Kind}
 use Rattle.hs_checker.specs.declared.flow.Kind.TheVariants.{Flow, Heads}
+use Rattle.hs_checker.specs.Order.{IsStartBy}
 use Rattle.hs_checker.specs.Gaps.{held, IsDemanded, IsOfKind}
 use Rattle.hs_checker.specs.Passes.{base_of, PassesArgument, PassesFlow, PassesHead, PassesBy, HoldsBy, LacksBy, DemandsAt}
 use Rattle.hs_checker.proofs.Between.{filter_passes}
@@ -40,6 +41,21 @@ points_rise heads t up i j d le lt = elim (eq-or-lt_of_le le) [
   | inl same ↦ let e : ordering_index (nat_cmp (get_or heads i d).point t) ≡ ordering_index (nat_cmp (get_or heads j d).point t) = ap (λ k. ordering_index (nat_cmp (get_or heads k d).point t)) same in omega arith
   | inr less ↦ point_le t (get_or heads i d) (get_or heads j d) (up i j d less lt)
 ]
+
+point_up : (a b : HeadPair) → head_cmp a b ≡ Less → a.point ≤ b.point
+point_up a b h = grind (arith, nat_tests)
+
+-- a start that is known to be one for a lesser point, where the next pair is of no lesser point
+pub start_kept : (heads : List HeadPair) (t n : ℕ) → IsAscending head_cmp heads → n ≤ length heads → ((k : ℕ) (d : HeadPair) → k < n → (get_or heads k d).point < t)
+    → ((d : HeadPair) → n < length heads → t ≤ (get_or heads n d).point) → IsStartBy (λ (h : HeadPair). h.point) heads t n
+start_kept heads t n up within before next = record {
+  within = within;
+  before = before;
+  behind = λ k d le lt. elim (eq-or-lt_of_le le) [
+    | inl same ↦ subst (λ j. t ≤ (get_or heads j d).point) same (next d (omega arith))
+    | inr less ↦ omega (arith, next d (omega arith), point_up (get_or heads n d) (get_or heads k d) (up n k d less lt))
+  ];
+}
 
 pub nat_equal : (x y : ℕ) → nat_cmp x y ≡ Equal → x ≡ y
 nat_equal x y h = grind (arith, nat_tests)
@@ -96,6 +112,10 @@ pub record Leads (pairs : List FlowPair) (heads : List HeadPair) (b : Base) : Ty
 
 pub leads_of : (items : List FlowPair) (heads : List HeadPair) (b : Base) (k : ℕ) (d : FlowPair) → k < length items → Contains heads (record { point = (get_or items k d).point; rule = b.rule; given = b.given }) → Leads items heads b
 leads_of items heads b k d lt becomes = record { pair = get_or items k d; there = Contains-get_or items k d lt; becomes = becomes }
+
+-- more pairs lead to no less
+pub leads_on : (items row : List FlowPair) (heads : List HeadPair) (b : Base) → ((f : FlowPair) → Contains items f → Contains row f) → Leads items heads b → Leads row heads b
+leads_on items row heads b part l = record { pair = l.pair; there = part l.pair l.there; becomes = l.becomes }
 
 pub leads_more : (items : List FlowPair) (heads : List HeadPair) (k : ℕ) (d : FlowPair) (b : Base) → k < length items → Leads (take (k + 1) items) heads b
     → Leads (take k items) heads b ⊎ Contains heads (record { point = (get_or items k d).point; rule = b.rule; given = b.given })

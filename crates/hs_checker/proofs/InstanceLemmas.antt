@@ -14,9 +14,9 @@ use Rattle.hs_table.specs.Tables.{IsInstance}
 use Rattle.hs_table_laws.proofs.Places.{some_same, none_in, here, later, uncons, member_at}
 use Rattle.std.proofs.Math.ListN.{length-set, length-replicate}
 use Rattle.std.proofs.lemmas.List.{get_or-set_same}
-use Rattle.std.proofs.lemmas.List.Elements.{Contains-get_or}
+use Rattle.std.proofs.lemmas.List.Elements.{Contains-get_or, Contains-append_cases}
 use Rattle.hs_table_laws.proofs.Members.{from_map}
-use Rattle.hs_table_plain.specs.Enumeration.{through, opening, head_types, retyped, child_type, child_types, types_in, body_type, all_at}
+use Rattle.hs_table_plain.specs.Enumeration.{through, opening, head_types, retyped, child_type, child_types, types_in, terminal_types, body_type, all_at}
 use Rattle.hs_checker.proofs.TypeLemmas.{pushed_is, body_says}
 use Rattle.hs_table_plain.proofs.Members.{from_flat_map, into_flat_map, next_member, in_pushed}
 use Rattle.hs_table_plain.proofs.ChoiceLemmas.{choose_all, through_arrows, split_from, at_place, from_all}
@@ -265,6 +265,15 @@ pub barren_unfit : (p : ProblemData) (E : List EntryData) (us : List ℕ) (a q :
     → Contains (types_in p a q (next p.sorted.automaton.transitions q a)) t × FitsSets E us t → ⊥
 barren_unfit p E us a q t bare moves both =
     bare_unfit E us moves.0 q t bare moves.1.1 (subst (λ (o : Option (List ℕ)). Contains (types_in p a q o) t) moves.1.0 both.0) both.1
+
+-- so nothing of any of the states below n, where each has one
+pub barren_below : (p : ProblemData) (E : List EntryData) (us : List ℕ) (a n : ℕ) (t : TypeTree) → AreBare E us → ((q : ℕ) → q < n → HasMove p.sorted.automaton.transitions a (length us) q)
+    → Contains (terminal_types p a n) t × FitsSets E us t → ⊥
+barren_below p E us a zero t bare moves both = none_in t both.0
+barren_below p E us a (suc n) t bare moves both = elim (Contains-append_cases (terminal_types p a n) (types_in p a n (next p.sorted.automaton.transitions n a)) t both.0) [
+  | inl below ↦ barren_below p E us a n t bare (λ q lt. moves q (omega arith)) (below, both.1)
+  | inr own ↦ barren_unfit p E us a n t bare (moves n (omega arith)) (own, both.1)
+]
 
 pub bare_more : (E : List EntryData) (us : List ℕ) (k u : ℕ) → k < length us → u ≡ get_or us k u → AreBare E (take k us) → ((a : TypeTree) → HasTypeAt E u a → ⊥) → AreBare E (take (k + 1) us)
 bare_more E us k u lt read before own v a c has = elim ((next_member us k u v lt read).0 c) [

@@ -1,6 +1,7 @@
 pub mod Between
 pub mod GapLemmas
 pub mod Ordered
+pub mod Parts
 pub mod IndexLemmas
 pub mod StartLemmas
 pub mod Steps

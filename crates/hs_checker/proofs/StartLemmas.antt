@@ -13,7 +13,7 @@ use Rattle.std.proofs.lemmas.List.{get_or-take, get_or-drop, length-drop, length
 use Rattle.hs_scheme.specs.Flow.{IsAscending}
 use Rattle.hs_table.specs.Entries.{EntryData}
 use Rattle.hs_table_laws.proofs.Places.{none_in}
-use Rattle.hs_checker.specs.Order.{IsInIndexOrder, IsStartOfPoint, AreStartsOfPoints, IsStartBy, AreStartsBy, index_cmp}
+use Rattle.hs_checker.specs.Order.{IsInIndexOrder, IsStartOfPoint, AreStartsOfPoints, IsStartBy, AreStartsBy, IsEmptyAt, index_cmp}
 use Rattle.hs_checker.proofs.Between.{equal_of}
 use Rattle.hs_checker.proofs.IndexLemmas.{get_or-map, length-map}
 
@@ -115,6 +115,18 @@ module _ {X : Type 0} (at : X → ℕ) where
 
     pub part_exact : (x : X) → Contains (take (get_or starts (p + 1) 0 - get_or starts p 0) (drop (get_or starts p 0) xs)) x ↔ (Contains xs x × (at x ≡ p))
     part_exact = between_starts xs p (get_or starts p 0) (get_or starts (p + 1) 0) (are.each p 0 (omega arith)) (are.each (p + 1) 0 within)
+
+  -- of a point whose start is the next one's there are none
+  pub none_at : (xs : List X) (starts : List ℕ) (p : ℕ) → AreStartsBy at xs starts → IsEmptyAt starts p → (x : X) → Contains xs x → at x ≡ p → ⊥
+  none_at xs starts p are empty x c is =
+      let within : p + 1 < length starts = omega (arith, is, are.within x c) in
+      let same = empty within in
+      let k = c.0 in
+      let read : at (get_or xs k x) ≡ p = ap at c.2 ∙ is in
+      elim (cases_lt k (get_or starts p 0)) [
+        | inl below ↦ omega (arith, read, (are.each p 0 (omega arith)).before k x below)
+        | inr le ↦ omega (arith, read, (are.each (p + 1) 0 within).behind k x (omega (arith, same)) c.1)
+      ]
 
 -- the entries of a point, by the starts of an index
 module _ (rows : List (Bor EntryData)) (starts : List ℕ) (p : ℕ) (are : AreStartsOfPoints (entries rows) starts) (within : p + 1 < length starts) where

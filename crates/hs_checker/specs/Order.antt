@@ -1,5 +1,5 @@
 -- The order of an index: by point, then by type, then as entries are ordered; and where its points begin, and those of head pairs.
-use Rattle.std.specs.Prelude.{ℕ, ◌+◌, ◌<◌, ◌≤◌, List, length, slice_index_or, Contains}
+use Rattle.std.specs.Prelude.{◌≡◌, ℕ, ◌+◌, ◌<◌, ◌≤◌, List, length, slice_index_or, Contains}
 use Rattle.std.specs.List.Sorted.{IsSorted}
 use Rattle.std.specs.Ordering.{nat_cmp, ordering_then}
 use Rattle.std.specs.declared.cmp.Ordering.{Ordering}
@@ -36,3 +36,7 @@ AreStartsOfPoints es starts = AreStartsBy (λ (e : EntryData). e.point) es start
 
 abbrev pub AreHeadStarts : List HeadPair → List ℕ → Type 0
 AreHeadStarts heads starts = AreStartsBy (λ (h : HeadPair). h.point) heads starts
+
+-- no item is of the point, by the starts
+abbrev pub IsEmptyAt : List ℕ → ℕ → Type 0
+IsEmptyAt starts point = point + 1 < length starts → slice_index_or starts point 0 ≡ slice_index_or starts (point + 1) 0

@@ -48,3 +48,11 @@ pub record DemandsAt (p : ProblemData) (point : ℕ) (pair : Pair) : Type 0 wher
   pub at : slice_get p.points.points point ≡ Some of
   pub is_base : IsBase (held p) of.rule of.head by.rule by.given
   pub passes : PassesBy p point of.args by pair
+
+-- the base with n arguments more is among the head pairs
+abbrev pub HasTaken : List HeadPair → HeadPair → ℕ → Type 0
+HasTaken own b n = (h : HeadPair) × (Contains own h × ((h.rule ≡ b.rule) × (h.given ≡ b.given + n)))
+
+-- the argument u of this number is the base's parameter
+abbrev pub HasPassed : List FlowPair → HeadPair → ℕ → ℕ → Type 0
+HasPassed pairs b number u = (f : FlowPair) × (Contains pairs f × ((f.rule ≡ b.rule) × ((f.param ≡ b.given + number) × (f.point ≡ u))))

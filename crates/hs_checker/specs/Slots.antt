@@ -4,10 +4,11 @@
 --     AreBare E us        no argument has an entry
 --     Says E us e         the entry's type is a state, and the type that it says of its nonterminal fits
 --     IsCountAt p E u n   n is the number of instances at the point
-use Rattle.std.specs.Prelude.{◌≡◌, ◌≢◌, ◌↔◌, ℕ, ◌≤◌, List, [], ◌∷◌, length, Some, None, Contains, AllPairs}
+use Rattle.std.specs.Prelude.{◌≡◌, ◌≢◌, ◌↔◌, ℕ, ◌<◌, ◌≤◌, Bool, true, List, [], ◌∷◌, length, slice_get, Some, None, Contains, AllPairs}
 use Rattle.hs_scheme.specs.Tree.{node, none, more, children}
 use Rattle.hs_table.specs.Types.{TypeTree, state, arrows}
 use Rattle.hs_table.specs.Tables.{IsInstance}
+use Rattle.hs_table.specs.Follows.{rank_of}
 use Rattle.hs_scheme.specs.declared.term.Head.{Head}
 use Rattle.hs_scheme.specs.Transition.{TransitionData}
 use Rattle.hs_scheme.specs.Automaton.{next}
@@ -36,6 +37,14 @@ AreBare E us = (u : ℕ) (a : TypeTree) → Contains us u → HasTypeAt E u a �
 -- in state q the terminal a has a transition, with at most n children
 abbrev pub HasMove : List TransitionData → ℕ → ℕ → ℕ → Type 0
 HasMove ts a n q = (to : List ℕ) × ((next ts q a ≡ Some to) × (length to ≤ n))
+
+-- the automaton is complete at the terminal: each state has a transition for it, with no more children than its rank
+abbrev pub IsComplete : ProblemData → ℕ → Type 0
+IsComplete p a = (q : ℕ) → q < p.sorted.automaton.states → HasMove p.sorted.automaton.transitions a (rank_of p a) q
+
+-- so at each terminal that is marked
+abbrev pub AreComplete : ProblemData → List Bool → Type 0
+AreComplete p marks = (a : ℕ) → slice_get marks a ≡ Some true → IsComplete p a
 
 pub record Says (E : List EntryData) (us : List ℕ) (e : EntryData) : Type 0 where
   pub q : ℕ

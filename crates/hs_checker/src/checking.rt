@@ -7,7 +7,7 @@ ghost use Rattle.hs_table.specs.Entries.{EntryData};
 ghost use Rattle.hs_table.specs.Follows.{Follows};
 ghost use Rattle.hs_table.specs.Tables.{IsClosedTable, HasStart};
 ghost use Rattle.hs_verdict.specs.Premises.{HasClosedFlow};
-ghost use Rattle.hs_checker.specs.Slots.{AreInShape, IsCountAt};
+ghost use Rattle.hs_checker.specs.Slots.{AreInShape, IsCountAt, AreComplete};
 ghost use Rattle.hs_checker.specs.Checked.{IsCount, IsFault, IsGap, fault_of};
 
 use crate::bodies::count_at_rule;
@@ -16,6 +16,7 @@ use crate::flow::first_gap;
 use crate::index::Index;
 use crate::instances::instances;
 use crate::missing::missing_at;
+use crate::terminals::complete_terminals;
 use hs_scheme::{Head, Pair, Problem};
 use hs_table::{Entry, Shape};
 use hs_verdict::is_sorted_problem;
@@ -67,9 +68,16 @@ fn has_start(problem: &Problem, table: &[Entry]) -> bool
 
 /// The number of instances at the point, where all that follows there is in the index. Those at a
 /// nonterminal are counted by the entries of its body.
-fn count_at(alloc: Global, problem: &Problem, index: &Index, point: u32) -> Result<u64, CheckFault>
+fn count_at(
+    alloc: Global,
+    problem: &Problem,
+    complete: &[bool],
+    index: &Index,
+    point: u32,
+) -> Result<u64, CheckFault>
     requires point { point < length problem.now.points.points }
     requires shape { AreInShape problem.now index.now }
+    requires complete { AreComplete problem.now complete.now }
     ensures closed { OnOk result ((e : EntryData) → e.point ≡ point → Follows problem.now index.now e
         → Contains index.now e) }
     ensures count { IfOk result (IsCountAt problem.now index.now point) }
@@ -78,7 +86,7 @@ fn count_at(alloc: Global, problem: &Problem, index: &Index, point: u32) -> Resu
     if let Head::Nt(nonterminal) = problem.points.head_of(point) {
         return count_at_rule(alloc, problem, index, point, nonterminal);
     }
-    let types = instances(alloc, problem, index, point)?;
+    let types = instances(alloc, problem, complete, index, point)?;
     match missing_at(alloc, problem, index, point, types.as_slice())? {
         Some(entry) => Err(CheckFault::Missing { entry }),
         None => Ok(types.len() as u64),
@@ -92,9 +100,10 @@ fn count_closed(alloc: Global, problem: &Problem, index: &Index) -> Result<u64, 
     ensures count { IfOk result (IsCount problem.now index.now) }
     ensures missing { IfErr result (IsGap problem.now index.now) }
 {
+    let complete = complete_terminals(alloc, problem)?;
     let mut count: u64 = 0;
     for point in 0..problem.points.count() {
-        let added = count_at(alloc, problem, index, point)?;
+        let added = count_at(alloc, problem, complete.as_slice(), index, point)?;
         count = count.saturating_add(added);
     }
     Ok(count)
@@ -112,8 +121,9 @@ fn count_closed(alloc: Global, problem: &Problem, index: &Index) -> Result<u64, 
 /// Time is in proportion to the meetings: of points with what their heads may become, of the points of
 /// terminals with the states, and of the partial results at each instance with the entries that they
 /// meet, with the logarithms of the numbers of pairs, types and entries. Memory is for a reference to
-/// each entry, a number for each point, and at one point a mark for each state, the types and what
-/// follows by one of them. Types are compared as trees, and calls recurse as deep as they.
+/// each entry, a number for each point, a mark for each terminal, and at one point a mark for each
+/// state, the types and what follows by one of them. Types are compared as trees, and calls recurse as
+/// deep as they.
 pub fn check(alloc: Global, problem: &Problem, table: &[Entry]) -> Result<u64, CheckFault>
     ensures closed { OnOk result (HasClosedFlow problem.now
         × (IsClosedTable problem.now table.now × (HasStart problem.now table.now → ⊥))) }

@@ -13,7 +13,8 @@ ghost use Rattle.hs_checker.specs.declared.flow.Kind.TheVariants.{Flow as OfFlow
 ghost use Rattle.hs_checker.specs.Gaps.{held, IsOfKind, HoldsAll, Lacks, IsFirstLacking};
 ghost use Rattle.hs_checker.specs.Passes.{base_of, PassesArgument, PassesFlow, PassesHead, HoldsBy, LacksBy, DemandsAt, DemandsNone};
 
-use crate::head_pairs::{HeadPairs, is_head_at};
+use crate::distances::left_at_one_distance;
+use crate::head_pairs::{HeadPairs, is_head_at, not_in_turn};
 use hs_scheme::{FlowPair, FlowTable, Head, HeadPair, OutOfMemory, Pair, Problem, Rule};
 use std::alloc::Global;
 
@@ -110,6 +111,13 @@ fn flow_place(
     }
 }
 
+/// The flow pairs of all parameters.
+fn all_pairs(problem: &Problem) -> &[FlowPair]
+    ensures { result.now ≡ problem.now.flow.pairs }
+{
+    problem.flow.pairs.as_slice()
+}
+
 /// The first flow pair that the argument of this number demands by one of the bases and that isn't
 /// held, or the place where the last that is held was found.
 fn flow_gap_by(
@@ -126,7 +134,7 @@ fn flow_gap_by(
         × (PassesArgument problem.now (base_of h) number arg f × (Contains problem.now.flow.pairs f → ⊥)))) }
 {
     let mut place = guess;
-    for head in bases {
+    for head in left_at_one_distance(all_pairs(problem), bases, number, arg) {
         let base = Base {
             rule: head.rule,
             given: head.given,
@@ -231,8 +239,9 @@ fn head_gap(
         × (PassesHead problem.now point args.now (base_of b) h × (Contains problem.now.flow.heads h → ⊥)))) }
 {
     let own = heads.at_point(point);
-    let mut place = *guess;
-    for head in bases {
+    let rest = not_in_turn(own, *guess, bases, args.len());
+    let mut place = guess.saturating_add(bases.len()).saturating_sub(rest.len());
+    for head in rest {
         let base = Base {
             rule: head.rule,
             given: head.given,
@@ -294,7 +303,7 @@ fn gap_through(
         × LacksBy problem.now kind point args.now b pair)) }
 {
     let mut guess = 0;
-    for pair in problem.flow.flow_of(rule, parameter) {
+    for pair in heads.from_first_headed(problem.flow.flow_of(rule, parameter)) {
         let bases = heads.at_point(pair.point);
         if !bases.is_empty() {
             match gap_by(problem, heads, kind, point, args, bases, &mut guess) {

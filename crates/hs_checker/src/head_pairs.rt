@@ -1,11 +1,14 @@
 //! The head pairs of a flow by their points.
 
-ghost use Rattle.std.specs.Prelude.{◌≡◌, ◌↔◌, ◌<◌, Contains, IfOk, IsTrue, MatchOption};
+ghost use Rattle.std.specs.Prelude.{◌≡◌, ◌↔◌, ◌⊎◌, ◌+◌, ◌<◌, ◌≤◌, ℕ, Contains, IfOk, IsTrue, MatchOption, length, slice_index_or};
+ghost use Rattle.hs_scheme.specs.declared.flow.FlowPair.{FlowPair as AnyFlow};
 ghost use Rattle.hs_scheme.specs.declared.flow.HeadPair.{HeadPair as AnyHead};
 ghost use Rattle.hs_scheme.specs.Flow.{IsAscending, head_cmp};
-ghost use Rattle.hs_checker.specs.Order.{AreHeadStarts};
+ghost use Rattle.hs_checker.specs.Order.{AreHeadStarts, IsStartBy};
+ghost use Rattle.hs_checker.specs.Passes.{HasTaken};
 
-use hs_scheme::{HeadPair, OutOfMemory, Problem};
+use crate::starts::from_first_with;
+use hs_scheme::{FlowPair, HeadPair, OutOfMemory, Problem};
 use std::alloc::Global;
 use std::marker::Model;
 
@@ -36,6 +39,30 @@ impl<'a> Model for HeadPairs<'a> {
     } };
 }
 
+/// Whether the pairs from this place on are of no lesser points than this one.
+fn are_behind(pairs: &[HeadPair], place: usize, point: u32) -> bool
+    ensures { IsTrue result → (d : AnyHead) → place < length pairs.now
+        → point ≤ (slice_index_or pairs.now place d).point }
+{
+    match pairs.get(place) {
+        None => true,
+        Some(pair) => pair.point >= point,
+    }
+}
+
+/// How many of the pairs, which are in order, are of lesser points. So many are known to be.
+fn start_at(pairs: &[HeadPair], point: u32, known: usize) -> usize
+    requires ascending { IsAscending head_cmp pairs.now }
+    requires within { known ≤ length pairs.now }
+    requires before { (k : ℕ) (d : AnyHead) → k < known → (slice_index_or pairs.now k d).point < point }
+    ensures { IsStartBy (λ (h : AnyHead). h.point) pairs.now point result }
+{
+    if are_behind(pairs, known, point) {
+        return known;
+    }
+    pairs.partition_point(|pair| pair.point.cmp(&point).is_lt())
+}
+
 /// For each of so many points, and for one past them, how many of the pairs are of lesser points. The
 /// pairs are in order, and of these points.
 fn starts_of(alloc: Global, pairs: &[HeadPair], points: u32) -> Result<Vec<usize>, OutOfMemory>
@@ -44,8 +71,10 @@ fn starts_of(alloc: Global, pairs: &[HeadPair], points: u32) -> Result<Vec<usize
     ensures { IfOk result (λ starts. AreHeadStarts pairs.now starts.items) }
 {
     let mut starts = Vec::with_capacity(alloc, points as usize + 1)?;
+    let mut known = 0;
     for point in 0..points {
-        starts.push(pairs.partition_point(|pair| pair.point.cmp(&point).is_lt()))?;
+        known = start_at(pairs, point, known);
+        starts.push(known)?;
     }
     starts.push(pairs.len())?;
     Ok(starts)
@@ -59,6 +88,49 @@ pub(crate) fn is_head_at(pairs: &[HeadPair], place: usize, rule: u32, given: u32
         None => false,
         Some(pair) => pair.rule == rule && pair.given == given,
     }
+}
+
+/// Whether the pair is of the base with so many arguments more.
+fn is_of_base(pair: &HeadPair, base: &HeadPair, count: usize) -> bool
+    ensures { IsTrue result → (pair.now.rule ≡ base.now.rule) × (pair.now.given ≡ base.now.given + count) }
+{
+    if pair.rule != base.rule {
+        return false;
+    }
+    if pair.given < base.given {
+        return false;
+    }
+    (pair.given - base.given) as usize == count
+}
+
+/// Whether such a pair stands at this place.
+fn is_taken_at(pairs: &[HeadPair], place: usize, base: &HeadPair, count: usize) -> bool
+    ensures { IsTrue result → HasTaken pairs.now base.now count }
+{
+    match pairs.get(place) {
+        None => false,
+        Some(pair) => is_of_base(pair, base, count),
+    }
+}
+
+/// The bases from the first on for which the pair of the base with so many arguments more doesn't
+/// stand at its turn, from this place on.
+pub(crate) fn not_in_turn<'b>(
+    pairs: &[HeadPair],
+    from: usize,
+    bases: &'b [HeadPair],
+    count: usize,
+) -> &'b [HeadPair]
+    ensures part { (b : AnyHead) → Contains result.now b → Contains bases.now b }
+    ensures rest { (b : AnyHead) → Contains bases.now b → Contains result.now b
+        ⊎ HasTaken pairs.now b count }
+{
+    for (number, base) in bases.iter().enumerate() {
+        if !is_taken_at(pairs, from.wrapping_add(number), base, count) {
+            return &bases[number..];
+        }
+    }
+    &bases[..0]
 }
 
 impl<'a> HeadPairs<'a> {
@@ -85,6 +157,16 @@ impl<'a> HeadPairs<'a> {
         let from = starts[place];
         let to = starts[place + 1];
         &self.pairs[from..to]
+    }
+
+    /// The pairs from the first on whose point becomes something. Takes constant time for each of
+    /// those before it.
+    pub(crate) fn from_first_headed<'b>(&self, row: &'b [FlowPair]) -> &'b [FlowPair]
+        ensures part { (f : AnyFlow) → Contains result.now f → Contains row.now f }
+        ensures rest { (f : AnyFlow) (h : AnyHead) → Contains row.now f → Contains self.now h
+            → h.point ≡ f.point → Contains result.now f }
+    {
+        from_first_with(self.starts.as_slice(), row)
     }
 
     /// The place of the pair among those of its point, if it is there. Takes time in the logarithm of

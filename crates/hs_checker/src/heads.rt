@@ -124,7 +124,7 @@ pub(crate) fn parameter_types(
         ↔ Contains (flat_map (plain.flow_type problem.now.flow.pairs rule parameter) index.now) t) }
 {
     let mut found = Vec::new(alloc);
-    for pair in problem.flow.flow_of(rule, parameter) {
+    for pair in index.from_first_entry(problem.flow.flow_of(rule, parameter)) {
         add_types_at(alloc, index, pair.point, &mut found)?;
     }
     Ok(found)

@@ -4,6 +4,7 @@ ghost use Rattle.std.specs.Prelude.{◌≡◌, ◌↔◌, ◌<◌, ◌≤◌, �
 ghost use Rattle.std.specs.Prelude.{Contains, IsTrue, IfOk, OnOk, MatchOption};
 ghost use Rattle.std.specs.Borrow.{Bor};
 ghost use Rattle.std.specs.declared.cmp.Ordering.TheVariants.{Equal};
+ghost use Rattle.hs_scheme.specs.declared.flow.FlowPair.{FlowPair as AnyFlow};
 ghost use Rattle.hs_scheme.specs.Flow.{IsAscending};
 ghost use Rattle.hs_table.specs.Types.{type_cmp};
 ghost use Rattle.hs_table.specs.Entries.{EntryData, InShape};
@@ -11,7 +12,8 @@ ghost use Rattle.hs_checker.specs.Order.{index_cmp, key_cmp, IsInIndexOrder, Are
 ghost use Rattle.hs_checker.specs.Slots.{HasTypeAt};
 
 use crate::shape::is_in_shape;
-use hs_scheme::{OutOfMemory, Problem};
+use crate::starts::from_first_with;
+use hs_scheme::{FlowPair, OutOfMemory, Problem};
 use hs_table::{Entry, Shape, Ty};
 use std::alloc::Global;
 use std::cmp::Ordering;
@@ -174,6 +176,16 @@ impl<'a> Index<'a> {
         let from = starts[place];
         let to = starts[place + 1];
         &rows[from..to]
+    }
+
+    /// The pairs from the first on at whose point there is an entry. Takes constant time for each of
+    /// those before it.
+    pub(crate) fn from_first_entry<'b>(&self, row: &'b [FlowPair]) -> &'b [FlowPair]
+        ensures part { (f : AnyFlow) → Contains result.now f → Contains row.now f }
+        ensures rest { (f : AnyFlow) (e : EntryData) → Contains row.now f → Contains self.now e
+            → e.point ≡ f.point → Contains result.now f }
+    {
+        from_first_with(self.starts.as_slice(), row)
     }
 
     /// The place of the entry among those at its point, if it is there. It is looked for at the place

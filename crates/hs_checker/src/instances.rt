@@ -6,7 +6,7 @@ ghost use Rattle.hs_scheme.specs.Points.{point_at};
 ghost use Rattle.hs_table.specs.Types as types;
 ghost use Rattle.hs_table.specs.Types.{TypeTree, IsSet};
 ghost use Rattle.hs_table.specs.Tables.{IsInstance};
-ghost use Rattle.hs_checker.specs.Slots.{HasTypesAt, FitsSets, AreInShape};
+ghost use Rattle.hs_checker.specs.Slots.{HasTypesAt, FitsSets, AreInShape, AreComplete};
 ghost use Rattle.hs_table_plain.specs.Enumeration as plain;
 
 use crate::heads::{in_order, parameter_types};
@@ -84,17 +84,19 @@ fn fitting(
 fn fitting_types(
     alloc: Global,
     problem: &Problem,
+    complete: &[bool],
     index: &Index,
     rule: u32,
     head: Head,
     args: &[u32],
 ) -> Result<Vec<Ty>, OutOfMemory>
-    requires { (f : ℕ) → head ≡ Head.Nt f → ⊥ }
+    requires head { (f : ℕ) → head ≡ Head.Nt f → ⊥ }
+    requires complete { AreComplete problem.now complete.now }
     ensures { IfOk result (λ found. (t : TypeTree) → Contains found.items t
         ↔ (Contains (plain.head_types problem.now index.now rule head) t × FitsSets index.now args.now t)) }
 {
     match head {
-        Head::Tm(terminal) => terminal_instances(alloc, problem, index, args, terminal),
+        Head::Tm(terminal) => terminal_instances(alloc, problem, complete, index, args, terminal),
         Head::Nt(_f) => unreachable!(),
         Head::Var(parameter) => {
             let types = parameter_types(alloc, problem, index, rule, parameter)?;
@@ -107,17 +109,19 @@ fn fitting_types(
 fn instances_of(
     alloc: Global,
     problem: &Problem,
+    complete: &[bool],
     index: &Index,
     rule: u32,
     head: Head,
     args: &[u32],
 ) -> Result<Vec<Ty>, OutOfMemory>
-    requires { (f : ℕ) → head ≡ Head.Nt f → ⊥ }
+    requires head { (f : ℕ) → head ≡ Head.Nt f → ⊥ }
+    requires complete { AreComplete problem.now complete.now }
     ensures set { IfOk result (λ found. IsSet found.items) }
     ensures each { IfOk result (λ found. (t : TypeTree) → Contains found.items t
         ↔ (Contains (plain.head_types problem.now index.now rule head) t × FitsSets index.now args.now t)) }
 {
-    let types = fitting_types(alloc, problem, index, rule, head, args)?;
+    let types = fitting_types(alloc, problem, complete, index, rule, head, args)?;
     in_order(types)
 }
 
@@ -125,12 +129,14 @@ fn instances_of(
 pub(crate) fn instances(
     alloc: Global,
     problem: &Problem,
+    complete: &[bool],
     index: &Index,
     point: u32,
 ) -> Result<Vec<Ty>, OutOfMemory>
     requires point { point < length problem.now.points.points }
     requires shape { AreInShape problem.now index.now }
     requires head { (f : ℕ) → (point_at problem.now.points point).head ≡ Head.Nt f → ⊥ }
+    requires complete { AreComplete problem.now complete.now }
     ensures set { IfOk result (λ found. IsSet found.items) }
     ensures each { IfOk result (λ found. (t : TypeTree) → Contains found.items t
         ↔ IsInstance problem.now index.now point t) }
@@ -138,5 +144,5 @@ pub(crate) fn instances(
     let rule = problem.points.rule_of(point);
     let head = problem.points.head_of(point);
     let args = problem.points.args_of(point);
-    instances_of(alloc, problem, index, rule, head, args)
+    instances_of(alloc, problem, complete, index, rule, head, args)
 }

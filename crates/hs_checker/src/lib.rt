@@ -7,6 +7,7 @@
 
 mod bodies;
 mod checking;
+mod distances;
 mod fault;
 mod flow;
 mod head_pairs;
@@ -16,6 +17,7 @@ mod instances;
 mod laws;
 mod missing;
 mod shape;
+mod starts;
 mod terminals;
 mod unions;
 

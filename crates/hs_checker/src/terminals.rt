@@ -5,7 +5,7 @@ ghost use Rattle.hs_scheme.specs.Automaton as automaton;
 ghost use Rattle.hs_table.specs.Types as types;
 ghost use Rattle.hs_table.specs.Types.{TypeTree};
 ghost use Rattle.hs_table.specs.Follows.{rank_of};
-ghost use Rattle.hs_checker.specs.Slots.{HasTypeAt, FitsSets, AreBare, HasMove};
+ghost use Rattle.hs_checker.specs.Slots.{HasTypeAt, FitsSets, AreBare, HasMove, IsComplete, AreComplete};
 ghost use Rattle.hs_table_plain.specs.Enumeration as plain;
 
 use crate::heads::{arrows, empty_sets, singleton, state};
@@ -194,6 +194,92 @@ fn is_marked(marks: &[bool], q: u32) -> bool
     }
 }
 
+/// The automaton of the problem.
+fn automaton_of(problem: &Problem) -> &Automaton
+    ensures { result.now ≡ problem.now.sorted.automaton }
+{
+    &problem.sorted.automaton
+}
+
+/// Whether each state has a transition for the terminal, with no more children than its rank.
+fn is_complete(alloc: Global, problem: &Problem, terminal: u32) -> Result<bool, OutOfMemory>
+    ensures { IfOk result (λ found. IsTrue found → IsComplete problem.now terminal) }
+{
+    let automaton = automaton_of(problem);
+    if automaton.with_terminal(terminal).len() < automaton.states() as usize {
+        return Ok(false);
+    }
+    let marks = moving(alloc, automaton, terminal, rank(problem, terminal) as usize)?;
+    for q in 0..states(problem) {
+        if !is_marked(marks.as_slice(), q) {
+            return Ok(false);
+        }
+    }
+    Ok(true)
+}
+
+/// Marks the terminal, where it is complete.
+fn mark_terminal(marks: &mut Vec<bool>, terminal: u32, complete: bool)
+    ensures { (a : ℕ) → slice_get marks.new.items a ≡ Some true
+        → slice_get marks.old.items a ≡ Some true ⊎ ((terminal ≡ a) × IsTrue complete) }
+{
+    if complete && (terminal as usize) < marks.len() {
+        marks[terminal as usize] = true;
+    }
+}
+
+/// Marks the terminal of the transition, where it is complete. Those of other states than the initial
+/// one are passed over.
+fn mark_complete(
+    alloc: Global,
+    problem: &Problem,
+    marks: &mut Vec<bool>,
+    transition: &Transition,
+) -> Result<(), OutOfMemory>
+    requires { AreComplete problem.now marks.old.items }
+    ensures { OnOk result (AreComplete problem.now marks.new.items) }
+{
+    if transition.from != 0 {
+        return Ok(());
+    }
+    let complete = is_complete(alloc, problem, transition.terminal)?;
+    mark_terminal(marks, transition.terminal, complete);
+    Ok(())
+}
+
+/// For each terminal whether it is complete: whether each state has a transition for it, with no more
+/// children than its rank.
+///
+/// Time is in the number of terminals and of transitions, and memory in that of terminals and states.
+pub(crate) fn complete_terminals(alloc: Global, problem: &Problem) -> Result<Vec<bool>, OutOfMemory>
+    ensures { IfOk result (λ marks. AreComplete problem.now marks.items) }
+{
+    let mut marks = vec![in alloc; false; problem.sorted.scheme.ranks.len()]?;
+    for transition in problem.sorted.automaton.transitions() {
+        mark_complete(alloc, problem, &mut marks, transition)?;
+    }
+    Ok(marks)
+}
+
+/// Whether nothing comes of the terminal over so many bare arguments, in any state.
+fn is_barren(problem: &Problem, complete: &[bool], bare: bool, terminal: u32, count: usize) -> bool
+    requires { AreComplete problem.now complete.now }
+    ensures { IsTrue result → IsTrue bare × ((q : ℕ) → q < problem.now.sorted.automaton.states
+        → HasMove problem.now.sorted.automaton.transitions terminal count q) }
+{
+    if !bare {
+        return false;
+    }
+    if !is_marked(complete, terminal) {
+        return false;
+    }
+    let least = rank(problem, terminal) as usize;
+    if count < least {
+        return false;
+    }
+    true
+}
+
 /// The states in which nothing comes of the terminal over bare arguments: those that have a transition
 /// for no more children than there are arguments. None are marked where the arguments aren't bare.
 fn barren(
@@ -214,19 +300,24 @@ fn barren(
 
 /// The types of the terminal whose sets have entries at the arguments. A type is formed only where its
 /// child has an entry, so that a state costs little more than the look-up of its transition; where the
-/// arguments are bare, the states with one are passed over.
+/// arguments are bare, the states with one are passed over, and where all have one, all at once.
 pub(crate) fn terminal_instances(
     alloc: Global,
     problem: &Problem,
+    complete: &[bool],
     index: &Index,
     args: &[u32],
     terminal: u32,
 ) -> Result<Vec<Ty>, OutOfMemory>
+    requires { AreComplete problem.now complete.now }
     ensures { IfOk result (λ found. (t : TypeTree) → Contains found.items t
         ↔ (Contains (plain.terminal_types problem.now terminal problem.now.sorted.automaton.states) t
         × FitsSets index.now args.now t)) }
 {
     let bare = are_bare(index, args);
+    if is_barren(problem, complete, bare, terminal, args.len()) {
+        return Ok(Vec::new(alloc));
+    }
     let barren = barren(alloc, problem, args, bare, terminal)?;
     let mut found = Vec::new(alloc);
     for q in 0..states(problem) {

@@ -6,4 +6,4 @@ use Rattle.hs_checker.specs.Passes.{base_of, PassesArgument}
 use Rattle.hs_checker.proofs.flow.flow_gap_by.Given as goal
 
 abbrev pub invariant-loop-head : goal.invariant-loop-head
-invariant-loop-head l = (h : HeadPair) → Contains (take l.head-index l.bases) h → (f : FlowPair) → PassesArgument l.problem (base_of h) l.number l.arg f → Contains l.problem.flow.pairs f
+invariant-loop-head l = (h : HeadPair) → Contains (take l.head-index l.head-items) h → (f : FlowPair) → PassesArgument l.problem (base_of h) l.number l.arg f → Contains l.problem.flow.pairs f

@@ -5,4 +5,4 @@ use Rattle.hs_checker.specs.Passes.{base_of, PassesHead}
 use Rattle.hs_checker.proofs.flow.head_gap.Given as goal
 
 abbrev pub invariant-loop-head : goal.invariant-loop-head
-invariant-loop-head l = (b : HeadPair) → Contains (take l.head-index l.bases) b → (h : HeadPair) → PassesHead l.problem l.point l.args (base_of b) h → Contains l.problem.flow.heads h
+invariant-loop-head l = (b : HeadPair) → Contains (take l.head-index l.rest) b → (h : HeadPair) → PassesHead l.problem l.point l.args (base_of b) h → Contains l.problem.flow.heads h

@@ -1,11 +1,13 @@
--- the starts so far
-use Rattle.std.proofs.Common.{◌≡◌, ℕ, ◌<◌, length, get_or}
+-- the starts so far, and as many pairs of lesser points as the last one says
+use Rattle.std.proofs.Common.{◌≡◌, ℕ, ◌<◌, ◌≤◌, length, get_or}
 use Rattle.hs_scheme.specs.declared.flow.HeadPair.{HeadPair}
 use Rattle.hs_checker.specs.Order.{IsStartBy}
 use Rattle.hs_checker.proofs.head_pairs.starts_of.Given as goal
 
 abbrev pub invariant-loop-point : goal.invariant-loop-point
 invariant-loop-point l = record {
-  long : length l.starts.items ≡ l.point-counter;
+  within : l.known ≤ length l.pairs;
+  before : (k : ℕ) (d : HeadPair) → k < l.known → (get_or l.pairs k d).point < l.point;
+  long : length l.starts.items ≡ l.point;
   each : (p d : ℕ) → p < length l.starts.items → IsStartBy (λ (h : HeadPair). h.point) l.pairs p (get_or l.starts.items p d);
 }

@@ -1,8 +1,10 @@
-use Rattle.std.proofs.Common.{◌∙◌, ap, subst, List, filter, nat_eq, ◌&&◌, get_or, Contains, ◌↔◌}
+use Rattle.std.proofs.Common.{sym, ◌∙◌, ap, subst, List, filter, nat_eq, ◌&&◌, get_or, Contains, ◌↔◌}
 use Rattle.std.proofs.lemmas.List.{take_all, get_or_default}
 use Rattle.hs_scheme.specs.declared.flow.FlowPair.{FlowPair}
 use Rattle.hs_scheme.specs.Problem.{ProblemData}
 use Rattle.hs_table.specs.Types.{TypeTree}
+use Rattle.std.specs.List.{flat_map}
+use Rattle.hs_table_plain.specs.Enumeration.{flow_type}
 use Rattle.hs_checker.specs.Any.{AnyOf}
 use Rattle.hs_checker.specs.Slots.{HasTypeAt}
 use Rattle.hs_checker.proofs.Steps.{any_step}
@@ -11,7 +13,7 @@ use Rattle.hs_checker.proofs.heads.parameter_types.Goals as goal
 
 pub loop-pair-preserved : goal.loop-pair-preserved
 loop-pair-preserved c =
-    let items = c.flow_of-pair-items.result.now in
+    let items = c.from_first_entry-pair-items.result.now in
     let k = c.loop-pair.pair-index in
     let d : FlowPair = record { rule = 0; param = 0; point = 0 } in
     let pair : FlowPair = get_or items k d in
@@ -20,9 +22,15 @@ loop-pair-preserved c =
 
 pub returns : goal.returns
 returns c = λ t.
-    let items = c.flow_of-pair-items.result.now in
+    let E = c.args.index.now in
+    let items = c.from_first_entry-pair-items.result.now in
+    let row = c.flow_of.result.now in
+    let P = λ (f : FlowPair) (t : TypeTree). HasTypeAt E f.point t in
     let pairs = ap (λ (q : ProblemData). q.flow.pairs) c.problem.view_is in
-    let is = take_all c.loop-pair.pair-index items c.loop-pair-test.false ∙ (c.flow_of-pair-items.ensures.pairs ∙ ap (filter (λ (f : FlowPair). nat_eq f.rule c.args.rule && nat_eq f.param c.args.parameter)) pairs) in
-    let all = subst (λ (fs : List FlowPair). Contains c.loop-pair.found.items t ↔ AnyOf (λ (f : FlowPair) (t : TypeTree). HasTypeAt c.args.index.now f.point t) fs t) is (c.loop-pair.invariant t) in
-    let exact = flow_types c.args.index.now c.args.problem.now.flow.pairs c.args.rule c.args.parameter t in
-    (λ k. exact.0 (all.0 k), λ k. all.1 (exact.1 k))
+    let is = c.flow_of.ensures.pairs ∙ ap (filter (λ (f : FlowPair). nat_eq f.rule c.args.rule && nat_eq f.param c.args.parameter)) pairs in
+    let left = subst (λ (fs : List FlowPair). Contains c.loop-pair.found.items t ↔ AnyOf P fs t) (take_all c.loop-pair.pair-index items c.loop-pair-test.false) (c.loop-pair.invariant t) in
+    let exact = subst (λ (fs : List FlowPair). AnyOf P fs t ↔ Contains (flat_map (flow_type c.args.problem.now.flow.pairs c.args.rule c.args.parameter) E) t) (sym is) (flow_types E c.args.problem.now.flow.pairs c.args.rule c.args.parameter t) in
+    let ensures = c.from_first_entry-pair-items.ensures in (
+      λ k. let a = left.0 k in exact.0 (record { item = a.item; there = ensures.part a.item a.there; holds = a.holds }),
+      λ k. let a = exact.1 k in left.1 (record { item = a.item; there = ensures.rest a.item a.holds.entry a.there a.holds.there a.holds.at; holds = a.holds }),
+    )

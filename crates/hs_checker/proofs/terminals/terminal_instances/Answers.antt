@@ -1,4 +1,4 @@
-use Rattle.std.proofs.Common.{◌≡◌, sym, subst, ℕ, Bool, true, Some, slice_get, Vec, Global, List, Contains, ◌⊎◌, ◌↔◌, arith}
+use Rattle.std.proofs.Common.{rules, ◌≡◌, sym, subst, ℕ, Bool, true, Some, slice_get, Vec, Global, List, Contains, ◌⊎◌, ◌↔◌, arith}
 use Rattle.hs_scheme.specs.Automaton.{next}
 use Rattle.hs_table.specs.Types.{TypeTree}
 use Rattle.hs_table.specs.declared.ty.Ty.{Ty}
@@ -6,9 +6,15 @@ use Rattle.hs_table_plain.specs.Enumeration.{terminal_types, types_in}
 use Rattle.hs_table_plain.proofs.Members.{two_steps}
 use Rattle.hs_checker.specs.Slots.{FitsSets}
 use Rattle.hs_checker.proofs.TypeLemmas.{terminal_types_more, both_parts, or_nothing}
-use Rattle.hs_checker.proofs.InstanceLemmas.{barren_unfit}
+use Rattle.hs_checker.proofs.InstanceLemmas.{barren_unfit, barren_below}
 use Rattle.hs_checker.proofs.terminals.terminal_instances.Goals as goal
 use Rattle.hs_checker.proofs.terminals.terminal_instances.Goals.{then-not-is_marked+in_ok-add_types_in, else-not-is_marked}
+
+pub returns-then-is_barren : goal.returns-then-is_barren
+returns-then-is_barren c = λ t.
+    let p = c.args.problem.now in
+    let x = c.is_barren.ensures c.if-is_barren.true in
+    (λ k. search rules, λ both. absurd (barren_below p c.args.index.now c.args.args.now c.args.terminal p.sorted.automaton.states t (c.are_bare-bare.ensures x.0) x.1 both))
 
 pub loop-q-preserved : goal.loop-q-preserved
 loop-q-preserved c =

@@ -1,0 +1,14 @@
+-- the bases that aren't left are found
+use Rattle.std.proofs.Common.{Contains, ◌⊎◌, length}
+use Rattle.hs_scheme.specs.declared.flow.HeadPair.{HeadPair}
+use Rattle.hs_checker.specs.Passes.{HasPassed}
+use Rattle.hs_checker.proofs.distances.left_of.Given as goal
+
+abbrev pub invariant-loop-base : goal.invariant-loop-base
+invariant-loop-base l = record {
+  part : (h : HeadPair) → Contains l.left h → Contains l.bases h;
+  rest : (h : HeadPair) → Contains l.bases h → Contains l.left h ⊎ HasPassed l.pairs h l.number l.arg;
+}
+
+abbrev pub decreases-loop-base : goal.decreases-loop-base
+decreases-loop-base l = length l.left
