@@ -9,4 +9,5 @@ pub mod TransitionLoops
 pub mod Moves
 pub mod FirstFault
 pub mod Members
+pub mod Values
 pub mod Sound

@@ -87,7 +87,7 @@ impl<'a> NameIndex<'a> {
     ) -> Result<Vec<Option<u32>>, OutOfMemory>
         ensures { IfOk result (λ values. values.items ≡ map (length_of table.now) self.now) }
     {
-        values_of(alloc, self.names.as_slice(), table)
+        values_of(alloc, &self.names, table)
     }
 }
 
@@ -101,16 +101,21 @@ fn copies_of(alloc: Global, texts: &[&[u8]]) -> Result<Vec<Name>, OutOfMemory>
     Ok(names)
 }
 
+/// For each of the names the value that the map has for it, on average in time in proportion to the
+/// names and the map. It is the map's names that are looked up: few of a file's terminals need have
+/// a transition.
 fn values_of<'a>(
     alloc: Global,
-    texts: &[&'a [u8]],
+    names: &IndexSet<&'a [u8]>,
     table: &IndexMap<&'a [u8], u32>,
 ) -> Result<Vec<Option<u32>>, OutOfMemory>
-    ensures { IfOk result (λ values. values.items ≡ map (λ t. length_of table.now t.now) texts.now) }
+    ensures { IfOk result (λ values. values.items ≡ map (λ t. length_of table.now t.now) names.now.keys) }
 {
-    let mut values = Vec::with_capacity(alloc, texts.len())?;
-    for text in texts {
-        values.push(table.get(*text).copied())?;
+    let mut values = vec![in alloc; None; names.len()]?;
+    for (name, value) in table.iter() {
+        if let Some(number) = names.get_index_of(*name) {
+            values[number] = Some(*value);
+        }
     }
     Ok(values)
 }

@@ -7,6 +7,6 @@ pub returns : goal.returns
 returns c =
     let text = λ (t : Bor (List ℕ)). t.now in
     let value = length_of c.args.table.now in
-    let keys = c.as_slice.result.now in
-    let same : map (λ (t : Bor (List ℕ)). value t.now) keys ≡ map value c.args.self.now = map-map value text keys ∙ ap (map value) (ap (map text) c.as_slice.ensures.keys ∙ c.self.view_is) in
+    let keys = c.self.inside.names.keys in
+    let same : map (λ (t : Bor (List ℕ)). value t.now) keys ≡ map value c.args.self.now = map-map value text keys ∙ ap (map value) c.self.view_is in
     subst (λ (vs : List (Option ℕ)). IfOk c.values_of.result (λ values. values.items ≡ vs)) same c.values_of.ensures
