@@ -4,7 +4,8 @@ use hs_history::Work;
 
 /// What each worker passes before it forms what follows by a work.
 pub trait Gate {
-    /// The worker has taken the work and is about to do it. It holds nothing for which others wait.
+    /// The worker is about to do the work, which it has taken, or, working alone, takes next. It
+    /// holds nothing for which others wait.
     fn before(&self, worker: u32, work: Work);
 }
 
