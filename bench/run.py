@@ -154,6 +154,21 @@ def functions(count):
     return framed(lines, ["q0 br -> q0 q0.\n"] + moves + [f"q{j} end -> .\n" for j in range(7)])
 
 
+def choices(rules):
+    """Deep calls of functions that go on in one of eight ways, with one resource of 8 states, which half of the ways move on."""
+    lines = ["S -> F0 end.\n"]
+    for i in range(rules):
+        calls = [f"(F{(i * (2 * w + 1) + w + 1) % rules} {'k' if w % 2 else '(step k)'})" for w in range(8)]
+        lines.append(f"F{i} k -> br {' '.join(calls if i % 16 else ['k', *calls[1:]])}.\n")
+    moves = [f"q{j} br ->{f' q{j}' * 8}.\nq{j} step -> q{(j + 1) % 8}.\n" for j in range(8)]
+    return framed(lines, moves + [f"q{j} end -> .\n" for j in range(7)])
+
+
+def thrice(count):
+    """As functions, but the combinator applies its function three times."""
+    return functions(count).replace("Ap f x -> f (f x).", "Ap f x -> f (f (f x)).")
+
+
 def handles(count):
     """Handles that are opened in turn, any number of them, and closed in the reverse order."""
     lines = ["S -> H0 end.\n"]
@@ -206,6 +221,8 @@ FAMILIES = {
     "calls_4": (lambda rules: calls(rules, 4), [500, 1_000, 2_000], "rules", "horsat"),
     "calls_8": (lambda rules: calls(rules, 8), [500, 1_000, 2_000], "rules", "horsat"),
     "functions": (functions, [500, 1_000, 2_000], "functions", "horsat"),
+    "choices": (choices, [101, 201, 401], "rules", "horsat"),
+    "thrice": (thrice, [500, 1_000, 2_000], "functions", "horsat"),
     "handles": (handles, [50, 100, 200], "handles", "horsat"),
     "aliases": (aliases, [2_000, 4_000, 8_000], "rules", "horsat"),
     "gen": (cycle, [100, 200, 300], "states", "horsat"),
