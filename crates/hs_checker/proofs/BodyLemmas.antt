@@ -25,7 +25,7 @@ use Rattle.hs_checker.specs.Order.{index_cmp}
 use Rattle.hs_checker.specs.Slots.{FitsSets, Says, AreInShape, IsCountAt}
 use Rattle.hs_checker.proofs.IndexLemmas.{index_total, get_or-map, length-map}
 use Rattle.hs_checker.proofs.InstanceLemmas.{body_fits, sets_too_few, instance_exact, comes_follows, follows_comes}
-use Rattle.hs_checker.proofs.Steps.{any_step, one_more}
+use Rattle.hs_checker.proofs.AnyLemmas.{any_step, one_more}
 use Rattle.hs_checker.proofs.TypeLemmas.{or_same, or_nothing, body_types, any_part}
 
 -- the row says the type, and it fits

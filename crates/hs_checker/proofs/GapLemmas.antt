@@ -30,7 +30,7 @@ use Rattle.hs_checker.specs.declared.flow.Kind.{Kind}
 use Rattle.hs_checker.specs.declared.flow.Kind.TheVariants.{Flow, Heads}
 use Rattle.hs_checker.specs.Order.{IsStartBy}
 use Rattle.hs_checker.specs.Gaps.{held, IsDemanded, IsOfKind}
-use Rattle.hs_checker.specs.Passes.{base_of, PassesArgument, PassesFlow, PassesHead, PassesBy, HoldsBy, LacksBy, DemandsAt}
+use Rattle.hs_checker.specs.PassedOn.{base_of, PassesArgument, PassesFlow, PassesHead, PassesBy, HoldsBy, LacksBy, DemandsAt}
 use Rattle.hs_checker.proofs.Between.{filter_passes}
 
 point_le : (t : ℕ) (a b : HeadPair) → head_cmp a b ≡ Less → ordering_index (nat_cmp a.point t) ≤ ordering_index (nat_cmp b.point t)

@@ -4,7 +4,7 @@ pub mod Ordered
 pub mod Parts
 pub mod IndexLemmas
 pub mod StartLemmas
-pub mod Steps
+pub mod AnyLemmas
 pub mod TypeLemmas
 pub mod EnvLemmas
 pub mod InstanceLemmas

@@ -3,7 +3,7 @@ use Rattle.std.proofs.Common.{◌≡◌, sym, ◌∙◌, ap, ℕ, ◌≤◌, nat
 use Rattle.std.proofs.lemmas.Bool.{eq-eqb, and_from}
 use Rattle.hs_scheme.specs.Transition.{TransitionData}
 use Rattle.hs_scheme.specs.Automaton.{is_of, IsDeterministic}
-use Rattle.hs_scheme.proofs.Index.{find-only, is_of-true}
+use Rattle.hs_scheme.proofs.TransitionIndex.{find-only, is_of-true}
 use Rattle.hs_checker.specs.Slots.{HasMove}
 
 -- the transition at a place is the only one of its state and terminal

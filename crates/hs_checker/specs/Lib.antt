@@ -1,5 +1,5 @@
 pub mod Gaps
-pub mod Passes
+pub mod PassedOn
 pub mod Order
 pub mod Shape
 pub mod Any

@@ -13,7 +13,7 @@ ghost use Rattle.hs_checker.specs.Checked.{IsGap};
 ghost use Rattle.hs_checker.specs.Slots.{Says, FitsSets, AreInShape, IsCountAt};
 
 use crate::fault::CheckFault;
-use crate::index::Index;
+use crate::index::EntryIndex;
 use crate::instances::sets_fit;
 use crate::missing::{first_missing, opening};
 use crate::shape::parameters;
@@ -24,7 +24,7 @@ use std::alloc::Global;
 
 /// Whether the entry's type is a state and its sets have entries at the arguments, so that it says a
 /// type of its nonterminal that fits there.
-fn says(index: &Index, args: &[u32], entry: &Entry) -> bool
+fn says(index: &EntryIndex, args: &[u32], entry: &Entry) -> bool
     ensures said { IsTrue result → Says index.now args.now entry.now }
     ensures none { (body : ℕ) (t : TypeTree) → Contains (plain.body_type body entry.now) t
         → FitsSets index.now args.now t → IsTrue result }
@@ -38,7 +38,7 @@ fn says(index: &Index, args: &[u32], entry: &Entry) -> bool
 /// The first that follows by the type that the entry says and isn't in the index.
 fn missing_by_body(
     alloc: Global,
-    index: &Index,
+    index: &EntryIndex,
     point: u32,
     params: u32,
     args: &[u32],
@@ -67,7 +67,7 @@ fn missing_by_body(
 pub(crate) fn count_at_rule(
     alloc: Global,
     problem: &Problem,
-    index: &Index,
+    index: &EntryIndex,
     point: u32,
     nonterminal: u32,
 ) -> Result<u64, CheckFault>

@@ -13,7 +13,7 @@ ghost use Rattle.hs_checker.specs.Checked.{IsCount, IsFault, IsGap, fault_of};
 use crate::bodies::count_at_rule;
 use crate::fault::CheckFault;
 use crate::flow::first_gap;
-use crate::index::Index;
+use crate::index::EntryIndex;
 use crate::instances::instances;
 use crate::missing::missing_at;
 use crate::terminals::complete_terminals;
@@ -72,7 +72,7 @@ fn count_at(
     alloc: Global,
     problem: &Problem,
     complete: &[bool],
-    index: &Index,
+    index: &EntryIndex,
     point: u32,
 ) -> Result<u64, CheckFault>
     requires point { point < length problem.now.points.points }
@@ -94,7 +94,7 @@ fn count_at(
 }
 
 /// The number of instances, where all that follows from the index is in it.
-fn count_closed(alloc: Global, problem: &Problem, index: &Index) -> Result<u64, CheckFault>
+fn count_closed(alloc: Global, problem: &Problem, index: &EntryIndex) -> Result<u64, CheckFault>
     requires { AreInShape problem.now index.now }
     ensures closed { OnOk result (IsClosedTable problem.now index.now) }
     ensures count { IfOk result (IsCount problem.now index.now) }
@@ -136,7 +136,7 @@ pub fn check(alloc: Global, problem: &Problem, table: &[Entry]) -> Result<u64, C
     if let Some(pair) = first_gap(alloc, problem)? {
         return Err(open(pair));
     }
-    let index = Index::of(alloc, problem, table)?;
+    let index = EntryIndex::of(alloc, problem, table)?;
     let count = count_closed(alloc, problem, &index)?;
     if has_start(problem, table) {
         return Err(CheckFault::HasStart);

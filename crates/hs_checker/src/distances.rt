@@ -3,7 +3,7 @@
 
 ghost use Rattle.std.specs.Prelude.{◌≡◌, ◌+◌, ◌≤◌, ◌⊎◌, Contains, IsTrue, length};
 ghost use Rattle.hs_scheme.specs.declared.flow.HeadPair.{HeadPair as AnyHead};
-ghost use Rattle.hs_checker.specs.Passes.{HasPassed};
+ghost use Rattle.hs_checker.specs.PassedOn.{HasPassed};
 
 use hs_scheme::{FlowPair, HeadPair};
 

@@ -11,7 +11,7 @@ ghost use Rattle.hs_table.specs.Entries.{params_of};
 ghost use Rattle.hs_checker.specs.declared.flow.Base.{Base as AnyBase};
 ghost use Rattle.hs_checker.specs.declared.flow.Kind.TheVariants.{Flow as OfFlows, Heads as OfHeads};
 ghost use Rattle.hs_checker.specs.Gaps.{held, IsOfKind, HoldsAll, Lacks, IsFirstLacking};
-ghost use Rattle.hs_checker.specs.Passes.{base_of, PassesArgument, PassesFlow, PassesHead, HoldsBy, LacksBy, DemandsAt, DemandsNone};
+ghost use Rattle.hs_checker.specs.PassedOn.{base_of, PassesArgument, PassesFlow, PassesHead, HoldsBy, LacksBy, DemandsAt, DemandsNone};
 
 use crate::distances::left_at_one_distance;
 use crate::head_pairs::{HeadPairs, is_head_at, not_in_turn};

@@ -5,7 +5,7 @@ ghost use Rattle.hs_scheme.specs.declared.flow.FlowPair.{FlowPair as AnyFlow};
 ghost use Rattle.hs_scheme.specs.declared.flow.HeadPair.{HeadPair as AnyHead};
 ghost use Rattle.hs_scheme.specs.Flow.{IsAscending, head_cmp};
 ghost use Rattle.hs_checker.specs.Order.{AreHeadStarts, IsStartBy};
-ghost use Rattle.hs_checker.specs.Passes.{HasTaken};
+ghost use Rattle.hs_checker.specs.PassedOn.{HasTaken};
 
 use crate::starts::from_first_with;
 use hs_scheme::{FlowPair, HeadPair, OutOfMemory, Problem};

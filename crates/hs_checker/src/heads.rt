@@ -10,7 +10,7 @@ ghost use Rattle.hs_table.specs.Follows.{rank_of};
 ghost use Rattle.hs_checker.specs.Slots.{HasTypeAt};
 ghost use Rattle.hs_table_plain.specs.Enumeration as plain;
 
-use crate::index::Index;
+use crate::index::EntryIndex;
 use crate::shape::states;
 use hs_scheme::{Head, OutOfMemory, Problem};
 use hs_table::{Entry, Shape, Ty, TypeSet};
@@ -99,7 +99,7 @@ pub(crate) fn in_order(types: Vec<Ty>) -> Result<Vec<Ty>, OutOfMemory>
 /// once.
 fn add_types_at(
     alloc: Global,
-    index: &Index,
+    index: &EntryIndex,
     point: u32,
     found: &mut Vec<Ty>,
 ) -> Result<(), OutOfMemory>
@@ -116,7 +116,7 @@ fn add_types_at(
 pub(crate) fn parameter_types(
     alloc: Global,
     problem: &Problem,
-    index: &Index,
+    index: &EntryIndex,
     rule: u32,
     parameter: u32,
 ) -> Result<Vec<Ty>, OutOfMemory>

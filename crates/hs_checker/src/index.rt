@@ -57,13 +57,13 @@ fn order(entry: &Entry, other: &Entry) -> Ordering
 /// type.
 /// Contracts see the list of them.
 #[derive(Drop)]
-pub(crate) struct Index<'a> {
+pub(crate) struct EntryIndex<'a> {
     rows: Vec<&'a Entry>,
     /// For each point, and for one past the last, how many rows are of lesser points.
     starts: Vec<usize>,
 }
 
-impl<'a> Model for Index<'a> {
+impl<'a> Model for EntryIndex<'a> {
     ghost use Rattle.std.specs.Prelude.{List, map};
     ghost use Rattle.std.specs.Coded.{coded_list};
     ghost use Rattle.hs_table.specs.Entries.{EntryData, coded_entry};
@@ -142,14 +142,14 @@ fn is_at(rows: &[&Entry], place: usize, entry: &Entry) -> bool
     }
 }
 
-impl<'a> Index<'a> {
+impl<'a> EntryIndex<'a> {
     /// The index of those of the table's entries that are in shape. Time is in the number of entries
     /// and in that of points by the logarithm of the number of entries.
     pub(crate) fn of(
         alloc: Global,
         problem: &Problem,
         table: &'a [Entry],
-    ) -> Result<Index<'a>, OutOfMemory>
+    ) -> Result<EntryIndex<'a>, OutOfMemory>
         ensures { IfOk result (λ index. (e : EntryData) → Contains index e
             ↔ (Contains table.now e × InShape problem.now e)) }
     {
@@ -157,7 +157,7 @@ impl<'a> Index<'a> {
         rows.sort_by(|a, b| order(a, b))?;
         rows.dedup_by(|a, b| order(a, b) == Ordering::Equal);
         let starts = starts_of(alloc, rows.as_slice(), problem.points.count())?;
-        Ok(Index { rows, starts })
+        Ok(EntryIndex { rows, starts })
     }
 
     /// The entries at the point, each once and in their order. Takes constant time.

@@ -10,14 +10,14 @@ ghost use Rattle.hs_checker.specs.Slots.{HasTypesAt, FitsSets, AreInShape, AreCo
 ghost use Rattle.hs_table_plain.specs.Enumeration as plain;
 
 use crate::heads::{in_order, parameter_types};
-use crate::index::Index;
+use crate::index::EntryIndex;
 use crate::terminals::terminal_instances;
 use hs_scheme::{Head, OutOfMemory, Problem};
 use hs_table::{Shape, Ty, TypeSet};
 use std::alloc::Global;
 
 /// Whether each of the types has an entry at the argument.
-fn have_entries(index: &Index, arg: u32, set: &[Ty]) -> bool
+fn have_entries(index: &EntryIndex, arg: u32, set: &[Ty]) -> bool
     ensures { IsTrue result ↔ HasTypesAt index.now arg set.now }
 {
     for ty in set {
@@ -29,7 +29,7 @@ fn have_entries(index: &Index, arg: u32, set: &[Ty]) -> bool
 }
 
 /// Whether each type of the sets has an entry at its argument. Recurses as deep as the type.
-pub(crate) fn fits(index: &Index, args: &[u32], ty: &Ty) -> bool
+pub(crate) fn fits(index: &EntryIndex, args: &[u32], ty: &Ty) -> bool
     ensures { IsTrue result ↔ FitsSets index.now args.now ty.now }
 {
     let Some(arg) = args.first() else {
@@ -45,7 +45,7 @@ pub(crate) fn fits(index: &Index, args: &[u32], ty: &Ty) -> bool
 
 /// Whether each type of these sets has an entry at its argument, and there are no more arguments than
 /// sets.
-pub(crate) fn sets_fit(index: &Index, args: &[u32], sets: &[TypeSet]) -> bool
+pub(crate) fn sets_fit(index: &EntryIndex, args: &[u32], sets: &[TypeSet]) -> bool
     ensures { (q : ℕ) → IsTrue result ↔ FitsSets index.now args.now (types.arrows sets.now (types.state q)) }
 {
     if args.len() > sets.len() {
@@ -63,7 +63,7 @@ pub(crate) fn sets_fit(index: &Index, args: &[u32], sets: &[TypeSet]) -> bool
 /// Those of the types whose sets have entries.
 fn fitting(
     alloc: Global,
-    index: &Index,
+    index: &EntryIndex,
     args: &[u32],
     types: Vec<Ty>,
 ) -> Result<Vec<Ty>, OutOfMemory>
@@ -85,7 +85,7 @@ fn fitting_types(
     alloc: Global,
     problem: &Problem,
     complete: &[bool],
-    index: &Index,
+    index: &EntryIndex,
     rule: u32,
     head: Head,
     args: &[u32],
@@ -110,7 +110,7 @@ fn instances_of(
     alloc: Global,
     problem: &Problem,
     complete: &[bool],
-    index: &Index,
+    index: &EntryIndex,
     rule: u32,
     head: Head,
     args: &[u32],
@@ -130,7 +130,7 @@ pub(crate) fn instances(
     alloc: Global,
     problem: &Problem,
     complete: &[bool],
-    index: &Index,
+    index: &EntryIndex,
     point: u32,
 ) -> Result<Vec<Ty>, OutOfMemory>
     requires point { point < length problem.now.points.points }

@@ -10,7 +10,7 @@ ghost use Rattle.hs_checker.specs.Slots.{AreInShape, IsConclusion};
 ghost use Rattle.hs_table_plain.specs.Enumeration as plain;
 
 use crate::heads::{empty_sets, singleton, state};
-use crate::index::Index;
+use crate::index::EntryIndex;
 use crate::shape::parameters;
 use crate::unions::through;
 use hs_scheme::{Head, OutOfMemory, Problem};
@@ -44,7 +44,11 @@ pub(crate) fn opening(
 
 /// The first of the entries that isn't in the index. What follows comes mostly in the index's order, so
 /// each is looked for behind the one before; `guess` is the place for the first, and then for the next.
-pub(crate) fn first_missing(index: &Index, entries: Vec<Entry>, guess: &mut usize) -> Option<Entry>
+pub(crate) fn first_missing(
+    index: &EntryIndex,
+    entries: Vec<Entry>,
+    guess: &mut usize,
+) -> Option<Entry>
     ensures { MatchOption result
         ((e : EntryData) → Contains entries.items e → Contains index.now e)
         (λ e. Contains entries.items e × (Contains index.now e → ⊥)) }
@@ -61,7 +65,7 @@ pub(crate) fn first_missing(index: &Index, entries: Vec<Entry>, guess: &mut usiz
 /// The first that follows by this type of the head and isn't in the index.
 fn missing_by(
     alloc: Global,
-    index: &Index,
+    index: &EntryIndex,
     args: &[u32],
     ty: &Ty,
     start: Entry,
@@ -82,7 +86,7 @@ fn missing_by(
 /// The first that follows by one of these types of the head and isn't in the index.
 fn missing_among(
     alloc: Global,
-    index: &Index,
+    index: &EntryIndex,
     point: u32,
     params: u32,
     head: Head,
@@ -110,7 +114,7 @@ fn missing_among(
 pub(crate) fn missing_at(
     alloc: Global,
     problem: &Problem,
-    index: &Index,
+    index: &EntryIndex,
     point: u32,
     types: &[Ty],
 ) -> Result<Option<Entry>, OutOfMemory>

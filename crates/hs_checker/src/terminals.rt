@@ -9,7 +9,7 @@ ghost use Rattle.hs_checker.specs.Slots.{HasTypeAt, FitsSets, AreBare, HasMove, 
 ghost use Rattle.hs_table_plain.specs.Enumeration as plain;
 
 use crate::heads::{arrows, empty_sets, singleton, state};
-use crate::index::Index;
+use crate::index::EntryIndex;
 use crate::instances::fits;
 use crate::shape::states;
 use hs_scheme::{Automaton, OutOfMemory, Problem, Transition};
@@ -44,7 +44,12 @@ fn transition(problem: &Problem, q: u32, terminal: u32) -> Option<&[u32]>
 }
 
 /// Adds the type, where its sets have entries.
-fn add_fitting(index: &Index, args: &[u32], ty: Ty, found: &mut Vec<Ty>) -> Result<(), OutOfMemory>
+fn add_fitting(
+    index: &EntryIndex,
+    args: &[u32],
+    ty: Ty,
+    found: &mut Vec<Ty>,
+) -> Result<(), OutOfMemory>
     ensures { OnOk result ((t : TypeTree) → Contains found.new.items t
         ↔ (Contains found.old.items t ⊎ ((t ≡ ty) × FitsSets index.now args.now t))) }
 {
@@ -55,7 +60,7 @@ fn add_fitting(index: &Index, args: &[u32], ty: Ty, found: &mut Vec<Ty>) -> Resu
 }
 
 /// Whether no entry stands at one of the arguments.
-fn are_bare(index: &Index, args: &[u32]) -> bool
+fn are_bare(index: &EntryIndex, args: &[u32]) -> bool
     ensures { IsTrue result → AreBare index.now args.now }
 {
     for arg in args {
@@ -67,7 +72,7 @@ fn are_bare(index: &Index, args: &[u32]) -> bool
 }
 
 /// Whether there is an argument at this place, and no entry there has the state as its type.
-fn asks_in_vain(index: &Index, args: &[u32], place: usize, r: u32) -> bool
+fn asks_in_vain(index: &EntryIndex, args: &[u32], place: usize, r: u32) -> bool
     ensures { IsTrue result → (u : ℕ)
         × ((slice_get args.now place ≡ Some u) × (HasTypeAt index.now u (types.state r) → ⊥)) }
 {
@@ -80,7 +85,7 @@ fn asks_in_vain(index: &Index, args: &[u32], place: usize, r: u32) -> bool
 /// Adds the type by which the child at this place is rejected, where its sets have entries.
 fn add_child_type(
     alloc: Global,
-    index: &Index,
+    index: &EntryIndex,
     args: &[u32],
     to: &[u32],
     q: u32,
@@ -102,7 +107,7 @@ fn add_child_type(
 /// Adds those for all children.
 fn add_child_types(
     alloc: Global,
-    index: &Index,
+    index: &EntryIndex,
     args: &[u32],
     to: &[u32],
     q: u32,
@@ -123,7 +128,7 @@ fn add_child_types(
 fn add_types_in(
     alloc: Global,
     problem: &Problem,
-    index: &Index,
+    index: &EntryIndex,
     args: &[u32],
     terminal: u32,
     q: u32,
@@ -305,7 +310,7 @@ pub(crate) fn terminal_instances(
     alloc: Global,
     problem: &Problem,
     complete: &[bool],
-    index: &Index,
+    index: &EntryIndex,
     args: &[u32],
     terminal: u32,
 ) -> Result<Vec<Ty>, OutOfMemory>

@@ -11,7 +11,7 @@ ghost use Rattle.hs_table_laws.proofs.Sets.{insert as with_type};
 ghost use Rattle.hs_table_plain.specs.Enumeration as plain;
 
 use crate::heads::arrows;
-use crate::index::Index;
+use crate::index::EntryIndex;
 use hs_scheme::OutOfMemory;
 use hs_table::{Entry, Shape, Ty, TypeSet};
 use std::alloc::Global;
@@ -191,7 +191,7 @@ fn joined_with_one(
 /// Each entry joined with each candidate for the type at the argument, each once.
 fn extended(
     alloc: Global,
-    index: &Index,
+    index: &EntryIndex,
     arg: u32,
     ty: &Ty,
     entries: Vec<Entry>,
@@ -210,7 +210,7 @@ fn extended(
 /// Each entry joined with one candidate for each type of the set.
 fn picks(
     alloc: Global,
-    index: &Index,
+    index: &EntryIndex,
     arg: u32,
     set: &[Ty],
     entries: Vec<Entry>,
@@ -251,7 +251,7 @@ fn retyped(alloc: Global, ty: &Ty, entries: Vec<Entry>) -> Result<Vec<Entry>, Ou
 /// Time is as for `through`, and nothing is formed for a type whose arguments are all there.
 pub(crate) fn through_sets(
     alloc: Global,
-    index: &Index,
+    index: &EntryIndex,
     args: &[u32],
     sets: &[TypeSet],
     ty: &Ty,
@@ -277,7 +277,7 @@ pub(crate) fn through_sets(
 /// Time is in the number of distinct partial results, times that of the candidates that they meet.
 pub(crate) fn through(
     alloc: Global,
-    index: &Index,
+    index: &EntryIndex,
     args: &[u32],
     ty: &Ty,
     entries: Vec<Entry>,

@@ -318,10 +318,10 @@ impl Journal {
     }
 
     /// The steps, the first one first. Takes no memory.
-    pub fn iter(&self) -> Steps<'_>
+    pub fn iter(&self) -> JournalSteps<'_>
         ensures { result ≡ self.now.steps }
     {
-        Steps {
+        JournalSteps {
             marks: self.marks.as_slice(),
             actors: self.actors.as_slice(),
             dues: self.dues.as_slice(),
@@ -333,7 +333,7 @@ impl Journal {
 
 /// The steps of a journal that are still to come. Contracts see them as a list.
 #[derive(Drop)]
-pub struct Steps<'a> {
+pub struct JournalSteps<'a> {
     marks: &'a [Mark],
     actors: &'a [Actor],
     dues: &'a [Due],
@@ -341,7 +341,7 @@ pub struct Steps<'a> {
     due: Due,
 }
 
-impl<'a> Model for Steps<'a> {
+impl<'a> Model for JournalSteps<'a> {
     ghost use Rattle.std.specs.Prelude.{List};
     ghost use Rattle.hs_history.specs.declared.step.Step.{Step};
     ghost use Rattle.hs_core.specs.Journal.{steps_read};
@@ -374,7 +374,7 @@ fn due_from(asked: bool, due: Due, dues: &[Due]) -> (Due, &[Due])
     (due, dues)
 }
 
-impl<'a> Iterator for Steps<'a> {
+impl<'a> Iterator for JournalSteps<'a> {
     type Item = Step;
 
     ghost next_gives = { YieldsFirst (λ s. s) };

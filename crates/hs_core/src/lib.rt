@@ -25,5 +25,5 @@ pub use draining::{drain, work_alone};
 pub use gate::{Gate, Open};
 pub use hs_history::{Event, Flight, Step, Work};
 pub use hs_rules::{Deduced, Replica};
-pub use journal::{Journal, Steps};
+pub use journal::{Journal, JournalSteps};
 pub use state::Core;

@@ -10,12 +10,12 @@ use Rattle.hs_scheme.specs.declared.term.Head.{Head}
 use Rattle.hs_scheme.specs.Points.{PointData, PointsData, point_at}
 use Rattle.hs_scheme.specs.Dependents.{HeadReads, IsDependent}
 use Rattle.hs_scheme.proofs.DemandLemmas.{some_same, slice_get-read}
-use Rattle.hs_flow.specs.Dependents.{RisesTo, AddsTo, HasPoint, HasDependents, list_of}
+use Rattle.hs_flow.specs.Dependents.{RisesToPoint, AddsPoint, HasPoint, HasDependents, list_of}
 use Rattle.hs_flow.proofs.PairLemmas.{nothing_in, only_in, first_in}
 use Rattle.std.proofs.lemmas.Option.{slice_get-get_or}
 
 -- the point at the end of an ascending list, of which it isn't the last yet
-rises_push : (point : ℕ) (xs : List ℕ) → ((x : ℕ) → slice_get xs (length xs - 1) ≡ Some x → x ≡ point → ⊥) → RisesTo point xs → RisesTo point (xs ++ point ∷ [])
+rises_push : (point : ℕ) (xs : List ℕ) → ((x : ℕ) → slice_get xs (length xs - 1) ≡ Some x → x ≡ point → ⊥) → RisesToPoint point xs → RisesToPoint point (xs ++ point ∷ [])
 rises_push point xs apart r = record {
   ascending = λ k lt. elim (cases_lt (k + 1) (length xs)) [
     | inl less ↦
@@ -49,21 +49,21 @@ module _ (old new : List (List ℕ)) (number point : ℕ) (long : length new ≡
   pushed_all p d false elsewhere (inl was) = was
   pushed_all p d false elsewhere (inr (same, at)) = let yes = eq-eqb p number at in absurd (cc)
 
-  pub pushed_adds : ((x : ℕ) → slice_get (list_of old number) (length (list_of old number) - 1) ≡ Some x → x ≡ point → ⊥) → AddsTo (λ p. p ≡ number) point old new
+  pub pushed_adds : ((x : ℕ) → slice_get (list_of old number) (length (list_of old number) - 1) ≡ Some x → x ≡ point → ⊥) → AddsPoint (λ p. p ≡ number) point old new
   pushed_adds apart = record {
     exact = λ p d. (
       λ h. pushed_only p d (nat_eq p number) refl (subst (λ (xs : List ℕ). Contains xs d) (is p) h),
       λ h. subst (λ (xs : List ℕ). Contains xs d) (sym (is p)) (pushed_all p d (nat_eq p number) refl h),
     );
-    rises = λ p r. subst (λ (xs : List ℕ). RisesTo point xs) (sym (is p)) (by p (nat_eq p number) refl r);
+    rises = λ p r. subst (λ (xs : List ℕ). RisesToPoint point xs) (sym (is p)) (by p (nat_eq p number) refl r);
     len = long;
   }
     where
-      by : (p : ℕ) (b : Bool) → nat_eq p number ≡ b → RisesTo point (list_of old p) → RisesTo point (grown b p)
+      by : (p : ℕ) (b : Bool) → nat_eq p number ≡ b → RisesToPoint point (list_of old p) → RisesToPoint point (grown b p)
       by p true here r = rises_push point (list_of old p) (subst (λ k. (x : ℕ) → slice_get (list_of old k) (length (list_of old k) - 1) ≡ Some x → x ≡ point → ⊥) (sym (eqb-true p number here)) apart) r
       by p false elsewhere r = r
 
-pub adds_then : (point : ℕ) (S T U : ℕ → Type 0) (a b c : List (List ℕ)) → ((p : ℕ) → (S p ⊎ T p) ↔ U p) → AddsTo S point a b → AddsTo T point b c → AddsTo U point a c
+pub adds_then : (point : ℕ) (S T U : ℕ → Type 0) (a b c : List (List ℕ)) → ((p : ℕ) → (S p ⊎ T p) ↔ U p) → AddsPoint S point a b → AddsPoint T point b c → AddsPoint U point a c
 adds_then point S T U a b c and_parts f g = record {
   exact = λ p d. (
     λ h. elim ((g.exact p d).0 h) [
@@ -79,7 +79,7 @@ adds_then point S T U a b c and_parts f g = record {
   len = g.len ∙ f.len;
 }
 
-pub adds_same : (point : ℕ) (S T : ℕ → Type 0) (a b : List (List ℕ)) → ((p : ℕ) → S p ↔ T p) → AddsTo S point a b → AddsTo T point a b
+pub adds_same : (point : ℕ) (S T : ℕ → Type 0) (a b : List (List ℕ)) → ((p : ℕ) → S p ↔ T p) → AddsPoint S point a b → AddsPoint T point a b
 adds_same point S T a b same f = record {
   exact = λ p d. (
     λ h. elim ((f.exact p d).0 h) [ inl was ↦ inl was | inr new ↦ inr (new.0, (same p).0 new.1) ],
@@ -179,7 +179,7 @@ point_reads points flows d rule head args lt their_args their_rule their_head p 
     )
 
 -- the lists, with the points so far and then all of them
-pub dependents_more : (points : PointsData) (flows : List FlowPair) (n : ℕ) (old new : List (List ℕ)) → AddsTo (λ p. IsDependent points flows p n) n old new
+pub dependents_more : (points : PointsData) (flows : List FlowPair) (n : ℕ) (old new : List (List ℕ)) → AddsPoint (λ p. IsDependent points flows p n) n old new
     → ((p d : ℕ) → Contains (list_of old p) d ↔ ((d < n) × IsDependent points flows p d)) → (p d : ℕ) → Contains (list_of new p) d ↔ ((d < n + 1) × IsDependent points flows p d)
 dependents_more points flows n old new adds so_far p d = (
   λ h. elim ((adds.exact p d).0 h) [
@@ -192,7 +192,7 @@ dependents_more points flows n old new adds so_far p d = (
   ]),
 )
 
-pub rises_more : (points : PointsData) (flows : List FlowPair) (n : ℕ) (old new : List (List ℕ)) → AddsTo (λ p. IsDependent points flows p n) n old new
+pub rises_more : (points : PointsData) (flows : List FlowPair) (n : ℕ) (old new : List (List ℕ)) → AddsPoint (λ p. IsDependent points flows p n) n old new
     → ((p d : ℕ) → Contains (list_of old p) d ↔ ((d < n) × IsDependent points flows p d)) → ((p : ℕ) → IsStrictlyIncreasing (list_of old p)) → (p : ℕ) → IsStrictlyIncreasing (list_of new p)
 rises_more points flows n old new adds so_far up p = (adds.rises p (record {
   ascending = up p;

@@ -13,14 +13,14 @@ pub record HasDependents (points : PointsData) (flows : List FlowPair) (lists : 
   pub exact : (p d : ℕ) → Contains (list_of lists p) d ↔ IsDependent points flows p d
 
 -- an ascending list of numbers up to the point
-pub record RisesTo (point : ℕ) (xs : List ℕ) : Type 0 where
+pub record RisesToPoint (point : ℕ) (xs : List ℕ) : Type 0 where
   pub ascending : IsStrictlyIncreasing xs
   pub below : All (λ x. x ≤ point) xs
 
 -- new has the point in each list of which S holds, and is otherwise as old
-pub record AddsTo (S : ℕ → Type 0) (point : ℕ) (old new : List (List ℕ)) : Type 0 where
+pub record AddsPoint (S : ℕ → Type 0) (point : ℕ) (old new : List (List ℕ)) : Type 0 where
   pub exact : (p d : ℕ) → Contains (list_of new p) d ↔ (Contains (list_of old p) d ⊎ ((d ≡ point) × S p))
-  pub rises : (p : ℕ) → RisesTo point (list_of old p) → RisesTo point (list_of new p)
+  pub rises : (p : ℕ) → RisesToPoint point (list_of old p) → RisesToPoint point (list_of new p)
   pub len : length new ≡ length old
 
 -- the point of one of the pairs

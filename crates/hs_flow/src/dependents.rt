@@ -4,7 +4,7 @@ ghost use Rattle.std.specs.Prelude.{◌≡◌, ◌<◌, ℕ, length, All, Contai
 ghost use Rattle.hs_scheme.specs.declared.flow.FlowPair.{FlowPair};
 ghost use Rattle.hs_scheme.specs.Points.{NonterminalWithin};
 ghost use Rattle.hs_scheme.specs.Dependents.{HeadReads, IsDependent};
-ghost use Rattle.hs_flow.specs.Dependents.{HasDependents, AddsTo, HasPoint};
+ghost use Rattle.hs_flow.specs.Dependents.{HasDependents, AddsPoint, HasPoint};
 
 use crate::short_lists::ShortLists;
 use hs_scheme::{FlowPair, FlowTable, Head, OutOfMemory, Points, Problem};
@@ -32,7 +32,7 @@ impl Model for Dependents {
 /// Adds the point to the list of this number, unless it is the last there.
 fn add_once(lists: &mut ShortLists, number: u32, point: u32) -> Result<(), OutOfMemory>
     requires { number < length lists.old }
-    ensures { OnOk result (AddsTo (λ p. p ≡ number) point lists.old lists.new) }
+    ensures { OnOk result (AddsPoint (λ p. p ≡ number) point lists.old lists.new) }
 {
     if let Some(last) = lists.list(number as usize).last() {
         if *last == point {
@@ -45,7 +45,7 @@ fn add_once(lists: &mut ShortLists, number: u32, point: u32) -> Result<(), OutOf
 /// Adds the point to the lists of its arguments.
 fn add_to_arguments(lists: &mut ShortLists, args: &[u32], point: u32) -> Result<(), OutOfMemory>
     requires { All (λ a. a < length lists.old) args.now }
-    ensures { OnOk result (AddsTo (Contains args.now) point lists.old lists.new) }
+    ensures { OnOk result (AddsPoint (Contains args.now) point lists.old lists.new) }
 {
     for arg in args {
         add_once(lists, *arg, point)?;
@@ -56,7 +56,7 @@ fn add_to_arguments(lists: &mut ShortLists, args: &[u32], point: u32) -> Result<
 /// Adds the point to the lists of the points of these flow pairs.
 fn add_to_flow(lists: &mut ShortLists, flow: &[FlowPair], point: u32) -> Result<(), OutOfMemory>
     requires { All (λ (f : FlowPair). f.point < length lists.old) flow.now }
-    ensures { OnOk result (AddsTo (HasPoint flow.now) point lists.old lists.new) }
+    ensures { OnOk result (AddsPoint (HasPoint flow.now) point lists.old lists.new) }
 {
     for pair in flow {
         add_once(lists, pair.point, point)?;
@@ -77,7 +77,7 @@ fn add_to_head(
     requires flow { All (λ (f : FlowPair). f.point < length points.now.points) flow.now.pairs }
     requires head { NonterminalWithin (length points.now.bodies) head }
     ensures { OnOk result
-        (AddsTo (HeadReads points.now.bodies flow.now.pairs rule head) point lists.old lists.new) }
+        (AddsPoint (HeadReads points.now.bodies flow.now.pairs rule head) point lists.old lists.new) }
 {
     match head {
         Head::Var(param) => add_to_flow(lists, flow.flow_of(rule, param), point),
@@ -97,7 +97,7 @@ fn add_point(
     requires flow { All (λ (f : FlowPair). f.point < length points.now.points) flow.now.pairs }
     requires point { point < length points.now.points }
     ensures { OnOk result
-        (AddsTo (λ p. IsDependent points.now flow.now.pairs p point) point lists.old lists.new) }
+        (AddsPoint (λ p. IsDependent points.now flow.now.pairs p point) point lists.old lists.new) }
 {
     add_to_arguments(lists, points.args_of(point), point)?;
     let rule = points.rule_of(point);

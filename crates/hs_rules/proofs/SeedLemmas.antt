@@ -4,7 +4,7 @@ use Rattle.std.proofs.lemmas.Bool.{cases_lt, eq-eqb}
 use Rattle.hs_scheme.specs.declared.term.Head.TheVariants.{Var, Nt, Tm}
 use Rattle.hs_scheme.specs.Transition.{TransitionData}
 use Rattle.hs_scheme.specs.Automaton.{next, is_of, IsDeterministic}
-use Rattle.hs_scheme.proofs.Index.{find-only, is_of-true}
+use Rattle.hs_scheme.proofs.TransitionIndex.{find-only, is_of-true}
 use Rattle.hs_scheme.specs.Points.{PointData}
 use Rattle.hs_scheme.specs.Problem.{ProblemData}
 use Rattle.hs_table.specs.declared.support.HeadBy.{HeadBy}

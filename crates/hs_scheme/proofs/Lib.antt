@@ -1,4 +1,4 @@
-pub mod Index
+pub mod TransitionIndex
 pub mod TransitionLemmas
 pub mod PlainLemmas
 pub mod ParameterLemmas

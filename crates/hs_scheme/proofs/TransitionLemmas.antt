@@ -9,7 +9,7 @@ use Rattle.hs_scheme.specs.Key.{triple_eq}
 use Rattle.hs_scheme.specs.Transition.{TransitionData}
 use Rattle.hs_scheme.specs.Automaton.{is_of, IsDeterministic}
 use Rattle.hs_scheme.specs.Transitions.{items_of, IsPlaceOf, Reads, IsByTerminal, IsRead, IsByChild, GainsReads}
-use Rattle.hs_scheme.proofs.Index.{is_of-true, find-only}
+use Rattle.hs_scheme.proofs.TransitionIndex.{is_of-true, find-only}
 
 items_or : (o : Option (Vec ℕ Global)) (fresh : Vec ℕ Global) → fresh.items ≡ [] → (unwrap_or o fresh).items ≡ items_of o
 items_or None fresh e = e

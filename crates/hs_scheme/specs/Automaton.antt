@@ -33,6 +33,6 @@ pub record IsAutomaton (a : AutomatonData) : Type 0 where
   pub deterministic : IsDeterministic a.transitions
 
 -- the index leads from their states and terminals to the first n transitions, and from no others
-pub record IsIndex (index : ℕ → ℕ → Option ℕ) (ts : List TransitionData) (n : ℕ) : Type 0 where
+pub record IsTransitionIndex (index : ℕ → ℕ → Option ℕ) (ts : List TransitionData) (n : ℕ) : Type 0 where
   pub sound : (q a i : ℕ) → index q a ≡ Some i → (i < n) × ((t : TransitionData) × (slice_get ts i ≡ Some t) × (is_of q a t ≡ true))
   pub complete : (i : ℕ) (t : TransitionData) → i < n → slice_get ts i ≡ Some t → index t.from t.terminal ≡ Some i

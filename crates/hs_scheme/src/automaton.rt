@@ -56,7 +56,7 @@ pub struct Automaton {
 }
 
 impl Model for Automaton {
-    ghost use Rattle.hs_scheme.specs.Automaton.{AutomatonData, coded_automaton, IsAutomaton, IsIndex};
+    ghost use Rattle.hs_scheme.specs.Automaton.{AutomatonData, coded_automaton, IsAutomaton, IsTransitionIndex};
     ghost use Rattle.std.specs.HashMap.{get};
     ghost use Rattle.std.specs.Prelude.{length, nat_eq};
     ghost use Rattle.hs_scheme.specs.Key.{key_eq, triple_eq};
@@ -69,7 +69,8 @@ impl Model for Automaton {
     ghost view = { λ a. record { states = a.states; transitions = a.transitions.items } };
 
     ghost invariant = { λ a. IsAutomaton (record { states = a.states; transitions = a.transitions.items })
-        × IsIndex (λ q t. get key_eq a.index (q, t)) a.transitions.items (length a.transitions.items)
+        × IsTransitionIndex (λ q t. get key_eq a.index (q, t)) a.transitions.items
+        (length a.transitions.items)
         × IsByTerminal a.transitions.items (length a.transitions.items)
         (λ t. items_of (get nat_eq a.by_terminal t))
         × IsByChild a.transitions.items (length a.transitions.items)

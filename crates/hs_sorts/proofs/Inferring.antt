@@ -11,7 +11,7 @@ use Rattle.hs_scheme.specs.Tree.{Trees, node, none, more, children}
 use Rattle.hs_scheme.specs.Scheme.{HeadInRange, TermInRange, AreRules}
 use Rattle.hs_scheme.specs.Sorting.{SortTree, o, arrow, arrows, behind, ranked, size, arguments, IsFirstOrder, Sorts, heads, HasSort, IsSorting, HasSorting, AreFirstOrder, IsLeastSorting}
 use Rattle.hs_scheme.specs.Sorted.{sort_at, sorts_of, known}
-use Rattle.hs_sorts.specs.declared.found.Found.{Found}
+use Rattle.hs_sorts.specs.declared.finding.WeighedNodes.{WeighedNodes}
 use Rattle.hs_sorts.specs.declared.store.Node.{Node}
 use Rattle.hs_sorts.specs.declared.weights.Weight.{Weight}
 use Rattle.hs_sorts.specs.Nodes.{Valuation}
@@ -50,7 +50,7 @@ no_rules_sorted rules ranks are = (
     rank_of (Some (Some n)) = n
 
 -- what was found is a sorting
-pub found_sorting : (rules : List Rule) (ranks : List (Option ℕ)) (k : ℕ) (found : Found) → Finds rules ranks k found → HasSorting rules ranks k
+pub found_sorting : (rules : List Rule) (ranks : List (Option ℕ)) (k : ℕ) (found : WeighedNodes) → Finds rules ranks k found → HasSorting rules ranks k
 found_sorting rules ranks k found f = (
   sorts_at (length rules) f.weighing.valuation,
   f.solves.sound f.weighing.valuation (reading_respects f.weighing.valuation found.store f.weighing.reading),
@@ -108,7 +108,7 @@ module _ (rules : List Rule) (ranks : List (Option ℕ)) (are : AreRules rules (
         };
   }
 
-module _ (rules : List Rule) (ranks : List (Option ℕ)) (are : AreRules rules (length ranks)) (found : Found) (f : Finds rules ranks (length rules) found) where
+module _ (rules : List Rule) (ranks : List (Option ℕ)) (are : AreRules rules (length ranks)) (found : WeighedNodes) (f : Finds rules ranks (length rules) found) where
   abbrev nodes : List Node
   nodes = found.store
 
@@ -263,6 +263,6 @@ module _ (rules : List Rule) (ranks : List (Option ℕ)) (are : AreRules rules (
         none_too_long = λ g rule at long. none_long passed g rule at (subst (IsTooLong rule) (same_nonterminals g (slice_get_within rules g rule at)) long);
       }
 
-pub found_if : (rules : List Rule) (ranks : List (Option ℕ)) (k : ℕ) (answer : Option Found) → IsFinding rules ranks k answer → true ≡ is_some answer → HasSorting rules ranks k
+pub found_if : (rules : List Rule) (ranks : List (Option ℕ)) (k : ℕ) (answer : Option WeighedNodes) → IsFinding rules ranks k answer → true ≡ is_some answer → HasSorting rules ranks k
 found_if rules ranks k None f h = absurd (cc)
 found_if rules ranks k (Some found) f h = found_sorting rules ranks k found f

@@ -2,7 +2,7 @@
 use Rattle.std.specs.Prelude.{◌≡◌, ◌<◌, ◌≤◌, ℕ, ◌+◌, List, length, slice_get, Option, Some, None, Bool, true, false}
 use Rattle.hs_scheme.specs.declared.term.Rule.{Rule}
 use Rattle.hs_scheme.specs.Sorting.{SortTree, arguments, HasSorting}
-use Rattle.hs_sorts.specs.declared.found.Found.{Found}
+use Rattle.hs_sorts.specs.declared.finding.WeighedNodes.{WeighedNodes}
 use Rattle.hs_sorts.specs.declared.store.Node.{Node}
 use Rattle.hs_sorts.specs.declared.weights.Weight.{Weight}
 use Rattle.hs_sorts.specs.Nodes.{Valuation, IsStore, IsFlat}
@@ -11,22 +11,22 @@ use Rattle.hs_sorts.specs.Search.{Weighing}
 use Rattle.hs_sorts.specs.Solving.{Solves}
 use Rattle.hs_sorts.specs.Inference.{IsTooLong}
 
-pub record Finds (rules : List Rule) (ranks : List (Option ℕ)) (k : ℕ) (found : Found) : Type 0 where
+pub record Finds (rules : List Rule) (ranks : List (Option ℕ)) (k : ℕ) (found : WeighedNodes) : Type 0 where
   pub store : IsStore found.store
   pub flat : IsFlat found.store
   pub solves : Solves rules ranks k found.store
   pub weighing : Weighing found.store found.weights
 
 -- they are found exactly where the first k rules have a sorting
-abbrev pub IsFinding : List Rule → List (Option ℕ) → ℕ → Option Found → Type 0
+abbrev pub IsFinding : List Rule → List (Option ℕ) → ℕ → Option WeighedNodes → Type 0
 IsFinding rules ranks k (Some found) = Finds rules ranks k found
 IsFinding rules ranks k None = HasSorting rules ranks k → ⊥
 
--- the first of `count` weights from the one at `start` on that fails, where the others pass
+-- the first of `count` weights from the one at `start` on of which Fails is true, where Holds is true of those before it
 abbrev pub IsFirstWeight : (Weight → Type 0) → (Weight → Type 0) → List Weight → ℕ → ℕ → Option ℕ → Type 0
-IsFirstWeight Fails Passes weights start count (Some i) =
-    (i < count) × ((w : Weight) → slice_get weights (start + i) ≡ Some w → Fails w) × ((j : ℕ) (w : Weight) → j < i → slice_get weights (start + j) ≡ Some w → Passes w)
-IsFirstWeight Fails Passes weights start count None = (j : ℕ) (w : Weight) → j < count → slice_get weights (start + j) ≡ Some w → Passes w
+IsFirstWeight Fails Holds weights start count (Some i) =
+    (i < count) × ((w : Weight) → slice_get weights (start + i) ≡ Some w → Fails w) × ((j : ℕ) (w : Weight) → j < i → slice_get weights (start + j) ≡ Some w → Holds w)
+IsFirstWeight Fails Holds weights start count None = (j : ℕ) (w : Weight) → j < count → slice_get weights (start + j) ≡ Some w → Holds w
 
 -- the first whose sort has an argument other than o, and the first whose sort is larger than 1,000
 abbrev pub IsFirstHigherOrder : List Weight → ℕ → ℕ → Option ℕ → Type 0

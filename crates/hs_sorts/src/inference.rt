@@ -8,7 +8,7 @@ ghost use Rattle.hs_sorts.specs.Inference.{IsInferred, IsFirstIllSorted, IsFault
 ghost use Rattle.hs_sorts.specs.Least.{IsLeast};
 
 use crate::fault::SortFault;
-use crate::found::{arities, find, first_higher_order, first_large, first_too_long, read_sorts};
+use crate::finding::{arities, find, first_higher_order, first_large, first_too_long, read_sorts};
 use crate::lengthening::{lengthen, lengthen_names};
 use hs_scheme::{OutOfMemory, Rule, Scheme, Sort, Sorted, Unsorted};
 use std::alloc::Global;

@@ -7,7 +7,7 @@
 
 mod constraints;
 mod fault;
-mod found;
+mod finding;
 mod heads;
 mod inference;
 mod laws;

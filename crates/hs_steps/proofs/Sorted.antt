@@ -17,7 +17,7 @@ use Rattle.hs_scheme.specs.Sorting.{SortTree, o, arrow, arrows, behind, ranked, 
 use Rattle.hs_scheme.specs.Steps.{Path, StepsTo}
 use Rattle.hs_scheme.specs.TreeTerms.{ground, IsTreeTerm, AreSortedBy}
 use Rattle.hs_scheme.specs.Unsorted.{AgreesWithRanks}
-use Rattle.hs_scheme.proofs.Index.{is_of-true}
+use Rattle.hs_scheme.proofs.TransitionIndex.{is_of-true}
 use Rattle.hs_steps.proofs.Terms.{same_some, Unfolding, unfolding_of}
 
 first : SortTree → SortTree

@@ -20,7 +20,7 @@ use Rattle.hs_turn.specs.declared.known.Known.{Known}
 use Rattle.hs_turn.specs.Story.{told_by}
 use Rattle.hs_turn.specs.Views.{first_seat, entered, having_told, having_left, having_split, split_off, having_joined, spent}
 use Rattle.hs_turn.specs.Rule.{Phase, free, held, lock_word, slot, HasHolder, AreSeats, AreOwned, Rests, Knows, IsTurn}
-use Rattle.hs_turn.specs.Steps.{Holding, Enters, Leaves, Tells, Looks}
+use Rattle.hs_turn.specs.AtomicSteps.{Holding, Enters, Leaves, Tells, Looks}
 use Rattle.hs_turn.proofs.PrefixLemmas.{prefix-refl, prefix-longer, prefix-shorter, prefix-chosen, both_begin}
 use Rattle.hs_turn.proofs.SeatLemmas.{set_at, at_push, only_value, count_two, seats-first, seats-set, seats-split, seats-join}
 use Rattle.hs_turn.proofs.EventLemmas.{events-first, events-set, events-told, events-split, events-join}

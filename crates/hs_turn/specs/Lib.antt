@@ -2,4 +2,4 @@ pub mod Story
 pub mod Views
 pub mod Seats
 pub mod Rule
-pub mod Steps
+pub mod AtomicSteps

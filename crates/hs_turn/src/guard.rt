@@ -3,7 +3,7 @@
 ghost use Rattle.std.specs.Prelude.{◌≡◌, ◌<◌, ◌^◌, false, true, [], ◌∷◌, ◌++◌, length, Some, IfSome, IfNone};
 ghost use mathlib.Core.List.{IsPrefix};
 ghost use Rattle.hs_turn.specs.Story.{told_by};
-ghost use Rattle.hs_turn.specs.Steps.{Finds};
+ghost use Rattle.hs_turn.specs.AtomicSteps.{Finds};
 ghost use Rattle.hs_turn.specs.Views.{entered, having_told, having_left};
 
 use crate::seat::Seat;

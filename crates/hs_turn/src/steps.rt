@@ -2,7 +2,7 @@
 
 ghost use Rattle.std.specs.Prelude.{List, []};
 ghost use Rattle.hs_turn.specs.Views.{having_split, split_off, having_joined, spent};
-ghost use Rattle.hs_turn.specs.Steps.{Enters, Leaves, Tells, Looks};
+ghost use Rattle.hs_turn.specs.AtomicSteps.{Enters, Leaves, Tells, Looks};
 
 use crate::known::Known;
 use crate::storied::Storied;

@@ -8,20 +8,20 @@ use Rattle.indexmap.specs.IndexMap.{insert_entry}
 use Rattle.hs_table_laws.proofs.Places.{here, later, uncons, none_in}
 use Rattle.hs_table.specs.Types.{TypeTree, IsSet}
 use Rattle.hs_table.specs.Entries.{Env, set_at}
-use Rattle.hs_types.specs.declared.unions.Pair.{Pair}
+use Rattle.hs_types.specs.declared.unions.Operands.{Operands}
 use Rattle.hs_types.specs.contracts.unions.PairPartialEq.TheImpl.{eq-value}
 use Rattle.hs_types.specs.Interned.{InternerData, set_of_id, env_of_id, IsUnion, IsUnionEnv, IsInterner, Grows}
-use Rattle.hs_types.specs.Unions.{Known, IsPair, Knows, KnowsMore, IsSetUnion, IsEnvUnion, AreUnions}
+use Rattle.hs_types.specs.Unions.{KnownUnions, AreOperands, Knows, KnowsMore, IsSetUnion, IsEnvUnion, AreUnions}
 use Rattle.hs_types.proofs.MergeLemmas.{union_swap}
 use Rattle.hs_types.proofs.Numbers.{set_within, set_stays, env_within, env_stays}
 
-pair_same : (p q : Pair) → eq-value.it p q ≡ true → p ≡ q
+pair_same : (p q : Operands) → eq-value.it p q ≡ true → p ≡ q
 pair_same p q h =
     let e = and_parts (nat_eq p.first q.first) (nat_eq p.second q.second) h in
     λ i. record { first = eqb-true p.first q.first e.0 i; second = eqb-true p.second q.second e.1 i }
 
 -- what a look-up finds is an entry
-pub found_entry : (p : Pair) (es : Known) (u : ℕ) → lookup (eq-value.it p) es ≡ Some u → Contains es (p, u)
+pub found_entry : (p : Operands) (es : KnownUnions) (u : ℕ) → lookup (eq-value.it p) es ≡ Some u → Contains es (p, u)
 found_entry p [] u e = absurd (cc)
 found_entry p ((q, v) ∷ es) u e = by (eq-value.it p q) refl (found_entry p es u)
   where
@@ -30,30 +30,30 @@ found_entry p ((q, v) ∷ es) u e = by (eq-value.it p q) refl (found_entry p es 
         let f : Some v ≡ Some u = sym (ap (λ b. cond b (Some v) (lookup (eq-value.it p) es)) t) ∙ e in
         let is : v ≡ u = (cc) in
         let same = sym (pair_same p q t) in
-        subst (λ (x : Pair × ℕ). Contains ((q, v) ∷ es) x) (λ i. (same i, is i)) (here (q, v) es)
+        subst (λ (x : Operands × ℕ). Contains ((q, v) ∷ es) x) (λ i. (same i, is i)) (here (q, v) es)
     by false t rest = later (q, v) (p, u) es (rest (sym (ap (λ b. cond b (Some v) (lookup (eq-value.it p) es)) t) ∙ e))
 
 -- an insert leaves entries that were there, and its own
-pub inserted_entry : (p : Pair) (v : ℕ) (es : Known) (x : Pair × ℕ) → Contains (insert_entry eq-value.it es p v) x → Contains es x ⊎ (x ≡ (p, v))
+pub inserted_entry : (p : Operands) (v : ℕ) (es : KnownUnions) (x : Operands × ℕ) → Contains (insert_entry eq-value.it es p v) x → Contains es x ⊎ (x ≡ (p, v))
 inserted_entry p v [] x h = elim (uncons (p, v) x [] h) [ inl is ↦ inr is | inr there ↦ absurd (none_in x there) ]
 inserted_entry p v ((q, w) ∷ es) x h = by (eq-value.it p q) refl (inserted_entry p v es x)
   where
     by : (b : Bool) → eq-value.it p q ≡ b → (Contains (insert_entry eq-value.it es p v) x → Contains es x ⊎ (x ≡ (p, v))) → Contains ((q, w) ∷ es) x ⊎ (x ≡ (p, v))
     by true t rest =
-        let k : Contains ((q, v) ∷ es) x = subst (λ (l : Known). Contains l x) (ap (λ b. cond b ((q, v) ∷ es) ((q, w) ∷ insert_entry eq-value.it es p v)) t) h in
+        let k : Contains ((q, v) ∷ es) x = subst (λ (l : KnownUnions). Contains l x) (ap (λ b. cond b ((q, v) ∷ es) ((q, w) ∷ insert_entry eq-value.it es p v)) t) h in
         elim (uncons (q, v) x es k) [
           | inl is ↦ let same = sym (pair_same p q t) in inr (is ∙ (λ i. (same i, v)))
           | inr there ↦ inl (later (q, w) x es there)
         ]
     by false t rest =
-        let k : Contains ((q, w) ∷ insert_entry eq-value.it es p v) x = subst (λ (l : Known). Contains l x) (ap (λ b. cond b ((q, v) ∷ es) ((q, w) ∷ insert_entry eq-value.it es p v)) t) h in
+        let k : Contains ((q, w) ∷ insert_entry eq-value.it es p v) x = subst (λ (l : KnownUnions). Contains l x) (ap (λ b. cond b ((q, v) ∷ es) ((q, w) ∷ insert_entry eq-value.it es p v)) t) h in
         elim (uncons (q, w) x (insert_entry eq-value.it es p v) k) [
-          | inl is ↦ inl (subst (λ (y : Pair × ℕ). Contains ((q, w) ∷ es) y) (sym is) (here (q, w) es))
+          | inl is ↦ inl (subst (λ (y : Operands × ℕ). Contains ((q, w) ∷ es) y) (sym is) (here (q, w) es))
           | inr there ↦ elim (rest there) [ inl was ↦ inl (later (q, w) x es was) | inr own ↦ inr own ]
         ]
 
 -- what is known stays so while the interner grows
-pub unions_grow : (I J : InternerData) (sets envs : Known) → Grows I J → AreUnions I sets envs → AreUnions J sets envs
+pub unions_grow : (I J : InternerData) (sets envs : KnownUnions) → Grows I J → AreUnions I sets envs → AreUnions J sets envs
 unions_grow I J sets envs g h = record {
   sets = λ p u c. let k = h.sets p u c in record {
     first = set_within I J g p.first k.first;
@@ -84,7 +84,7 @@ union_second s r e h = record {
 }
 
 -- a union that is known
-module _ (I : InternerData) (sets envs : Known) (are : AreUnions I sets envs) where
+module _ (I : InternerData) (sets envs : KnownUnions) (are : AreUnions I sets envs) where
   pub known_set : (a b u : ℕ) → Knows sets a b u → IsSetUnion I a b u
   known_set a b u (p, (inl is, c)) =
       let k = are.sets p u c in
@@ -112,13 +112,13 @@ module _ (I : InternerData) (sets envs : Known) (are : AreUnions I sets envs) wh
         };
       }
 
-  set_by_pair : (p : Pair) (a b u : ℕ) → IsPair p a b → IsSetUnion I a b u → IsSetUnion I p.first p.second u
+  set_by_pair : (p : Operands) (a b u : ℕ) → AreOperands p a b → IsSetUnion I a b u → IsSetUnion I p.first p.second u
   set_by_pair p a b u (inl is) k = subst (λ x. IsSetUnion I x p.second u) (sym is.0) (subst (λ x. IsSetUnion I a x u) (sym is.1) k)
   set_by_pair p a b u (inr is) k =
       let m : IsSetUnion I b a u = record { first = k.second; second = k.first; within = k.within; is = union_swap (set_of_id I a) (set_of_id I b) (set_of_id I u) k.is } in
       subst (λ x. IsSetUnion I x p.second u) (sym is.0) (subst (λ x. IsSetUnion I b x u) (sym is.1) m)
 
-  env_by_pair : (p : Pair) (a b u : ℕ) → IsPair p a b → IsEnvUnion I a b u → IsEnvUnion I p.first p.second u
+  env_by_pair : (p : Operands) (a b u : ℕ) → AreOperands p a b → IsEnvUnion I a b u → IsEnvUnion I p.first p.second u
   env_by_pair p a b u (inl is) k = subst (λ x. IsEnvUnion I x p.second u) (sym is.0) (subst (λ x. IsEnvUnion I a x u) (sym is.1) k)
   env_by_pair p a b u (inr is) k =
       let m : IsEnvUnion I b a u = record {
@@ -133,7 +133,7 @@ module _ (I : InternerData) (sets envs : Known) (are : AreUnions I sets envs) wh
       } in
       subst (λ x. IsEnvUnion I x p.second u) (sym is.0) (subst (λ x. IsEnvUnion I b x u) (sym is.1) m)
 
-  pub keep_set : (new : Known) (a b u : ℕ) → KnowsMore sets new a b u → IsSetUnion I a b u → AreUnions I new envs
+  pub keep_set : (new : KnownUnions) (a b u : ℕ) → KnowsMore sets new a b u → IsSetUnion I a b u → AreUnions I new envs
   keep_set new a b u more k = record {
     sets = λ p v c. elim (more p v c) [
       | inl was ↦ are.sets p v was
@@ -142,7 +142,7 @@ module _ (I : InternerData) (sets envs : Known) (are : AreUnions I sets envs) wh
     envs = are.envs;
   }
 
-  pub keep_env : (new : Known) (a b u : ℕ) → KnowsMore envs new a b u → IsEnvUnion I a b u → AreUnions I sets new
+  pub keep_env : (new : KnownUnions) (a b u : ℕ) → KnowsMore envs new a b u → IsEnvUnion I a b u → AreUnions I sets new
   keep_env new a b u more k = record {
     sets = are.sets;
     envs = λ p v c. elim (more p v c) [
@@ -152,22 +152,22 @@ module _ (I : InternerData) (sets envs : Known) (are : AreUnions I sets envs) wh
   }
 
 -- the same, as code finds it: by numbers that are equal to those that were asked for
-pub known_set_at : (I K : InternerData) (sets envs : Known) → AreUnions I sets envs → I ≡ K → (a b u m n r : ℕ) → m ≡ a → n ≡ b → r ≡ u → Knows sets m n u → IsSetUnion K a b r
+pub known_set_at : (I K : InternerData) (sets envs : KnownUnions) → AreUnions I sets envs → I ≡ K → (a b u m n r : ℕ) → m ≡ a → n ≡ b → r ≡ u → Knows sets m n u → IsSetUnion K a b r
 known_set_at I K sets envs are is a b u m n r e f g k =
     let h : IsSetUnion K m n u = subst (λ (J : InternerData). IsSetUnion J m n u) is (known_set I sets envs are m n u k) in
     subst (λ (x : ℕ). IsSetUnion K a b x) (sym g) (subst (λ (x : ℕ). IsSetUnion K a x u) f (subst (λ (x : ℕ). IsSetUnion K x n u) e h))
 
-pub known_env_at : (I K : InternerData) (sets envs : Known) → AreUnions I sets envs → I ≡ K → (a b u m n r : ℕ) → m ≡ a → n ≡ b → r ≡ u → Knows envs m n u → IsEnvUnion K a b r
+pub known_env_at : (I K : InternerData) (sets envs : KnownUnions) → AreUnions I sets envs → I ≡ K → (a b u m n r : ℕ) → m ≡ a → n ≡ b → r ≡ u → Knows envs m n u → IsEnvUnion K a b r
 known_env_at I K sets envs are is a b u m n r e f g k =
     let h : IsEnvUnion K m n u = subst (λ (J : InternerData). IsEnvUnion J m n u) is (known_env I sets envs are m n u k) in
     subst (λ (x : ℕ). IsEnvUnion K a b x) (sym g) (subst (λ (x : ℕ). IsEnvUnion K a x u) f (subst (λ (x : ℕ). IsEnvUnion K x n u) e h))
 
-more_at : (old new : Known) (a b u m n r : ℕ) → m ≡ a → n ≡ b → r ≡ u → KnowsMore old new m n r → KnowsMore old new a b u
+more_at : (old new : KnownUnions) (a b u m n r : ℕ) → m ≡ a → n ≡ b → r ≡ u → KnowsMore old new m n r → KnowsMore old new a b u
 more_at old new a b u m n r e f g k =
     subst (λ (x : ℕ). KnowsMore old new a b x) g (subst (λ (x : ℕ). KnowsMore old new a x r) f (subst (λ (x : ℕ). KnowsMore old new x n r) e k))
 
 -- a union of sets that was just made is kept
-pub kept_set : (I J K : InternerData) (sets envs new : Known) → AreUnions I sets envs → I ≡ K → Grows I J → (a b u m n r : ℕ) → m ≡ a → n ≡ b → r ≡ u → a < length K.sets → b < length K.sets
+pub kept_set : (I J K : InternerData) (sets envs new : KnownUnions) → AreUnions I sets envs → I ≡ K → Grows I J → (a b u m n r : ℕ) → m ≡ a → n ≡ b → r ≡ u → a < length K.sets → b < length K.sets
     → (u < length J.sets) × IsUnion (set_of_id I a) (set_of_id I b) (set_of_id J u) → KnowsMore sets new m n r → AreUnions J new envs
 kept_set I J K sets envs new are is g a b u m n r e f q h k ok more =
     let a_in : a < length I.sets = subst (λ (L : InternerData). a < length L.sets) (sym is) h in
@@ -180,7 +180,7 @@ kept_set I J K sets envs new are is g a b u m n r e f q h k ok more =
     })
 
 -- a union of environments that was just made is kept
-pub kept_env : (I J K : InternerData) (sets envs new : Known) → AreUnions J sets envs → J ≡ K → Grows I K → (a b u m n r : ℕ) → m ≡ a → n ≡ b → r ≡ u → a < length I.envs → b < length I.envs
+pub kept_env : (I J K : InternerData) (sets envs new : KnownUnions) → AreUnions J sets envs → J ≡ K → Grows I K → (a b u m n r : ℕ) → m ≡ a → n ≡ b → r ≡ u → a < length I.envs → b < length I.envs
     → length (env_of_id I a) ≡ length (env_of_id I b) → (u < length K.envs) × IsUnionEnv (env_of_id I a) (env_of_id I b) (env_of_id K u) → KnowsMore envs new m n r → AreUnions J sets new
 kept_env I J K sets envs new are is g a b u m n r e f q h k long ok more =
     let made : IsEnvUnion K a b u = record {

@@ -1,4 +1,4 @@
 pub mod Interned
-pub mod Found
+pub mod Translations
 pub mod Nodes
 pub mod Unions

@@ -1,21 +1,21 @@
 -- Unions that are known: by a pair of numbers, of which the smaller stands first.
 use Rattle.std.specs.Prelude.{◌≡◌, ℕ, ◌<◌, List, length, Contains, ◌⊎◌}
-use Rattle.hs_types.specs.declared.unions.Pair.{Pair}
+use Rattle.hs_types.specs.declared.unions.Operands.{Operands}
 use Rattle.hs_types.specs.Interned.{InternerData, set_of_id, env_of_id, IsUnion, IsUnionEnv}
 
-abbrev pub Known : Type 0
-Known = List (Pair × ℕ)
+abbrev pub KnownUnions : Type 0
+KnownUnions = List (Operands × ℕ)
 
-abbrev pub IsPair : Pair → ℕ → ℕ → Type 0
-IsPair p a b = ((p.first ≡ a) × (p.second ≡ b)) ⊎ ((p.first ≡ b) × (p.second ≡ a))
+abbrev pub AreOperands : Operands → ℕ → ℕ → Type 0
+AreOperands p a b = ((p.first ≡ a) × (p.second ≡ b)) ⊎ ((p.first ≡ b) × (p.second ≡ a))
 
 -- the union of a and b is known
-abbrev pub Knows : Known → ℕ → ℕ → ℕ → Type 0
-Knows known a b union = (p : Pair) × (IsPair p a b × Contains known (p, union))
+abbrev pub Knows : KnownUnions → ℕ → ℕ → ℕ → Type 0
+Knows known a b union = (p : Operands) × (AreOperands p a b × Contains known (p, union))
 
 -- what is known was known, or is that of a and b
-abbrev pub KnowsMore : Known → Known → ℕ → ℕ → ℕ → Type 0
-KnowsMore old new a b union = (p : Pair) (u : ℕ) → Contains new (p, u) → Contains old (p, u) ⊎ (IsPair p a b × (u ≡ union))
+abbrev pub KnowsMore : KnownUnions → KnownUnions → ℕ → ℕ → ℕ → Type 0
+KnowsMore old new a b union = (p : Operands) (u : ℕ) → Contains new (p, u) → Contains old (p, u) ⊎ (AreOperands p a b × (u ≡ union))
 
 pub record IsSetUnion (I : InternerData) (a b union : ℕ) : Type 0 where
   pub first : a < length I.sets
@@ -31,6 +31,6 @@ pub record IsEnvUnion (I : InternerData) (a b union : ℕ) : Type 0 where
   pub is : IsUnionEnv (env_of_id I a) (env_of_id I b) (env_of_id I union)
 
 -- all that is known is so
-pub record AreUnions (I : InternerData) (of_sets of_envs : Known) : Type 0 where
-  pub sets : (p : Pair) (u : ℕ) → Contains of_sets (p, u) → IsSetUnion I p.first p.second u
-  pub envs : (p : Pair) (u : ℕ) → Contains of_envs (p, u) → IsEnvUnion I p.first p.second u
+pub record AreUnions (I : InternerData) (of_sets of_envs : KnownUnions) : Type 0 where
+  pub sets : (p : Operands) (u : ℕ) → Contains of_sets (p, u) → IsSetUnion I p.first p.second u
+  pub envs : (p : Operands) (u : ℕ) → Contains of_envs (p, u) → IsEnvUnion I p.first p.second u

@@ -6,11 +6,11 @@ ghost use Rattle.hs_table.specs.Types.{TypeTree, state, arrow, type_cmp};
 ghost use Rattle.hs_types.specs.Unions.{IsSetUnion, IsEnvUnion};
 ghost use Rattle.hs_types.specs.Interned.{type_of_id, set_of_id, env_of_id, IsRow, entry_of, IsView, IsInterner, Grows, IsSetOf, IsUnion, IsUnionEnv};
 
-use crate::found::ImportedNumbers;
 use crate::guesses::Guesses;
 use crate::ids::{EnvId, Row, SetId, TyId, View};
 use crate::latest::Latest;
 use crate::nodes::Nodes;
+use crate::translations::ImportedNumbers;
 use crate::unions::Unions;
 use hs_scheme::OutOfMemory;
 use hs_table::Entry;

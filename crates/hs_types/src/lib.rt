@@ -7,7 +7,6 @@
 #![tactic(auto)]
 
 mod compare;
-mod found;
 mod guesses;
 mod ids;
 mod import;
@@ -19,9 +18,10 @@ mod nodes;
 mod rows;
 #[cfg(test)]
 mod tests;
+mod translations;
 mod tree;
 mod unions;
 
-pub use found::ImportedNumbers;
 pub use ids::{EnvId, Row, SetId, TyId, View};
 pub use interner::Interner;
+pub use translations::ImportedNumbers;

@@ -2,12 +2,12 @@
 
 ghost use Rattle.std.specs.Prelude.{◌≡◌, ◌<◌, All, IfOk, OnOk, Some, length, map, slice_get};
 ghost use Rattle.hs_types.specs.Interned.{type_of_id, env_of_id, IsRow, entry_of, Grows};
-ghost use Rattle.hs_types.specs.Found.{StandForTypes, AreEnvs, AreFound};
+ghost use Rattle.hs_types.specs.Translations.{StandForTypes, AreEnvs, AreFound};
 
-use crate::found::{ImportedNumbers, Pairs};
 use crate::guesses::Guesses;
 use crate::ids::{EnvId, Row, TyId};
 use crate::nodes::Nodes;
+use crate::translations::{ImportedNumbers, Translations};
 use hs_scheme::OutOfMemory;
 use std::alloc::Global;
 
@@ -17,7 +17,7 @@ impl Nodes {
         &mut self,
         alloc: Global,
         guesses: &mut Guesses,
-        found: &mut Pairs,
+        found: &mut Translations,
         from: &Nodes,
         id: TyId,
     ) -> Result<TyId, OutOfMemory>
@@ -40,7 +40,7 @@ impl Nodes {
         &mut self,
         alloc: Global,
         guesses: &mut Guesses,
-        found: &mut Pairs,
+        found: &mut Translations,
         from: &Nodes,
         id: EnvId,
     ) -> Result<EnvId, OutOfMemory>

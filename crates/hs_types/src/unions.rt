@@ -1,8 +1,8 @@
 //! Unions that are known.
 
 ghost use Rattle.std.specs.Prelude.{◌≡◌, ℕ, [], IfSome, Contains};
-ghost use Rattle.hs_types.specs.declared.unions.Pair.{Pair as AnyPair};
-ghost use Rattle.hs_types.specs.Unions.{IsPair, Knows, KnowsMore};
+ghost use Rattle.hs_types.specs.declared.unions.Operands.{Operands as AnyOperands};
+ghost use Rattle.hs_types.specs.Unions.{AreOperands, Knows, KnowsMore};
 
 use hs_scheme::OutOfMemory;
 use indexmap::IndexMap;
@@ -13,21 +13,21 @@ const MOST_KNOWN: usize = 524_288;
 
 /// Two numbers, the smaller first.
 #[derive(Clone, Copy, Debug, PartialEq, Eq, Hash)]
-pub(crate) struct Pair {
+pub(crate) struct Operands {
     first: u32,
     second: u32,
 }
 
-fn ordered(a: u32, b: u32) -> Pair
-    ensures { IsPair result a b }
+fn ordered(a: u32, b: u32) -> Operands
+    ensures { AreOperands result a b }
 {
     if a <= b {
-        Pair {
+        Operands {
             first: a,
             second: b,
         }
     } else {
-        Pair {
+        Operands {
             first: b,
             second: a,
         }
@@ -37,7 +37,7 @@ fn ordered(a: u32, b: u32) -> Pair
 /// The unions of pairs of numbers, as far as they were made and kept.
 #[derive(Drop)]
 pub(crate) struct Unions {
-    known: IndexMap<Pair, u32>,
+    known: IndexMap<Operands, u32>,
 }
 
 impl Unions {
@@ -60,7 +60,7 @@ impl Unions {
 
     /// Forgets all unions where they are too many.
     fn make_room(&mut self)
-        ensures { (p : AnyPair) (u : ℕ) → Contains self.new.known.entries (p, u)
+        ensures { (p : AnyOperands) (u : ℕ) → Contains self.new.known.entries (p, u)
             → Contains self.old.known.entries (p, u) }
     {
         if self.known.len() >= MOST_KNOWN {

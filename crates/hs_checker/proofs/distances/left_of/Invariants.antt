@@ -1,7 +1,7 @@
 -- the bases that aren't left are found
 use Rattle.std.proofs.Common.{Contains, ◌⊎◌, length}
 use Rattle.hs_scheme.specs.declared.flow.HeadPair.{HeadPair}
-use Rattle.hs_checker.specs.Passes.{HasPassed}
+use Rattle.hs_checker.specs.PassedOn.{HasPassed}
 use Rattle.hs_checker.proofs.distances.left_of.Given as goal
 
 abbrev pub invariant-loop-base : goal.invariant-loop-base

@@ -1,6 +1,6 @@
 use Rattle.std.proofs.Common.{◌≡◌, subst, length, get_or, arith}
 use Rattle.std.proofs.lemmas.Option.{slice_get-get_or}
-use Rattle.hs_checker.specs.Passes.{base_of}
+use Rattle.hs_checker.specs.PassedOn.{base_of}
 use Rattle.hs_checker.proofs.GapLemmas.{HoldsArguments, argument_passes, next_argument, all_arguments}
 use Rattle.hs_checker.proofs.flow.flow_gap.Goals as goal
 

@@ -4,7 +4,7 @@ use Rattle.std.proofs.lemmas.List.Elements.{Contains-get_or}
 use Rattle.hs_scheme.specs.declared.flow.FlowPair.{FlowPair}
 use Rattle.hs_scheme.specs.declared.flow.HeadPair.{HeadPair}
 use Rattle.hs_table_plain.proofs.Members.{next_member}
-use Rattle.hs_checker.specs.Passes.{base_of, PassesArgument}
+use Rattle.hs_checker.specs.PassedOn.{base_of, PassesArgument}
 use Rattle.hs_checker.proofs.flow.flow_gap_by.Goals as goal
 
 pub returns-in-Err : goal.returns-in-Err

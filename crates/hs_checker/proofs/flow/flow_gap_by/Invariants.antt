@@ -2,7 +2,7 @@
 use Rattle.std.proofs.Common.{take, Contains}
 use Rattle.hs_scheme.specs.declared.flow.FlowPair.{FlowPair}
 use Rattle.hs_scheme.specs.declared.flow.HeadPair.{HeadPair}
-use Rattle.hs_checker.specs.Passes.{base_of, PassesArgument}
+use Rattle.hs_checker.specs.PassedOn.{base_of, PassesArgument}
 use Rattle.hs_checker.proofs.flow.flow_gap_by.Given as goal
 
 abbrev pub invariant-loop-head : goal.invariant-loop-head

@@ -4,7 +4,7 @@ use Rattle.hs_scheme.specs.Points.{points_of}
 use Rattle.hs_scheme.specs.Problem.{ProblemData}
 use Rattle.hs_table_plain.proofs.TableLemmas.{below_or_last}
 use Rattle.hs_checker.specs.Gaps.{held, IsOfKind}
-use Rattle.hs_checker.specs.Passes.{DemandsAt}
+use Rattle.hs_checker.specs.PassedOn.{DemandsAt}
 use Rattle.hs_checker.proofs.GapLemmas.{at_some_point}
 use Rattle.hs_checker.proofs.flow.gap.Goals as goal
 

@@ -2,7 +2,7 @@
 use Rattle.std.proofs.Common.{ℕ, ◌<◌, Contains}
 use Rattle.hs_scheme.specs.declared.flow.Pair.{Pair}
 use Rattle.hs_checker.specs.Gaps.{held, IsOfKind}
-use Rattle.hs_checker.specs.Passes.{DemandsAt}
+use Rattle.hs_checker.specs.PassedOn.{DemandsAt}
 use Rattle.hs_checker.proofs.flow.gap.Given as goal
 
 abbrev pub invariant-loop-point : goal.invariant-loop-point

@@ -1,4 +1,4 @@
-use Rattle.hs_checker.specs.Passes.{base_of}
+use Rattle.hs_checker.specs.PassedOn.{base_of}
 use Rattle.hs_checker.proofs.GapLemmas.{after_none, after_flow, after_no_head, after_head}
 use Rattle.hs_checker.proofs.flow.gap_by.Goals as goal
 

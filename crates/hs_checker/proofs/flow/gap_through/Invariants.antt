@@ -1,7 +1,7 @@
 -- what the parameter's pairs so far lead to is held
 use Rattle.std.proofs.Common.{take}
 use Rattle.hs_checker.specs.declared.flow.Base.{Base}
-use Rattle.hs_checker.specs.Passes.{HoldsBy}
+use Rattle.hs_checker.specs.PassedOn.{HoldsBy}
 use Rattle.hs_checker.proofs.GapLemmas.{Leads}
 use Rattle.hs_checker.proofs.flow.gap_through.Given as goal
 

@@ -3,7 +3,7 @@ use Rattle.std.proofs.lemmas.List.{take_all, get_or_default}
 use Rattle.std.proofs.lemmas.List.Elements.{Contains-get_or}
 use Rattle.hs_scheme.specs.declared.flow.HeadPair.{HeadPair}
 use Rattle.hs_table_plain.proofs.Members.{next_member}
-use Rattle.hs_checker.specs.Passes.{base_of, PassesHead}
+use Rattle.hs_checker.specs.PassedOn.{base_of, PassesHead}
 use Rattle.hs_checker.proofs.flow.head_gap.Goals as goal
 
 pub head_place-requires-clause-own : goal.head_place-requires-clause-own

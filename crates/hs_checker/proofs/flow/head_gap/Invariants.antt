@@ -1,7 +1,7 @@
 -- what the bases so far demand is held
 use Rattle.std.proofs.Common.{take, Contains}
 use Rattle.hs_scheme.specs.declared.flow.HeadPair.{HeadPair}
-use Rattle.hs_checker.specs.Passes.{base_of, PassesHead}
+use Rattle.hs_checker.specs.PassedOn.{base_of, PassesHead}
 use Rattle.hs_checker.proofs.flow.head_gap.Given as goal
 
 abbrev pub invariant-loop-head : goal.invariant-loop-head

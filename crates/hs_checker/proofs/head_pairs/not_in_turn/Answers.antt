@@ -2,7 +2,7 @@ use Rattle.std.proofs.Common.{sym, subst, List, Contains, get_or, inl, inr}
 use Rattle.std.proofs.lemmas.List.{take_all, get_or_default}
 use Rattle.hs_scheme.specs.declared.flow.HeadPair.{HeadPair}
 use Rattle.hs_table_plain.proofs.Members.{next_member}
-use Rattle.hs_checker.specs.Passes.{HasTaken}
+use Rattle.hs_checker.specs.PassedOn.{HasTaken}
 use Rattle.hs_checker.proofs.Parts.{in_parts, in_rest, none_first}
 use Rattle.hs_checker.proofs.head_pairs.not_in_turn.Goals as goal
 

@@ -7,7 +7,7 @@ use Rattle.std.specs.List.{flat_map}
 use Rattle.hs_table_plain.specs.Enumeration.{flow_type}
 use Rattle.hs_checker.specs.Any.{AnyOf}
 use Rattle.hs_checker.specs.Slots.{HasTypeAt}
-use Rattle.hs_checker.proofs.Steps.{any_step}
+use Rattle.hs_checker.proofs.AnyLemmas.{any_step}
 use Rattle.hs_checker.proofs.TypeLemmas.{flow_types}
 use Rattle.hs_checker.proofs.heads.parameter_types.Goals as goal
 

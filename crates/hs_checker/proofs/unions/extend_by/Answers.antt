@@ -3,7 +3,7 @@ use Rattle.std.proofs.lemmas.List.{take_all}
 use Rattle.hs_table.specs.Entries.{EntryData}
 use Rattle.hs_table_plain.specs.Enumeration.{joined}
 use Rattle.hs_checker.specs.Any.{AnyOf}
-use Rattle.hs_checker.proofs.Steps.{any_step_beside}
+use Rattle.hs_checker.proofs.AnyLemmas.{any_step_beside}
 use Rattle.hs_checker.proofs.TypeLemmas.{pushed_is}
 use Rattle.hs_checker.proofs.unions.extend_by.Goals as goal
 

@@ -3,7 +3,7 @@ use Rattle.std.proofs.lemmas.List.{take_all}
 use Rattle.hs_table.specs.Entries.{EntryData}
 use Rattle.hs_table_plain.specs.Enumeration.{joined}
 use Rattle.hs_checker.specs.Any.{AnyOf}
-use Rattle.hs_checker.proofs.Steps.{any_step}
+use Rattle.hs_checker.proofs.AnyLemmas.{any_step}
 use Rattle.hs_checker.proofs.unions.joined_with_all.Goals as goal
 
 pub loop-candidate-preserved : goal.loop-candidate-preserved

@@ -5,7 +5,7 @@ use Rattle.std.proofs.lemmas.Option.{slice_get_read}
 use Rattle.hs_scheme.specs.Key.{key_eq}
 use Rattle.hs_scheme.specs.Transition.{TransitionData}
 use Rattle.hs_scheme.specs.Automaton.{AutomatonData, next}
-use Rattle.hs_scheme.proofs.Index.{next-nowhere, next-there}
+use Rattle.hs_scheme.proofs.TransitionIndex.{next-nowhere, next-there}
 use Rattle.hs_scheme.proofs.automaton.Automaton.next.Goals as goal
 
 pub returns-in_err-place : goal.returns-in_err-place

@@ -3,9 +3,9 @@ use Rattle.std.specs.HashMap.{get}
 use Rattle.hs_scheme.specs.Key.{key_eq, triple_eq}
 use Rattle.hs_scheme.specs.Transitions.{items_of, IsByTerminal, IsByChild}
 use Rattle.hs_scheme.specs.Transition.{TransitionData}
-use Rattle.hs_scheme.specs.Automaton.{is_of, IsDeterministic, IsIndex}
+use Rattle.hs_scheme.specs.Automaton.{is_of, IsDeterministic, IsTransitionIndex}
 use Rattle.std.proofs.lemmas.Option.{slice_get_read}
-use Rattle.hs_scheme.proofs.Index.{index_more}
+use Rattle.hs_scheme.proofs.TransitionIndex.{index_more}
 use Rattle.hs_scheme.proofs.automaton.Automaton.of.Goals as goal
 
 pub loop-place-preserved : goal.loop-place-preserved
@@ -23,8 +23,8 @@ invariant_of-result c =
     let same = c.deref-transition-items.ensures.value in
     let end : c.loop-place.place ≡ length c.deref-transition-items.result.now = omega arith in (
       c.requires,
-      subst (λ (ts : List TransitionData). IsIndex (λ q a. get key_eq c.loop-place.index (q, a)) ts (length ts)) same
-          (subst (λ (n : ℕ). IsIndex (λ q a. get key_eq c.loop-place.index (q, a)) c.deref-transition-items.result.now n) end c.loop-place.invariant),
+      subst (λ (ts : List TransitionData). IsTransitionIndex (λ q a. get key_eq c.loop-place.index (q, a)) ts (length ts)) same
+          (subst (λ (n : ℕ). IsTransitionIndex (λ q a. get key_eq c.loop-place.index (q, a)) c.deref-transition-items.result.now n) end c.loop-place.invariant),
       subst (λ (ts : List TransitionData). IsByTerminal ts (length ts) (λ a. items_of (get nat_eq c.in_ok-by_terminal.by_terminal a))) c.as_slice.ensures.value c.in_ok-by_terminal.ensures,
       subst (λ (ts : List TransitionData). IsByChild ts (length ts) (λ a child s. items_of (get triple_eq c.in_ok-by_child.by_child (a, child, s)))) c.as_slice-2.ensures.value c.in_ok-by_child.ensures,
     )

@@ -1,7 +1,7 @@
 use Rattle.std.proofs.Common.{rules, ◌≡◌, ap, ◌∙◌, sym, true, Option, Some, ◌∷◌, List, ℕ}
 use Rattle.atomic_table.specs.Table.{rest}
 use Rattle.hs_turn.specs.declared.known.Known.{Known}
-use Rattle.hs_turn.specs.Steps.{Holding}
+use Rattle.hs_turn.specs.AtomicSteps.{Holding}
 use Rattle.hs_turn.proofs.SeatLemmas.{seen_of}
 use Rattle.hs_turn.proofs.KindLemmas.{may_leave}
 use Rattle.hs_turn.proofs.guard.Guard.leave.Goals as goal

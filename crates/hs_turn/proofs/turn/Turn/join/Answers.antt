@@ -1,7 +1,7 @@
 use Rattle.std.proofs.Common.{rules, ◌≡◌, false, sym, subst, ◌≤◌, length}
 use Rattle.hs_turn.specs.declared.known.Known.{Known}
 use Rattle.hs_turn.specs.Views.{having_joined}
-use Rattle.hs_turn.specs.Steps.{Holding}
+use Rattle.hs_turn.specs.AtomicSteps.{Holding}
 use Rattle.hs_turn.proofs.SeatLemmas.{seen_of}
 use Rattle.hs_turn.proofs.KindLemmas.{may_join, may_look}
 use Rattle.hs_turn.proofs.PrefixLemmas.{shorter_le_longer}

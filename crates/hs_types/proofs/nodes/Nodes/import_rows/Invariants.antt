@@ -1,7 +1,7 @@
 -- the rows that stand here so far stand for what the other's do
 use Rattle.std.proofs.Common.{◌≡◌, All, map, take}
 use Rattle.hs_types.specs.Interned.{IsRow, entry_of, Grows}
-use Rattle.hs_types.specs.Found.{AreFound}
+use Rattle.hs_types.specs.Translations.{AreFound}
 use Rattle.hs_types.proofs.nodes.Nodes.import_rows.Given as goal
 
 abbrev pub invariant-loop-row : goal.invariant-loop-row

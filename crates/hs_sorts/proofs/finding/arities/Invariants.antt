@@ -1,0 +1,6 @@
+-- the numbers so far are those of the first nodes
+use Rattle.hs_sorts.specs.Finding.{AreArities}
+use Rattle.hs_sorts.proofs.finding.arities.Given as goal
+
+abbrev pub invariant-loop-place : goal.invariant-loop-place
+invariant-loop-place l = AreArities l.weights l.start l.place l.arities.items

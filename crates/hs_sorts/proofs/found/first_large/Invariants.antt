@@ -1,7 +1,0 @@
--- those so far are small
-use Rattle.std.proofs.Common.{◌≡◌, ◌+◌, ◌<◌, ℕ, ◌≤◌, slice_get, Some}
-use Rattle.hs_sorts.specs.declared.weights.Weight.{Weight}
-use Rattle.hs_sorts.proofs.found.first_large.Given as goal
-
-abbrev pub invariant-loop-rule : goal.invariant-loop-rule
-invariant-loop-rule l = (j : ℕ) (w : Weight) → j < l.rule → slice_get l.weights (0 + j) ≡ Some w → w.size ≤ 1000
