@@ -9,7 +9,7 @@ use Rattle.hs_table_laws.proofs.Places.{here, later, uncons, none_in}
 use Rattle.hs_table.specs.Types.{TypeTree, IsSet}
 use Rattle.hs_table.specs.Entries.{Env, set_at}
 use Rattle.hs_types.specs.declared.unions.Operands.{Operands}
-use Rattle.hs_types.specs.contracts.unions.PairPartialEq.TheImpl.{eq-value}
+use Rattle.hs_types.specs.contracts.unions.OperandsPartialEq.TheImpl.{eq-value}
 use Rattle.hs_types.specs.Interned.{InternerData, set_of_id, env_of_id, IsUnion, IsUnionEnv, IsInterner, Grows}
 use Rattle.hs_types.specs.Unions.{KnownUnions, AreOperands, Knows, KnowsMore, IsSetUnion, IsEnvUnion, AreUnions}
 use Rattle.hs_types.proofs.MergeLemmas.{union_swap}
