@@ -2,10 +2,11 @@
 --     Job             the file of a name, or the generated file of a number
 --     Order           a job with what is asked for
 --     ordered         what the words order, where they are taken
+--     ReadsNothing    the words are refused, or a file is generated
 --     bytes_of        the bytes of a job, where these were handed out
 --     IsReadToEnd, IsPart the job's file was read up to its end, or not so far; for a generated file nothing is read
 --     OfTold          a fact about the bytes of the job's file, where they are told
-use Rattle.std.specs.Prelude.{◌≡◌, ℕ, ◌+◌, Bool, true, false, List, [], Option, Some, option_map, unwrap_or, codes, IfSome, IsSomeAnd}
+use Rattle.std.specs.Prelude.{◌≡◌, ℕ, ◌+◌, Bool, true, false, List, [], Option, Some, None, option_map, unwrap_or, codes, IfSome, IsSomeAnd}
 use Rattle.std.specs.Option.{option_map_or}
 use Rattle.std.specs.Io.KnownBytes.{prepend_known}
 use Rattle.hs_edge.specs.Count.{Rose}
@@ -37,6 +38,16 @@ order_of images o = record { job = job_of o; asked = asked_of (settings_of o) im
 
 abbrev pub ordered : List Image → List (List ℕ) → Option Order
 ordered images words = option_map (order_of images) (options_of words)
+
+-- a file is generated, and none is read
+abbrev pub IsGenerated : Job → Type 0
+IsGenerated (read_file name) = ⊥
+IsGenerated (generate k) = Unit {0}
+
+-- nothing is to be read: the words are refused, or a file is generated
+abbrev pub ReadsNothing : Option Order → Type 0
+ReadsNothing None = Unit {0}
+ReadsNothing (Some order) = IsGenerated order.job
 
 -- a source, before and after
 pub record SourceRun : Type 0 where

@@ -99,7 +99,7 @@ module _ (settings : Settings) (rules : List Rule) (ts : List TransitionData) (p
     pub within : length table ≤ settings.entries
     pub checked : ℕ
     pub count : IsCount p table checked
-    pub tells : IsReportOf (shown_as.Accepted (length table) (Some checked)) table
+    pub tells : IsReportOf (shown_as.Accepted (length table) checked) table
 
   -- it isn't, and the path that the table names leads to its last terminal, which has no transition in its state
   pub record ReportsRejected : Type 0 where

@@ -116,7 +116,7 @@ fn accepted(
     let checked = instances_of(alloc, problem, table.as_slice())?;
     let verdict = Told::Accepted {
         entries: core.len(),
-        checked: Some(checked),
+        checked,
     };
     let report = report_with(
         alloc,

@@ -1,8 +1,8 @@
 //! The top call.
 
-ghost use Rattle.std.specs.Prelude.{◌≡◌, ◌≢◌, ◌≤◌, ◌<◌, ◌^◌, map, None, Some, All, MatchResult};
+ghost use Rattle.std.specs.Prelude.{◌≡◌, ◌≢◌, ◌≤◌, ◌<◌, ◌^◌, map, Some, All, MatchResult};
 ghost use Rattle.hs_words.specs.Words.{texts, said_by};
-ghost use Rattle.hs_app.specs.Order.{read_file, ordered, settings_of, source_run};
+ghost use Rattle.hs_app.specs.Order.{read_file, ordered, settings_of, source_run, ReadsNothing};
 ghost use Rattle.hs_app.specs.Problems.{asked_of};
 ghost use Rattle.hs_app.specs.Outcome.{sink_run};
 ghost use Rattle.hs_app.specs.Outcome as outcome;
@@ -125,7 +125,7 @@ fn answer<R: Threads + Wait + Sync, S: Source, G: Gate + Sync>(
     ensures calm { result ≢ Err Refusal.Source
         → outcome.IsCalm (source_run S.file S.left S.reading S.faults source.old source.new) }
     ensures keeps { outcome.KeepsSource (source_run S.file S.left S.reading S.faults source.old source.new) }
-    ensures untouched { ordered (map (λ p. image p) passes.old.items) (texts words.now) ≡ None
+    ensures untouched { ReadsNothing (ordered (map (λ p. image p) passes.old.items) (texts words.now))
         → source.new ≡ source.old }
 {
     let options = match read_words(alloc, words) {
@@ -204,7 +204,7 @@ fn end<R: Threads + Wait + Sync, S: Source, O: Sink, E: Sink, G: Gate + Sync>(
         → outcome.IsCalm (source_run S.file S.left S.reading S.faults source.old source.new) }
     ensures keeps { outcome.Keeps (source_run S.file S.left S.reading S.faults source.old source.new)
         (sink_run O.writing O.faults out.old out.new) (sink_run E.writing E.faults err.old err.new) }
-    ensures untouched { ordered (map (λ p. image p) passes.old.items) (texts words.now) ≡ None
+    ensures untouched { ReadsNothing (ordered (map (λ p. image p) passes.old.items) (texts words.now))
         → source.new ≡ source.old }
 {
     match answer(rt, alloc, words, source, passes, gate) {
@@ -248,7 +248,7 @@ fn exit_status(ending: &Ending) -> u8
 /// says: the name of a file, or `--gen K` for the generated file of that number, or neither, and then
 /// the source is started with the name `-`; `--entries N` and `--steps N` bound the table and the
 /// path, `--table` shows the table, and with `--first` the first start entry is enough; `--workers N`
-/// threads fill the table, and `--simplify` makes the scheme smaller before. The source is
+/// workers fill the table, and `--simplify` makes the scheme smaller before. The source is
 /// started once at most, and nothing is read behind its end. The report is formed before the first
 /// write. A fault of `err` changes no status.
 ///
@@ -273,8 +273,8 @@ pub fn run<R: Threads + Wait + Sync, S: Source, O: Sink, E: Sink, G: Gate + Sync
         (sink_run O.writing O.faults out.old out.new) (sink_run E.writing E.faults err.old err.new) result }
     ensures keeps { outcome.Keeps (source_run S.file S.left S.reading S.faults source.old source.new)
         (sink_run O.writing O.faults out.old out.new) (sink_run E.writing E.faults err.old err.new) }
-    // Where the words are refused, nothing is started or read.
-    ensures untouched { ordered (map (λ p. image p) passes.items) (texts words.now) ≡ None
+    // Where the words are refused, or a file is generated, nothing is started or read.
+    ensures untouched { ReadsNothing (ordered (map (λ p. image p) passes.items) (texts words.now))
         → source.new ≡ source.old }
 {
     exit_status(&end(rt, alloc, words, source, out, err, &mut passes, gate))

@@ -81,7 +81,7 @@ abbrev pub head_lines : List ℕ → ℕ → List ℕ
 head_lines answer entries = answer ++ number_line (codes "entries ") entries
 
 abbrev pub verdict_lines : NamesData → Verdict → List ℕ
-verdict_lines names (Accepted entries checked) = head_lines (codes "accepted\n") entries ++ number_line_if (codes "checked ") checked
+verdict_lines names (Accepted entries checked) = head_lines (codes "accepted\n") entries ++ number_line (codes "checked ") checked
 verdict_lines names (Rejected entries path) = head_lines (codes "rejected\n") entries ++ path_lines names path
 verdict_lines names (Long entries steps) = head_lines (codes "rejected\n") entries ++ (codes "path longer than " ++ (decimal steps ++ codes " steps\n"))
 

@@ -77,7 +77,7 @@ fn push_verdict(names: &Names, verdict: &Verdict, text: &mut Vec<u8>) -> Result<
     match verdict {
         Verdict::Accepted { entries, checked } => {
             push_head(b"accepted\n", *entries, text)?;
-            push_line_if(b"checked ", *checked, text)?;
+            push_line(b"checked ", *checked, text)?;
             Ok(())
         }
         Verdict::Rejected { entries, path } => {

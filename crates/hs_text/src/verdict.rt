@@ -6,9 +6,8 @@ use hs_trace::Path;
 /// table.
 #[derive(Debug, Drop)]
 pub enum Verdict {
-    /// The automaton accepts. `checked` is the number of instances of the table, where they were
-    /// counted.
-    Accepted { entries: u32, checked: Option<u64> },
+    /// The automaton accepts. `checked` is the number of instances of the table.
+    Accepted { entries: u32, checked: u64 },
     /// It doesn't, and fails at the end of this path.
     Rejected { entries: u32, path: Path },
     /// It doesn't, and the path to a failure is longer than so many steps.

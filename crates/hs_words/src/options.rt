@@ -11,7 +11,7 @@ pub struct Options<'a> {
     pub steps: u64,
     /// Whether the table is asked for.
     pub table: bool,
-    /// Whether saturation ends with the start entry.
+    /// Whether no more work is taken once the start entry stands.
     pub first: bool,
     /// Whether the scheme is made smaller before it is decided.
     pub simplify: bool,

@@ -6,7 +6,7 @@ use Rattle.hs_words.specs.Words.{OptionsData, texts, said_by, options_of}
 use Rattle.hs_app.specs.declared.verdict.Settings.{Settings}
 use Rattle.hs_passes.specs.Passing.{Image}
 use Rattle.hs_app.specs.Problems.{asked_of}
-use Rattle.hs_app.specs.Order.{Order, Job, generate, read_file, job_of, order_of, ordered, settings_of, source_run}
+use Rattle.hs_app.specs.Order.{Order, Job, generate, read_file, job_of, order_of, ordered, settings_of, source_run, ReadsNothing}
 use Rattle.hs_app.specs.Outcome.{IsAnswerOfRun}
 use Rattle.hs_app.specs.Verdict.{AreWithin}
 use Rattle.hs_app.proofs.OrderLemmas.{options_in}
@@ -57,3 +57,11 @@ returns-in-None-clause-answer g c =
     subst (λ (x : Option Order). IsAnswerOfRun x source c.verdict_on.result)
     (sym (order_is _ (texts c.args.words.now) o (read_file c.unwrap_or.result.now) c.settings_of-settings.result c.in-Ok.ensures.ok job c.settings_of-settings.ensures))
     c.verdict_on.ensures.answer
+
+pub returns-in-None-clause-untouched : goal.returns-in-None-clause-untouched
+returns-in-None-clause-untouched g c = λ nothing.
+    let o : OptionsData = said_by c.in-Ok.options in
+    let name : c.unwrap_or.result.now ≡ unwrap_or o.file (codes "-") = ap (λ (b : Bor (List ℕ)). b.now) c.unwrap_or.ensures ∙ name_is c.in-Ok.options.file _ refl in
+    let job : job_of o ≡ read_file c.unwrap_or.result.now =
+    ap (λ (x : Option ℕ). option_map_or (λ k. generate k) x (read_file (unwrap_or o.file (codes "-")))) c.in-None.is ∙ ap (λ (n : List ℕ). read_file n) (sym name) in
+    absurd (subst (λ (x : Option Order). ReadsNothing x) (order_is _ (texts c.args.words.now) o (read_file c.unwrap_or.result.now) c.settings_of-settings.result c.in-Ok.ensures.ok job c.settings_of-settings.ensures) nothing)

@@ -3,9 +3,9 @@ use Rattle.hs_text.specs.Report.{verdict_lines}
 use Rattle.hs_text.proofs.Joins.{two_put, four_put}
 use Rattle.hs_text.proofs.summary.push_verdict.Goals as goal
 
-pub returns-in_ok-push_line_if-in-Accepted : goal.returns-in_ok-push_line_if-in-Accepted
-returns-in_ok-push_line_if-in-Accepted c =
-    two_put _ _ _ _ _ c.in_ok-push_head-in-Accepted.ensures c.in_ok-push_line_if-in-Accepted.ensures ∙ ap (λ v. c.args.text.now.items ++ verdict_lines c.args.names.now v) (sym c.in-Accepted.is)
+pub returns-in_ok-push_line-in-Accepted : goal.returns-in_ok-push_line-in-Accepted
+returns-in_ok-push_line-in-Accepted c =
+    two_put _ _ _ _ _ c.in_ok-push_head-in-Accepted.ensures c.in_ok-push_line-in-Accepted.ensures ∙ ap (λ v. c.args.text.now.items ++ verdict_lines c.args.names.now v) (sym c.in-Accepted.is)
 
 pub returns-in_ok-push_path-in-Rejected : goal.returns-in_ok-push_path-in-Rejected
 returns-in_ok-push_path-in-Rejected c =
