@@ -50,7 +50,7 @@ adds_same : {K : Type 0} (key : K) (place : ℕ) (old new : K → List ℕ) → 
 adds_same {K} key place old new same = record {
   only = λ k i h. inl (subst (λ (xs : List ℕ). Contains xs i) (same k) h);
   keeps = λ k i h. subst (λ (xs : List ℕ). Contains xs i) (sym (same k)) h;
-  rises = λ k r. subst (λ (xs : List ℕ). RisesTo place xs) (sym (same k)) r;
+  rises = λ k n h r. subst (λ (xs : List ℕ). RisesTo n xs) (sym (same k)) r;
 }
 
 -- one list gains the place, and all others stay
@@ -68,9 +68,11 @@ module _ {K : Type 0} (key : K) (place : ℕ) (old new : K → List ℕ) (to : A
       | inl e ↦ subst (λ (xs : List ℕ). Contains xs i) (sym e) h
       | inr e ↦ subst (λ (j : K). Contains (new j) i) (sym e) (to.keeps i (subst (λ (j : K). Contains (old j) i) e h))
     ];
-    rises = λ k r. elim (same k) [
-      | inl e ↦ subst (λ (xs : List ℕ). RisesTo place xs) (sym e) r
-      | inr e ↦ subst (λ (j : K). RisesTo place (new j)) (sym e) (to.rises (subst (λ (j : K). RisesTo place (old j)) e r))
+    rises = λ k n h r. elim (same k) [
+      | inl e ↦ subst (λ (xs : List ℕ). RisesTo n xs) (sym e) r
+      | inr e ↦
+          let there = subst (λ (m : ℕ). RisesTo m (old key)) (h e) (subst (λ (j : K). RisesTo n (old j)) e r) in
+          subst (λ (m : ℕ). RisesTo m (new k)) (sym (h e)) (subst (λ (j : K). RisesTo place (new j)) (sym e) (to.rises there))
     ];
   }
 
@@ -152,11 +154,11 @@ module _ (old new : Lists) (place : ℕ) where
       keeps (Asking p j t) i h = subst (λ (xs : List ℕ). Contains xs i) (sym (stays (Asking p j t))) h
       keeps (Taking p j t) i h = subst (λ (xs : List ℕ). Contains xs i) (sym (stays (Taking p j t))) h
 
-      rises : (k : Key) → RisesTo place (list_at old k) → RisesTo place (list_at new k)
-      rises (At p) r = f.rises p r
-      rises (Typed p t) r = subst (λ (xs : List ℕ). RisesTo place xs) (sym (stays (Typed p t))) r
-      rises (Asking p j t) r = subst (λ (xs : List ℕ). RisesTo place xs) (sym (stays (Asking p j t))) r
-      rises (Taking p j t) r = subst (λ (xs : List ℕ). RisesTo place xs) (sym (stays (Taking p j t))) r
+      rises : (k : Key) (n : ℕ) → (k ≡ At point → n ≡ place) → RisesTo n (list_at old k) → RisesTo n (list_at new k)
+      rises (At p) n h r = f.rises p n (λ e. h (ap At e)) r
+      rises (Typed p t) n h r = subst (λ (xs : List ℕ). RisesTo n xs) (sym (stays (Typed p t))) r
+      rises (Asking p j t) n h r = subst (λ (xs : List ℕ). RisesTo n xs) (sym (stays (Asking p j t))) r
+      rises (Taking p j t) n h r = subst (λ (xs : List ℕ). RisesTo n xs) (sym (stays (Taking p j t))) r
 
   pub keyed_adds : (key : Key) → new.at.items ≡ old.at.items → AddsAt key place (keyed_at old.keyed) (keyed_at new.keyed) → AddsAt key place (list_at old) (list_at new)
   keyed_adds key same f = record { only = only; keeps = keeps; rises = rises }
@@ -176,11 +178,11 @@ module _ (old new : Lists) (place : ℕ) where
       keeps (Asking p j t) i h = f.keeps (Asking p j t) i h
       keeps (Taking p j t) i h = f.keeps (Taking p j t) i h
 
-      rises : (k : Key) → RisesTo place (list_at old k) → RisesTo place (list_at new k)
-      rises (At p) r = subst (λ (xs : List ℕ). RisesTo place xs) (sym (stays p)) r
-      rises (Typed p t) r = f.rises (Typed p t) r
-      rises (Asking p j t) r = f.rises (Asking p j t) r
-      rises (Taking p j t) r = f.rises (Taking p j t) r
+      rises : (k : Key) (n : ℕ) → (k ≡ key → n ≡ place) → RisesTo n (list_at old k) → RisesTo n (list_at new k)
+      rises (At p) n h r = subst (λ (xs : List ℕ). RisesTo n xs) (sym (stays p)) r
+      rises (Typed p t) n h r = f.rises (Typed p t) n h r
+      rises (Asking p j t) n h r = f.rises (Asking p j t) n h r
+      rises (Taking p j t) n h r = f.rises (Taking p j t) n h r
 
 -- the list of a key that is not a point's stands in the table
 pub in_table : (lists : Lists) (key : Key) → ((p : ℕ) → key ≡ At p → ⊥) → keyed_at lists.keyed key ≡ list_at lists key

@@ -19,7 +19,7 @@ use Rattle.hs_replica.specs.declared.key.Key.{Key}
 use Rattle.hs_replica.specs.declared.key.Key.TheVariants.{At, Typed, Asking, Taking}
 use Rattle.hs_replica.specs.Places.{Question, here, typed, asks, takes, Meets, Answers, ArePlaces}
 use Rattle.hs_replica.specs.Replica.{ReplicaData, IsReplica, KeepsLog}
-use Rattle.hs_replica.specs.Index.{log_of, question, IsKey, RisesTo, IsIndex, IsKept}
+use Rattle.hs_replica.specs.Index.{log_of, question, IsAtOnce, reach, IsKey, RisesTo, IsListed, IsIndex, IsKept}
 use Rattle.hs_replica.proofs.RowLemmas.{same_key}
 
 row_true : (a b : RowData) → eq-value.it a b ≡ true → a ≡ b
@@ -69,16 +69,23 @@ module _ (ids new : InternerData) (g : Grows ids new) where
   question_stays (Asking p j t) h = ap (asks p j) (type_stays ids new g t h)
   question_stays (Taking p j t) h = ap (takes p j) (type_stays ids new g t h)
 
-  index_grows : (log : List EntryData) (n : ℕ) (list : Key → List ℕ) → IsIndex ids log n list → IsIndex new log n list
-  index_grows log n list was = record {
+  reach_stays : (asked : List ℕ) (n : ℕ) (k : Key) → reach asked n (question ids k) ≡ reach asked n (question new k)
+  reach_stays asked n (At p) = refl
+  reach_stays asked n (Typed p t) = refl
+  reach_stays asked n (Asking p j t) = refl
+  reach_stays asked n (Taking p j t) = refl
+
+  index_grows : (log : List EntryData) (asked : List ℕ) (n : ℕ) (list : Key → List ℕ) → IsIndex ids log (reach asked n) list → IsIndex new log (reach asked n) list
+  index_grows log asked n list was = record {
     known = λ k i h. key_within k (was.known k i h);
     sound = λ k i h. subst (λ (q : Question). Answers log i q) (sym (question_stays k (was.known k i h))) (was.sound k i h);
     complete = λ i q lt a. let l = was.complete i q lt a in record { key = l.key; known = key_within l.key l.known; for = question_stays l.key l.known ∙ l.for; among = l.among };
-    rises = was.rises;
+    within = was.within;
+    rises = λ k. subst (λ (m : ℕ). RisesTo m (list k)) (reach_stays asked n k) (was.rises k);
   }
 
-  pub kept_grows : (rows : List RowData) (room reserved indexed : ℕ) (list : Key → List ℕ) → IsKept ids rows room reserved indexed list → IsKept new rows room reserved indexed list
-  kept_grows rows room reserved indexed list was =
+  pub kept_grows : (rows : List RowData) (room reserved indexed : ℕ) (asked : List ℕ) (list : Key → List ℕ) → IsKept ids rows room reserved indexed asked list → IsKept new rows room reserved indexed asked list
+  kept_grows rows room reserved indexed asked list was =
       let same = log_stays rows was.known in
       record {
         known = λ k d lt. row_within ids new g (get_or rows k d) (was.known k d lt);
@@ -86,7 +93,7 @@ module _ (ids new : InternerData) (g : Grows ids new) where
         short = was.short;
         fits = was.fits;
         within = was.within;
-        index = subst (λ (log : List EntryData). IsIndex new log indexed list) (sym same) (index_grows (log_of ids rows) indexed list was.index);
+        index = subst (λ (log : List EntryData). IsIndex new log (reach asked indexed) list) (sym same) (index_grows (log_of ids rows) asked indexed list was.index);
       }
 
 -- while the log grows
@@ -103,23 +110,26 @@ module _ (log more : List EntryData) where
   meets_back i e (asks p j a) lt m = m
   meets_back i e (takes p j a) lt m = (m.0, (m.1.0, λ k d less at. m.1.1 k d less (slice_get-append log more k (omega arith) ∙ at)))
 
-  index_front : (ids : InternerData) (n : ℕ) (list : Key → List ℕ) → n ≤ length log → IsIndex ids log n list → IsIndex ids (log ++ more) n list
-  index_front ids n list le was = record {
+  index_front : (ids : InternerData) (reached : Question → ℕ) (list : Key → List ℕ) → reached (here 0) ≤ length log → IsIndex ids log reached list → IsIndex ids (log ++ more) reached list
+  index_front ids reached list le was = record {
     known = was.known;
     sound = λ k i h.
         let a = was.sound k i h in
         let lt = slice_get_within log i a.entry a.at in
         record { entry = a.entry; at = slice_get-append log more i lt ∙ a.at; meets = meets_front i a.entry (question ids k) lt a.meets };
-    complete = λ i q lt a. was.complete i q lt (record { entry = a.entry; at = sym (slice_get-append log more i (omega arith)) ∙ a.at; meets = meets_back i a.entry q (omega arith) a.meets });
+    complete = λ i q lt a.
+        let before : i < length log = omega (arith, was.within q 0, lt, le) in
+        was.complete i q lt (record { entry = a.entry; at = sym (slice_get-append log more i before) ∙ a.at; meets = meets_back i a.entry q before a.meets });
+    within = was.within;
     rises = was.rises;
   }
 
 pub log_push : (ids : InternerData) (rows : List RowData) (row : RowData) → log_of ids (rows ++ row ∷ []) ≡ log_of ids rows ++ entry_of ids row ∷ []
 log_push ids rows row = map-append (entry_of ids) rows (row ∷ [])
 
-pub kept_push : (ids : InternerData) (rows : List RowData) (row : RowData) (room later reserved kept indexed : ℕ) (list : Key → List ℕ) → IsKept ids rows room reserved indexed list
-    → IsRow ids row → (Contains (log_of ids rows) (entry_of ids row) → ⊥) → length rows + 1 < 2 ^ 32 → kept ≤ later → IsKept ids (rows ++ row ∷ []) later kept indexed list
-kept_push ids rows row room later reserved kept indexed list was known absent short fits =
+pub kept_push : (ids : InternerData) (rows : List RowData) (row : RowData) (room later reserved kept indexed : ℕ) (asked : List ℕ) (list : Key → List ℕ) → IsKept ids rows room reserved indexed asked list
+    → IsRow ids row → (Contains (log_of ids rows) (entry_of ids row) → ⊥) → length rows + 1 < 2 ^ 32 → kept ≤ later → IsKept ids (rows ++ row ∷ []) later kept indexed asked list
+kept_push ids rows row room later reserved kept indexed asked list was known absent short fits =
     let log = log_of ids rows in
     let same = log_push ids rows row in
     record {
@@ -129,8 +139,8 @@ kept_push ids rows row room later reserved kept indexed list was known absent sh
       short = omega (arith, length-append rows (row ∷ []));
       fits = fits;
       within = omega (arith, length-append rows (row ∷ []), was.within);
-      index = subst (λ (es : List EntryData). IsIndex ids es indexed list) (sym same)
-          (index_front log (entry_of ids row ∷ []) ids indexed list (omega (arith, length-map rows (entry_of ids), was.within)) was.index);
+      index = subst (λ (es : List EntryData). IsIndex ids es (reach asked indexed) list) (sym same)
+          (index_front log (entry_of ids row ∷ []) ids (reach asked indexed) list (omega (arith, length-map rows (entry_of ids), was.within)) was.index);
     }
 
 -- a row whose entry the log lacks goes last
@@ -151,39 +161,49 @@ row_there ids is rows all row known h =
     let lt : h.0 < length rows = omega (arith, length-map rows (entry_of ids), h.1) in
     (h.0, lt, same_row ids is (get_or rows h.0 row) row (all h.0 row lt) known (sym (get_or-map (entry_of ids) rows h.0 row (entry_of ids row) lt) ∙ h.2))
 
+pub rises_to : (n m : ℕ) (xs : List ℕ) → n ≤ m → RisesTo n xs → RisesTo m xs
+rises_to n m xs le r = record { ascending = r.ascending; below = λ k d lt. omega (arith, r.below k d lt, le) }
+
 -- the places of a key, without that which may be listed too early
-pub places_of : (ids : InternerData) → IsInterner ids → (log : List EntryData) (n : ℕ) (list : Key → List ℕ) → IsIndex ids log n list → (k : Key) → IsKey ids k → (xs : List ℕ) → IsStrictlyIncreasing xs
-    → ((i : ℕ) → Contains xs i ↔ ((i < n) × Contains (list k) i)) → ArePlaces log n (question ids k) xs
-places_of ids is log n list index k known xs up exact = record {
+pub places_of : (ids : InternerData) → IsInterner ids → (log : List EntryData) (reached : Question → ℕ) (n : ℕ) (list : Key → List ℕ) → IsIndex ids log reached list → (k : Key) → IsKey ids k
+    → ((i : ℕ) → i < n → Answers log i (question ids k) → IsListed ids list i (question ids k)) → (xs : List ℕ) → IsStrictlyIncreasing xs → ((i : ℕ) → Contains xs i ↔ ((i < n) × Contains (list k) i)) → ArePlaces log n (question ids k) xs
+places_of ids is log reached n list index k known complete xs up exact = record {
   ascending = up;
   exact = λ i. (
     λ h. let w = (exact i).0 h in (w.0, index.sound k i w.1),
-    λ h. let l = index.complete i (question ids k) h.0 h.1 in
+    λ h. let l = complete i h.0 h.1 in
         (exact i).1 (h.0, subst (λ (m : Key). Contains (list m) i) (same_key ids is l.key k l.known known l.for) l.among),
   );
 }
+
+-- what is listed at once reaches so far
+pub reach_at_once : (ids : InternerData) (asked : List ℕ) (n : ℕ) (k : Key) → IsAtOnce k → reach asked n (question ids k) ≡ n
+reach_at_once ids asked n (At p) h = refl
+reach_at_once ids asked n (Typed p t) h = refl
+reach_at_once ids asked n (Asking p j t) h = absurd h
+reach_at_once ids asked n (Taking p j t) h = refl
 
 -- what contracts see of these fields
 abbrev pub view_of : InternerData → List RowData → ℕ → ℕ → ReplicaData
 view_of ids rows reserved indexed = record { ids = ids; log = log_of ids rows; spare = reserved; indexed = indexed }
 
-pub keeps_log : (ids new : InternerData) → Grows ids new → (rows : List RowData) (room reserved indexed : ℕ) (list : Key → List ℕ) → IsKept ids rows room reserved indexed list
+pub keeps_log : (ids new : InternerData) → Grows ids new → (rows : List RowData) (room reserved indexed : ℕ) (asked : List ℕ) (list : Key → List ℕ) → IsKept ids rows room reserved indexed asked list
     → (was : ReplicaData) → view_of ids rows reserved indexed ≡ was → KeepsLog was (view_of new rows reserved indexed)
-keeps_log ids new g rows room reserved indexed list kept was is =
+keeps_log ids new g rows room reserved indexed asked list kept was is =
     subst (λ (r : ReplicaData). KeepsLog r (view_of new rows reserved indexed)) is
     (record { log = log_stays ids new g rows kept.known; spare = refl; indexed = refl; grows = g })
 
-pub is_replica : (ids : InternerData) (rows : List RowData) (room reserved indexed : ℕ) (list : Key → List ℕ) → IsKept ids rows room reserved indexed list
+pub is_replica : (ids : InternerData) (rows : List RowData) (room reserved indexed : ℕ) (asked : List ℕ) (list : Key → List ℕ) → IsKept ids rows room reserved indexed asked list
     → (was : ReplicaData) → view_of ids rows reserved indexed ≡ was → IsReplica was
-is_replica ids rows room reserved indexed list kept was is = subst IsReplica is (record {
+is_replica ids rows room reserved indexed asked list kept was is = subst IsReplica is (record {
   distinct = kept.distinct;
   short = omega (arith, length-map rows (entry_of ids), kept.short);
   indexed = omega (arith, length-map rows (entry_of ids), kept.within);
 })
 
 -- other room
-pub kept_room : (ids : InternerData) (rows : List RowData) (room later reserved indexed : ℕ) (list : Key → List ℕ) → IsKept ids rows room reserved indexed list → reserved ≤ later → IsKept ids rows later reserved indexed list
-kept_room ids rows room later reserved indexed list was fits =
+pub kept_room : (ids : InternerData) (rows : List RowData) (room later reserved indexed : ℕ) (asked : List ℕ) (list : Key → List ℕ) → IsKept ids rows room reserved indexed asked list → reserved ≤ later → IsKept ids rows later reserved indexed asked list
+kept_room ids rows room later reserved indexed asked list was fits =
     record { known = was.known; distinct = was.distinct; short = was.short; fits = fits; within = was.within; index = was.index }
 
 pub on_err : {T E P : Type 0} (r : Result T E) → P → OnErr r P
@@ -194,7 +214,7 @@ pub at_ok : {T E : Type 0} (r : Result T E) (x : T) (P : T → Type 0) → r ≡
 at_ok {T} {E} r x P is h = subst (λ (s : Result T E). IfOk s P) is h
 
 -- nothing is kept yet
-pub kept_none : (ids : InternerData) (room : ℕ) (list : Key → List ℕ) → ((k : Key) → list k ≡ []) → IsKept ids [] room 0 0 list
+pub kept_none : (ids : InternerData) (room : ℕ) (list : Key → List ℕ) → ((k : Key) → list k ≡ []) → IsKept ids [] room 0 0 [] list
 kept_none ids room list none = record {
   known = λ k d lt. absurd (omega arith);
   distinct = λ i j d lt less. absurd (omega arith);
@@ -204,22 +224,29 @@ kept_none ids room list none = record {
   index = record {
     known = λ k i h. absurd (not_in k i h);
     sound = λ k i h. absurd (not_in k i h);
-    complete = λ i q lt a. absurd (omega arith);
-    rises = λ k. subst (λ (xs : List ℕ). RisesTo 0 xs) (sym (none k)) (record { ascending = λ k lt. absurd (omega arith); below = λ k d lt. absurd (omega arith) });
+    complete = λ i q lt a. absurd (omega (arith, lt, nothing q));
+    within = λ q p. omega (arith, nothing q);
+    rises = λ k. subst (λ (xs : List ℕ). RisesTo (reach [] 0 (question ids k)) xs) (sym (none k)) (record { ascending = λ k lt. absurd (omega arith); below = λ k d lt. absurd (omega arith) });
   };
 }
   where
+    nothing : (q : Question) → reach [] 0 q ≡ 0
+    nothing (here p) = refl
+    nothing (typed p a) = refl
+    nothing (asks p j a) = refl
+    nothing (takes p j a) = refl
+
     not_in : (k : Key) (i : ℕ) → Contains (list k) i → ⊥
     not_in k i h = let g = subst (λ (xs : List ℕ). Contains xs i) (none k) h in absurd (omega (arith, g.1))
 
 -- more places are listed
-pub kept_index : (ids : InternerData) (rows : List RowData) (room reserved indexed more : ℕ) (list new : Key → List ℕ) → IsKept ids rows room reserved indexed list
-    → more ≤ length rows → IsIndex ids (log_of ids rows) more new → IsKept ids rows room reserved more new
-kept_index ids rows room reserved indexed more list new was within index =
+pub kept_index : (ids : InternerData) (rows : List RowData) (room reserved indexed more : ℕ) (asked later : List ℕ) (list new : Key → List ℕ) → IsKept ids rows room reserved indexed asked list
+    → more ≤ length rows → IsIndex ids (log_of ids rows) (reach later more) new → IsKept ids rows room reserved more later new
+kept_index ids rows room reserved indexed more asked later list new was within index =
     record { known = was.known; distinct = was.distinct; short = was.short; fits = was.fits; within = within; index = index }
 
 -- more rows have room
-pub kept_reserved : (ids : InternerData) (rows : List RowData) (room later reserved more indexed : ℕ) (list : Key → List ℕ) → IsKept ids rows room reserved indexed list → more ≤ later
-    → IsKept ids rows later more indexed list
-kept_reserved ids rows room later reserved more indexed list was fits =
+pub kept_reserved : (ids : InternerData) (rows : List RowData) (room later reserved more indexed : ℕ) (asked : List ℕ) (list : Key → List ℕ) → IsKept ids rows room reserved indexed asked list → more ≤ later
+    → IsKept ids rows later more indexed asked list
+kept_reserved ids rows room later reserved more indexed asked list was fits =
     record { known = was.known; distinct = was.distinct; short = was.short; fits = fits; within = was.within; index = was.index }

@@ -3,7 +3,9 @@ pub mod GainLemmas
 pub mod SetLemmas
 pub mod EnvLemmas
 pub mod TypeLemmas
+pub mod FromLemmas
 pub mod RowLemmas
+pub mod AskLemmas
 pub mod KeptLemmas
 pub mod Firsts
 pub mod ExtendLemmas

@@ -10,7 +10,7 @@ use Rattle.hs_replica.specs.Places.{Question, here, typed, asks, takes}
 use Rattle.hs_replica.specs.Index.{question, IsKey, IsListed, AddsAt, Gains, HasAll, AsksAt, TakesAt}
 
 pub gains_nothing : (ids : InternerData) (P : Question → Type 0) (place : ℕ) (old : Key → List ℕ) → Gains ids P place old old
-gains_nothing ids P place old = record { only = λ k i h. inl h; keeps = λ k i h. h; rises = λ k r. r }
+gains_nothing ids P place old = record { only = λ k i h. inl h; keeps = λ k i h. h; rises = λ k n h r. r }
 
 pub gains_then : (ids : InternerData) (P Q R : Question → Type 0) (place : ℕ) (a b c : Key → List ℕ) → ((q : Question) → P q → R q) → ((q : Question) → Q q → R q)
     → Gains ids P place a b → Gains ids Q place b c → Gains ids R place a c
@@ -20,14 +20,14 @@ gains_then ids P Q R place a b c early late f g = record {
     | inl mid ↦ elim (f.only k i mid) [ inl was ↦ inl was | inr new ↦ inr (new.0, (new.1.0, early (question ids k) new.1.1)) ]
   ];
   keeps = λ k i h. g.keeps k i (f.keeps k i h);
-  rises = λ k r. g.rises k (f.rises k r);
+  rises = λ k n h r. g.rises k n (λ q. h (late (question ids k) q)) (f.rises k n (λ p. h (early (question ids k) p)) r);
 }
 
 pub gains_weaker : (ids : InternerData) (P Q : Question → Type 0) (place : ℕ) (a b : Key → List ℕ) → ((q : Question) → P q → Q q) → Gains ids P place a b → Gains ids Q place a b
 gains_weaker ids P Q place a b weaker f = record {
   only = λ k i h. elim (f.only k i h) [ inl was ↦ inl was | inr new ↦ inr (new.0, (new.1.0, weaker (question ids k) new.1.1)) ];
   keeps = f.keeps;
-  rises = f.rises;
+  rises = λ k n h r. f.rises k n (λ p. h (weaker (question ids k) p)) r;
 }
 
 -- one key
@@ -38,7 +38,7 @@ gains_one ids P key place a b known holds f = record {
     | inr new ↦ inr (new.0, (subst (λ (j : Key). IsKey ids j) (sym new.1) known, subst (λ (j : Key). P (question ids j)) (sym new.1) holds))
   ];
   keeps = f.keeps;
-  rises = f.rises;
+  rises = λ k n h r. f.rises k n (λ e. h (subst (λ (j : Key). P (question ids j)) (sym e) holds)) r;
 }
 
 -- what is listed stays listed

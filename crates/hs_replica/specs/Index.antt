@@ -1,9 +1,10 @@
 -- How places are kept by what they answer.
 --     list_at lists k       the list of this key, by `row_at` or `keyed_at`
 --     question ids k        what the key asks for
---     IsIndex               the lists have just the places that answer what their keys ask for, of the first n
+--     reach asked n q       so many places, from the first, are listed by the question; by what entries ask for, when their point is asked about
+--     IsIndex               the lists have just the places that answer what their keys ask for, as far as these are reached
 --     Gains, HasAll         lists that gain a place
-use Rattle.std.specs.Prelude.{◌≡◌, ◌≢◌, ◌^◌, AllPairs, Some, slice_get, ℕ, ◌<◌, ◌≤◌, List, [], length, map, All, Contains, ◌⊎◌}
+use Rattle.std.specs.Prelude.{◌≡◌, ◌≢◌, ◌^◌, AllPairs, Some, slice_get, slice_index_or, ℕ, ◌<◌, ◌≤◌, List, [], length, map, All, Contains, ◌⊎◌}
 use Rattle.std.specs.Option.{option_map_or}
 use Rattle.std.specs.List.Sorted.{IsStrictlyIncreasing}
 use Rattle.indexmap.specs.IndexMap.{IndexMap, get}
@@ -41,6 +42,20 @@ question ids (Typed p t) = typed p (type_of_id ids t)
 question ids (Asking p j t) = asks p j (type_of_id ids t)
 question ids (Taking p j t) = takes p j (type_of_id ids t)
 
+-- it is listed by this when the log is indexed
+abbrev pub IsAtOnce : Key → Type 0
+IsAtOnce (At p) = Unit {0}
+IsAtOnce (Typed p t) = Unit {0}
+IsAtOnce (Asking p j t) = ⊥
+IsAtOnce (Taking p j t) = Unit {0}
+
+-- n places, or number p of `asked` where it is what entries at p ask for
+abbrev pub reach : List ℕ → ℕ → Question → ℕ
+reach asked n (here p) = n
+reach asked n (typed p a) = n
+reach asked n (asks p j a) = slice_index_or asked p 0
+reach asked n (takes p j a) = n
+
 -- its type has a number
 abbrev pub IsKey : InternerData → Key → Type 0
 IsKey ids (At p) = Unit {0}
@@ -60,12 +75,21 @@ pub record IsListed (ids : InternerData) (list : Key → List ℕ) (place : ℕ)
   pub for : question ids key ≡ q
   pub among : Contains (list key) place
 
--- The place n may stand in some of the lists already: in those that were reached before memory was refused.
-pub record IsIndex (ids : InternerData) (log : List EntryData) (n : ℕ) (list : Key → List ℕ) : Type 0 where
+-- The first place that isn't reached may stand in some of the lists already: in those that got it before memory was refused.
+pub record IsIndex (ids : InternerData) (log : List EntryData) (reached : Question → ℕ) (list : Key → List ℕ) : Type 0 where
   pub known : (k : Key) (i : ℕ) → Contains (list k) i → IsKey ids k
   pub sound : (k : Key) (i : ℕ) → Contains (list k) i → Answers log i (question ids k)
-  pub complete : (i : ℕ) (q : Question) → i < n → Answers log i q → IsListed ids list i q
-  pub rises : (k : Key) → RisesTo n (list k)
+  pub complete : (i : ℕ) (q : Question) → i < reached q → Answers log i q → IsListed ids list i q
+  pub within : (q : Question) (p : ℕ) → reached q ≤ reached (here p)
+  pub rises : (k : Key) → RisesTo (reached (question ids k)) (list k)
+
+-- what was an index of the first n entries becomes one of the first m, and as to what they ask for it stays
+abbrev pub KeepsIndex : InternerData → List EntryData → ℕ → ℕ → (Key → List ℕ) → (Key → List ℕ) → Type 0
+KeepsIndex ids log n m old new = (asked : List ℕ) → IsIndex ids log (reach asked n) old → IsIndex ids log (reach asked m) new
+
+-- all that the first n entries ask for at the point is listed
+abbrev pub HasAsked : InternerData → List EntryData → ℕ → ℕ → (Key → List ℕ) → Type 0
+HasAsked ids log n point list = (i j : ℕ) (a : TypeTree) → i < n → Answers log i (asks point j a) → IsListed ids list i (asks point j a)
 
 -- the list gains nothing but the place
 pub record AddsTo (place : ℕ) (old new : List ℕ) : Type 0 where
@@ -77,13 +101,13 @@ pub record AddsTo (place : ℕ) (old new : List ℕ) : Type 0 where
 pub record AddsAt {K : Type 0} (key : K) (place : ℕ) (old new : K → List ℕ) : Type 0 where
   pub only : (k : K) (i : ℕ) → Contains (new k) i → Contains (old k) i ⊎ ((i ≡ place) × (k ≡ key))
   pub keeps : (k : K) (i : ℕ) → Contains (old k) i → Contains (new k) i
-  pub rises : (k : K) → RisesTo place (old k) → RisesTo place (new k)
+  pub rises : (k : K) (n : ℕ) → (k ≡ key → n ≡ place) → RisesTo n (old k) → RisesTo n (new k)
 
 -- the lists gain nothing but the place, under keys that ask for what P holds of
 pub record Gains (ids : InternerData) (P : Question → Type 0) (place : ℕ) (old new : Key → List ℕ) : Type 0 where
   pub only : (k : Key) (i : ℕ) → Contains (new k) i → Contains (old k) i ⊎ ((i ≡ place) × (IsKey ids k × P (question ids k)))
   pub keeps : (k : Key) (i : ℕ) → Contains (old k) i → Contains (new k) i
-  pub rises : (k : Key) → RisesTo place (old k) → RisesTo place (new k)
+  pub rises : (k : Key) (n : ℕ) → (P (question ids k) → n ≡ place) → RisesTo n (old k) → RisesTo n (new k)
 
 -- all that P holds of is listed
 abbrev pub HasAll : InternerData → (Question → Type 0) → ℕ → (Key → List ℕ) → Type 0
@@ -111,18 +135,19 @@ TakesBy point ty q = ⊥
 abbrev pub BeginsTyped : RowData → ℕ → (Key → List ℕ) → Type 0
 BeginsTyped row place list = slice_get (list (Typed row.point row.ty)) 0 ≡ Some place
 
--- what the row's environment asks for, where its type is a state, and what its type takes, where the list of its point and type begins
--- with the place
-abbrev pub PlaysRole : InternerData → RowData → (Key → List ℕ) → ℕ → Question → Type 0
-PlaysRole ids row list place (asks p j a) = IsState (type_of_id ids row.ty) × AsksIn row.point (env_of_id ids row.env) (asks p j a)
-PlaysRole ids row list place (takes p j a) = BeginsTyped row place list × TakesBy row.point (type_of_id ids row.ty) (takes p j a)
-PlaysRole ids row list place q = ⊥
+-- what the row's type takes, where the list of its point and type begins with the place
+abbrev pub TakesFirst : InternerData → RowData → (Key → List ℕ) → ℕ → Question → Type 0
+TakesFirst ids row list place q = BeginsTyped row place list × TakesBy row.point (type_of_id ids row.ty) q
+
+-- what the row's environment asks for, where its type is a state
+abbrev pub AsksBy : InternerData → RowData → Question → Type 0
+AsksBy ids row q = IsState (type_of_id ids row.ty) × AsksIn row.point (env_of_id ids row.env) q
 
 -- what a replica keeps: room for so many rows, and the lists of the first of them
-pub record IsKept (ids : InternerData) (rows : List RowData) (room reserved indexed : ℕ) (list : Key → List ℕ) : Type 0 where
+pub record IsKept (ids : InternerData) (rows : List RowData) (room reserved indexed : ℕ) (asked : List ℕ) (list : Key → List ℕ) : Type 0 where
   pub known : All (IsRow ids) rows
   pub distinct : AllPairs (λ a b. a ≢ b) (log_of ids rows)
   pub short : length rows < 2 ^ 32
   pub fits : reserved ≤ room
   pub within : indexed ≤ length rows
-  pub index : IsIndex ids (log_of ids rows) indexed list
+  pub index : IsIndex ids (log_of ids rows) (reach asked indexed) list

@@ -3,6 +3,7 @@
 //! The definitions stand in `specs/`: `Replica` and `Places`.
 #![tactic(auto)]
 
+mod asking;
 mod forming;
 mod indexing;
 mod key;
@@ -10,5 +11,6 @@ mod lists;
 mod lookups;
 mod replica;
 
+pub use lists::Places;
 pub use lookups::each_entry_has_a_first;
 pub use replica::Replica;

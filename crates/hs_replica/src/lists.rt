@@ -11,7 +11,7 @@ use smallvec::SmallVec;
 use std::alloc::Global;
 
 /// Places of the log, ascending. Up to four of them lie in the value itself.
-pub(crate) type Places = SmallVec<u32, 4>;
+pub type Places = SmallVec<u32, 4>;
 
 /// For each key its places: those of a point by its number, and the others in a table.
 #[derive(Drop)]

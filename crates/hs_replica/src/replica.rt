@@ -6,7 +6,7 @@ ghost use Rattle.hs_types.specs.Interned.{IsRow, entry_of, Grows};
 ghost use Rattle.hs_replica.specs.Replica.{IsReplica, KeepsLog};
 ghost use Rattle.hs_replica.specs.Extending.{CanExtend, extended};
 ghost use Rattle.hs_replica.specs.Places.{ArePlaces};
-ghost use Rattle.hs_replica.specs.Index.{question, IsKey};
+ghost use Rattle.hs_replica.specs.Index.{question, IsAtOnce, IsKey};
 
 use crate::indexing::add_places;
 use crate::key::Key;
@@ -27,12 +27,15 @@ use std::marker::Model;
 #[derive(Drop)]
 pub struct Replica {
     pub(crate) interner: Interner,
-    rows: IndexSet<Row>,
-    lists: Lists,
+    pub(crate) rows: IndexSet<Row>,
+    pub(crate) lists: Lists,
+    /// For each point, so many places of the log, from the first, are listed by what environments
+    /// ask for there.
+    pub(crate) asked: Vec<u32>,
     /// So many rows can be added without memory; there may be room for more.
     reserved: u32,
     /// So many places are listed.
-    indexed: u32,
+    pub(crate) indexed: u32,
 }
 
 impl Model for Replica {
@@ -52,7 +55,7 @@ impl Model for Replica {
     } };
 
     ghost invariant = { λ a. IsKept a.interner a.rows.keys (spare a.rows) a.reserved a.indexed
-        (list_at a.lists) };
+        a.asked.items (list_at a.lists) };
 }
 
 impl Replica {
@@ -69,6 +72,7 @@ impl Replica {
             interner: Interner::new(alloc),
             rows: IndexSet::new(alloc),
             lists: Lists::new(alloc),
+            asked: Vec::new(alloc),
             reserved: 0,
             indexed: 0,
         }
@@ -218,11 +222,11 @@ impl Replica {
     /// Makes the look-ups tell of the whole log. After a refusal of memory they tell of as much as
     /// before or of more.
     ///
-    /// An entry is listed by its point and by its point and type. If its type is a state, it is
-    /// listed by each type in its environment, too; if it is an arrow and no entry before it has its
-    /// point and type, by each type in the sets of its type. A place in a list costs 4 bytes beyond
-    /// the first four, and a list with these about 64; that of a point 32, which each point below
-    /// takes, too. Time is in proportion to the places, and to the points that are new, on average.
+    /// An entry is listed by its point and by its point and type, and, if no entry before it has
+    /// these, by each type in the sets of its type; `asking` lists it by each type in its
+    /// environment. A place in a list costs 4 bytes beyond the first four, and a list with these about
+    /// 64; that of a point 32, which each point below takes, too. Time is in proportion to the places,
+    /// and to the points that are new, on average.
     pub fn index(&mut self) -> Result<(), OutOfMemory>
         ensures ok { OnOk result (self.new.indexed ≡ length self.new.log) }
         ensures kept { self.new ≡ record self.old { indexed = self.new.indexed } }
@@ -238,7 +242,8 @@ impl Replica {
 
     /// The places that are listed by this key.
     pub(crate) fn places(&self, key: Key) -> &[u32]
-        requires { IsKey self.now.ids key }
+        requires known { IsKey self.now.ids key }
+        requires at_once { IsAtOnce key }
         ensures { ArePlaces self.now.log self.now.indexed (question self.now.ids key) result.now }
     {
         self.interner.numbers_are_exact();

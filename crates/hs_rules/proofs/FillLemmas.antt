@@ -1,9 +1,9 @@
 -- The candidates for slots, found in a log.
-use Rattle.std.proofs.Common.{◌≡◌, refl, sym, ◌∙◌, ap, subst, ℕ, zero, suc, ◌+◌, ◌<◌, ◌≤◌, List, [], ◌∷◌, ◌++◌, length, map, take, get_or, slice_get, Option, Some, None, arith, append_assoc, Contains, inl, inr, ◌↔◌}
-use Rattle.std.specs.List.Sorted.{IsStrictlyIncreasing}
+use Rattle.std.proofs.Common.{◌≡◌, refl, sym, ◌∙◌, ap, subst, ℕ, zero, suc, ◌+◌, ◌<◌, ◌≤◌, List, [], ◌∷◌, ◌++◌, length, map, take, get_or, slice_get, Option, Some, None, true, false, arith, append_assoc, Contains, inl, inr, ltb, ◌↔◌}
+use Rattle.std.specs.List.Sorted.{IsStrictlyIncreasing, IsPartitionPoint}
 use Rattle.std.proofs.lemmas.List.Kept.{AllPairs-from_increasing}
 use Rattle.std.proofs.lemmas.List.{map-append, append-nil, length-take-le, length-map}
-use Rattle.std.proofs.lemmas.Bool.{cases_order}
+use Rattle.std.proofs.lemmas.Bool.{cases_lt, cases_order, ltb-true, ltb-false}
 use Rattle.hs_table.specs.Types.{TypeTree}
 use Rattle.hs_table.specs.Entries.{Env, EntryData, set_at}
 use Rattle.hs_table_laws.proofs.Places.{place_of, member_at, read_from, at_take, to_take, within_from, none_in, uncons, here, later}
@@ -17,33 +17,26 @@ use Rattle.hs_rules.specs.Shut.{AreShut}
 use Rattle.hs_rules.proofs.Lists.{read_other}
 use Rattle.hs_rules.proofs.SlotLemmas.{into_slots}
 
--- the places below the limit are the first ones, up to one that isn't
-module _ (places out : List ℕ) (limit k : ℕ) (are : out ≡ take k places) (low : (j : ℕ) → j < k → get_or places j 0 < limit) where
-  from_taken : (place : ℕ) → Contains out place → Contains places place × (place < limit)
-  from_taken place c =
-      let p = place_of (take k places) place (subst (λ (xs : List ℕ). Contains xs place) are c) in
+-- the places below the limit begin the list
+module _ (places : List ℕ) (limit k : ℕ) (point : IsPartitionPoint (λ y. ltb y limit ≡ true) (λ y. ltb y limit ≡ false) places k) where
+  from_begin : (place : ℕ) → Contains (take k places) place → Contains places place × (place < limit)
+  from_begin place c =
+      let p = place_of (take k places) place c in
       let q = at_take k places p.0 place p.1 in
-      (member_at places p.0 place q.1, subst (λ (n : ℕ). n < limit) (read_from places p.0 place 0 q.1) (low p.0 q.0))
+      let low = ltb-true (get_or places p.0 0) limit (point.0 p.0 0 (omega arith) q.0) in
+      (member_at places p.0 place q.1, subst (λ (n : ℕ). n < limit) (read_from places p.0 place 0 q.1) low)
 
-  into_taken : (place j : ℕ) → slice_get places j ≡ Some place → j < k → Contains out place
-  into_taken place j at lt = subst (λ (xs : List ℕ). Contains xs place) (sym are) (member_at (take k places) j place (to_take k places j place lt at))
+  into_begin : (place : ℕ) → Contains places place × (place < limit) → Contains (take k places) place
+  into_begin place h =
+      let p = place_of places place h.0 in
+      let before : p.0 < k = elim (cases_lt p.0 k) [
+        | inl less ↦ less
+        | inr more ↦ absurd (let high = ltb-false (get_or places p.0 0) limit (point.1 p.0 0 more (within_from places p.0 place p.1)) in omega (arith, high, read_from places p.0 place 0 p.1, h.1))
+      ] in
+      member_at (take k places) p.0 place (to_take k places p.0 place before p.1)
 
-  pub all_below : length places ≤ k → (place : ℕ) → Contains out place ↔ (Contains places place × (place < limit))
-  all_below whole place = (from_taken place, λ h. let p = place_of places place h.0 in into_taken place p.0 p.1 (omega (arith, within_from places p.0 place p.1)))
-
-  pub some_below : IsStrictlyIncreasing places → k < length places → limit ≤ get_or places k 0 → (place : ℕ) → Contains out place ↔ (Contains places place × (place < limit))
-  some_below rises lt high place = (from_taken place, λ h. back h)
-    where
-      back : Contains places place × (place < limit) → Contains out place
-      back h =
-          let p = place_of places place h.0 in
-          let within = within_from places p.0 place p.1 in
-          let is : get_or places p.0 0 ≡ place = read_from places p.0 place 0 p.1 in
-          into_taken place p.0 p.1 (elim (cases_order p.0 k) [
-            | inl same ↦ absurd (let e : get_or places k 0 ≡ place = ap (λ n. get_or places n 0) (sym same) ∙ is in omega (arith, e, h.1, high))
-            | inr (inl less) ↦ less
-            | inr (inr more) ↦ absurd (let up = AllPairs-from_increasing places rises k p.0 0 more within in omega (arith, up, is, h.1, high))
-          ])
+  pub begin_is : (place : ℕ) → Contains (take k places) place ↔ (Contains places place × (place < limit))
+  begin_is place = (from_begin place, into_begin place)
 
 -- nothing fixed stands in the way
 module _ (log : List EntryData) (o : Option Fixed) (arg point : ℕ) (ty : TypeTree) (place : ℕ) where

@@ -11,7 +11,7 @@ ghost use Rattle.hs_rules.specs.Shut.{IsBodyShut};
 
 use crate::found::HeadTypes;
 use crate::heads::push_bodies;
-use crate::search::{Search, below, is_open};
+use crate::search::{Search, begin_below, below, is_open};
 use crate::spot::Spot;
 use hs_replica::Replica;
 use hs_scheme::OutOfMemory;
@@ -42,18 +42,12 @@ pub(crate) fn nonterminal_asking(
     ensures kept { KeepsLog replica.old replica.new }
 {
     let problem = spot.problem;
-    let own = replica.empty_env(spot.params as usize)?;
     let body = problem.points.body_of(nonterminal);
-    let places = below(alloc, replica.asking(body, arg, ty), search.limit)?;
+    let asked = replica.asking(body, arg, ty)?;
+    let places = begin_below(asked.as_slice(), search.limit);
+    let own = replica.empty_env(spot.params as usize)?;
     let mut out = SmallVec::new(alloc);
-    push_bodies(
-        alloc,
-        replica,
-        places.as_slice(),
-        own,
-        search.args.len(),
-        &mut out,
-    )?;
+    push_bodies(alloc, replica, places, own, search.args.len(), &mut out)?;
     Ok(out)
 }
 

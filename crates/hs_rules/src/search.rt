@@ -9,7 +9,7 @@ ghost use Rattle.hs_rules.specs.Slots.{slots_of, slots, IsCandidate};
 ghost use Rattle.hs_rules.specs.Filling.{CanSearch, fixed_of, AreFilled, GainsFilled, LacksCandidate, LacksSlot};
 ghost use Rattle.hs_rules.specs.Shut.{AreShut};
 
-use hs_replica::Replica;
+use hs_replica::{Places, Replica};
 use hs_scheme::OutOfMemory;
 use hs_types::{SetId, TyId};
 use smallvec::SmallVec;
@@ -32,9 +32,6 @@ pub(crate) struct Search<'a> {
     pub(crate) limit: u32,
     pub(crate) fixed: Option<Fixed>,
 }
-
-/// Places of the log. A few of them lie in the value itself.
-pub(crate) type Places = SmallVec<u32, 4>;
 
 /// A slot: the number of its argument, and the places of its candidates.
 #[derive(Drop)]
@@ -63,19 +60,23 @@ impl MadeWith<Global> for Filled {
 /// Slots. Two of them lie in the value itself.
 pub(crate) type Slots = SmallVec<Filled, 2>;
 
-/// The places below the limit.
+/// The places below the limit, which begin the list.
+pub(crate) fn begin_below(places: &[u32], limit: u32) -> &[u32]
+    requires { IsStrictlyIncreasing places.now }
+    ensures { (place : ℕ) → Contains result.now place ↔ (Contains places.now place × (place < limit)) }
+{
+    let count = places.partition_point(|place| *place < limit);
+    &places[..count]
+}
+
+/// A list of the places below the limit.
 pub(crate) fn below(alloc: Global, places: &[u32], limit: u32) -> Result<Places, OutOfMemory>
     requires { IsStrictlyIncreasing places.now }
     ensures { IfOk result (λ out. (place : ℕ) → Contains out.items place
         ↔ (Contains places.now place × (place < limit))) }
 {
-    let mut out = SmallVec::new(alloc);
-    for place in places {
-        if *place >= limit {
-            return Ok(out);
-        }
-        out.push(*place)?;
-    }
+    let begin = begin_below(places, limit);
+    let out = SmallVec::from_slice(alloc, begin)?;
     Ok(out)
 }
 

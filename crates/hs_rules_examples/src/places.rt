@@ -145,8 +145,13 @@ fn fill(replica: &mut Replica) -> Result<(), OutOfMemory> {
 fn see_who_asks(rt: &impl Abort, replica: &mut Replica) -> Result<(), OutOfMemory> {
     let one = replica.base(1)?;
     assert_eq!(rt; replica.at_point(3), [0, 3].as_slice());
-    assert_eq!(rt; replica.asking(3, 0, one), [0, 3].as_slice());
-    assert_eq!(rt; replica.asking(3, 1, one), [].as_slice());
+    let asked = replica.asking(3, 0, one)?;
+    assert_eq!(rt; asked.as_slice(), [0, 3].as_slice());
+    let none = replica.asking(3, 1, one)?;
+    assert_eq!(rt; none.as_slice(), [].as_slice());
+    replica.index()?;
+    let more = replica.asking(3, 0, one)?;
+    assert_eq!(rt; more.as_slice(), [0, 3, 4].as_slice());
     Ok(())
 }
 

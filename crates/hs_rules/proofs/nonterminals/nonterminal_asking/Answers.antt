@@ -1,24 +1,26 @@
-use Rattle.std.proofs.Common.{◌≡◌, sym, ◌∙◌, ap, subst, ℕ, ◌<◌, List, [], length, replicate, get_or, take, slice_get, Some, All, Contains, arith}
+use Rattle.std.proofs.Common.{◌≡◌, sym, ◌∙◌, ap, subst, ℕ, ◌<◌, List, [], length, replicate, get_or, take, slice_get, Some, Contains, arith}
 use Rattle.std.proofs.lemmas.Option.{slice_get-get_or, slice_get_within, get_or_from_slice_get}
 use Rattle.std.proofs.lemmas.List.Elements.{All-contains}
 use Rattle.hs_scheme.specs.Points.{PointsData}
 use Rattle.hs_scheme.specs.Problem.{ProblemData}
-use Rattle.hs_table.specs.Types.{TypeTree}
 use Rattle.hs_table.specs.Entries.{Env, EntryData, InShape, params_of}
 use Rattle.hs_types.specs.Interned.{type_of_id, env_of_id}
-use Rattle.hs_types.proofs.Numbers.{type_within, type_stays}
+use Rattle.hs_replica.specs.Replica.{ReplicaData, KeepsLog}
 use Rattle.hs_replica.specs.Places.{asks, ArePlaces}
 use Rattle.hs_rules.specs.Heads.{GainsHeads, BodyAt, AtSome}
 use Rattle.hs_rules.proofs.Lists.{along, all_from}
 use Rattle.hs_rules.proofs.SourceLemmas.{bodies_asking}
 use Rattle.hs_rules.proofs.nonterminals.nonterminal_asking.Goals as goal
 
+-- asking about the point changed nothing
+kept_from : (old mid new : ReplicaData) → mid ≡ old → KeepsLog mid new → KeepsLog old new
+kept_from old mid new same = subst (λ (r : ReplicaData). KeepsLog r new) same
+
 pub push_bodies-requires-clause-places : goal.push_bodies-requires-clause-places
 push_bodies-requires-clause-places c =
-    subst (λ (xs : List ℕ). All (λ place. place < length c.empty_env.new.self.log) xs) (sym c.as_slice.ensures)
-    (all_from (λ place. place < length c.empty_env.new.self.log) c.in_ok-places.places.items (λ place there.
-    let b = (c.in_ok-places.ensures place).0 there in
-    omega (arith, b.1, c.requires.search.limited, ap (λ (l : List EntryData). length l) c.in_ok-own.ensures.kept.log)))
+    all_from (λ place. place < length c.empty_env.new.self.log) c.begin_below-places.result.now (λ place there.
+    let b = (c.begin_below-places.ensures place).0 there in
+    omega (arith, b.1, c.requires.search.limited, ap (λ (l : List EntryData). length l) (kept_from c.args.replica.now c.asking.new.self c.empty_env.new.self c.in_ok-asked.ensures.kept c.in_ok-own.ensures.kept).log))
 
 pub push_bodies-requires-clause-own : goal.push_bodies-requires-clause-own
 push_bodies-requires-clause-own c = slice_get_within c.empty_env.new.self.ids.envs c.in_ok-own.own (replicate c.args.spot.now.params []) c.in_ok-own.ensures.ok
@@ -34,7 +36,7 @@ returns-clause-heads c =
     let args = c.args.search.now.args.now in
     let f = c.args.nonterminal in
     let own = c.in_ok-own.own in
-    let same = c.in_ok-own.ensures.kept.log in
+    let same = (kept_from c.args.replica.now c.asking.new.self c.empty_env.new.self c.in_ok-asked.ensures.kept c.in_ok-own.ensures.kept).log in
     let none : Env = replicate c.args.spot.now.params [] in
     let own_is : env_of_id J own ≡ replicate (params_of p c.args.spot.now.rule) [] = get_or_from_slice_get J.envs own none [] c.in_ok-own.ensures.ok ∙ ap (λ (k : ℕ). let e : Env = replicate k [] in e) c.requires.spot.params_are in
     let points = ap (λ (q : ProblemData). q.points) c.problem.view_is in
@@ -42,11 +44,7 @@ returns-clause-heads c =
     let body_is : slice_get p.points.bodies f ≡ Some body = slice_get-get_or p.points.bodies f 0 c.requires.head ∙ ap (λ (k : ℕ). Some k) (sym (c.body_of-body.ensures.body ∙ ap (λ (x : PointsData). get_or x.bodies f 0) points)) in
     let shapes = λ (e : EntryData) (m : Contains (take limit log) e). All-contains (InShape p) (take limit log) e c.requires.spot.shapes m in
     let heads = c.push_bodies.new.out.items in
-    let gains = along (λ i. GainsHeads K (length args) (AtSome (BodyAt (same i) (own_is i)) (c.as_slice.ensures i)) (c.new-out.ensures.items i) heads) c.in_ok-push_bodies.ensures.gains in
-    let indexed = c.in_ok-own.ensures.kept.indexed ∙ c.requires.search.indexed in
-    let are = subst (λ (t : TypeTree). ArePlaces log c.empty_env.new.self.indexed (asks body c.args.arg t) c.asking.result.now) (type_stays I J c.in_ok-own.ensures.kept.grows c.args.ty c.requires.ty)
-    (subst (λ (l : List EntryData). ArePlaces l c.empty_env.new.self.indexed (asks body c.args.arg (type_of_id J c.args.ty)) c.asking.result.now) same c.asking.ensures) in
-    bodies_asking p log limit c.args.spot.now.rule args shapes f body body_is K c.in_ok-places.places.items heads c.empty_env.new.self.indexed c.args.arg (type_of_id I c.args.ty) c.asking.result.now indexed c.requires.arg are c.in_ok-places.ensures gains
-
-pub asking-requires : goal.asking-requires
-asking-requires c = type_within c.args.replica.now.ids c.empty_env.new.self.ids c.in_ok-own.ensures.kept.grows c.args.ty c.requires.ty
+    let gains = along (λ i. GainsHeads K (length args) (AtSome (BodyAt (same i) (own_is i)) c.begin_below-places.result.now) (c.new-out.ensures.items i) heads) c.in_ok-push_bodies.ensures.gains in
+    let are = subst (λ (xs : List ℕ). ArePlaces log c.args.replica.now.indexed (asks body c.args.arg (type_of_id I c.args.ty)) xs) (sym c.as_slice.ensures) c.in_ok-asked.ensures.exact in
+    bodies_asking p log limit c.args.spot.now.rule args shapes f body body_is K c.begin_below-places.result.now heads c.args.replica.now.indexed c.args.arg (type_of_id I c.args.ty) c.as_slice.result.now c.requires.search.indexed c.requires.arg are
+    c.begin_below-places.ensures gains

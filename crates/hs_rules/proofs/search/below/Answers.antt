@@ -1,9 +1,5 @@
-use Rattle.hs_rules.proofs.FillLemmas.{all_below, some_below}
+use Rattle.std.proofs.Common.{sym, ◌<◌, subst, ℕ, List, Contains, ◌↔◌}
 use Rattle.hs_rules.proofs.search.below.Goals as goal
 
-pub returns-then-place-limit : goal.returns-then-place-limit
-returns-then-place-limit c =
-    some_below c.args.places.now c.loop-place.out.items c.args.limit c.loop-place.place-index c.loop-place.invariant.are c.loop-place.invariant.low c.requires c.loop-place-test.true c.if-place-limit.true
-
 pub returns : goal.returns
-returns c = all_below c.args.places.now c.loop-place.out.items c.args.limit c.loop-place.place-index c.loop-place.invariant.are c.loop-place.invariant.low c.loop-place-test.false
+returns c = λ place. subst (λ (xs : List ℕ). Contains xs place ↔ (Contains c.args.places.now place × (place < c.args.limit))) (sym c.in_ok-out.ensures.ok) (c.begin_below-begin.ensures place)

@@ -2,7 +2,7 @@ use Rattle.std.proofs.Common.{subst, ℕ}
 use Rattle.hs_types.specs.Interned.{set_of_id, env_of_id}
 use Rattle.hs_replica.specs.Index.{list_at, Gains, HasAll, AsksAt}
 use Rattle.hs_replica.proofs.EnvLemmas.{env_none, env_stopped, env_more, env_all}
-use Rattle.hs_replica.proofs.indexing.add_asking.Goals as goal
+use Rattle.hs_replica.proofs.asking.add_asking.Goals as goal
 
 pub loop-param-init : goal.loop-param-init
 loop-param-init c = env_none c.args.interner.now c.args.point (env_of_id c.args.interner.now c.args.env) c.args.place (list_at c.args.lists.now)

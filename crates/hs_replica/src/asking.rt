@@ -1,0 +1,145 @@
+//! How places come into the lists of what environments ask for, when their point is asked about.
+
+ghost use Rattle.std.specs.Prelude.{◌≡◌, ℕ, ◌<◌, ◌≤◌, All, Contains, IfNone, IfOk, IfSome, OnOk, length, slice_index_or};
+ghost use Rattle.std.specs.List.Sorted.{IsStrictlyIncreasing};
+ghost use Rattle.hs_types.specs.Interned.{set_of_id, env_of_id, IsRow};
+ghost use Rattle.hs_replica.specs.declared.key.Key.TheVariants.{At};
+ghost use Rattle.hs_replica.specs.Index.{list_at, log_of, reach, RisesTo, IsIndex, HasAsked, Gains, HasAll, AsksAt, AsksIn, AsksBy};
+
+use crate::key::Key;
+use crate::lists::{Lists, add_once, below, list_of};
+use hs_scheme::OutOfMemory;
+use hs_types::{EnvId, Interner, Row, SetId, View};
+
+/// Lists the place under each type of the set, as asked for at this parameter.
+fn add_asked(
+    lists: &mut Lists,
+    interner: &Interner,
+    point: u32,
+    param: u32,
+    set: SetId,
+    place: u32,
+) -> Result<(), OutOfMemory>
+    requires { set < length interner.now.sets }
+    ensures gains { Gains interner.now (AsksAt point param (set_of_id interner.now set)) place
+        (list_at lists.old) (list_at lists.new) }
+    ensures all { OnOk result (HasAll interner.now (AsksAt point param (set_of_id interner.now set)) place
+        (list_at lists.new)) }
+{
+    for ty in interner.members(set) {
+        add_once(lists, Key::Asking(point, param, *ty), place)?;
+    }
+    Ok(())
+}
+
+/// The parameter's number in 4 bytes, or want of memory where there are more.
+fn numbered(param: usize) -> Result<u32, OutOfMemory>
+    ensures { IfOk result (λ number. number ≡ param) }
+{
+    if param > u32::MAX as usize {
+        return Err(OutOfMemory);
+    }
+    Ok(param as u32)
+}
+
+/// Lists the place under all that the environment asks for.
+fn add_asking(
+    lists: &mut Lists,
+    interner: &Interner,
+    point: u32,
+    env: EnvId,
+    place: u32,
+) -> Result<(), OutOfMemory>
+    requires { env < length interner.now.envs }
+    ensures gains { Gains interner.now (AsksIn point (env_of_id interner.now env)) place (list_at lists.old)
+        (list_at lists.new) }
+    ensures all { OnOk result (HasAll interner.now (AsksIn point (env_of_id interner.now env)) place
+        (list_at lists.new)) }
+{
+    for (param, set) in interner.sets(env).iter().enumerate() {
+        let number = numbered(param)?;
+        add_asked(lists, interner, point, number, *set, place)?;
+    }
+    Ok(())
+}
+
+/// Lists the place under what its row's environment asks for, where its type is a state.
+fn add_row(lists: &mut Lists, interner: &Interner, row: Row, place: u32) -> Result<(), OutOfMemory>
+    requires { IsRow interner.now row }
+    ensures gains { Gains interner.now (AsksBy interner.now row) place (list_at lists.old)
+        (list_at lists.new) }
+    ensures all { OnOk result (HasAll interner.now (AsksBy interner.now row) place (list_at lists.new)) }
+{
+    if let View::State(_) = interner.view(row.ty) {
+        return add_asking(lists, interner, row.point, row.env, place);
+    }
+    Ok(())
+}
+
+/// The first place of the list that isn't below `from`.
+fn first_from(list: &[u32], from: u32) -> Option<u32>
+    requires { IsStrictlyIncreasing list.now }
+    ensures there { IfSome result (λ place. (from ≤ place) × Contains list.now place) }
+    ensures first { IfSome result (λ place. (i : ℕ) → Contains list.now i → from ≤ i → place ≤ i) }
+    ensures none { IfNone result ((i : ℕ) → Contains list.now i → i < from) }
+{
+    let begin = list.partition_point(|place| *place < from);
+    if begin >= list.len() {
+        return None;
+    }
+    Some(list[begin])
+}
+
+/// The first place of the point among the first `indexed` that isn't below `from`.
+fn next_at(lists: &Lists, point: u32, from: u32, indexed: u32) -> Option<u32>
+    requires { RisesTo indexed (list_at lists.now (At point)) }
+    ensures there { IfSome result (λ place. (from ≤ place) × ((place < indexed)
+        × Contains (list_at lists.now (At point)) place)) }
+    ensures first { IfSome result (λ place. (i : ℕ) → Contains (list_at lists.now (At point)) i
+        → from ≤ i → i < indexed → place ≤ i) }
+    ensures none { IfNone result ((i : ℕ) → Contains (list_at lists.now (At point)) i → i < indexed
+        → i < from) }
+{
+    first_from(below(list_of(lists, Key::At(point)), indexed), from)
+}
+
+/// Adds zeros until the point has a number.
+fn lengthen(asked: &mut Vec<u32>, point: u32) -> Result<(), OutOfMemory>
+    ensures same { (p : ℕ) → slice_index_or asked.new.items p 0 ≡ slice_index_or asked.old.items p 0 }
+    ensures long { OnOk result (point < length asked.new.items) }
+{
+    while asked.len() <= point as usize {
+        asked.push(0)?;
+    }
+    Ok(())
+}
+
+/// Lists the places of the point, of the first `indexed`, under what their entries ask for. `asked`
+/// says for each point how many places of the log that has been done for, so it goes on from there,
+/// and after a refusal of memory it tells how far this came.
+pub(crate) fn add_asks(
+    lists: &mut Lists,
+    asked: &mut Vec<u32>,
+    interner: &Interner,
+    rows: &[Row],
+    indexed: u32,
+    point: u32,
+) -> Result<(), OutOfMemory>
+    requires rows { All (IsRow interner.now) rows.now }
+    requires within { indexed ≤ length rows.now }
+    requires index { IsIndex interner.now (log_of interner.now rows.now) (reach asked.old.items indexed)
+        (list_at lists.old) }
+    ensures index { IsIndex interner.now (log_of interner.now rows.now) (reach asked.new.items indexed)
+        (list_at lists.new) }
+    ensures ok { OnOk result (HasAsked interner.now (log_of interner.now rows.now) indexed point
+        (list_at lists.new)) }
+{
+    interner.numbers_are_exact();
+    lengthen(asked, point)?;
+    while let Some(place) = next_at(lists, point, asked[point as usize], indexed) {
+        asked[point as usize] = place;
+        add_row(lists, interner, rows[place as usize], place)?;
+        asked[point as usize] = place + 1;
+    }
+    Ok(())
+}
