@@ -1,7 +1,7 @@
 -- Where the entries of a point begin in an index, and its head pairs among all.
 use Rattle.std.proofs.Common.{◌≡◌, refl, sym, ◌∙◌, ap, subst, ℕ, ◌+◌, ◌-◌, ◌<◌, ◌≤◌, true, false, List, [], ◌∷◌, ◌++◌, length, map, take, drop, get_or, arith, inl, inr, Contains, ◌↔◌, Bor}
 use Rattle.std.specs.Cmp.{nat_cmp_is}
-use Rattle.std.specs.Ordering.{nat_cmp, is_lt, is_eq}
+use Rattle.std.specs.Ordering.{nat_cmp, is_lt, is_eq, ordering_index}
 use Rattle.std.specs.declared.cmp.Ordering.{Ordering}
 use Rattle.std.specs.declared.cmp.Ordering.TheVariants.{Equal, Greater}
 use Rattle.std.specs.List.Sorted.{IsPartitionPoint, IsPartitionedBy}
@@ -9,13 +9,14 @@ use Rattle.std.proofs.Math.ListN.{get_or-append}
 use Rattle.std.proofs.Math.Seq.{get_or-append_seam}
 use Rattle.std.proofs.lemmas.Map.Keys.{ge_from_not_lt}
 use Rattle.std.proofs.lemmas.Bool.{cases_lt}
+use Rattle.std.proofs.lemmas.Bool.Decides.{nat_tests}
 use Rattle.std.proofs.lemmas.List.{get_or-take, get_or-drop, length-drop, length-take, length-append, drop-map, take-map, get_or_default}
 use Rattle.hs_scheme.specs.Flow.{IsAscending}
 use Rattle.hs_table.specs.Entries.{EntryData}
 use Rattle.hs_table_laws.proofs.Places.{none_in}
 use Rattle.hs_checker.specs.Order.{IsInIndexOrder, IsStartOfPoint, AreStartsOfPoints, IsStartBy, AreStartsBy, IsEmptyAt, index_cmp}
 use Rattle.hs_checker.proofs.Between.{equal_of}
-use Rattle.hs_checker.proofs.IndexLemmas.{get_or-map, length-map}
+use Rattle.hs_checker.proofs.IndexLemmas.{get_or-map, length-map, points_up}
 
 lt_from : (a b : ℕ) → is_lt (nat_cmp a b) ≡ true → a < b
 lt_from a b h = elim (cases_lt a b) [
@@ -45,6 +46,25 @@ start_of (r ∷ rs) t n point within =
       within = omega (arith, long);
       before = λ k d lt. subst (λ (e : EntryData). e.point < t) (sym (read_row rows k d r (omega arith))) (lt_from (get_or rows k r).now.point t (point.0 k r (omega arith) lt));
       behind = λ k d le lt. subst (λ (e : EntryData). t ≤ e.point) (sym (read_row rows k d r (omega (arith, long)))) (ge_from_not_lt (get_or rows k r).now.point t (point.1 k r le (omega (arith, long))));
+    }
+
+not_below : (a b t : ℕ) → t ≤ a → ordering_index (nat_cmp a t) ≤ ordering_index (nat_cmp b t) → t ≤ b
+not_below a b t h le = grind (arith, nat_tests)
+
+-- a start that is known to be one for a lesser point, where the next entry is of no lesser point
+pub start_kept_rows : (rows : List (Bor EntryData)) (t n : ℕ) → IsInIndexOrder (entries rows) → n ≤ length rows → ((k : ℕ) (d : Bor EntryData) → k < n → (get_or rows k d).now.point < t)
+    → ((d : Bor EntryData) → n < length rows → t ≤ (get_or rows n d).now.point) → IsStartOfPoint (entries rows) t n
+start_kept_rows [] t n up within before next = record { within = within; before = λ k d lt. absurd (omega arith); behind = λ k d le lt. absurd (omega arith) }
+start_kept_rows (r ∷ rs) t n up within before next =
+    let rows = r ∷ rs in
+    let f : Bor EntryData → EntryData = λ x. x.now in
+    let long = length-map f rows in
+    record {
+      within = omega (arith, long);
+      before = λ k d lt. subst (λ (e : EntryData). e.point < t) (sym (read_row rows k d r (omega arith))) (before k r lt);
+      behind = λ k d le lt.
+          let there : k < length rows = omega (arith, long) in
+          subst (λ (e : EntryData). t ≤ e.point) (sym (read_row rows k d r there)) (not_below (get_or rows n r).now.point (get_or rows k r).now.point t (next r (omega arith)) (points_up rows up t n k r le there));
     }
 
 -- items behind no references

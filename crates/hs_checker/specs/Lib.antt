@@ -1,5 +1,6 @@
 pub mod Gaps
 pub mod PassedOn
+pub mod Inert
 pub mod Order
 pub mod Shape
 pub mod Any

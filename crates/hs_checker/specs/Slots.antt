@@ -4,12 +4,13 @@
 --     AreBare E us        no argument has an entry
 --     Says E us e         the entry's type is a state, and the type that it says of its nonterminal fits
 --     IsCountAt p E u n   n is the number of instances at the point
-use Rattle.std.specs.Prelude.{◌≡◌, ◌≢◌, ◌↔◌, ℕ, ◌<◌, ◌≤◌, Bool, true, List, [], ◌∷◌, length, slice_get, Some, None, Contains, AllPairs}
+use Rattle.std.specs.Prelude.{◌≡◌, ◌≢◌, ◌↔◌, ℕ, ◌<◌, ◌≤◌, Bool, true, List, [], ◌∷◌, length, slice_get, Some, None, Contains, AllPairs, nat_eq, cond}
 use Rattle.hs_scheme.specs.Tree.{node, none, more, children}
 use Rattle.hs_table.specs.Types.{TypeTree, state, arrows}
 use Rattle.hs_table.specs.Tables.{IsInstance}
 use Rattle.hs_table.specs.Follows.{rank_of}
 use Rattle.hs_scheme.specs.declared.term.Head.{Head}
+use Rattle.hs_scheme.specs.declared.term.Head.TheVariants.{Var, Nt, Tm}
 use Rattle.hs_scheme.specs.Transition.{TransitionData}
 use Rattle.hs_scheme.specs.Automaton.{next}
 use Rattle.hs_scheme.specs.Problem.{ProblemData}
@@ -45,6 +46,12 @@ IsComplete p a = (q : ℕ) → q < p.sorted.automaton.states → HasMove p.sorte
 -- so at each terminal that is marked
 abbrev pub AreComplete : ProblemData → List Bool → Type 0
 AreComplete p marks = (a : ℕ) → slice_get marks a ≡ Some true → IsComplete p a
+
+-- what a head of this type asks of the parameter
+abbrev pub asked : Head → TypeTree → ℕ → List TypeTree
+asked (Var x) ty j = cond (nat_eq x j) (ty ∷ []) []
+asked (Nt f) ty j = []
+asked (Tm a) ty j = []
 
 pub record Says (E : List EntryData) (us : List ℕ) (e : EntryData) : Type 0 where
   pub q : ℕ

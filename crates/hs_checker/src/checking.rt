@@ -9,14 +9,17 @@ ghost use Rattle.hs_table.specs.Tables.{IsClosedTable, HasStart};
 ghost use Rattle.hs_verdict.specs.Premises.{HasClosedFlow};
 ghost use Rattle.hs_checker.specs.Slots.{AreInShape, IsCountAt, AreComplete};
 ghost use Rattle.hs_checker.specs.Checked.{IsCount, IsFault, IsGap, fault_of};
+ghost use Rattle.hs_checker.specs.Inert.{AreInert};
 
 use crate::bodies::count_at_rule;
 use crate::fault::CheckFault;
 use crate::flow::first_gap;
+use crate::head_pairs::HeadPairs;
 use crate::index::EntryIndex;
+use crate::inert::inert_points;
 use crate::instances::instances;
 use crate::missing::missing_at;
-use crate::terminals::complete_terminals;
+use crate::terminals::{complete_terminals, is_marked};
 use hs_scheme::{Head, Pair, Problem};
 use hs_table::{Entry, Shape};
 use hs_verdict::is_sorted_problem;
@@ -67,22 +70,27 @@ fn has_start(problem: &Problem, table: &[Entry]) -> bool
 }
 
 /// The number of instances at the point, where all that follows there is in the index. Those at a
-/// nonterminal are counted by the entries of its body.
+/// nonterminal are counted by the entries of its body, and at a point that is marked as inert there are none.
 fn count_at(
     alloc: Global,
     problem: &Problem,
     complete: &[bool],
     index: &EntryIndex,
+    inert: &[bool],
     point: u32,
 ) -> Result<u64, CheckFault>
     requires point { point < length problem.now.points.points }
     requires shape { AreInShape problem.now index.now }
     requires complete { AreComplete problem.now complete.now }
+    requires inert { AreInert problem.now index.now inert.now }
     ensures closed { OnOk result ((e : EntryData) → e.point ≡ point → Follows problem.now index.now e
         → Contains index.now e) }
     ensures count { IfOk result (IsCountAt problem.now index.now point) }
     ensures missing { IfErr result (IsGap problem.now index.now) }
 {
+    if is_marked(inert, point) {
+        return Ok(0);
+    }
     if let Head::Nt(nonterminal) = problem.points.head_of(point) {
         return count_at_rule(alloc, problem, index, point, nonterminal);
     }
@@ -94,8 +102,14 @@ fn count_at(
 }
 
 /// The number of instances, where all that follows from the index is in it.
-fn count_closed(alloc: Global, problem: &Problem, index: &EntryIndex) -> Result<u64, CheckFault>
-    requires { AreInShape problem.now index.now }
+fn count_closed(
+    alloc: Global,
+    problem: &Problem,
+    index: &EntryIndex,
+    inert: &[bool],
+) -> Result<u64, CheckFault>
+    requires shape { AreInShape problem.now index.now }
+    requires inert { AreInert problem.now index.now inert.now }
     ensures closed { OnOk result (IsClosedTable problem.now index.now) }
     ensures count { IfOk result (IsCount problem.now index.now) }
     ensures missing { IfErr result (IsGap problem.now index.now) }
@@ -103,7 +117,7 @@ fn count_closed(alloc: Global, problem: &Problem, index: &EntryIndex) -> Result<
     let complete = complete_terminals(alloc, problem)?;
     let mut count: u64 = 0;
     for point in 0..problem.points.count() {
-        let added = count_at(alloc, problem, complete.as_slice(), index, point)?;
+        let added = count_at(alloc, problem, complete.as_slice(), index, inert, point)?;
         count = count.saturating_add(added);
     }
     Ok(count)
@@ -121,9 +135,9 @@ fn count_closed(alloc: Global, problem: &Problem, index: &EntryIndex) -> Result<
 /// Time is in proportion to the meetings: of points with what their heads may become, of the points of
 /// terminals with the states, and of the partial results at each instance with the entries that they
 /// meet, with the logarithms of the numbers of pairs, types and entries. Memory is for a reference to
-/// each entry, a number for each point, a mark for each terminal, and at one point a mark for each
-/// state, the types and what follows by one of them. Types are compared as trees, and calls recurse as
-/// deep as they.
+/// each entry, two numbers and two marks for each point, a mark for each terminal, and at one point a
+/// mark for each state, the types and what follows by one of them. Types are compared as trees, and
+/// calls recurse as deep as they.
 pub fn check(alloc: Global, problem: &Problem, table: &[Entry]) -> Result<u64, CheckFault>
     ensures closed { OnOk result (HasClosedFlow problem.now
         × (IsClosedTable problem.now table.now × (HasStart problem.now table.now → ⊥))) }
@@ -133,11 +147,13 @@ pub fn check(alloc: Global, problem: &Problem, table: &[Entry]) -> Result<u64, C
     ensures fault { IfErr result (IsFault problem.now table.now) }
 {
     is_sorted_problem(problem);
-    if let Some(pair) = first_gap(alloc, problem)? {
+    let index = EntryIndex::of(alloc, problem, table)?;
+    let heads = HeadPairs::of(alloc, problem)?;
+    let inert = inert_points(alloc, problem, &index, &heads)?;
+    if let Some(pair) = first_gap(problem, &heads, inert.as_slice()) {
         return Err(open(pair));
     }
-    let index = EntryIndex::of(alloc, problem, table)?;
-    let count = count_closed(alloc, problem, &index)?;
+    let count = count_closed(alloc, problem, &index, inert.as_slice())?;
     if has_start(problem, table) {
         return Err(CheckFault::HasStart);
     }

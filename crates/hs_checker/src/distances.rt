@@ -1,7 +1,7 @@
 //! Flow pairs that many bases demand of one argument, and that stand at one distance from each other, as
 //! pairs do at one place in rows of one length.
 
-ghost use Rattle.std.specs.Prelude.{◌≡◌, ◌+◌, ◌≤◌, ◌⊎◌, Contains, IsTrue, length};
+ghost use Rattle.std.specs.Prelude.{◌≡◌, ◌+◌, ◌<◌, ◌≤◌, ◌⊎◌, Contains, IsTrue, IfSome, length};
 ghost use Rattle.hs_scheme.specs.declared.flow.HeadPair.{HeadPair as AnyHead};
 ghost use Rattle.hs_checker.specs.PassedOn.{HasPassed};
 
@@ -11,30 +11,13 @@ use hs_scheme::{FlowPair, HeadPair};
 const MANY: usize = 32;
 
 /// Whether the pair is that of the base's parameter behind so many others, and of the argument.
-fn is_of(pair: &FlowPair, base: &HeadPair, number: usize, arg: u32) -> bool
+fn is_of(pair: &FlowPair, base: &HeadPair, number: u32, arg: u32) -> bool
     ensures { IsTrue result → (pair.now.rule ≡ base.now.rule)
         × ((pair.now.param ≡ base.now.given + number) × (pair.now.point ≡ arg)) }
 {
-    if pair.rule != base.rule {
-        return false;
-    }
-    if pair.point != arg {
-        return false;
-    }
-    if pair.param < base.given {
-        return false;
-    }
-    (pair.param - base.given) as usize == number
-}
-
-/// Whether such a pair stands at this place.
-fn is_passed_at(pairs: &[FlowPair], place: usize, base: &HeadPair, number: usize, arg: u32) -> bool
-    ensures { IsTrue result → HasPassed pairs.now base.now number arg }
-{
-    match pairs.get(place) {
-        None => false,
-        Some(pair) => is_of(pair, base, number, arg),
-    }
+    pair.rule == base.rule
+        && pair.point == arg
+        && pair.param as u64 == base.given as u64 + number as u64
 }
 
 /// The first bases, up to the last one whose pair for the argument isn't found. That of the last base is
@@ -42,11 +25,12 @@ fn is_passed_at(pairs: &[FlowPair], place: usize, base: &HeadPair, number: usize
 fn left_of<'b>(
     pairs: &[FlowPair],
     bases: &'b [HeadPair],
-    number: usize,
+    number: u32,
     arg: u32,
     last: usize,
     distance: usize,
 ) -> &'b [HeadPair]
+    requires { last < length pairs.now }
     ensures part { (h : AnyHead) → Contains result.now h → Contains bases.now h }
     ensures rest { (h : AnyHead) → Contains bases.now h → Contains result.now h
         ⊎ HasPassed pairs.now h number arg }
@@ -54,20 +38,22 @@ fn left_of<'b>(
     let mut left = bases;
     let mut place = last;
     while let Some((base, before)) = left.split_last() {
-        if !is_passed_at(pairs, place, base, number, arg) {
+        if !is_of(&pairs[place], base, number, arg) {
             return left;
         }
         left = before;
-        place = place.wrapping_sub(distance);
+        if place < distance {
+            return left;
+        }
+        place -= distance;
     }
     left
 }
 
 /// The place among all pairs of that which the argument demands by the base, if it is there.
-fn place_of(pairs: &[FlowPair], base: &HeadPair, number: usize, arg: u32) -> Option<usize> {
-    let Ok(number) = u32::try_from(number) else {
-        return None;
-    };
+fn place_of(pairs: &[FlowPair], base: &HeadPair, number: u32, arg: u32) -> Option<usize>
+    ensures { IfSome result (λ place. place < length pairs.now) }
+{
     let param = base.given.checked_add(number)?;
     let pair = FlowPair {
         rule: base.rule,
@@ -90,6 +76,9 @@ fn left_of_many<'b>(
     ensures rest { (h : AnyHead) → Contains bases.now h → Contains result.now h
         ⊎ HasPassed pairs.now h number arg }
 {
+    let Ok(number) = u32::try_from(number) else {
+        return bases;
+    };
     let count = bases.len();
     let Some(last) = place_of(pairs, &bases[count - 1], number, arg) else {
         return bases;

@@ -12,11 +12,12 @@ ghost use Rattle.hs_checker.specs.declared.flow.Base.{Base as AnyBase};
 ghost use Rattle.hs_checker.specs.declared.flow.Kind.TheVariants.{Flow as OfFlows, Heads as OfHeads};
 ghost use Rattle.hs_checker.specs.Gaps.{held, IsOfKind, HoldsAll, Lacks, IsFirstLacking};
 ghost use Rattle.hs_checker.specs.PassedOn.{base_of, PassesArgument, PassesFlow, PassesHead, HoldsBy, LacksBy, DemandsAt, DemandsNone};
+ghost use Rattle.hs_checker.specs.Inert.{DemandNothing};
 
 use crate::distances::left_at_one_distance;
 use crate::head_pairs::{HeadPairs, is_head_at, not_in_turn};
-use hs_scheme::{FlowPair, FlowTable, Head, HeadPair, OutOfMemory, Pair, Problem, Rule};
-use std::alloc::Global;
+use crate::terminals::is_marked;
+use hs_scheme::{FlowPair, FlowTable, Head, HeadPair, Pair, Problem, Rule};
 
 /// The two kinds of pairs.
 #[derive(Clone, Copy, Debug, PartialEq, Eq, Drop)]
@@ -376,11 +377,19 @@ fn demands_none(kind: Kind, args: &[u32], most: u32) -> bool
     }
 }
 
-/// The first pair of the kind that the point demands and that isn't held. No rule has more than so
-/// many parameters.
-fn gap_at(problem: &Problem, heads: &HeadPairs, kind: Kind, most: u32, point: u32) -> Option<Pair>
+/// The first pair of the kind that the point demands and that isn't held. Nothing is demanded at points that
+/// are marked as inert, and no rule has more than so many parameters.
+fn gap_at(
+    problem: &Problem,
+    heads: &HeadPairs,
+    inert: &[bool],
+    kind: Kind,
+    most: u32,
+    point: u32,
+) -> Option<Pair>
     requires point { point < length problem.now.points.points }
     requires heads { heads.now ≡ problem.now.flow.heads }
+    requires inert { DemandNothing problem.now inert.now }
     requires most { (rule : ℕ) → params_of problem.now rule ≤ most }
     ensures { MatchOption result
         ((pair : AnyPair) → IsOfKind kind pair → DemandsAt problem.now point pair
@@ -388,6 +397,9 @@ fn gap_at(problem: &Problem, heads: &HeadPairs, kind: Kind, most: u32, point: u3
         (λ pair. IsOfKind kind pair × (DemandsAt problem.now point pair
         × (Contains (held problem.now) pair → ⊥))) }
 {
+    if is_marked(inert, point) {
+        return None;
+    }
     let args = problem.points.args_of(point);
     if demands_none(kind, args, most) {
         return None;
@@ -397,15 +409,17 @@ fn gap_at(problem: &Problem, heads: &HeadPairs, kind: Kind, most: u32, point: u3
     gap_of(problem, heads, kind, point, args, rule, head)
 }
 
-/// The first pair of the kind that is demanded by the pairs held, and isn't one of them.
-fn gap(problem: &Problem, heads: &HeadPairs, kind: Kind) -> Option<Pair>
-    requires { heads.now ≡ problem.now.flow.heads }
+/// The first pair of the kind that is demanded by the pairs held, and isn't one of them. Nothing is demanded
+/// at points that are marked as inert.
+fn gap(problem: &Problem, heads: &HeadPairs, inert: &[bool], kind: Kind) -> Option<Pair>
+    requires heads { heads.now ≡ problem.now.flow.heads }
+    requires inert { DemandNothing problem.now inert.now }
     ensures { MatchOption result (HoldsAll problem.now kind) (λ pair. IsOfKind kind pair
         × Lacks problem.now pair) }
 {
     let most = most_parameters(problem);
     for point in 0..problem.points.count() {
-        match gap_at(problem, heads, kind, most, point) {
+        match gap_at(problem, heads, inert, kind, most, point) {
             Some(pair) => return Some(pair),
             None => {}
         }
@@ -414,17 +428,18 @@ fn gap(problem: &Problem, heads: &HeadPairs, kind: Kind) -> Option<Pair>
 }
 
 /// The first flow pair that is demanded by the pairs held, and isn't one of them, and where there is
-/// none, the first such head pair.
+/// none, the first such head pair. Nothing is demanded at points that are marked as inert.
 ///
 /// Time is in proportion to the meetings of points with what their heads may become, with the
-/// logarithm of the number of pairs. Memory is for a number for each point.
-pub(crate) fn first_gap(alloc: Global, problem: &Problem) -> Result<Option<Pair>, OutOfMemory>
-    ensures { IfOk result (λ found. MatchOption found (HoldsAll problem.now OfFlows
-        × HoldsAll problem.now OfHeads) (IsFirstLacking problem.now)) }
+/// logarithm of the number of pairs.
+pub(crate) fn first_gap(problem: &Problem, heads: &HeadPairs, inert: &[bool]) -> Option<Pair>
+    requires heads { heads.now ≡ problem.now.flow.heads }
+    requires inert { DemandNothing problem.now inert.now }
+    ensures { MatchOption result (HoldsAll problem.now OfFlows
+        × HoldsAll problem.now OfHeads) (IsFirstLacking problem.now) }
 {
-    let heads = HeadPairs::of(alloc, problem)?;
-    if let Some(pair) = gap(problem, &heads, Kind::Flow) {
-        return Ok(Some(pair));
+    if let Some(pair) = gap(problem, heads, inert, Kind::Flow) {
+        return Some(pair);
     }
-    Ok(gap(problem, &heads, Kind::Heads))
+    gap(problem, heads, inert, Kind::Heads)
 }

@@ -91,26 +91,20 @@ pub(crate) fn is_head_at(pairs: &[HeadPair], place: usize, rule: u32, given: u32
 }
 
 /// Whether the pair is of the base with so many arguments more.
-fn is_of_base(pair: &HeadPair, base: &HeadPair, count: usize) -> bool
+fn is_of_base(pair: &HeadPair, base: &HeadPair, count: u32) -> bool
     ensures { IsTrue result → (pair.now.rule ≡ base.now.rule) × (pair.now.given ≡ base.now.given + count) }
 {
-    if pair.rule != base.rule {
-        return false;
-    }
-    if pair.given < base.given {
-        return false;
-    }
-    (pair.given - base.given) as usize == count
+    pair.rule == base.rule && pair.given as u64 == base.given as u64 + count as u64
 }
 
-/// Whether such a pair stands at this place.
-fn is_taken_at(pairs: &[HeadPair], place: usize, base: &HeadPair, count: usize) -> bool
-    ensures { IsTrue result → HasTaken pairs.now base.now count }
+/// The pairs from this place on.
+fn from_place(pairs: &[HeadPair], place: usize) -> &[HeadPair]
+    ensures { (h : AnyHead) → Contains result.now h → Contains pairs.now h }
 {
-    match pairs.get(place) {
-        None => false,
-        Some(pair) => is_of_base(pair, base, count),
+    if place > pairs.len() {
+        return &pairs[..0];
     }
+    &pairs[place..]
 }
 
 /// The bases from the first on for which the pair of the base with so many arguments more doesn't
@@ -125,12 +119,17 @@ pub(crate) fn not_in_turn<'b>(
     ensures rest { (b : AnyHead) → Contains bases.now b → Contains result.now b
         ⊎ HasTaken pairs.now b count }
 {
-    for (number, base) in bases.iter().enumerate() {
-        if !is_taken_at(pairs, from.wrapping_add(number), base, count) {
+    let Ok(more) = u32::try_from(count) else {
+        return bases;
+    };
+    let own = from_place(pairs, from);
+    let most = own.len().min(bases.len());
+    for number in 0..most {
+        if !is_of_base(&own[number], &bases[number], more) {
             return &bases[number..];
         }
     }
-    &bases[..0]
+    &bases[most..]
 }
 
 impl<'a> HeadPairs<'a> {

@@ -10,8 +10,8 @@ ghost use Rattle.hs_table.specs.Follows.{rank_of};
 ghost use Rattle.hs_checker.specs.Slots.{HasTypeAt};
 ghost use Rattle.hs_table_plain.specs.Enumeration as plain;
 
-use crate::index::EntryIndex;
-use crate::shape::states;
+use crate::index::{EntryIndex, compare};
+use crate::shape::is_set;
 use hs_scheme::{Head, OutOfMemory, Problem};
 use hs_table::{Entry, Shape, Ty, TypeSet};
 use std::alloc::Global;
@@ -68,7 +68,7 @@ fn ends_with(found: &[Ty], ty: &Ty) -> bool
 {
     match found.last() {
         None => false,
-        Some(last) => last.compare(ty) == Ordering::Equal,
+        Some(last) => compare(last, ty) == Ordering::Equal,
     }
 }
 
@@ -89,9 +89,12 @@ pub(crate) fn in_order(types: Vec<Ty>) -> Result<Vec<Ty>, OutOfMemory>
     ensures set { IfOk result (λ found. IsSet found.items) }
     ensures each { IfOk result (λ found. (t : TypeTree) → Contains found.items t ↔ Contains types.items t) }
 {
+    if is_set(types.as_slice()) {
+        return Ok(types);
+    }
     let mut found = types;
-    found.sort_by(|a, b| a.compare(b))?;
-    found.dedup_by(|a, b| a.compare(b) == Ordering::Equal);
+    found.sort_by(|a, b| compare(a, b))?;
+    found.dedup_by(|a, b| compare(a, b) == Ordering::Equal);
     Ok(found)
 }
 

@@ -1,14 +1,14 @@
 //! The entries of a table in order, so that those of a point and a type stand together.
 
 ghost use Rattle.std.specs.Prelude.{◌≡◌, ◌↔◌, ◌<◌, ◌≤◌, ℕ, slice_index_or, length, map};
-ghost use Rattle.std.specs.Prelude.{Contains, IsTrue, IfOk, OnOk, MatchOption};
+ghost use Rattle.std.specs.Prelude.{Contains, IsTrue, IfOk, IfSome, OnOk, MatchOption};
 ghost use Rattle.std.specs.Borrow.{Bor};
 ghost use Rattle.std.specs.declared.cmp.Ordering.TheVariants.{Equal};
 ghost use Rattle.hs_scheme.specs.declared.flow.FlowPair.{FlowPair as AnyFlow};
 ghost use Rattle.hs_scheme.specs.Flow.{IsAscending};
 ghost use Rattle.hs_table.specs.Types.{type_cmp};
 ghost use Rattle.hs_table.specs.Entries.{EntryData, InShape};
-ghost use Rattle.hs_checker.specs.Order.{index_cmp, key_cmp, IsInIndexOrder, AreStartsOfPoints};
+ghost use Rattle.hs_checker.specs.Order.{index_cmp, key_cmp, IsInIndexOrder, AreStartsOfPoints, IsStartOfPoint};
 ghost use Rattle.hs_checker.specs.Slots.{HasTypeAt};
 
 use crate::shape::is_in_shape;
@@ -19,14 +19,43 @@ use std::alloc::Global;
 use std::cmp::Ordering;
 use std::marker::Model;
 
-/// The order of types. Most are states, which are compared at once.
-fn compare(ty: &Ty, other: &Ty) -> Ordering
-    ensures { result ≡ type_cmp ty.now other.now }
+/// The order of types where both are states.
+fn by_states(ty: &Ty, other: &Ty) -> Option<Ordering>
+    ensures { IfSome result (λ order. order ≡ type_cmp ty.now other.now) }
 {
     if let Shape::State(q) = &ty.shape {
         if let Shape::State(p) = &other.shape {
-            return q.cmp(p);
+            return Some(q.cmp(p));
         }
+    }
+    None
+}
+
+/// The order of types where both are arrows to states that differ.
+fn by_results(ty: &Ty, other: &Ty) -> Option<Ordering>
+    ensures { IfSome result (λ order. order ≡ type_cmp ty.now other.now) }
+{
+    if let Shape::Arrow(_, rest) = &ty.shape {
+        if let Shape::Arrow(_, other_rest) = &other.shape {
+            return match by_states(rest, other_rest) {
+                None => None,
+                Some(Ordering::Equal) => None,
+                Some(order) => Some(order),
+            };
+        }
+    }
+    None
+}
+
+/// The order of types. Most are states, or arrows to states that differ, which are compared at once.
+pub(crate) fn compare(ty: &Ty, other: &Ty) -> Ordering
+    ensures { result ≡ type_cmp ty.now other.now }
+{
+    if let Some(order) = by_states(ty, other) {
+        return order;
+    }
+    if let Some(order) = by_results(ty, other) {
+        return order;
     }
     ty.compare(other)
 }
@@ -101,6 +130,30 @@ fn shaped<'a>(
     Ok(rows)
 }
 
+/// Whether the rows from this place on are of no lesser points than this one.
+fn are_behind(rows: &[&Entry], place: usize, point: u32) -> bool
+    ensures { IsTrue result → (d : Bor EntryData) → place < length rows.now
+        → point ≤ (slice_index_or rows.now place d).now.point }
+{
+    match rows.get(place) {
+        None => true,
+        Some(row) => row.point >= point,
+    }
+}
+
+/// How many of the rows, which are in order, are of lesser points. So many are known to be.
+fn start_at(rows: &[&Entry], point: u32, known: usize) -> usize
+    requires sorted { IsInIndexOrder (map (λ r. r.now) rows.now) }
+    requires within { known ≤ length rows.now }
+    requires before { (k : ℕ) (d : Bor EntryData) → k < known → (slice_index_or rows.now k d).now.point < point }
+    ensures { IsStartOfPoint (map (λ r. r.now) rows.now) point result }
+{
+    if are_behind(rows, known, point) {
+        return known;
+    }
+    rows.partition_point(|row| row.point.cmp(&point).is_lt())
+}
+
 /// For each of so many points, and for one past them, how many of the rows are of lesser points. The
 /// rows are in order, and of these points.
 fn starts_of(alloc: Global, rows: &[&Entry], points: u32) -> Result<Vec<usize>, OutOfMemory>
@@ -109,8 +162,10 @@ fn starts_of(alloc: Global, rows: &[&Entry], points: u32) -> Result<Vec<usize>, 
     ensures { IfOk result (λ starts. AreStartsOfPoints (map (λ r. r.now) rows.now) starts.items) }
 {
     let mut starts = Vec::with_capacity(alloc, points as usize + 1)?;
+    let mut known = 0;
     for point in 0..points {
-        starts.push(rows.partition_point(|row| row.point.cmp(&point).is_lt()))?;
+        known = start_at(rows, point, known);
+        starts.push(known)?;
     }
     starts.push(rows.len())?;
     Ok(starts)

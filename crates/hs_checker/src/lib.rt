@@ -13,6 +13,7 @@ mod flow;
 mod head_pairs;
 mod heads;
 mod index;
+mod inert;
 mod instances;
 mod laws;
 mod missing;

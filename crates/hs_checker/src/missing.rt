@@ -1,21 +1,22 @@
 //! What follows at a point and isn't there.
 
-ghost use Rattle.std.specs.Prelude.{◌≡◌, ◌↔◌, ◌<◌, ◌∷◌, [], length, Contains, IfOk, MatchOption};
+ghost use Rattle.std.specs.Prelude.{◌≡◌, ◌↔◌, ◌<◌, ◌∷◌, [], ℕ, List, length, map, slice_index_or, Contains, IsTrue, IfOk, MatchOption};
 ghost use Rattle.hs_table.specs.Types as types;
 ghost use Rattle.hs_table.specs.Types.{TypeTree};
 ghost use Rattle.hs_table.specs.Entries.{EntryData};
 ghost use Rattle.hs_table.specs.Follows.{Follows};
 ghost use Rattle.hs_table.specs.Tables.{IsInstance};
-ghost use Rattle.hs_checker.specs.Slots.{AreInShape, IsConclusion};
+ghost use Rattle.hs_checker.specs.Slots.{AreInShape, IsConclusion, asked};
 ghost use Rattle.hs_table_plain.specs.Enumeration as plain;
 
 use crate::heads::{empty_sets, singleton, state};
-use crate::index::EntryIndex;
+use crate::index::{EntryIndex, compare};
 use crate::shape::parameters;
 use crate::unions::through;
 use hs_scheme::{Head, OutOfMemory, Problem};
-use hs_table::{Entry, Ty};
+use hs_table::{Entry, Shape, Ty, TypeSet};
 use std::alloc::Global;
+use std::cmp::Ordering;
 
 /// An entry with what the head asks of the parameters. Its type doesn't matter: what follows by it
 /// gets its own.
@@ -42,8 +43,25 @@ pub(crate) fn opening(
     })
 }
 
-/// The first of the entries that isn't in the index. What follows comes mostly in the index's order, so
-/// each is looked for behind the one before; `guess` is the place for the first, and then for the next.
+/// The place of the first of the entries that isn't in the index. What follows comes mostly in the index's
+/// order, so each is looked for behind the one before; `guess` is the place for the first, and then for the
+/// next.
+fn missing_place(index: &EntryIndex, entries: &[Entry], guess: &mut usize) -> Option<usize>
+    ensures { MatchOption result
+        ((e : EntryData) → Contains entries.now e → Contains index.now e)
+        (λ place. (place < length entries.now)
+        × ((d : EntryData) → Contains index.now (slice_index_or entries.now place d) → ⊥)) }
+{
+    for (number, entry) in entries.iter().enumerate() {
+        match index.find(entry, *guess) {
+            Some(place) => *guess = place.saturating_add(1),
+            None => return Some(number),
+        }
+    }
+    None
+}
+
+/// The first of the entries that isn't in the index. The place `guess` is looked at first.
 pub(crate) fn first_missing(
     index: &EntryIndex,
     entries: Vec<Entry>,
@@ -53,13 +71,11 @@ pub(crate) fn first_missing(
         ((e : EntryData) → Contains entries.items e → Contains index.now e)
         (λ e. Contains entries.items e × (Contains index.now e → ⊥)) }
 {
-    for entry in entries {
-        match index.find(&entry, *guess) {
-            Some(place) => *guess = place.saturating_add(1),
-            None => return Some(entry),
-        }
+    let mut entries = entries;
+    match missing_place(index, entries.as_slice(), guess) {
+        None => None,
+        Some(place) => Some(entries.swap_remove(place)),
     }
-    None
 }
 
 /// The first that follows by this type of the head and isn't in the index.
@@ -83,6 +99,115 @@ fn missing_by(
     Ok(first_missing(index, found, guess))
 }
 
+/// The type behind the sets of the arguments, where these are empty. Recurses as deep as the type.
+fn behind_empty<'t>(args: &[u32], ty: &'t Ty) -> Option<&'t Ty>
+    ensures { (E es : List EntryData) → MatchOption result (Unit {0})
+        (λ rest. plain.through E args.now ty.now es ≡ map (plain.retyped rest.now) es) }
+{
+    if args.is_empty() {
+        return Some(ty);
+    }
+    match &ty.shape {
+        Shape::State(_) => None,
+        Shape::Arrow(set, rest) => {
+            if !set.is_empty() {
+                return None;
+            }
+            behind_empty(&args[1..], rest)
+        }
+    }
+}
+
+/// Whether the type is the only one.
+fn is_just(types: &[Ty], ty: &Ty) -> bool
+    ensures { IsTrue result → types.now ≡ ty.now ∷ [] }
+{
+    types.len() == 1 && compare(&types[0], ty) == Ordering::Equal
+}
+
+/// Whether the set is what a head of this type asks of the parameter.
+fn is_asked(set: &TypeSet, parameter: usize, head: Head, ty: &Ty) -> bool
+    ensures { IsTrue result → set.now ≡ asked head ty.now parameter }
+{
+    let types = set.types.as_slice();
+    match head {
+        Head::Tm(_) => types.is_empty(),
+        Head::Nt(_) => types.is_empty(),
+        Head::Var(own) => {
+            if own as usize == parameter {
+                return is_just(types, ty);
+            }
+            types.is_empty()
+        }
+    }
+}
+
+/// Whether the environment, of so many sets, is what a head of this type asks of the parameters.
+fn is_own_env(env: &[TypeSet], params: u32, head: Head, ty: &Ty) -> bool
+    ensures { IsTrue result → env.now ≡ plain.own_env params head ty.now }
+{
+    if env.len() != params as usize {
+        return false;
+    }
+    for (parameter, set) in env.iter().enumerate() {
+        if !is_asked(set, parameter, head, ty) {
+            return false;
+        }
+    }
+    true
+}
+
+/// Whether the entry asks of the parameters what a head of this type asks, and has the type that is left.
+fn is_opened(entry: &Entry, params: u32, head: Head, ty: &Ty, rest: &Ty) -> bool
+    ensures { IsTrue result → (entry.now.env ≡ plain.own_env params head ty.now) × (entry.now.ty ≡ rest.now) }
+{
+    compare(&entry.ty, rest) == Ordering::Equal
+        && is_own_env(entry.env.as_slice(), params, head, ty)
+}
+
+/// Whether the head's type asks nothing of the arguments, and what follows by it stands at this place among
+/// the entries at the point.
+fn stands_at(rows: &[&Entry], place: usize, params: u32, head: Head, args: &[u32], ty: &Ty) -> bool
+    ensures { (E : List EntryData) (point : ℕ) (e : EntryData) → IsTrue result
+        → ((x : EntryData) → Contains (map (λ r. r.now) rows.now) x → x.point ≡ point)
+        → Contains (plain.through E args.now ty.now (plain.opening point params head ty.now ∷ [])) e
+        → Contains (map (λ r. r.now) rows.now) e }
+{
+    let Some(row) = rows.get(place) else {
+        return false;
+    };
+    let Some(rest) = behind_empty(args, ty) else {
+        return false;
+    };
+    is_opened(row, params, head, ty, rest)
+}
+
+/// The first that follows by this type of the head and isn't in the index. The place `guess` is looked at
+/// first.
+fn missing_by_type(
+    alloc: Global,
+    index: &EntryIndex,
+    point: u32,
+    params: u32,
+    head: Head,
+    args: &[u32],
+    ty: &Ty,
+    guess: &mut usize,
+) -> Result<Option<Entry>, OutOfMemory>
+    ensures { IfOk result (λ found. MatchOption found
+        ((e : EntryData) → Contains (plain.through index.now args.now ty.now
+        (plain.opening point params head ty.now ∷ [])) e → Contains index.now e)
+        (λ e. Contains (plain.through index.now args.now ty.now
+        (plain.opening point params head ty.now ∷ [])) e × (Contains index.now e → ⊥))) }
+{
+    if stands_at(index.at_point(point), *guess, params, head, args, ty) {
+        *guess = guess.saturating_add(1);
+        return Ok(None);
+    }
+    let start = opening(alloc, point, params, head, ty)?;
+    missing_by(alloc, index, args, ty, start, guess)
+}
+
 /// The first that follows by one of these types of the head and isn't in the index.
 fn missing_among(
     alloc: Global,
@@ -100,8 +225,7 @@ fn missing_among(
 {
     let mut guess = 0;
     for ty in types {
-        let start = opening(alloc, point, params, head, ty)?;
-        match missing_by(alloc, index, args, ty, start, &mut guess)? {
+        match missing_by_type(alloc, index, point, params, head, args, ty, &mut guess)? {
             Some(entry) => return Ok(Some(entry)),
             None => {}
         }

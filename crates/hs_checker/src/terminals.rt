@@ -1,6 +1,6 @@
 //! The types of a terminal whose sets have entries.
 
-ghost use Rattle.std.specs.Prelude.{◌≡◌, ◌<◌, ◌≤◌, ◌↔◌, ◌⊎◌, ℕ, IsTrue, length, slice_get, Some, true, Contains, IfOk, OnOk, option_copied};
+ghost use Rattle.std.specs.Prelude.{◌≡◌, ◌<◌, ◌≤◌, ◌↔◌, ◌⊎◌, ℕ, IsTrue, length, slice_get, Some, true, Contains, IfOk, OnOk, option_copied, replicate, []};
 ghost use Rattle.hs_scheme.specs.Automaton as automaton;
 ghost use Rattle.hs_table.specs.Types as types;
 ghost use Rattle.hs_table.specs.Types.{TypeTree};
@@ -13,7 +13,7 @@ use crate::index::EntryIndex;
 use crate::instances::fits;
 use crate::shape::states;
 use hs_scheme::{Automaton, OutOfMemory, Problem, Transition};
-use hs_table::Ty;
+use hs_table::{Shape, Ty};
 use std::alloc::Global;
 
 /// The type of a terminal whose child at this place, counted from 0, is rejected.
@@ -24,6 +24,19 @@ fn child_type(alloc: Global, to: &[u32], q: u32, place: usize) -> Result<Ty, Out
     let mut sets = empty_sets(alloc, to.len())?;
     sets[place] = singleton(alloc, state(to[place]))?;
     arrows(alloc, sets.as_slice(), state(q))
+}
+
+/// The state behind so many empty sets.
+fn bare_type(alloc: Global, count: usize, q: u32) -> Result<Ty, OutOfMemory>
+    ensures { IfOk result (λ ty. ty ≡ types.arrows (replicate count []) (types.state q)) }
+{
+    let mut ty = state(q);
+    for _ in 0..count {
+        ty = Ty {
+            shape: Shape::Arrow(Vec::new(alloc), Box::new(alloc, ty)?),
+        };
+    }
+    Ok(ty)
 }
 
 /// The rank of the terminal.
@@ -142,8 +155,7 @@ fn add_types_in(
 {
     match transition(problem, q, terminal) {
         None => {
-            let sets = empty_sets(alloc, rank(problem, terminal) as usize)?;
-            let ty = arrows(alloc, sets.as_slice(), state(q))?;
+            let ty = bare_type(alloc, rank(problem, terminal) as usize, q)?;
             add_fitting(index, args, ty, found)?;
             Ok(())
         }
@@ -190,7 +202,7 @@ fn moving(
 }
 
 /// Whether the state is marked.
-fn is_marked(marks: &[bool], q: u32) -> bool
+pub(crate) fn is_marked(marks: &[bool], q: u32) -> bool
     ensures { IsTrue result → slice_get marks.now q ≡ Some true }
 {
     match marks.get(q as usize) {

@@ -1,16 +1,21 @@
-use Rattle.std.proofs.Common.{◌≡◌, sym, ◌∙◌, true, false}
+use Rattle.std.proofs.Common.{◌≡◌, sym, ◌∙◌, subst, List, Bool, true, false}
 use Rattle.std.proofs.lemmas.Result.{err_from_is_err_and}
 use Rattle.hs_verdict.proofs.Verdict.{accepts_without_start}
 use Rattle.hs_checker.proofs.CountLemmas.{no_gap, gap_fault, gap_whole, closed_whole, count_whole}
+use Rattle.hs_checker.specs.Inert.{DemandNothing}
+use Rattle.hs_checker.proofs.InertLemmas.{inert_demands}
 use Rattle.hs_checker.proofs.checking.check.Goals as goal
 
+pub first_gap-requires-clause-inert : goal.first_gap-requires-clause-inert
+first_gap-requires-clause-inert c = subst (λ (ms : List Bool). DemandNothing c.args.problem.now ms) (sym c.as_slice.ensures.value) (inert_demands c.args.problem.now c.in_ok-index.index c.in_ok-inert.inert.items c.in_ok-inert.ensures)
+
 pub returns-in-Some-clause-fault : goal.returns-in-Some-clause-fault
-returns-in-Some-clause-fault c = gap_fault c.args.problem.now c.args.table.now c.in_ok-pair.field-0 c.in-Some.pair c.open.result c.in-Some.is c.in_ok-pair.ensures c.open.ensures
+returns-in-Some-clause-fault c = gap_fault c.args.problem.now c.args.table.now c.first_gap.result c.in-Some.pair c.open.result c.in-Some.is c.first_gap.ensures c.open.ensures
 
 pub returns-in_err-count-clause-fault : goal.returns-in_err-count-clause-fault
 returns-in_err-count-clause-fault c =
     let p = c.args.problem.now in
-    let flow = no_gap p c.in_ok-pair.field-0 c.in_default.not-Some c.in_ok-pair.ensures in
+    let flow = no_gap p c.first_gap.result c.in_default.not-Some c.first_gap.ensures in
     let fault = gap_whole p c.in_ok-index.index c.args.table.now c.in_err-count.field-0.0 c.in_ok-index.ensures c.is_sorted_problem.ensures.automaton flow c.in_err-count.ensures.missing in
     let e = err_from_is_err_and c.from_residual-in_err-count.result c.from_residual-in_err-count.ensures.1 in
     rw (e.1, e.2) fault
@@ -18,13 +23,13 @@ returns-in_err-count-clause-fault c =
 pub returns-then-has_start-clause-fault : goal.returns-then-has_start-clause-fault
 returns-then-has_start-clause-fault c =
     let p = c.args.problem.now in
-    let flow = no_gap p c.in_ok-pair.field-0 c.in_default.not-Some c.in_ok-pair.ensures in
+    let flow = no_gap p c.first_gap.result c.in_default.not-Some c.first_gap.ensures in
     (flow, (closed_whole p c.in_ok-index.index c.args.table.now c.in_ok-index.ensures c.in_ok-count.ensures.closed, c.has_start.ensures.0 c.if-has_start.true))
 
 pub returns-clause-closed : goal.returns-clause-closed
 returns-clause-closed c =
     let p = c.args.problem.now in
-    let flow = no_gap p c.in_ok-pair.field-0 c.in_default.not-Some c.in_ok-pair.ensures in (
+    let flow = no_gap p c.first_gap.result c.in_default.not-Some c.first_gap.ensures in (
       flow,
       (
         closed_whole p c.in_ok-index.index c.args.table.now c.in_ok-index.ensures c.in_ok-count.ensures.closed,
@@ -38,6 +43,6 @@ returns-clause-count c = count_whole c.args.problem.now c.in_ok-index.index c.ar
 pub returns-clause-accepted : goal.returns-clause-accepted
 returns-clause-accepted c =
     let p = c.args.problem.now in
-    let flow = no_gap p c.in_ok-pair.field-0 c.in_default.not-Some c.in_ok-pair.ensures in
+    let flow = no_gap p c.first_gap.result c.in_default.not-Some c.first_gap.ensures in
     accepts_without_start p c.is_sorted_problem.ensures flow c.args.table.now (closed_whole p c.in_ok-index.index c.args.table.now c.in_ok-index.ensures c.in_ok-count.ensures.closed)
     (λ start. let f : true ≡ false = sym (c.has_start.ensures.1 start) ∙ c.if-has_start.false in absurd (cc))

@@ -5,6 +5,7 @@ use Rattle.hs_table.specs.Follows.{Follows}
 use Rattle.hs_table.specs.Tables.{IsInstance}
 use Rattle.hs_checker.proofs.InstanceLemmas.{nothing_found}
 use Rattle.hs_checker.proofs.CountLemmas.{set_count}
+use Rattle.hs_checker.proofs.InertLemmas.{inert_follows, inert_count}
 use Rattle.hs_checker.proofs.checking.count_at.Goals as goal
 
 pub missing_at-requires-clause-types : goal.missing_at-requires-clause-types
@@ -20,5 +21,14 @@ returns c =
     record {
       closed = λ e at f. nothing_found c.in_ok-entry.field-0 ((e : EntryData) → e.point ≡ c.args.point → Follows p E e → Contains E e) (λ e. Follows p E e × (Contains E e → ⊥)) c.in-None.is c.in_ok-entry.ensures e at f;
       count = set_count p E c.args.point c.len.result types c.in_ok-types.ensures.set c.in_ok-types.ensures.each long;
+      missing = tt;
+    }
+
+pub returns-then-is_marked : goal.returns-then-is_marked
+returns-then-is_marked c =
+    let own = c.requires.inert c.args.point (c.is_marked.ensures c.if-is_marked.true) in
+    record {
+      closed = λ e at f. absurd (inert_follows c.args.problem.now c.args.index.now c.args.point own e at f);
+      count = inert_count c.args.problem.now c.args.index.now c.args.point own;
       missing = tt;
     }

@@ -21,3 +21,6 @@ returns c =
     (subst (λ (x : PointsData). c.rule_of-rule.result ≡ (point_at x c.args.point).rule) points c.rule_of-rule.ensures.rule)
     (subst (λ (x : PointsData). c.head_of-head.result ≡ (point_at x c.args.point).head) points c.head_of-head.ensures.head)
     (subst (λ (x : PointsData). c.args_of-args.result.now ≡ (point_at x c.args.point).args) points c.args_of-args.ensures.args) c.args.kind c.gap_of.result c.gap_of.ensures
+
+pub returns-then-is_marked : goal.returns-then-is_marked
+returns-then-is_marked c = λ pair of d. absurd (c.requires.inert c.args.point pair (c.is_marked.ensures c.if-is_marked.true) d)

@@ -1,6 +1,6 @@
 use Rattle.std.proofs.Common.{◌∙◌, ap, ℕ, List, [], replicate}
 use Rattle.std.specs.Option.{option_copied}
-use Rattle.hs_table.specs.Types.{TypeTree, arrows}
+use Rattle.hs_table.specs.Types.{TypeTree, arrows, state}
 use Rattle.hs_checker.specs.Slots.{FitsSets}
 use Rattle.hs_checker.proofs.TypeLemmas.{or_same, same_part, lacking_type, reading_types}
 use Rattle.hs_checker.proofs.terminals.add_types_in.Goals as goal
@@ -8,8 +8,7 @@ use Rattle.hs_checker.proofs.terminals.add_types_in.Goals as goal
 pub returns-in_ok-add_fitting-in-None : goal.returns-in_ok-add_fitting-in-None
 returns-in_ok-add_fitting-in-None c = λ t.
     let none : List TypeTree = [] in
-    let sets = c.as_slice.ensures.value ∙ (c.in_ok-sets-in-None.ensures ∙ ap (λ (n : ℕ). replicate n none) c.rank.ensures) in
-    let made = c.in_ok-ty-in-None.ensures ∙ λ i. arrows (sets i) (c.state.ensures i) in
+    let made = c.in_ok-ty-in-None.ensures ∙ ap (λ (n : ℕ). arrows (replicate n none) (state c.args.q)) c.rank.ensures in
     or_same _ _ _ _ (c.in_ok-add_fitting-in-None.ensures t)
     (same_part _ _ (FitsSets c.args.index.now c.args.args.now t) (lacking_type c.args.problem.now c.args.terminal c.args.q c.in_ok-ty-in-None.ty (option_copied c.transition.result) c.transition.ensures (ap option_copied c.in-None.is) made t))
 

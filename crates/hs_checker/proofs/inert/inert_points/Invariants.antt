@@ -1,0 +1,10 @@
+-- the points so far
+use Rattle.std.proofs.Common.{◌≡◌, length}
+use Rattle.hs_checker.specs.Inert.{AreInert}
+use Rattle.hs_checker.proofs.inert.inert_points.Given as goal
+
+abbrev pub invariant-loop-point : goal.invariant-loop-point
+invariant-loop-point l = record {
+  long : length l.marks.items ≡ l.point;
+  inert : AreInert l.problem l.index l.marks.items;
+}

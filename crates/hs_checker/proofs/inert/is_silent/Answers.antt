@@ -1,0 +1,21 @@
+use Rattle.std.proofs.Common.{◌≡◌, sym, ◌∙◌, List, length, map, Contains, Bor, arith}
+use Rattle.std.proofs.lemmas.Bool.{eqb-true}
+use Rattle.hs_table.specs.Entries.{EntryData}
+use Rattle.hs_checker.proofs.IndexLemmas.{length-map}
+use Rattle.hs_checker.proofs.inert.is_silent.Goals as goal
+
+-- a list that is found empty has no member
+nothing_in : {X : Type 0} (xs : List X) (x : X) → length xs ≡ 0 → Contains xs x → ⊥
+nothing_in xs x none there = omega (arith, none, there.1)
+
+pub returns-then-is_empty : goal.returns-then-is_empty
+returns-then-is_empty c = λ silent.
+    let rows = c.at_point.result.now in
+    let heads = c.at_point-then-is_empty.result.now in
+    let f : Bor EntryData → EntryData = λ r. r.now in
+    let no_rows : length (map f rows) ≡ 0 = length-map f rows ∙ eqb-true (length rows) 0 (sym c.is_empty.ensures ∙ c.if-is_empty.true) in
+    let no_heads : length heads ≡ 0 = eqb-true (length heads) 0 (sym c.is_empty-then-is_empty.ensures ∙ silent) in
+    record {
+      becomes = λ h there is. nothing_in heads h no_heads ((c.at_point-then-is_empty.ensures.has h).1 (there, is));
+      has = λ e there is. nothing_in (map f rows) e no_rows ((c.at_point.ensures.has e).1 (there, is));
+    }

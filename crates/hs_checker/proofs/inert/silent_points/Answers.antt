@@ -1,0 +1,16 @@
+use Rattle.std.proofs.Common.{◌≡◌, sym, ◌∙◌, ap, subst, ℕ, true, List, Bool, [], ◌∷◌, length, length-append, slice_get, Some, inl, inr, arith}
+use Rattle.hs_checker.specs.Inert.{IsSilent}
+use Rattle.hs_checker.proofs.InertLemmas.{marks_push}
+use Rattle.hs_checker.proofs.inert.silent_points.Goals as goal
+
+pub loop-point-preserved : goal.loop-point-preserved
+loop-point-preserved c =
+    let olds = c.loop-point.marks.items in
+    let b = c.is_silent.result in
+    record {
+      long = omega (arith, c.loop-point.invariant.long, ap length c.in_ok-push.ensures.items, length-append olds (b ∷ []));
+      silent = λ u h. elim (marks_push olds b u (subst (λ (ms : List Bool). slice_get ms u ≡ Some true) c.in_ok-push.ensures.items h)) [
+        | inl before ↦ c.loop-point.invariant.silent u before
+        | inr own ↦ subst (λ (n : ℕ). IsSilent c.args.heads.now c.args.index.now n) (sym (own.0 ∙ c.loop-point.invariant.long)) (c.is_silent.ensures own.1)
+      ];
+    }

@@ -1,0 +1,10 @@
+-- the points so far
+use Rattle.std.proofs.Common.{◌≡◌, length}
+use Rattle.hs_checker.specs.Inert.{AreSilent}
+use Rattle.hs_checker.proofs.inert.silent_points.Given as goal
+
+abbrev pub invariant-loop-point : goal.invariant-loop-point
+invariant-loop-point l = record {
+  long : length l.marks.items ≡ l.point;
+  silent : AreSilent l.heads l.index l.marks.items;
+}
