@@ -1,4 +1,5 @@
-// The ways in which the calls of this crate fail.
+//! The ways in which the calls of this crate fail.
+
 ghost use Rattle.std.specs.Prelude.{◌≡◌, Some, codes};
 ghost use Rattle.hs_edge.specs.declared.errors.ReadAll.TheVariants.{ReadFault, TooLong, OutOfMemory as NoMemory};
 

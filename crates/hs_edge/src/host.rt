@@ -1,5 +1,6 @@
-// The system's files and standard streams. Of them no contract can tell more than what the system
-// answers, which these lines record; what fails they count.
+//! The system's files and standard streams. Of them no contract can tell more than what the system
+//! answers, which these lines record; what fails they count.
+
 ghost use Rattle.std.specs.Prelude.{◌≡◌, ◌<◌, ◌≤◌, Ok, length, take, None, IsErr, IfOk, OnErr};
 ghost use Rattle.hs_edge.specs.Count.{one_more};
 ghost use Rattle.hs_edge.specs.Reading.{handed};
@@ -56,7 +57,7 @@ impl FileSource {
         }
     }
 
-    // What `read` answers where the system gives this outcome.
+    /// What `read` answers where the system gives this outcome.
     fn answer(&mut self, buf: &[u8], outcome: io::Result<usize>) -> Result<usize, Failed>
         ensures ok { IfOk outcome (λ n. result ≡ Ok n) }
         ensures ok_state { IfOk outcome (λ n.
@@ -179,7 +180,7 @@ impl StdSink {
         }
     }
 
-    // What `write` answers where the system gives this outcome.
+    /// What `write` answers where the system gives this outcome.
     fn answer(&mut self, piece: &[u8], outcome: io::Result<usize>) -> Result<usize, Failed>
         ensures ok { IfOk outcome (λ n. IfOk result (λ m. m ≡ n)) }
         ensures ok_state { IfOk result

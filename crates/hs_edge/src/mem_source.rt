@@ -1,4 +1,5 @@
-// A source in memory.
+//! A source in memory.
+
 ghost use Rattle.std.specs.Prelude.{◌≡◌, ◌<◌, ◌≤◌, ◌++◌, length, drop, Some, IfOk};
 ghost use Rattle.hs_edge.specs.MemSource.{new_source, file_of, faults_of, Starts, Reads};
 

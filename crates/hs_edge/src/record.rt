@@ -1,5 +1,6 @@
-// What a source or a sink has answered so far. Only contracts and proofs read it: it takes no memory,
-// and noting something takes no time.
+//! What a source or a sink has answered so far. Only contracts and proofs read it: it takes no memory,
+//! and noting something takes no time.
+
 ghost use Rattle.std.specs.Prelude.{◌≡◌, length, take};
 ghost use Rattle.hs_edge.specs.Reading.{unread, started, handed};
 ghost use Rattle.hs_edge.specs.Writing.{unwritten, written};
@@ -8,7 +9,7 @@ use logbook::{Opening, Rule, Seen, Start};
 use std::fmt;
 use std::marker::Model;
 
-// The rule of a book that says nothing of its log.
+/// The rule of a book that says nothing of its log.
 struct Any;
 
 impl<E> Rule<E, ()> for Any {
@@ -28,7 +29,7 @@ impl<E> Rule<E, ()> for Any {
     ghost moves = { λ ask before after answer. Unit {0} };
 }
 
-// An entry of a book: what a source has answered.
+/// An entry of a book: what a source has answered.
 struct ReadEntry;
 
 impl Model for ReadEntry {
@@ -55,14 +56,14 @@ impl Model for Reading {
     ghost view = { λ r. unwrap_or (slice_get r.seen.log 0) unread };
 }
 
-// A source is started.
+/// A source is started.
 #[derive(Drop)]
 struct Started<'a> {
     before: &'a Reading,
     name: &'a str,
 }
 
-// A source hands out bytes.
+/// A source hands out bytes.
 #[derive(Drop)]
 struct Handed<'a> {
     before: &'a Reading,
@@ -128,7 +129,7 @@ impl fmt::Debug for Reading {
     }
 }
 
-// An entry of a book: what a sink has answered.
+/// An entry of a book: what a sink has answered.
 struct WriteEntry;
 
 impl Model for WriteEntry {
@@ -155,7 +156,7 @@ impl Model for Writing {
     ghost view = { λ w. unwrap_or (slice_get w.seen.log 0) unwritten };
 }
 
-// A sink takes bytes.
+/// A sink takes bytes.
 #[derive(Drop)]
 struct Taken<'a> {
     before: &'a Writing,

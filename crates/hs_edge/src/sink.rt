@@ -1,4 +1,5 @@
-// What is written to.
+//! What is written to.
+
 ghost use Rattle.std.specs.Prelude.{◌≡◌, ◌≤◌, ◌<◌, ⊤, ℕ, Result, List, length, OnOk, OnErr, IfOk};
 ghost use Rattle.hs_edge.specs.declared.errors.Failed.{Failed};
 ghost use Rattle.hs_edge.specs.Count.{Rose};

@@ -1,4 +1,5 @@
-// What is read by name.
+//! What is read by name.
+
 ghost use Rattle.std.specs.Prelude.{◌≡◌, ◌≤◌, ◌<◌, ◌↔◌, ⊤, ℕ, Option, Result, List, [], length, take, Ok, OnOk, OnErr, IfOk, IfSome, IsNone, IsSomeAnd};
 ghost use Rattle.std.specs.Io.KnownBytes.{prepend_known};
 ghost use Rattle.hs_edge.specs.declared.errors.Failed.{Failed};

@@ -1,4 +1,5 @@
-// Reading all that is left, and writing all of some bytes.
+//! Reading all that is left, and writing all of some bytes.
+
 ghost use Rattle.std.specs.Prelude.{◌≡◌, ◌≢◌, ◌≤◌, ◌<◌, ℕ, List, [], ◌++◌, true, length, replicate, Some, Err, OnOk, OnErr, IfOk, IfSome, IsSomeAnd, IsErrOf, vec_len};
 ghost use Rattle.hs_edge.specs.Count.{Rose};
 ghost use Rattle.hs_edge.specs.Reading.{ReadsOn, ReadsMore, ReadsWithin};
@@ -7,7 +8,7 @@ ghost use Rattle.hs_edge.specs.Writing.{AddsPart};
 use crate::{Failed, ReadAll, Sink, Source, WriteFault};
 use std::alloc::Global;
 
-// How many bytes one read asks for.
+/// How many bytes one read asks for.
 const PIECE: usize = 8192;
 
 /// Reads all that is left of a started source, up to a read that gives nothing. `limit` is the most
