@@ -1,6 +1,6 @@
-//! Tests of types, entries and what follows from logs: the order of types and of entries, the look-ups of
-//! a log, the plain program, and the indexed programs beside it, on worked examples and on many small
-//! schemes.
+//! Tests of types, entries and what follows from logs: the order of types and of entries, types as
+//! numbers, the look-ups of a log, the plain program, and the indexed programs beside it, on worked
+//! examples and on many small schemes.
 #![tactic(auto)]
 
 #[cfg(test)]
@@ -9,6 +9,8 @@ mod comparing;
 mod growing;
 #[cfg(test)]
 mod making;
+#[cfg(test)]
+mod numbers;
 #[cfg(test)]
 mod ordering;
 #[cfg(test)]

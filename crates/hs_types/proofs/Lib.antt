@@ -9,4 +9,3 @@ pub mod SearchLemmas
 pub mod UnionLemmas
 pub mod JoinLemmas
 pub mod RowLemmas
-pub mod TestLemmas

@@ -16,8 +16,6 @@ mod make;
 mod merge;
 mod nodes;
 mod rows;
-#[cfg(test)]
-mod tests;
 mod translations;
 mod tree;
 mod unions;

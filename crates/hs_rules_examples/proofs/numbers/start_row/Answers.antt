@@ -1,6 +1,6 @@
 use Rattle.hs_types.proofs.Numbers.{type_within}
-use Rattle.hs_types.proofs.TestLemmas.{given}
-use Rattle.hs_types.proofs.tests.plain_row.Goals as goal
+use Rattle.hs_rules_examples.proofs.NumberLemmas.{given}
+use Rattle.hs_rules_examples.proofs.numbers.start_row.Goals as goal
 
 pub returns : goal.returns
 returns c = (

@@ -1,8 +1,8 @@
 use Rattle.std.proofs.Common.{sym, ap, ◌∙◌, length, []}
 use Rattle.hs_table.specs.Entries.{Env}
 use Rattle.hs_types.proofs.Numbers.{env_within, env_stays}
-use Rattle.hs_types.proofs.TestLemmas.{given, read}
-use Rattle.hs_types.proofs.tests.union_of_two.Goals as goal
+use Rattle.hs_rules_examples.proofs.NumberLemmas.{given, read}
+use Rattle.hs_rules_examples.proofs.numbers.union_of_two.Goals as goal
 
 pub single_env-requires-clause-ty : goal.single_env-requires-clause-ty
 single_env-requires-clause-ty c = given c.base.new.self.types c.in_ok-b.b c.in_ok-b.ensures.ok

@@ -1,12 +1,12 @@
-//! Sets and arrows in two orders of arrival, what is made again, an entry that comes from another
-//! interner, and a union.
+//! Types as numbers: sets and arrows in two orders of arrival, what is made again, an entry that comes
+//! from another interner, and a union.
 
 ghost use Rattle.std.specs.Prelude.{◌<◌, All, IfOk, length};
 ghost use Rattle.hs_types.specs.Interned.{Grows, IsRow};
 
-use crate::{EnvId, Interner, Row, SetId, TyId, View};
 use hs_scheme::OutOfMemory;
 use hs_table::{Entry, Shape};
+use hs_types::{EnvId, Interner, Row, SetId, TyId, View};
 use std::alloc::Global;
 use std::cmp::Ordering;
 use std::mem::forget;
@@ -127,7 +127,7 @@ fn what_is_made_again_has_its_number(rt: HostRuntime) -> Result<(), Fail> {
 }
 
 /// The row of the entry at point 0 without sets whose type is state 0.
-fn plain_row(interner: &mut Interner) -> Result<Row, OutOfMemory>
+fn start_row(interner: &mut Interner) -> Result<Row, OutOfMemory>
     ensures { IfOk result (IsRow interner.new) }
 {
     let ty = interner.base(0)?;
@@ -142,14 +142,14 @@ fn imported(
     from: &mut Interner,
     interner: &mut Interner,
 ) -> Result<Entry, OutOfMemory> {
-    let row = plain_row(from)?;
+    let row = start_row(from)?;
     let _other = interner.base(1)?;
     let own = interner.import(from, row)?;
     interner.tree(alloc, own)
 }
 
 /// Whether it is that entry.
-fn is_plain(entry: &Entry) -> bool {
+fn is_start_entry(entry: &Entry) -> bool {
     entry.point == 0 && entry.env.is_empty() && matches!(&entry.ty.shape, Shape::State(0))
 }
 
@@ -161,7 +161,7 @@ fn see_imported(
     interner: &mut Interner,
 ) -> Result<(), OutOfMemory> {
     let entry = imported(alloc, from, interner)?;
-    assert!(rt; is_plain(&entry));
+    assert!(rt; is_start_entry(&entry));
     Ok(())
 }
 

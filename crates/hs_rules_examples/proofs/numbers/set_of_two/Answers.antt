@@ -1,8 +1,8 @@
 use Rattle.std.proofs.Common.{ℕ, ◌<◌, length, [], ◌∷◌}
 use Rattle.std.proofs.lemmas.List.Elements.{All-nil, All-cons}
 use Rattle.hs_types.proofs.Numbers.{type_within}
-use Rattle.hs_types.proofs.TestLemmas.{given}
-use Rattle.hs_types.proofs.tests.set_of_two.Goals as goal
+use Rattle.hs_rules_examples.proofs.NumberLemmas.{given}
+use Rattle.hs_rules_examples.proofs.numbers.set_of_two.Goals as goal
 
 pub set-requires : goal.set-requires
 set-requires c =

@@ -1,8 +1,8 @@
 use Rattle.std.proofs.Common.{ℕ, ◌<◌, length, [], ◌∷◌}
 use Rattle.std.proofs.lemmas.List.Elements.{All-nil, All-cons}
 use Rattle.hs_types.proofs.Numbers.{type_within}
-use Rattle.hs_types.proofs.TestLemmas.{given}
-use Rattle.hs_types.proofs.tests.see_again.Goals as goal
+use Rattle.hs_rules_examples.proofs.NumberLemmas.{given}
+use Rattle.hs_rules_examples.proofs.numbers.see_again.Goals as goal
 
 pub arrow_of-requires-clause-rest : goal.arrow_of-requires-clause-rest
 arrow_of-requires-clause-rest g c = given c.base.new.self.types c.in_ok-a.a c.in_ok-a.ensures.ok

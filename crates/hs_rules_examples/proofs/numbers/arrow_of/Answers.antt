@@ -1,6 +1,6 @@
 use Rattle.hs_types.proofs.Numbers.{type_within}
-use Rattle.hs_types.proofs.TestLemmas.{given}
-use Rattle.hs_types.proofs.tests.arrow_of.Goals as goal
+use Rattle.hs_rules_examples.proofs.NumberLemmas.{given}
+use Rattle.hs_rules_examples.proofs.numbers.arrow_of.Goals as goal
 
 pub arrow-requires-clause-rest : goal.arrow-requires-clause-rest
 arrow-requires-clause-rest c = type_within c.args.interner.now c.set.new.self c.in_ok-set.ensures.grows c.args.rest c.requires.rest
