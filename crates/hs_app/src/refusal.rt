@@ -12,7 +12,7 @@ use hs_scheme::{Name, OutOfMemory};
 use std::alloc::Global;
 
 /// Why a run ends without a verdict. Lines are counted from 1.
-#[derive(Debug, Drop)]
+#[derive(Drop)]
 pub(crate) enum Refusal {
     /// The words have another form.
     Usage,

@@ -21,7 +21,7 @@ use std::sync::Wait;
 use std::thread::Threads;
 
 /// What is asked for beside the verdict.
-#[derive(Clone, Copy, Debug)]
+#[derive(Clone, Copy)]
 pub(crate) struct Settings {
     /// How many workers share the table, 1 to 16.
     pub(crate) workers: u32,
@@ -38,7 +38,7 @@ pub(crate) struct Settings {
 }
 
 /// What the automaton makes of the value tree.
-#[derive(Clone, Copy, Debug, PartialEq, Eq)]
+#[derive(Clone, Copy)]
 pub(crate) enum Verdict {
     Accepted,
     /// It isn't, and the path that the report shows leads to a terminal without transition.

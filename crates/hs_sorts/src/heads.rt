@@ -7,7 +7,7 @@ use hs_scheme::Head;
 
 /// The nonterminals' nodes come first, by rule, then the terminals'. Those of a rule's parameters are
 /// added with the rule, in a row.
-#[derive(Clone, Copy, Debug, Drop)]
+#[derive(Clone, Copy, Drop)]
 pub struct Heads {
     /// The number of rules.
     pub rules: u32,

@@ -14,7 +14,7 @@ use std::marker::Model;
 
 /// What is known of a sort: nothing, that it is `o`, or that it takes an argument. The numbers are
 /// those of the nodes of the argument and of the rest.
-#[derive(Clone, Copy, Debug, Drop)]
+#[derive(Clone, Copy, Drop)]
 pub enum Shape {
     Open,
     Base,
@@ -23,14 +23,14 @@ pub enum Shape {
 
 /// A node stands for a sort: either it says what is known of it, or it has the sort of another
 /// node, which has a smaller number.
-#[derive(Clone, Copy, Debug, Drop)]
+#[derive(Clone, Copy, Drop)]
 pub enum Node {
     Root(Shape),
     Link(u32),
 }
 
 /// How a node is kept: in 12 bytes, where a `Node` has 16.
-#[derive(Clone, Copy, Debug, Drop)]
+#[derive(Clone, Copy, Drop)]
 enum Cell {
     Open,
     Base,

@@ -17,7 +17,7 @@ use std::marker::Model;
 pub const COUNTED_SIZE: u16 = 1_001;
 
 /// What is counted of a sort.
-#[derive(Clone, Copy, Debug, Drop)]
+#[derive(Clone, Copy, Drop)]
 pub struct Weight {
     /// The size, or 1,001 where it is greater.
     pub size: u16,
@@ -69,7 +69,7 @@ impl Weight {
 
 /// How far a node is: not yet come to, on the path, or weighed. There are as many marks as nodes, and
 /// the fields of a weight stand in the order in which a mark has 8 bytes.
-#[derive(Clone, Copy, Debug, Drop)]
+#[derive(Clone, Copy, Drop)]
 pub enum Mark {
     New,
     Entered,

@@ -12,7 +12,7 @@ use std::alloc::Global;
 const MOST_KNOWN: usize = 524_288;
 
 /// Two numbers, the smaller first.
-#[derive(Clone, Copy, Debug, PartialEq, Eq, Hash)]
+#[derive(Clone, Copy, PartialEq, Eq, Hash)]
 pub(crate) struct Operands {
     first: u32,
     second: u32,
