@@ -5,11 +5,13 @@
 --     IsNumberedFile  its rules and transitions with these numbers, where it is a file
 --     AreLines        the least line of each line fault
 --     IsResolved      all of these
+--     names_in        the names of a scheme with these tables
 --     made_of         the scheme with these rules, transitions and names
 use Rattle.std.specs.Prelude.{◌≡◌, ℕ, ◌<◌, ◌^◌, List, map, length}
 use Rattle.hs_reader.specs.Raw.{File, Rule}
 use Rattle.hs_reader.specs.Limits.{IsRaw}
 use Rattle.hs_scheme.specs.declared.term.Rule.{Rule as NumberedRule}
+use Rattle.hs_scheme.specs.Names.{NamesData}
 use Rattle.hs_scheme.specs.Unsorted.{UnsortedData}
 use Rattle.hs_resolve.specs.declared.line.FaultLines.{FaultLines}
 use Rattle.hs_resolve.specs.declared.resolving.Tables.{Tables}
@@ -53,10 +55,13 @@ pub record IsResolved (raw : File) (r : Resolved) : Type 0 where
   pub numbered : IsNumberedFile raw r.numbered
   pub lines : AreLines raw r.tables.lines
 
+abbrev pub names_in : Tables → NamesData
+names_in tables = record { rules = tables.left; params = tables.params.items; terminals = tables.terminals; states = tables.states }
+
 abbrev pub made_of : Tables → Numbered → UnsortedData
 made_of tables numbered = record {
   rules = numbered.rules.items;
   ranks = map (length_of tables.lengths) tables.terminals;
   automaton = record { states = length tables.states; transitions = numbered.transitions.items };
-  names = record { rules = tables.left; params = tables.params.items; terminals = tables.terminals; states = tables.states };
+  names = names_in tables;
 }

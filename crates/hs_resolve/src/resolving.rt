@@ -8,7 +8,7 @@ ghost use Rattle.hs_resolve.specs.Least.{IsLeast};
 ghost use Rattle.hs_resolve.specs.LineFaults.{StartHasParams};
 ghost use Rattle.hs_resolve.specs.Numbering.{unsorted_of};
 ghost use Rattle.hs_resolve.specs.Answer.{IsFaultless, IsAnswered, Decides};
-ghost use Rattle.hs_resolve.specs.Tables.{AreLines, AreTables, IsNumberedFile, IsResolved, made_of};
+ghost use Rattle.hs_resolve.specs.Tables.{AreLines, AreTables, IsNumberedFile, IsResolved, made_of, names_in};
 
 use crate::body::bodies_of;
 use crate::fault::{MAX_STATES, NameFault};
@@ -111,23 +111,34 @@ fn first_fault(tables: &Tables) -> Option<NameFault>
     None
 }
 
-/// The scheme with these rules and transitions and these names.
-fn put_together(alloc: Global, tables: Tables, numbered: Numbered) -> Result<Unsorted, OutOfMemory>
-    requires automaton { IsAutomaton (made_of tables numbered).automaton }
-    requires scheme { IsUnsorted (made_of tables numbered) }
-    requires few { length tables.states ≤ MAX_STATES }
-    ensures { IfOk result (λ u. u ≡ made_of tables.entry numbered) }
+/// The names of a scheme with these tables.
+fn names_in(alloc: Global, tables: &Tables) -> Result<Names, OutOfMemory>
+    ensures { IfOk result (λ names. names ≡ names_in tables.now) }
 {
-    let Numbered { rules, transitions } = numbered;
+    let rules = tables.left.copies(alloc)?;
+    let params = params_of(alloc, tables.params.as_slice())?;
+    let terminals = tables.terminals.copies(alloc)?;
+    let states = tables.states.copies(alloc)?;
+    Ok(Names {
+        rules,
+        params,
+        terminals,
+        states,
+    })
+}
+
+/// The scheme with these rules and transitions and these names.
+fn put_together(alloc: Global, tables: &Tables, numbered: Numbered) -> Result<Unsorted, OutOfMemory>
+    requires automaton { IsAutomaton (made_of tables.now numbered).automaton }
+    requires scheme { IsUnsorted (made_of tables.now numbered) }
+    requires few { length tables.now.states ≤ MAX_STATES }
+    ensures { IfOk result (λ u. u ≡ made_of tables.now numbered) }
+{
     let states = tables.states.len() as u32;
-    let automaton = Automaton::of(alloc, states, transitions)?;
     let ranks = tables.terminals.values_in(alloc, &tables.lengths)?;
-    let names = Names {
-        rules: tables.left.copies(alloc)?,
-        params: params_of(alloc, tables.params.as_slice())?,
-        terminals: tables.terminals.copies(alloc)?,
-        states: tables.states.copies(alloc)?,
-    };
+    let names = names_in(alloc, tables)?;
+    let Numbered { rules, transitions } = numbered;
+    let automaton = Automaton::of(alloc, states, transitions)?;
     Ok(Unsorted {
         rules,
         ranks,
@@ -137,12 +148,12 @@ fn put_together(alloc: Global, tables: Tables, numbered: Numbered) -> Result<Uns
 }
 
 /// The scheme of a file that was numbered, or its first fault. It doesn't need the file any more.
-fn decide(alloc: Global, resolved: Resolved) -> Result<Unsorted, NameFault>
-    requires some { (raw : File) × IsResolved raw resolved }
-    ensures { (raw : File) → IsResolved raw resolved.entry → Decides raw result }
+fn decide(alloc: Global, tables: &Tables, numbered: Numbered) -> Result<Unsorted, NameFault>
+    requires some { (raw : File) × IsResolved raw (record { tables = tables.now; numbered = numbered }) }
+    ensures { (raw : File) → IsResolved raw (record { tables = tables.now; numbered = numbered })
+        → Decides raw result }
 {
-    let Resolved { tables, numbered } = resolved;
-    if let Some(fault) = first_fault(&tables) {
+    if let Some(fault) = first_fault(tables) {
         return Err(fault);
     }
     Ok(put_together(alloc, tables, numbered)?)
@@ -165,8 +176,8 @@ pub fn resolve(alloc: Global, raw: &RawFile) -> Result<Unsorted, NameFault>
     ensures refused { (fault : NameFault) → IsAnswered raw.now fault
         → IsErrAnd result (λ e. (e ≡ NameFault.OutOfMemory) ⊎ (e ≡ fault)) }
 {
-    let resolved = number_file(alloc, raw)?;
-    decide(alloc, resolved)
+    let Resolved { tables, numbered } = number_file(alloc, raw)?;
+    decide(alloc, &tables, numbered)
 }
 
 /// As [`resolve`], and what the file says is given back as soon as its names are numbered: before the
@@ -181,5 +192,6 @@ pub fn resolve_owned(alloc: Global, raw: RawFile) -> Result<Unsorted, NameFault>
 {
     let resolved = number_file(alloc, &raw)?;
     drop(raw);
-    decide(alloc, resolved)
+    let Resolved { tables, numbered } = resolved;
+    decide(alloc, &tables, numbered)
 }

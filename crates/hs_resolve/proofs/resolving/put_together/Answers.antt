@@ -6,29 +6,17 @@ use Rattle.hs_resolve.proofs.resolving.put_together.Goals as goal
 
 pub of-requires : goal.of-requires
 of-requires c =
-    let same : (let a : AutomatonData = record { states = c.len-states.result; transitions = c.args.numbered.transitions.items } in a) ≡ (made_of c.args.tables c.args.numbered).automaton =
+    let same : (let a : AutomatonData = record { states = c.len-states.result; transitions = c.args.numbered.transitions.items } in a) ≡ (made_of c.args.tables.now c.args.numbered).automaton =
     λ i. record { states = c.len-states.ensures i; transitions = c.args.numbered.transitions.items } in
     subst IsAutomaton (sym same) c.requires.automaton
 
 pub invariant_of-result : goal.invariant_of-result
 invariant_of-result c =
-    let params = c.in_ok-params_of.ensures ∙ c.as_slice.ensures.value in
     let automaton = c.in_ok-automaton.ensures ∙ (λ i. record { states = c.len-states.ensures i; transitions = c.args.numbered.transitions.items }) in
-    let same : _ ≡ made_of c.args.tables c.args.numbered = (λ i. record {
-      rules = c.args.numbered.rules.items;
-      ranks = c.in_ok-ranks.ensures i;
-      automaton = automaton i;
-      names = record { rules = c.in_ok-copies.ensures i; params = params i; terminals = c.in_ok-copies-2.ensures i; states = c.in_ok-copies-3.ensures i };
-    }) in
+    let same : _ ≡ made_of c.args.tables.now c.args.numbered = (λ i. record { rules = c.args.numbered.rules.items; ranks = c.in_ok-ranks.ensures i; automaton = automaton i; names = c.in_ok-names.ensures i }) in
     subst IsUnsorted (sym same) c.requires.scheme
 
 pub returns : goal.returns
 returns c =
-    let params = c.in_ok-params_of.ensures ∙ c.as_slice.ensures.value in
     let automaton = c.in_ok-automaton.ensures ∙ (λ i. record { states = c.len-states.ensures i; transitions = c.args.numbered.transitions.items }) in
-    (λ i. record {
-      rules = c.args.numbered.rules.items;
-      ranks = c.in_ok-ranks.ensures i;
-      automaton = automaton i;
-      names = record { rules = c.in_ok-copies.ensures i; params = params i; terminals = c.in_ok-copies-2.ensures i; states = c.in_ok-copies-3.ensures i };
-    })
+    (λ i. record { rules = c.args.numbered.rules.items; ranks = c.in_ok-ranks.ensures i; automaton = automaton i; names = c.in_ok-names.ensures i })
