@@ -3,7 +3,9 @@
 ghost use Rattle.std.specs.Prelude.{◌≡◌, ◌≤◌, IfOk};
 ghost use Rattle.hs_flow.specs.Dependents.{HasDependents};
 ghost use Rattle.hs_verdict.specs.Premises.{HasClosedFlow};
-ghost use Rattle.hs_core.specs.Saturation.{IsDone, IsVerdict};
+ghost use Rattle.hs_history.specs.Story.{Base};
+ghost use Rattle.hs_core.specs.Draining.{EndsAtRest};
+ghost use Rattle.hs_core.specs.Saturation.{IsAlone, IsDone, IsVerdict};
 
 use crate::answers::{Done, Drained};
 use crate::draining::{answer, work_alone};
@@ -14,6 +16,22 @@ use hs_naming::least_tables_decide;
 use hs_scheme::{OutOfMemory, Problem};
 use hs_verdict::is_sorted_problem;
 use std::alloc::Global;
+
+/// What has come of the core, in which nothing is left to do.
+fn as_done<'p>(problem: &Problem, core: Core<'p>) -> Done<'p>
+    requires ends { EndsAtRest core }
+    requires problem { core.base.problem ≡ problem.now }
+    ensures done { (base : Base) → IsAlone base core.entry → IsDone base result }
+    ensures verdict { HasClosedFlow problem.now → IsVerdict problem.now result }
+{
+    is_sorted_problem(problem);
+    least_tables_decide();
+    match answer(&core) {
+        Drained::Quiet => Done::Least(core),
+        Drained::Over => Done::Over(core),
+        Drained::Found { .. } => Done::First(core),
+    }
+}
 
 /// The least table of the problem, formed by one worker, whose number is 0; or, where `first` is set
 /// and the table has the start entry, a part of it with that entry. The budget is 1 to 1,000,000, and
@@ -34,13 +52,10 @@ pub fn saturate_alone<'p>(
     ensures done { IfOk result (IsDone (record { problem = problem.now; budget = budget; first = first })) }
     ensures verdict { IfOk result (λ done. HasClosedFlow problem.now → IsVerdict problem.now done) }
 {
-    is_sorted_problem(problem);
-    least_tables_decide();
     let mut core = Core::new(alloc, problem, budget, first)?;
-    work_alone(alloc, &mut core, dependents, 0, &Open)?;
-    match answer(&core) {
-        Drained::Quiet => Ok(Done::Least(core)),
-        Drained::Over => Ok(Done::Over(core)),
-        Drained::Found { .. } => Ok(Done::First(core)),
+    if let Err(refused) = work_alone(alloc, &mut core, dependents, 0, &Open) {
+        drop(core);
+        return Err(refused);
     }
+    Ok(as_done(problem, core))
 }

@@ -125,7 +125,10 @@ fn answer<'p>(core: Core<'p>) -> Result<Done<'p>, OutOfMemory>
         End::Least => Ok(Done::Least(core)),
         End::Over => Ok(Done::Over(core)),
         End::First => Ok(Done::First(core)),
-        End::Unfinished => Err(OutOfMemory),
+        End::Unfinished => {
+            drop(core);
+            Err(OutOfMemory)
+        }
     }
 }
 
@@ -141,7 +144,10 @@ fn share<'p>(
 {
     match SharedTable::new(alloc, core) {
         Ok(made) => Ok(made),
-        Err(_core) => Err(OutOfMemory),
+        Err(core) => {
+            drop(core);
+            Err(OutOfMemory)
+        }
     }
 }
 

@@ -136,6 +136,9 @@ fn work_on<'p, R: Wait, G: Gate>(
             Next::Wait => heard = bell.wait(rt, heard),
             Next::End => {
                 bell.end(heard);
+                drop(replica);
+                drop(found);
+                drop(jobs);
                 return;
             }
         }
