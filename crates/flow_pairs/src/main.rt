@@ -2,10 +2,9 @@
 //! and the head pairs, or that there are more than `MOST_PAIRS`.
 #![tactic(auto)]
 
-use hs_app::MAX_BYTES;
 use hs_edge::{FileSource, Sink, Source, StdSink, read_all, write_all};
 use hs_flow::{FlowFault, analyse};
-use hs_reader::read_file;
+use hs_reader::{MAX_BYTES, read_file};
 use hs_resolve::resolve;
 use hs_scheme::{FlowTable, Points};
 use hs_sorts::infer;

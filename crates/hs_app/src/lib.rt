@@ -9,6 +9,5 @@ mod refusal;
 mod top;
 mod verdict;
 
-pub use hs_reader::MAX_BYTES;
 pub use laws::canonical_file_is_read_again;
 pub use top::run;
