@@ -120,7 +120,7 @@ fn first_error(
 /// It tries path after path, and the cut may have exponentially many in n. So may time and memory
 /// grow: the nodes of all paths are kept to the end. Recurses n deep.
 pub fn bounded(alloc: Global, sorted: &Sorted, n: u32) -> Result<Bounded, OutOfMemory>
-    requires { n ≤ MAX_CUT }
+    requires { n ≤ 30 }
     ensures { IfOk result (IsBoundedAnswer sorted.now n) }
 {
     // What the types of `sorted` and of its scheme keep is known where their fields are read.

@@ -123,8 +123,8 @@ pub fn replay(
     path: &[u32],
     steps: u64,
 ) -> Result<Replay, OutOfMemory>
-    requires few { steps ≤ MAX_STEPS }
-    requires short { length path.now ≤ MAX_STEPS }
+    requires few { steps ≤ 4000000 }
+    requires short { length path.now ≤ 4000000 }
     ensures { IfOk result (λ found. (answer : Replay) → (found ≡ answer)
         ↔ IsReplayAnswer sorted.now path.now steps answer) }
 {
