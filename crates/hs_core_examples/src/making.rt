@@ -3,10 +3,11 @@
 use hs_flow::analyse;
 use hs_gen::{MAX_CYCLE, cycle_file};
 use hs_reader::read_file;
-use hs_resolve::resolve;
+use hs_resolve::resolve_owned;
 use hs_scheme::{Points, Problem, Sorted};
 use hs_sorts::infer;
 use std::alloc::Global;
+use std::mem::forget;
 use std::test::Fail;
 
 /// The scheme of a file of at most 100,000 bytes.
@@ -14,8 +15,7 @@ fn sorted_of(alloc: Global, text: &[u8]) -> Result<Sorted, Fail> {
     if text.len() > 100_000 {
         return Err("a longer text")?;
     }
-    let raw = read_file(alloc, text)?;
-    let unsorted = resolve(alloc, &raw)?;
+    let unsorted = resolve_owned(alloc, read_file(alloc, text)?)?;
     Ok(infer(alloc, unsorted)?)
 }
 
@@ -29,8 +29,9 @@ fn of_sorted(alloc: Global, sorted: Sorted) -> Result<Problem, Fail> {
 /// The problem of a file with these rules and transitions.
 pub(crate) fn problem_of(alloc: Global, rules: &str, transitions: &str) -> Result<Problem, Fail> {
     let text = format!(in alloc; "%BEGING\n{rules}\n%ENDG\n%BEGINA\n{transitions}\n%ENDA\n")?;
-    let sorted = sorted_of(alloc, text.as_bytes())?;
-    of_sorted(alloc, sorted)
+    let sorted = sorted_of(alloc, text.as_bytes());
+    forget(text);
+    of_sorted(alloc, sorted?)
 }
 
 /// The problem of the generated file of this number.
@@ -39,6 +40,7 @@ pub(crate) fn cycle(alloc: Global, k: u32) -> Result<Problem, Fail> {
         return Err("another number")?;
     }
     let text = cycle_file(alloc, k)?;
-    let sorted = sorted_of(alloc, text.as_slice())?;
-    of_sorted(alloc, sorted)
+    let sorted = sorted_of(alloc, text.as_slice());
+    forget(text);
+    of_sorted(alloc, sorted?)
 }

@@ -232,6 +232,27 @@ fn ranks_by(
     Ok(ranks)
 }
 
+/// Ranks of the parameters by their numbers, where these are the points of the scheme.
+fn ranks_over(
+    alloc: Global,
+    points: &Points,
+    parameters: &Parameters,
+    scheme: &Scheme,
+) -> Result<Vec<u32>, OutOfMemory>
+    ensures { IfOk result (λ ranks. vec_len ranks ≡ sum parameters.now) }
+{
+    let rules = scheme.rules.len();
+    let needs = all_needs(alloc, points, parameters)?;
+    let pending = unneeded(alloc, parameters, needs.as_slice(), rules as u32)?;
+    let rows = occurrences(alloc, points, rules)?;
+    let left = Left {
+        needs,
+        points: vec![in alloc; true; points.count() as usize]?,
+        pending,
+    };
+    ranks_by(alloc, points, parameters, rows.as_slice(), left)
+}
+
 /// Ranks of the parameters by their numbers: lower ones for those that go earlier, and `NEVER` for
 /// those that stay, as all do in a scheme with more points than `Points` take. In time and memory in
 /// proportion to the size of the scheme, where each point counts with the parameters that it needs.
@@ -247,14 +268,7 @@ pub fn ranks(
         Err(PointsFault::TooMany) => return no_ranks(alloc, parameters),
         Err(PointsFault::OutOfMemory) => return Err(OutOfMemory),
     };
-    let rules = scheme.rules.len();
-    let needs = all_needs(alloc, &points, parameters)?;
-    let pending = unneeded(alloc, parameters, needs.as_slice(), rules as u32)?;
-    let rows = occurrences(alloc, &points, rules)?;
-    let left = Left {
-        needs,
-        points: vec![in alloc; true; points.count() as usize]?,
-        pending,
-    };
-    ranks_by(alloc, &points, parameters, rows.as_slice(), left)
+    let ranks = ranks_over(alloc, &points, parameters, scheme);
+    drop(points);
+    ranks
 }

@@ -2,22 +2,29 @@
 
 use hs_reader::read_file;
 use hs_reduce::{Bounded, MAX_CUT, MAX_STEPS, Replay, bounded, replay};
-use hs_resolve::resolve;
+use hs_resolve::resolve_owned;
 use hs_scheme::{Name, OutOfMemory, Sorted};
 use hs_sorts::infer;
 use hs_trace::Path;
 use std::alloc::Global;
+use std::mem::forget;
 use std::test::Fail;
+
+/// The scheme of a text.
+fn of_text(alloc: Global, text: &str) -> Result<Sorted, Fail> {
+    if text.len() > 1_000 {
+        return Err("a longer text")?;
+    }
+    let unsorted = resolve_owned(alloc, read_file(alloc, text.as_bytes())?)?;
+    Ok(infer(alloc, unsorted)?)
+}
 
 /// The scheme of a file with these rules and transitions.
 fn sorted_of(alloc: Global, rules: &str, transitions: &str) -> Result<Sorted, Fail> {
     let text = format!(in alloc; "%BEGING\n{rules}\n%ENDG\n%BEGINA\n{transitions}\n%ENDA\n")?;
-    if text.len() > 1_000 {
-        return Err("a longer text")?;
-    }
-    let raw = read_file(alloc, text.as_bytes())?;
-    let unsorted = resolve(alloc, &raw)?;
-    Ok(infer(alloc, unsorted)?)
+    let sorted = of_text(alloc, text.as_str());
+    forget(text);
+    sorted
 }
 
 /// The name with this number.

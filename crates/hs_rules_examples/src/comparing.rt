@@ -10,6 +10,7 @@ use hs_table::Entry;
 use hs_table_plain::{conclusions, leads_within, least_table};
 use std::alloc::Global;
 use std::cmp::Ordering;
+use std::mem::forget;
 
 /// Whether each of the entries is among the others.
 fn are_among(entries: &[Entry], others: &[Entry]) -> bool {
@@ -127,5 +128,7 @@ pub(crate) fn entries_of(
     few: bool,
 ) -> Result<Option<usize>, OutOfMemory> {
     let mut replica = Replica::new(alloc);
-    entries_from(alloc, problem, &mut replica, few)
+    let entries = entries_from(alloc, problem, &mut replica, few);
+    forget(replica);
+    entries
 }

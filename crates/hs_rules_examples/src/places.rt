@@ -6,6 +6,7 @@ ghost use Rattle.hs_types.specs.Interned.{IsRow};
 use hs_replica::Replica;
 use hs_scheme::OutOfMemory;
 use hs_types::{Interner, Row, TyId};
+use std::mem::forget;
 use std::process::Abort;
 
 /// The row of the entry of this point with state 0 and no parameters.
@@ -91,14 +92,20 @@ fn see_added(
 fn an_appended_entry_is_there_once(rt: HostRuntime) -> Result<(), OutOfMemory> {
     let mut from = Interner::new(rt.alloc());
     let mut replica = Replica::new(rt.alloc());
-    see_plain(&rt, &mut from, &mut replica)
+    let seen = see_plain(&rt, &mut from, &mut replica);
+    forget(from);
+    forget(replica);
+    seen
 }
 
 #[test]
 fn an_imported_row_is_added(rt: HostRuntime) -> Result<(), OutOfMemory> {
     let mut from = Interner::new(rt.alloc());
     let mut replica = Replica::new(rt.alloc());
-    see_added(&rt, &mut from, &mut replica)
+    let seen = see_added(&rt, &mut from, &mut replica);
+    forget(from);
+    forget(replica);
+    seen
 }
 
 /// The type that takes an argument with state `taken` and then is state 0.
@@ -173,5 +180,7 @@ fn see_places(rt: &impl Abort, replica: &mut Replica) -> Result<(), OutOfMemory>
 #[test]
 fn places_by_what_entries_ask_and_take(rt: HostRuntime) -> Result<(), OutOfMemory> {
     let mut replica = Replica::new(rt.alloc());
-    see_places(&rt, &mut replica)
+    let seen = see_places(&rt, &mut replica);
+    forget(replica);
+    seen
 }

@@ -15,6 +15,7 @@ use hs_table::HeadBy;
 use hs_types::View;
 use std::alloc::Global;
 use std::mem::forget;
+use std::process::Abort;
 use std::test::Fail;
 
 #[test]
@@ -43,8 +44,9 @@ fn worked_tables_agree_entry_by_entry(rt: HostRuntime) -> Result<(), Fail> {
     ];
     for (rules, transitions, expected) in rows {
         let problem = problem_of(rt.alloc(), rules, transitions)?;
-        let entries = entries_of(rt.alloc(), &problem, false)?;
-        assert_eq!(rt; entries, Some(expected), "{rules}");
+        let entries = entries_of(rt.alloc(), &problem, false);
+        forget(problem);
+        assert_eq!(rt; entries?, Some(expected), "{rules}");
     }
     Ok(())
 }
@@ -83,8 +85,9 @@ fn a_hundred_schemes_agree(rt: HostRuntime) -> Result<(), Fail> {
         for body in bodies {
             for transitions in automata {
                 let problem = made(rt.alloc(), start, body, transitions)?;
-                let entries = entries_of(rt.alloc(), &problem, true)?;
-                assert!(rt; entries.is_some(), "{start}, {body}, {transitions}");
+                let entries = entries_of(rt.alloc(), &problem, true);
+                forget(problem);
+                assert!(rt; entries?.is_some(), "{start}, {body}, {transitions}");
             }
         }
     }
@@ -179,18 +182,48 @@ fn are_one(alloc: Global, one: &Replica, other: &Replica) -> Result<bool, OutOfM
     Ok(own.len() == 1 && others.len() == 1 && are_same(own.as_slice(), others.as_slice()))
 }
 
+/// Looks at a log that grows by one entry, and at two others, to one of which that is appended and to
+/// the other added.
+fn see_one_entry(
+    rt: &impl Abort,
+    alloc: Global,
+    problem: &Problem,
+    replica: &mut Replica,
+    appended: &mut Replica,
+    added: &mut Replica,
+) -> Result<(), OutOfMemory>
+    requires replica { replica.old.log ≡ [] }
+    requires appended { appended.old.log ≡ [] }
+    requires added { added.old.log ≡ [] }
+{
+    assert!(rt; begins(alloc, problem, replica)?);
+    assert!(rt; grow(alloc, problem, replica)?);
+    assert!(rt; is_appended(replica, appended)?);
+    assert!(rt; goes_on(alloc, problem, appended)?);
+    assert!(rt; is_added(replica, added)?);
+    assert!(rt; are_one(alloc, appended, added)?);
+    Ok(())
+}
+
 #[test]
 fn one_entry_and_then_the_other(rt: HostRuntime) -> Result<(), Fail> {
     let alloc = rt.alloc();
     let problem = problem_of(alloc, "S -> a b.", "q0 a -> q0.")?;
     let mut replica = Replica::new(alloc);
-    assert!(rt; begins(alloc, &problem, &mut replica)?);
-    assert!(rt; grow(alloc, &problem, &mut replica)?);
     let mut appended = Replica::new(alloc);
-    assert!(rt; is_appended(&replica, &mut appended)?);
-    assert!(rt; goes_on(alloc, &problem, &mut appended)?);
     let mut added = Replica::new(alloc);
-    assert!(rt; is_added(&replica, &mut added)?);
-    assert!(rt; are_one(alloc, &appended, &added)?);
+    let seen = see_one_entry(
+        &rt,
+        alloc,
+        &problem,
+        &mut replica,
+        &mut appended,
+        &mut added,
+    );
+    forget(problem);
+    forget(replica);
+    forget(appended);
+    forget(added);
+    seen?;
     Ok(())
 }

@@ -4,10 +4,11 @@ ghost use Rattle.hs_scheme.specs.Automaton.{IsAutomaton};
 
 use hs_flow::analyse;
 use hs_reader::read_file;
-use hs_resolve::resolve;
+use hs_resolve::resolve_owned;
 use hs_scheme::{Points, Problem, Sorted};
 use hs_sorts::infer;
 use std::alloc::Global;
+use std::mem::forget;
 use std::test::Fail;
 
 /// What the automaton of each problem keeps. Does nothing.
@@ -22,8 +23,7 @@ fn sorted_of(alloc: Global, text: &[u8]) -> Result<Sorted, Fail> {
     if text.len() > 1_000 {
         return Err("a longer text")?;
     }
-    let raw = read_file(alloc, text)?;
-    let unsorted = resolve(alloc, &raw)?;
+    let unsorted = resolve_owned(alloc, read_file(alloc, text)?)?;
     Ok(infer(alloc, unsorted)?)
 }
 
@@ -37,6 +37,7 @@ fn of_sorted(alloc: Global, sorted: Sorted) -> Result<Problem, Fail> {
 /// The problem of a file with these rules and transitions.
 pub(crate) fn problem_of(alloc: Global, rules: &str, transitions: &str) -> Result<Problem, Fail> {
     let text = format!(in alloc; "%BEGING\n{rules}\n%ENDG\n%BEGINA\n{transitions}\n%ENDA\n")?;
-    let sorted = sorted_of(alloc, text.as_bytes())?;
-    of_sorted(alloc, sorted)
+    let sorted = sorted_of(alloc, text.as_bytes());
+    forget(text);
+    of_sorted(alloc, sorted?)
 }
