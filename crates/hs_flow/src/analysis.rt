@@ -170,6 +170,29 @@ impl<'a> Analysis<'a> {
     }
 }
 
+/// All pairs that are demanded from the start on, in the order in which they were found.
+fn demanded(
+    alloc: Global,
+    rules: &[Rule],
+    points: &Points,
+    users: &Users,
+    max: u32,
+) -> Result<Vec<Pair>, FlowFault>
+    requires points { points.now ≡ points_of rules.now }
+    requires users { IsUserMap points.now.points users.now }
+    ensures supported { IfOk result (λ found. IsSupported rules.now found.items) }
+    ensures closed { IfOk result (λ found. IsClosed rules.now found.items) }
+    ensures within { IfOk result (λ found. length found.items ≤ max) }
+    ensures limit { IsErrOf result FlowLimit →
+        (order : List AnyPair) × (IsSupported rules.now order × (max < length order)) }
+{
+    let mut analysis = Analysis::new(alloc, rules, points, users, max)?;
+    let ran = analysis.run();
+    let found = analysis.into_found();
+    ran?;
+    Ok(found)
+}
+
 /// The flow of a scheme, by a worklist that takes each pair once: Broadbent and Kobayashi,
 /// "Saturation-based model checking of higher-order recursion schemes" (CSL 2013), restrict
 /// saturation by such an analysis.
@@ -201,10 +224,8 @@ pub fn analyse(
         (order : List AnyPair) × (IsSupported scheme.now.rules order × (max < length order)) }
 {
     let users = Users::of(alloc, points)?;
-    let rules = scheme.rules.as_slice();
-    let mut analysis = Analysis::new(alloc, rules, points, &users, max)?;
-    analysis.run()?;
-    let found = analysis.into_found();
-    let table = table(alloc, points.params(), found)?;
+    let found = demanded(alloc, scheme.rules.as_slice(), points, &users, max);
+    drop(users);
+    let table = table(alloc, points.params(), found?)?;
     Ok(table)
 }
