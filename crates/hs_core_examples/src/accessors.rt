@@ -124,7 +124,9 @@ fn tell(alloc: Global, problem: &Problem) -> Result<[bool; 3], OutOfMemory> {
 /// The same on the problem of this file.
 fn told(alloc: Global, rules: &str, transitions: &str) -> Result<[bool; 3], Fail> {
     let problem = problem_of(alloc, rules, transitions)?;
-    Ok(tell(alloc, &problem)?)
+    let told = tell(alloc, &problem);
+    forget(problem);
+    Ok(told?)
 }
 
 #[test]

@@ -110,7 +110,9 @@ fn of_file(
     drains: bool,
 ) -> Result<String, Fail> {
     let problem = problem_of(alloc, rules, transitions)?;
-    answered(alloc, &problem, asked, drains)
+    let text = answered(alloc, &problem, asked, drains);
+    forget(problem);
+    text
 }
 
 #[test]
@@ -142,7 +144,9 @@ fn of_cycle(alloc: Global, k: u32) -> Result<String, Fail> {
         budget: 1_000_000,
         first: false,
     };
-    answered(alloc, &problem, asked, false)
+    let text = answered(alloc, &problem, asked, false);
+    forget(problem);
+    text
 }
 
 #[test]

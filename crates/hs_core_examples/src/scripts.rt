@@ -192,7 +192,9 @@ fn script(
         return Err("another budget")?;
     }
     let problem = problem_of(alloc, "S -> a b.", "q0 a -> q0.")?;
-    Ok(of_new(alloc, &problem, budget, first, rows)?)
+    let outcome = of_new(alloc, &problem, budget, first, rows);
+    forget(problem);
+    Ok(outcome?)
 }
 
 #[test]

@@ -74,10 +74,17 @@ fn saturated(
 }
 
 /// The number of entries of the least table, or `None` where the programs don't agree on it.
+fn entries_in(alloc: Global, problem: &Problem) -> Result<Option<u32>, OutOfMemory> {
+    let dependents = Dependents::of(alloc, problem)?;
+    saturated(alloc, problem, &dependents)
+}
+
+/// The same of a file.
 fn entries_of(alloc: Global, rules: &str, transitions: &str) -> Result<Option<u32>, Fail> {
     let problem = problem_of(alloc, rules, transitions)?;
-    let dependents = Dependents::of(alloc, &problem)?;
-    Ok(saturated(alloc, &problem, &dependents)?)
+    let entries = entries_in(alloc, &problem);
+    forget(problem);
+    Ok(entries?)
 }
 
 #[test]

@@ -385,6 +385,7 @@ fn three_workers_step_by_step(rt: HostRuntime) -> Result<(), Fail> {
     let rejected = problem_of(rt.alloc(), "S -> a b.", "q0 a -> q0.")?;
     play(&rt, rt.alloc(), &rejected, 2, TO_THE_END, &[1, 0]);
     play(&rt, rt.alloc(), &rejected, 1, PAST_THE_BUDGET, &[1]);
+    forget(rejected);
     Ok(())
 }
 
@@ -392,5 +393,6 @@ fn three_workers_step_by_step(rt: HostRuntime) -> Result<(), Fail> {
 fn a_hold_makes_the_same_calls(rt: HostRuntime) -> Result<(), Fail> {
     let rejected = problem_of(rt.alloc(), "S -> a b.", "q0 a -> q0.")?;
     play_held(&rt, rt.alloc(), &rejected, IN_ONE_HOLD, &[1, 0]);
+    forget(rejected);
     Ok(())
 }

@@ -96,7 +96,20 @@ fn saturated<R: Threads + Wait + Sync>(
     answer
 }
 
-/// What two workers answer who meet at the gate, on the generated file of this number.
+/// The same on a problem.
+fn of_problem<R: Threads + Wait + Sync>(
+    rt: &R,
+    alloc: Global,
+    problem: &Problem,
+    gate: &Meeting,
+) -> Option<(u32, [bool; 3])> {
+    let Ok(dependents) = Dependents::of(alloc, problem) else {
+        return None;
+    };
+    saturated(rt, alloc, problem, &dependents, gate)
+}
+
+/// The same on the generated file of this number.
 fn saturated_cycle<R: Threads + Wait + Sync>(
     rt: &R,
     alloc: Global,
@@ -104,10 +117,9 @@ fn saturated_cycle<R: Threads + Wait + Sync>(
     gate: &Meeting,
 ) -> Result<Option<(u32, [bool; 3])>, Fail> {
     let problem = cycle(alloc, k)?;
-    let Ok(dependents) = Dependents::of(alloc, &problem) else {
-        return Ok(None);
-    };
-    Ok(saturated(rt, alloc, &problem, &dependents, gate))
+    let answer = of_problem(rt, alloc, &problem, gate);
+    forget(problem);
+    Ok(answer)
 }
 
 #[test]

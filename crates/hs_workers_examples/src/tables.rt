@@ -4,6 +4,7 @@ use crate::making::{problem, problem_of};
 use crate::random::random_file;
 use crate::saturating::{Asked, Summary, saturated};
 use std::alloc::Global;
+use std::mem::forget;
 use std::sync::Wait;
 use std::test::Fail;
 use std::thread::Threads;
@@ -113,7 +114,9 @@ fn told<R: Threads + Wait + Sync>(
     asked: Asked,
 ) -> Result<Summary, Fail> {
     let problem = problem(alloc, rules, transitions)?;
-    saturated(rt, alloc, &problem, asked)
+    let summary = saturated(rt, alloc, &problem, asked);
+    forget(problem);
+    summary
 }
 
 /// What so many workers answer on the problem of a random file.
@@ -129,7 +132,9 @@ fn told_of_random<R: Threads + Wait + Sync>(
         budget: 100_000,
         first: false,
     };
-    saturated(rt, alloc, &problem, asked)
+    let summary = saturated(rt, alloc, &problem, asked);
+    forget(problem);
+    summary
 }
 
 #[test]

@@ -102,7 +102,9 @@ fn compare_worked<R: Threads + Wait + Sync>(
     transitions: &str,
 ) -> Result<Verdicts, Fail> {
     let problem = problem(alloc, rules, transitions)?;
-    compare(rt, alloc, &problem)
+    let verdicts = compare(rt, alloc, &problem);
+    forget(problem);
+    verdicts
 }
 
 /// The verdicts on the problem of a random file.
@@ -112,7 +114,9 @@ fn compare_random<R: Threads + Wait + Sync>(
     file: &str,
 ) -> Result<Verdicts, Fail> {
     let problem = problem_of(alloc, file.as_bytes())?;
-    compare(rt, alloc, &problem)
+    let verdicts = compare(rt, alloc, &problem);
+    forget(problem);
+    verdicts
 }
 
 #[test]
