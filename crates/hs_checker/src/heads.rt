@@ -10,7 +10,7 @@ ghost use Rattle.hs_table.specs.Follows.{rank_of};
 ghost use Rattle.hs_checker.specs.Slots.{HasTypeAt};
 ghost use Rattle.hs_table_plain.specs.Enumeration as plain;
 
-use crate::index::{EntryIndex, compare};
+use crate::index::{EntryIndex, compare_arrows};
 use crate::shape::is_set;
 use hs_scheme::{Head, OutOfMemory, Problem};
 use hs_table::{Entry, Shape, Ty, TypeSet};
@@ -68,7 +68,7 @@ fn ends_with(found: &[Ty], ty: &Ty) -> bool
 {
     match found.last() {
         None => false,
-        Some(last) => compare(last, ty) == Ordering::Equal,
+        Some(last) => compare_arrows(last, ty) == Ordering::Equal,
     }
 }
 
@@ -93,8 +93,8 @@ pub(crate) fn in_order(types: Vec<Ty>) -> Result<Vec<Ty>, OutOfMemory>
         return Ok(types);
     }
     let mut found = types;
-    found.sort_by(|a, b| compare(a, b))?;
-    found.dedup_by(|a, b| compare(a, b) == Ordering::Equal);
+    found.sort_by(|a, b| compare_arrows(a, b))?;
+    found.dedup_by(|a, b| compare_arrows(a, b) == Ordering::Equal);
     Ok(found)
 }
 

@@ -47,17 +47,25 @@ fn by_results(ty: &Ty, other: &Ty) -> Option<Ordering>
     None
 }
 
-/// The order of types. Most are states, or arrows to states that differ, which are compared at once.
+/// The order of types. Most are states, which are compared at once.
 pub(crate) fn compare(ty: &Ty, other: &Ty) -> Ordering
     ensures { result ≡ type_cmp ty.now other.now }
 {
-    if let Some(order) = by_states(ty, other) {
-        return order;
+    match by_states(ty, other) {
+        None => ty.compare(other),
+        Some(order) => order,
     }
-    if let Some(order) = by_results(ty, other) {
-        return order;
+}
+
+/// The order of types, where many are arrows. Most of these lead to states that differ, which are compared at
+/// once, too.
+pub(crate) fn compare_arrows(ty: &Ty, other: &Ty) -> Ordering
+    ensures { result ≡ type_cmp ty.now other.now }
+{
+    match by_results(ty, other) {
+        None => compare(ty, other),
+        Some(order) => order,
     }
-    ty.compare(other)
 }
 
 /// The entry against a point and a type.
@@ -69,6 +77,17 @@ fn place(entry: &Entry, point: u32, ty: &Ty) -> Ordering
         return by_point;
     }
     compare(&entry.ty, ty)
+}
+
+/// So by the order of types where many are arrows.
+fn place_of_arrow(entry: &Entry, point: u32, ty: &Ty) -> Ordering
+    ensures { result ≡ key_cmp point ty.now entry.now }
+{
+    let by_point = entry.point.cmp(&point);
+    if by_point != Ordering::Equal {
+        return by_point;
+    }
+    compare_arrows(&entry.ty, ty)
 }
 
 /// The order of the index: by point, by type, and then as entries are ordered.
@@ -264,7 +283,7 @@ impl<'a> EntryIndex<'a> {
         ensures { IsTrue result ↔ HasTypeAt self.now point ty.now }
     {
         self.at_point(point)
-            .binary_search_by(|row| place(row, point, ty))
+            .binary_search_by(|row| place_of_arrow(row, point, ty))
             .is_ok()
     }
 

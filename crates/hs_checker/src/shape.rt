@@ -5,7 +5,7 @@ ghost use Rattle.hs_table.specs.Types.{TypeTree, IsSet, IsType};
 ghost use Rattle.hs_table.specs.Entries.{Has, IsEnv, InShape, params_of};
 ghost use Rattle.hs_checker.specs.Shape.{AreAllTypes};
 
-use crate::index::compare;
+use crate::index::compare_arrows;
 use hs_scheme::Problem;
 use hs_table::{Entry, Shape, Ty, TypeSet};
 use std::cmp::Ordering;
@@ -15,7 +15,7 @@ pub(crate) fn is_set(types: &[Ty]) -> bool
     ensures { IsTrue result ↔ IsSet types.now }
 {
     for place in 1..types.len() {
-        if compare(&types[place - 1], &types[place]) != Ordering::Less {
+        if compare_arrows(&types[place - 1], &types[place]) != Ordering::Less {
             return false;
         }
     }

@@ -10,6 +10,6 @@ use Rattle.hs_checker.proofs.heads.ends_with.Goals as goal
 
 pub returns-in-Some : goal.returns-in-Some
 returns-in-Some c = λ h.
-    let tied : type_cmp c.in-Some.last.now c.args.ty.now ≡ Equal = sym c.compare.ensures ∙ index_tied c.compare.result (eqb-true (ordering_index c.compare.result) 1 (sym c.eq.ensures ∙ h)) in
+    let tied : type_cmp c.in-Some.last.now c.args.ty.now ≡ Equal = sym c.compare_arrows.ensures ∙ index_tied c.compare_arrows.result (eqb-true (ordering_index c.compare_arrows.result) 1 (sym c.eq.ensures ∙ h)) in
     let there : Contains c.args.found.now c.in-Some.last.now = member_at c.args.found.now _ c.in-Some.last.now (sym c.in-Some.ensures.value) in
     subst (λ z. Contains c.args.found.now z) (type_same c.in-Some.last.now c.args.ty.now tied) there

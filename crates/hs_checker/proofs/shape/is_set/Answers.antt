@@ -24,7 +24,7 @@ returns-then-ne c = (
       let b = c.index-types-place-in-loop-place.result in
       let left : get_or xs (k - 1) b ≡ a = get_or_default xs (k - 1) b a (omega arith) ∙ sym c.index-types-place.is in
       let less : type_cmp a b ≡ Less = (λ i. type_cmp (sym left i) (c.index-types-place-in-loop-place.is i)) ∙ set (k - 1) k b (omega arith) c.loop-place-test.true in
-      absurd (not_less c.compare.result c.if-ne.ensures (c.compare.ensures ∙ less)),
+      absurd (not_less c.compare_arrows.result c.if-ne.ensures (c.compare_arrows.ensures ∙ less)),
 )
 
 pub returns : goal.returns
