@@ -164,7 +164,8 @@ fn are_behind(rows: &[&Entry], place: usize, point: u32) -> bool
 fn start_at(rows: &[&Entry], point: u32, known: usize) -> usize
     requires sorted { IsInIndexOrder (map (λ r. r.now) rows.now) }
     requires within { known ≤ length rows.now }
-    requires before { (k : ℕ) (d : Bor EntryData) → k < known → (slice_index_or rows.now k d).now.point < point }
+    requires before { (k : ℕ) (d : Bor EntryData) → k < known
+        → (slice_index_or rows.now k d).now.point < point }
     ensures { IsStartOfPoint (map (λ r. r.now) rows.now) point result }
 {
     if are_behind(rows, known, point) {
