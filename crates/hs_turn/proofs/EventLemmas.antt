@@ -4,7 +4,7 @@ use mathlib.Core.Option.{some}
 use lib.ListN.{get_elem?}
 use Rattle.atomic_table.proofs.Lists.{at_set}
 use Rattle.std.proofs.lemmas.List.{append-nil}
-use Rattle.std.proofs.lemmas.List.Elements.{All-nil, All-push, All-weaker, filter-append}
+use Rattle.std.proofs.lemmas.List.Elements.{All-nil, All-push, All-head, All-tail, All-weaker, filter-append}
 use Rattle.hs_turn.specs.declared.known.Known.{Known}
 use Rattle.hs_turn.specs.Story.{told_by}
 use Rattle.hs_turn.specs.Views.{first_seat, having_told}
@@ -15,12 +15,28 @@ module _ {E : Type 0} (number : E → ℕ) where
   told_by-append : (n : ℕ) (xs ys : List E) → told_by number n (xs ++ ys) ≡ told_by number n xs ++ told_by number n ys
   told_by-append n = filter-append (λ (e : E). eqb (number e) n)
 
-  -- an event under the number n adds itself, and any other event nothing
-  told_mine : (n : ℕ) (told : List E) (e : E) → number e ≡ n → told_by number n (told ++ e ∷ []) ≡ told_by number n told ++ e ∷ []
-  told_mine n told e is = told_by-append n told (e ∷ []) ∙ ap (λ (c : Bool). told_by number n told ++ cond c (e ∷ []) []) (eq-eqb (number e) n is)
+  abbrev pub Bears : ℕ → E → Type 0
+  Bears n e = number e ≡ n
 
-  told_else : (n : ℕ) (told : List E) (e : E) → number e ≢ n → told_by number n (told ++ e ∷ []) ≡ told_by number n told
-  told_else n told e not = told_by-append n told (e ∷ []) ∙ (ap (λ (c : Bool). told_by number n told ++ cond c (e ∷ []) []) (ne_eqb (number e) n not) ∙ append-nil (told_by number n told))
+  pub told_all : (n : ℕ) (es : List E) → All (Bears n) es → told_by number n es ≡ es
+  told_all n [] all = refl
+  told_all n (e ∷ es) all =
+      ap (λ (c : Bool). cond c (e ∷ told_by number n es) (told_by number n es)) (eq-eqb (number e) n (All-head (Bears n) e es all))
+      ∙ ap (λ (xs : List E). e ∷ xs) (told_all n es (All-tail (Bears n) e es all))
+
+  told_none : (m n : ℕ) (es : List E) → All (Bears m) es → m ≢ n → told_by number n es ≡ []
+  told_none m n [] all not = refl
+  told_none m n (e ∷ es) all not =
+      ap (λ (c : Bool). cond c (e ∷ told_by number n es) (told_by number n es)) (ne_eqb (number e) n (λ z. not (sym (All-head (Bears m) e es all) ∙ z)))
+      ∙ told_none m n es (All-tail (Bears m) e es all) not
+
+  -- events under the number n add themselves, and events under another number nothing
+  told_mine : (n : ℕ) (told es : List E) → All (Bears n) es → told_by number n (told ++ es) ≡ told_by number n told ++ es
+  told_mine n told es all = told_by-append n told es ∙ ap (λ (xs : List E). told_by number n told ++ xs) (told_all n es all)
+
+  told_else : (m n : ℕ) (told es : List E) → All (Bears m) es → m ≢ n → told_by number n (told ++ es) ≡ told_by number n told
+  told_else m n told es all not =
+      told_by-append n told es ∙ (ap (λ (xs : List E). told_by number n told ++ xs) (told_none m n es all not) ∙ append-nil (told_by number n told))
 
 module _ {E : Type 0} where
   -- the kept lists of a view, by each of its properties
@@ -63,33 +79,33 @@ module _ {B E : Type 0} (number : E → ℕ) where
       was : (j : ℕ) (u : Known B E) → get_elem? (set views i w) j ≡ some u → (x : Known B E) × (get_elem? views j ≡ some x) × IsAlike x u
       was = before views i v w at like
 
-  -- the seat at place i tells one event under its number
-  module _ (told : List E) (views : List (Known B E)) (i : ℕ) (v : Known B E) (e : E) (at : get_elem? views i ≡ some v) (lives : v.live ≡ true) (is : number e ≡ v.number) (s : AreSeats views) (o : O told views) where
+  -- the seat at place i tells events under its number
+  module _ (told : List E) (views : List (Known B E)) (i : ℕ) (v : Known B E) (es : List E) (at : get_elem? views i ≡ some v) (lives : v.live ≡ true) (all : All (Bears number v.number) es) (s : AreSeats views) (o : O told views) where
     abbrev W : Known B E
-    W = having_told v (e ∷ [])
+    W = having_told v es
 
     abbrev Told : List E
-    Told = told ++ e ∷ []
+    Told = told ++ es
 
     had : (j : ℕ) (u : Known B E) → get_elem? (set views i W) j ≡ some u → (x : Known B E) × (get_elem? views j ≡ some x) × IsAlike x u
     had = before views i v W at record { live = refl; number = refl; splits = refl; joins = refl; joined = refl }
 
     told_own : (j : ℕ) (u : Known B E) → get_elem? (set views i W) j ≡ some u → u.live ≡ true → told_by number u.number Told ≡ u.own
     told_own j u a l = ⊎_elim
-        (λ t. subst (λ (x : Known B E). told_by number x.number Told ≡ x.own) t.1 (told_mine number v.number told e is ∙ ap (λ (xs : List E). xs ++ e ∷ []) (o.own i v at lives)))
-        (λ t. told_else number u.number told e (λ z. t.0 (s.apart j i u v t.1 at l lives (sym z ∙ is))) ∙ o.own j u t.1 l)
+        (λ t. subst (λ (x : Known B E). told_by number x.number Told ≡ x.own) t.1 (told_mine number v.number told es all ∙ ap (λ (xs : List E). xs ++ es) (o.own i v at lives)))
+        (λ t. told_else number v.number u.number told es all (λ z. t.0 (s.apart j i u v t.1 at l lives (sym z))) ∙ o.own j u t.1 l)
         (at_set views i j W u a)
 
     -- the kept lists stay, since the seats that they are of are gone
     told_joined : (j : ℕ) (u : Known B E) → get_elem? (set views i W) j ≡ some u → u.live ≡ true → All (Own number Told) u.joined
     told_joined j u a l = let t = had j u a in let lx = sym t.2.live ∙ l in
         subst (All (Own number Told)) (sym t.2.joined) (λ k d lt. let p = get_or t.0.joined k d in
-        told_else number p.0 told e (λ z. o.gone j i t.0 v t.1 at lx lives k d lt (sym is ∙ z)) ∙ o.joined j t.0 t.1 lx k d lt)
+        told_else number v.number p.0 told es all (λ z. o.gone j i t.0 v t.1 at lx lives k d lt z) ∙ o.joined j t.0 t.1 lx k d lt)
 
     told_ungiven : (j : ℕ) (u : Known B E) → get_elem? (set views i W) j ≡ some u → u.number ≡ 0 → u.live ≡ true → (n : ℕ) → u.splits < n → told_by number n Told ≡ []
     told_ungiven j u a z l n h = let t = had j u a in let q = t.2.splits in
         let le = s.below j i t.0 v t.1 at (sym t.2.number ∙ z) (sym t.2.live ∙ l) lives in
-        told_else number n told e (λ y. absurd (let k : v.number ≡ n = sym is ∙ y in omega arith)) ∙ o.ungiven j t.0 t.1 (sym t.2.number ∙ z) (sym t.2.live ∙ l) n (omega arith)
+        told_else number v.number n told es all (λ y. absurd (let k : v.number ≡ n = y in omega arith)) ∙ o.ungiven j t.0 t.1 (sym t.2.number ∙ z) (sym t.2.live ∙ l) n (omega arith)
 
     pub events-told : O Told (set views i W)
     events-told = record {

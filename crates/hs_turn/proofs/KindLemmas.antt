@@ -3,7 +3,7 @@
 --     enter_free     a compare-exchange that finds the lock word 0: the seat holds the slot
 --     enter_held     one that finds the lock word 1: nothing is learnt
 --     may_look       a load of the count, which shows that what was kept at a join begins what was seen
---     may_tell       an addition to the count: one event enters the story
+--     may_tell       an addition to the count: so many events enter the story
 --     may_leave      a store of 0 in the lock word: the slot is given back
 --     may_split      a split: a seat with the next number
 --     may_join       a join: both lists are kept
@@ -25,8 +25,8 @@ use Rattle.hs_turn.proofs.PrefixLemmas.{prefix-refl, prefix-longer, prefix-short
 use Rattle.hs_turn.proofs.SeatLemmas.{set_at, at_push, only_value, count_two, seats-first, seats-set, seats-split, seats-join}
 use Rattle.hs_turn.proofs.EventLemmas.{events-first, events-set, events-told, events-split, events-join}
 
-small_mod : (n : ℕ) → n < 2 ^ 63 → (n + 1) % 2 ^ 64 ≡ n + 1
-small_mod n h = omega arith
+small_mod : (n m : ℕ) → n + m ≤ 2 ^ 63 → (n + m) % 2 ^ 64 ≡ n + m
+small_mod n m h = omega arith
 
 some_injective : {A : Type 0} {x y : A} → Some x ≡ Some y → x ≡ y
 some_injective e = cc e
@@ -184,34 +184,34 @@ module _ {T B E : Type 0} (base : T → B) (story : T → List E) (number : E �
         refl,
       )
 
-      module _ (e : E) (bears : number e ≡ me.0.number) (room : length me.0.seen < 2 ^ 63) where
+      module _ (es : List E) (bears : All (λ e. number e ≡ me.0.number) es) (room : length me.0.seen + length es ≤ 2 ^ 63) where
         abbrev W : V
-        W = having_told me.0 (e ∷ [])
+        W = having_told me.0 es
 
         abbrev Telling : List V → Shape → Type 0
-        Telling views sh = Rule record { words = set sh.0 1 ((get_or sh.0 1 0 + 1) % 2 ^ 64); homes = sh.1; views = set views id W }
+        Telling views sh = Rule record { words = set sh.0 1 ((get_or sh.0 1 0 + length es) % 2 ^ 64); homes = sh.1; views = set views id W }
 
         telling : (views : List V) (told : List E) (phase : Phase T) → Each told phase views → AreSeats views → AreOwned number told views → get_elem? views id ≡ some me.0 → Telling views (shape told phase)
         telling views told (free y) each seats events at = absurd (((each id me.0 at).holding holds).0)
         telling views told (held i) each seats events at = let k = each id me.0 at in let h = k.holding holds in
-            let more : length (told ++ e ∷ []) ≡ length told + 1 = length-append told (e ∷ []) in
-            let fits : length told < 2 ^ 63 = subst (λ (l : List E). length l < 2 ^ 63) h.2 room in
-            let same : (length told + 1) % 2 ^ 64 ≡ length (told ++ e ∷ []) = small_mod (length told) fits ∙ sym more in record {
-              told = told ++ e ∷ [];
+            let more : length (told ++ es) ≡ length told + length es = length-append told es in
+            let fits : length told + length es ≤ 2 ^ 63 = subst (λ (l : List E). length l + length es ≤ 2 ^ 63) h.2 room in
+            let same : (length told + length es) % 2 ^ 64 ≡ length (told ++ es) = small_mod (length told) (length es) fits ∙ sym more in record {
+              told = told ++ es;
               phase = held i;
               words = ap (λ (n : ℕ). 1 ∷ n ∷ []) same;
               homes = refl;
               rests = tt;
-              each = each_set (told ++ e ∷ []) (held i) views id W
-                  record { base_is = k.base_is; seen_begins = subst (λ (l : List E). IsPrefix (l ++ e ∷ []) (told ++ e ∷ [])) (sym h.2) (prefix-refl (told ++ e ∷ [])); kept_begins = prefix-longer me.0.kept told (e ∷ []) k.kept_begins; holding = λ _. (h.0, h.1, ap (λ (l : List E). l ++ e ∷ []) h.2) }
-                  (λ j v n a. let o = each j v a in record { base_is = o.base_is; seen_begins = prefix-longer v.seen told (e ∷ []) o.seen_begins; kept_begins = prefix-longer v.kept told (e ∷ []) o.kept_begins; holding = λ y. absurd (n ((o.holding y).0 ∙ sym h.0)) });
+              each = each_set (told ++ es) (held i) views id W
+                  record { base_is = k.base_is; seen_begins = subst (λ (l : List E). IsPrefix (l ++ es) (told ++ es)) (sym h.2) (prefix-refl (told ++ es)); kept_begins = prefix-longer me.0.kept told es k.kept_begins; holding = λ _. (h.0, h.1, ap (λ (l : List E). l ++ es) h.2) }
+                  (λ j v n a. let o = each j v a in record { base_is = o.base_is; seen_begins = prefix-longer v.seen told es o.seen_begins; kept_begins = prefix-longer v.kept told es o.kept_begins; holding = λ y. absurd (n ((o.holding y).0 ∙ sym h.0)) });
               holder = (W, subst (λ (n : ℕ). get_elem? (set views id W) n ≡ some W) h.0 (set_at views id me.0 W at), holds);
               seats = seats-set views id me.0 W at record { live = refl; number = refl; splits = refl; joins = refl; joined = refl } seats;
-              events = events-told number told views id me.0 e at h.1 bears seats events;
+              events = events-told number told views id me.0 es at h.1 bears seats events;
             }
 
-        may_tell_one : Allows Rule slots id me 1 (λ n. (n + 1) % 2 ^ 64) (Tells (e ∷ []) (step slots 1 1 0 maybe.none) me)
-        may_tell_one s r _ at _ = (
+        may_tell_so_many : Allows Rule slots id me 1 (λ n. (n + length es) % 2 ^ 64) (Tells es (step slots 1 (length es) 0 maybe.none) me)
+        may_tell_so_many s r _ at _ = (
           W,
           keeps,
           tt,
@@ -219,9 +219,10 @@ module _ {T B E : Type 0} (base : T → B) (story : T → List E) (number : E �
           (refl, refl),
         )
 
-      -- an addition of 1 to the count adds one event to the story
-      pub may_tell : (e : E) → number e ≡ me.0.number → length me.0.seen < 2 ^ 63 → (es : List E) → es ≡ e ∷ [] → Allows Rule slots id me 1 (λ n. (n + 1) % 2 ^ 64) (Tells es (step slots 1 1 0 maybe.none) me)
-      may_tell e bears room es is = subst (λ (l : List E). Allows Rule slots id me 1 (λ n. (n + 1) % 2 ^ 64) (Tells l (step slots 1 1 0 maybe.none) me)) (sym is) (may_tell_one e bears room)
+      -- an addition to the count adds so many events to the story
+      pub may_tell : (es : List E) (count : ℕ) → All (λ e. number e ≡ me.0.number) es → length es ≡ count → length me.0.seen + count ≤ 2 ^ 63 → Allows Rule slots id me 1 (λ n. (n + count) % 2 ^ 64) (Tells es (step slots 1 count 0 maybe.none) me)
+      may_tell es count bears is room =
+          subst (λ k. Allows Rule slots id me 1 (λ n. (n + k) % 2 ^ 64) (Tells es (step slots 1 k 0 maybe.none) me)) is (may_tell_so_many es bears (subst (λ k. length me.0.seen + k ≤ 2 ^ 63) (sym is) room))
 
   holder_stays : (views us : List V) (phase : Phase T) → HasHolder views phase → ((i : ℕ) (u : V) → get_elem? views i ≡ some u → u.holds ≡ true → get_elem? us i ≡ some u) → HasHolder us phase
   holder_stays views us (free x) h stays = tt

@@ -25,13 +25,13 @@ module _ {A : Type 0} where
       let rest = prefix-shorter xs ys zs (p.0, cc (p.1)) (q.0, cc (q.1)) (omega arith) in
       (rest.0, cc (heads, rest.1))
 
-  drop-append : (xs : List A) (x : A) → drop (length xs) (xs ++ x ∷ []) ≡ x ∷ []
-  drop-append [] x = refl
-  drop-append (y ∷ xs) x = drop-append xs x
+  drop-append : (xs more : List A) → drop (length xs) (xs ++ more) ≡ more
+  drop-append [] more = refl
+  drop-append (y ∷ xs) more = drop-append xs more
 
-  -- what a list has behind another, where it has one more
-  pub last_of : (xs ys : List A) (x : A) → ys ≡ xs ++ x ∷ [] → drop (length xs) ys ≡ x ∷ []
-  last_of xs ys x is = ap (drop (length xs)) is ∙ drop-append xs x
+  -- what a list has behind another that begins it
+  pub behind : (xs ys more : List A) → ys ≡ xs ++ more → drop (length xs) ys ≡ more
+  behind xs ys more is = ap (drop (length xs)) is ∙ drop-append xs more
 
   both_begin_by : (b : Bool) (xs ys : List A) → IsPrefix (cond b xs ys) (cond b ys xs) → IsPrefix xs (cond b ys xs) × IsPrefix ys (cond b ys xs)
   both_begin_by true xs ys p = (p, prefix-refl ys)

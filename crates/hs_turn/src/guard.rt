@@ -1,6 +1,6 @@
 //! Entering a turn, telling of events, and leaving.
 
-ghost use Rattle.std.specs.Prelude.{◌≡◌, ◌<◌, ◌^◌, false, true, [], ◌∷◌, ◌++◌, length, Some, IfSome, IfNone};
+ghost use Rattle.std.specs.Prelude.{◌≡◌, ◌+◌, ◌<◌, ◌≤◌, ◌^◌, false, true, List, [], ◌∷◌, ◌++◌, length, All, Some, IfSome, IfNone};
 ghost use mathlib.Core.List.{IsPrefix};
 ghost use Rattle.hs_turn.specs.Story.{told_by};
 ghost use Rattle.hs_turn.specs.AtomicSteps.{Finds};
@@ -77,7 +77,23 @@ impl<'a, T: Storied> Guard<'a, T> {
         ensures seat { (event : T.Event) × (T.story self.old.state ≡ seat.old.known.seen ++ event ∷ [])
             × (seat.new.known ≡ having_told seat.old.known (event ∷ [])) }
     {
-        count::<T, Brand>(self.turn, &self.state, seat);
+        count::<T, Brand>(self.turn, &self.state, seat, 1);
+    }
+
+    /// Counts the events, so many, by which the state's story has just grown; they become the seat's
+    /// own. The story has at most 2^63 events. The cost is that of one event.
+    pub fn tell_all(&mut self, seat: &mut Seat<T>, events: u64)
+        requires turn { seat.old.turn ≡ self.old.turn.now }
+        requires holds { seat.old.known.holds ≡ true }
+        requires grown { (more : List T.Event) × (T.story self.old.state ≡ seat.old.known.seen ++ more)
+            × (length more ≡ events) × All (λ e. T.number e ≡ seat.old.known.number) more }
+        requires room { length seat.old.known.seen + events ≤ 2 ^ 63 }
+        ensures guard { self.new ≡ self.old }
+        ensures turn { seat.new.turn ≡ seat.old.turn }
+        ensures seat { (more : List T.Event) × (T.story self.old.state ≡ seat.old.known.seen ++ more)
+            × (seat.new.known ≡ having_told seat.old.known more) }
+    {
+        count::<T, Brand>(self.turn, &self.state, seat, events);
     }
 
     /// Puts the state back and frees the lock. The base is as it was found, and the story has grown
@@ -99,17 +115,23 @@ impl<'a, T: Storied> Guard<'a, T> {
     }
 }
 
-/// Counts the events that `J` names, which are one. The state is there for the proof alone: the
-/// caller names the event by it.
-fn count<T: Storied, J: Telling<T::Event>>(turn: &Turn<T>, state: &T, seat: &mut Seat<T>)
+/// Counts the events that `J` names, which are so many. The state is there for the proof alone: the
+/// caller names the events by it.
+fn count<T: Storied, J: Telling<T::Event>>(
+    turn: &Turn<T>,
+    state: &T,
+    seat: &mut Seat<T>,
+    events: u64,
+)
     requires turn { seat.old.turn ≡ turn.now }
     requires holds { seat.old.known.holds ≡ true }
-    requires one { (event : T.Event) × (J.events ≡ event ∷ []) × (T.number event ≡ seat.old.known.number) }
-    requires room { length seat.old.known.seen < 2 ^ 63 }
+    requires many { length J.events ≡ events }
+    requires bear { All (λ e. T.number e ≡ seat.old.known.number) J.events }
+    requires room { length seat.old.known.seen + events ≤ 2 ^ 63 }
     ensures turn { seat.new.turn ≡ seat.old.turn }
     ensures seat { seat.new.known ≡ having_told seat.old.known J.events }
 {
     let _ = state;
     let shared = &turn.table.shared;
-    shared.fetch_add::<Tell<J>>(&mut seat.inner, COUNT, 1);
+    shared.fetch_add::<Tell<J>>(&mut seat.inner, COUNT, events);
 }

@@ -74,6 +74,57 @@ fn record<R: Wait>(rt: &R, turn: &Turn<Log>, seat: &mut Seat<Log>, step: u32) ->
     recorded
 }
 
+/// Adds two events of this seat and tells of them at once, and says whether they went in.
+fn record_both<R: Wait>(
+    rt: &R,
+    turn: &Turn<Log>,
+    seat: &mut Seat<Log>,
+    step: u32,
+    next: u32,
+) -> bool
+    requires turn { seat.old.turn ≡ turn.now }
+    requires free { seat.old.known.holds ≡ false }
+    ensures turn { seat.new.turn ≡ turn.now }
+    ensures free { seat.new.known.holds ≡ false }
+    ensures number { seat.new.known.number ≡ seat.old.known.number }
+    ensures counts { (seat.new.known.splits ≡ seat.old.known.splits)
+        × (seat.new.known.joins ≡ seat.old.known.joins) }
+{
+    let number = seat.number();
+    let mut guard = turn.enter(rt, seat);
+    let mut recorded = false;
+    if guard.state.events.len() < MANY {
+        if guard.state.events.reserve(2).is_ok() {
+            guard.state.events.push_reserved(Event { number, step });
+            guard
+                .state
+                .events
+                .push_reserved(Event { number, step: next });
+            guard.tell_all(seat, 2);
+            recorded = true;
+        }
+    }
+    guard.leave(seat);
+    recorded
+}
+
+#[test]
+fn two_events_are_told_at_once(rt: HostRuntime) -> Result<(), Fail> {
+    let Ok((turn, mut seat)) = Turn::new(rt.alloc(), empty(rt.alloc(), &[], 0)?) else {
+        panic!(rt; "memory");
+    };
+    let first = record_both(&rt, &turn, &mut seat, 7, 8);
+    let last = record(&rt, &turn, &mut seat, 9);
+    let log = turn.close(seat);
+    assert!(rt; first && last);
+    let steps = log.events.as_slice();
+    assert_eq!(rt; steps.len(), 3);
+    assert_eq!(rt; steps[0], Event { number: 0, step: 7 });
+    assert_eq!(rt; steps[1], Event { number: 0, step: 8 });
+    assert_eq!(rt; steps[2], Event { number: 0, step: 9 });
+    Ok(())
+}
+
 #[test]
 fn a_state_is_found_as_it_was_left(rt: HostRuntime) -> Result<(), Fail> {
     let Ok((turn, mut seat)) = Turn::new(rt.alloc(), empty(rt.alloc(), &[4, 2], 9)?) else {

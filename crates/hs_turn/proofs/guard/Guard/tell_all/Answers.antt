@@ -1,0 +1,15 @@
+use Rattle.std.proofs.Common.{◌≡◌, sym, ap, subst, ◌∙◌, List, length, All}
+use Rattle.hs_turn.specs.Views.{having_told}
+use Rattle.hs_turn.proofs.PrefixLemmas.{behind}
+use Rattle.hs_turn.proofs.guard.Guard.tell_all.Goals as goal
+
+pub count-requires-clause-many : goal.count-requires-clause-many
+count-requires-clause-many g c = let grown = c.requires.grown in ap length (behind c.args.seat.now.known.seen _ grown.0 grown.1) ∙ grown.2
+
+pub count-requires-clause-bear : goal.count-requires-clause-bear
+count-requires-clause-bear g c = let grown = c.requires.grown in
+    subst (All (λ e. g.T.Storied.number e ≡ c.args.seat.now.known.number)) (sym (behind c.args.seat.now.known.seen _ grown.0 grown.1)) grown.3
+
+pub returns-clause-seat : goal.returns-clause-seat
+returns-clause-seat g c = let grown = c.requires.grown in let known = c.args.seat.now.known in
+    (grown.0, grown.1, subst (λ (es : List g.row.T-Event.Denot). c.count.new.seat.known ≡ having_told known es) (behind known.seen _ grown.0 grown.1) c.count.ensures.seat)
