@@ -4,4 +4,5 @@ pub mod Stepping
 pub mod Slots
 pub mod Moving
 pub mod Turning
+pub mod Flying
 pub mod Passing

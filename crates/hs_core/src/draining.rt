@@ -1,9 +1,9 @@
-//! The works that are left, done by one worker.
+//! Works that one worker does on a core: one, or all that are left.
 
-ghost use Rattle.std.specs.Prelude.{◌≡◌, ◌<◌, ◌≤◌, ◌++◌, ℕ, All, IfOk, OnOk, IsTrue, MatchBool, IsSome, length};
+ghost use Rattle.std.specs.Prelude.{◌≡◌, ◌<◌, ◌≤◌, ◌++◌, ℕ, All, IfOk, OnOk, IsTrue, MatchBool, Some, None, IsSome, length};
 ghost use Rattle.hs_flow.specs.Dependents.{HasDependents};
 ghost use Rattle.hs_history.specs.Story.{Story};
-ghost use Rattle.hs_history.specs.CoreStep.{Holds, CanFinish, IsClosedWork, IsClosedPlace};
+ghost use Rattle.hs_history.specs.CoreStep.{Holds, CanFinish, IsClosedWork, IsClosedPlace, put};
 ghost use Rattle.hs_history.specs.History.{IsWork};
 ghost use Rattle.hs_core.specs.Core.{state_of, log_of};
 ghost use Rattle.hs_core.specs.Draining.{weight, GoesAlone, SameFlight, NothingFlies, IsReady, IsThere, EndsAtRest, IsNextSeed, Closes};
@@ -57,8 +57,8 @@ fn publish_all(
     Ok(true)
 }
 
-/// Publishes what follows by the place, which the worker has taken under the ticket. Answers whether
-/// the budget had room for all of it.
+/// Publishes what follows by the place, which the worker has taken under the ticket, and adds to
+/// `formed` how many conclusions that is. Answers whether the budget had room for all of it.
 fn conclude_place(
     alloc: Global,
     core: &mut Core,
@@ -66,6 +66,7 @@ fn conclude_place(
     worker: u32,
     place: u32,
     ticket: u32,
+    formed: &mut usize,
 ) -> Result<bool, OutOfMemory>
     requires holds { Holds (state_of core.old) worker ticket }
     requires place { place < length (log_of core.old) }
@@ -81,6 +82,7 @@ fn conclude_place(
     let point = core.replica().row(place).point;
     for dependent in dependents.list(point) {
         let found = core.at_place(alloc, *dependent, place)?;
+        *formed = formed.saturating_add(found.len());
         if !publish_all(core, worker, ticket, found)? {
             return Ok(false);
         }
@@ -88,8 +90,8 @@ fn conclude_place(
     Ok(true)
 }
 
-/// Publishes what follows by the work, which the worker has taken under the ticket. Answers whether
-/// the budget had room for all of it.
+/// Publishes what follows by the work, which the worker has taken under the ticket, and adds to
+/// `formed` how many conclusions that is. Answers whether the budget had room for all of it.
 fn conclude(
     alloc: Global,
     core: &mut Core,
@@ -97,6 +99,7 @@ fn conclude(
     worker: u32,
     work: Work,
     ticket: u32,
+    formed: &mut usize,
 ) -> Result<bool, OutOfMemory>
     requires holds { Holds (state_of core.old) worker ticket }
     requires work { IsWork core.old.base.problem (log_of core.old) work }
@@ -111,9 +114,12 @@ fn conclude(
     match work {
         Work::Seed(point) => {
             let found = core.at_seed(alloc, point)?;
+            *formed = formed.saturating_add(found.len());
             publish_all(core, worker, ticket, found)
         }
-        Work::Place(place) => conclude_place(alloc, core, dependents, worker, place, ticket),
+        Work::Place(place) => {
+            conclude_place(alloc, core, dependents, worker, place, ticket, formed)
+        }
     }
 }
 
@@ -203,7 +209,34 @@ fn turn<G: Gate>(
         return Ok(false);
     };
     gate.before(worker, work);
-    let all = conclude(alloc, core, dependents, worker, work, ticket);
+    let mut formed = 0;
+    let all = conclude(alloc, core, dependents, worker, work, ticket, &mut formed);
+    close(core, worker, ticket, all)
+}
+
+/// Does the work under the ticket, which the worker holds: publishes what follows by it, adds to
+/// `formed` how many conclusions that is, known ones too, and closes the work. Where the budget has no
+/// room for all of it, or memory is refused, the work is given back. Answers whether the budget had
+/// room. The dependents are those of the core's problem.
+pub fn do_work(
+    alloc: Global,
+    core: &mut Core,
+    dependents: &Dependents,
+    worker: u32,
+    work: Work,
+    ticket: u32,
+    formed: &mut usize,
+) -> Result<bool, OutOfMemory>
+    requires flies { (state_of core.old).flight ticket ≡ Some (record { worker = worker; work = work }) }
+    requires dependents { HasDependents core.old.base.problem.points core.old.base.problem.flow.pairs
+        dependents.now }
+    ensures goes { GoesAlone worker core.old core.new }
+    ensures flight { (t : ℕ) → (state_of core.new).flight t ≡ put ticket None (state_of core.old).flight t }
+    ensures closed { IfOk result (λ all. MatchBool all
+        (IsClosedWork core.new.base.problem (log_of core.new) work) (IsSome (state_of core.new).kept)) }
+{
+    core.is_core();
+    let all = conclude(alloc, core, dependents, worker, work, ticket, formed);
     close(core, worker, ticket, all)
 }
 

@@ -21,7 +21,7 @@ mod tickets;
 
 pub use alone::saturate_alone;
 pub use answers::{Done, Drained, Published, Taken};
-pub use draining::{drain, work_alone};
+pub use draining::{do_work, drain, work_alone};
 pub use gate::{Gate, Open};
 pub use hs_history::{Event, Flight, Step, Work};
 pub use hs_rules::{Deduced, Replica};

@@ -5,7 +5,9 @@ use Rattle.std.proofs.lemmas.List.Elements.{filter-append}
 use mathlib.Core.List.{IsPrefix}
 use Rattle.hs_history.specs.Story.{CoreStep, Story}
 use Rattle.hs_core.specs.Core.{CoreData, IsCore}
+use Rattle.hs_core.specs.Answers.{AreOfWorker}
 use Rattle.hs_turn.specs.Story.{told_by}
+use Rattle.hs_turn.proofs.EventLemmas.{told_all}
 use Rattle.hs_shared.specs.Seats.{SeatData, worker_of, HasSeenOwn}
 use Rattle.hs_shared.specs.Calls.{Finds, Does, Looks, GrowsOnce, seat_after}
 use Rattle.hs_shared.specs.Holding.{holding, having_left, HasTold}
@@ -34,15 +36,24 @@ steps_own n seen story steps (inr (action, is)) grown =
     let step : CoreStep = record { worker = n; action = action } in
     subst (λ (xs : Story). told_by worker_of n xs ≡ xs) (append_cancel_left seen (step ∷ []) steps (sym is ∙ grown)) (ap (λ b. cond b (step ∷ []) []) (eq-eqb n n refl))
 
--- a seat that has told
-pub has_told : (old new : SeatData) (story : Story) → HasSeenOwn old → GrowsOnce old.known.number old.known.seen story → HasTold old story new → HasSeenOwn new
-has_told old new story own once t =
+-- a seat that has told of steps of its own
+own_told : (old new : SeatData) (story : Story) → HasSeenOwn old → (t : HasTold old story new) → told_by worker_of old.known.number t.0 ≡ t.0 → HasSeenOwn new
+own_told old new story own t mine =
     let n = old.known.number in
     let all : told_by worker_of n story ≡ old.known.own ++ t.0 =
     ap (told_by worker_of n) t.1 ∙ filter-append (λ (x : CoreStep). eqb x.worker n) old.known.seen t.0
     ∙ ap (λ (xs : Story). xs ++ told_by worker_of n t.0) own
-    ∙ ap (λ (xs : Story). old.known.own ++ xs) (steps_own n old.known.seen story t.0 once t.1) in
+    ∙ ap (λ (xs : Story). old.known.own ++ xs) mine in
     subst (λ (s : SeatData). HasSeenOwn s) (sym t.2) all
+
+pub has_told : (old new : SeatData) (story : Story) → HasSeenOwn old → GrowsOnce old.known.number old.known.seen story → HasTold old story new → HasSeenOwn new
+has_told old new story own once t = own_told old new story own t (steps_own old.known.number old.known.seen story t.0 once t.1)
+
+pub has_told_all : (old new : SeatData) (story more : Story) → HasSeenOwn old → story ≡ old.known.seen ++ more → AreOfWorker old.known.number more → HasTold old story new → HasSeenOwn new
+has_told_all old new story more own grown alone t =
+    let n = old.known.number in
+    let same : more ≡ t.0 = append_cancel_left old.known.seen more t.0 (sym grown ∙ t.1) in
+    own_told old new story own t (subst (λ (xs : Story). told_by worker_of n xs ≡ xs) same (told_all worker_of n more alone))
 
 -- a call: the seat before it, while it holds, once it has told, and once it has left
 module _ (old held mid new : SeatData) (core left : CoreData) (is_held : held ≡ holding old core.story) (f : Finds old core) (t : HasTold held left.story mid) (has : HasSeenOwn mid) (left_core : IsCore left)

@@ -1,12 +1,13 @@
 //! What is done while the turn is held.
 
-ghost use Rattle.std.specs.Prelude.{◌≡◌, ◌<◌, ◌^◌, ℕ, true, length, IfOk, OnOk, OnErr, take, ◌+◌};
+ghost use Rattle.std.specs.Prelude.{◌≡◌, ◌<◌, ◌^◌, ◌++◌, ℕ, true, length, IfOk, OnOk, OnErr, take, ◌+◌};
 ghost use mathlib.Core.List.{IsPrefix};
 ghost use Rattle.hs_table.specs.Follows.{FollowsBy};
 ghost use Rattle.hs_types.specs.Interned.{IsRow, entry_of, Grows};
 ghost use Rattle.hs_history.specs.CoreStep.{Holds};
 ghost use Rattle.hs_core.specs.Core.{CoreData, IsCore, state_of, log_of, deduction_of};
-ghost use Rattle.hs_core.specs.Answers.{Takes, Publishes};
+ghost use Rattle.hs_history.specs.Story.{Story};
+ghost use Rattle.hs_core.specs.Answers.{Takes, Publishes, AreOfWorker};
 ghost use Rattle.hs_shared.specs.Seats.{HasSeenOwn};
 ghost use Rattle.hs_shared.specs.Calls.{GrowsOnce};
 ghost use Rattle.hs_shared.specs.Holding.{HasTold};
@@ -43,6 +44,27 @@ pub(crate) fn tell<'p>(guard: &mut Guard<'_, Held<'p>>, seat: &mut Seat<Held<'p>
         return;
     }
     guard.tell(seat);
+}
+
+/// Tells of the steps by which the story has grown since it had so many steps.
+pub(crate) fn tell_all<'p>(
+    guard: &mut Guard<'_, Held<'p>>,
+    seat: &mut Seat<Held<'p>>,
+    before: usize,
+)
+    requires turn { seat.old.turn ≡ guard.old.turn.now }
+    requires holds { seat.old.known.holds ≡ true }
+    requires own { HasSeenOwn seat.old }
+    requires before { before ≡ length seat.old.known.seen }
+    requires grown { (more : Story) × (guard.old.state.core.story ≡ seat.old.known.seen ++ more)
+        × AreOfWorker seat.old.known.number more }
+    ensures guard { guard.new ≡ guard.old }
+    ensures seat { HasTold seat.old guard.old.state.core.story seat.new }
+    ensures own { HasSeenOwn seat.new }
+    ensures core { IsCore guard.old.state.core }
+{
+    let now = count(&guard.state.core);
+    guard.tell_all(seat, (now - before) as u64);
 }
 
 /// Makes room for an event, and takes a work.

@@ -1,22 +1,26 @@
 //! A shared table while a seat holds it.
 
-ghost use Rattle.std.specs.Prelude.{◌≡◌, ℕ, IfOk, OnOk, OnErr, length};
+ghost use Rattle.std.specs.Prelude.{◌≡◌, ℕ, Some, None, IfOk, OnOk, OnErr, MatchBool, IsSome, length};
 ghost use mathlib.Core.List.{IsPrefix};
 ghost use Rattle.hs_table.specs.Follows.{FollowsBy};
 ghost use Rattle.hs_types.specs.Interned.{IsRow, entry_of, Grows};
 ghost use Rattle.hs_replica.specs.Extending.{CanExtend, extended};
 ghost use Rattle.hs_history.specs.Story.{finishes, gives_back};
-ghost use Rattle.hs_history.specs.CoreStep.{Holds, CanFinish};
+ghost use Rattle.hs_flow.specs.Dependents.{HasDependents};
+ghost use Rattle.hs_history.specs.CoreStep.{Holds, CanFinish, IsClosedWork, put};
 ghost use Rattle.hs_core.specs.Core.{CoreData, IsCore, state_of, log_of, deduction_of, stepped};
 ghost use Rattle.hs_core.specs.Answers.{Takes, Publishes};
+ghost use Rattle.hs_core.specs.Draining.{GoesAlone};
 ghost use Rattle.hs_shared.specs.Holding.{having_left, HasTold, IsHolding};
 
 use crate::held::Held;
-use crate::hold::{copy_log, count, publish_deduction, take_work, tell};
-use hs_core::{Deduced, Published, Replica, Taken};
+use crate::hold::{copy_log, count, publish_deduction, take_work, tell, tell_all};
+use hs_core::{Deduced, Published, Replica, Taken, Work, do_work};
+use hs_flow::Dependents;
 use hs_scheme::OutOfMemory;
 use hs_turn::{Guard, Seat};
 use hs_types::{ImportedNumbers, Row};
+use std::alloc::Global;
 use std::marker::Model;
 
 /// The core of a shared table while a seat holds it: no other call of the table goes on until the
@@ -41,6 +45,13 @@ impl<'a, 'p> Model for Hold<'a, 'p> {
 }
 
 impl<'a, 'p> Hold<'a, 'p> {
+    /// How many entries the log has. Takes no memory, and constant time.
+    pub fn entries(&self) -> usize
+        ensures { result ≡ length (log_of self.now.core) }
+    {
+        self.guard.state.core.replica().len() as usize
+    }
+
     /// How many works are pending. Takes no memory, and constant time.
     pub fn pending(&self) -> usize
         ensures { result ≡ length (state_of self.now.core).pending }
@@ -135,6 +146,42 @@ impl<'a, 'p> Hold<'a, 'p> {
         let before = count(&self.guard.state.core);
         self.guard.state.core.give_back(worker, ticket);
         tell(&mut self.guard, seat, before);
+    }
+
+    /// Does the work under a ticket, which the seat has, on the core itself: publishes what follows by
+    /// it, adds to `formed` how many conclusions that is, known ones too, and closes the work, as
+    /// `do_work` does. Where the budget has no room for all of it, or memory is refused, the work is given
+    /// back. Answers whether the budget had room.
+    pub fn work(
+        &mut self,
+        alloc: Global,
+        seat: &mut Seat<Held<'p>>,
+        dependents: &Dependents,
+        work: Work,
+        ticket: u32,
+        formed: &mut usize,
+    ) -> Result<bool, OutOfMemory>
+        requires holds { IsHolding seat.old self.old }
+        requires flies { (state_of self.old.core).flight ticket ≡ Some
+            (record { worker = seat.old.known.number; work = work }) }
+        requires dependents { HasDependents self.old.core.base.problem.points
+            self.old.core.base.problem.flow.pairs dependents.now }
+        ensures goes { GoesAlone seat.old.known.number self.old.core self.new.core }
+        ensures flight { (t : ℕ) → (state_of self.new.core).flight t ≡ put ticket None
+            (state_of self.old.core).flight t }
+        ensures closed { IfOk result (λ all. MatchBool all
+            (IsClosedWork self.new.core.base.problem (log_of self.new.core) work)
+            (IsSome (state_of self.new.core).kept)) }
+        ensures turn { self.new.turn ≡ self.old.turn }
+        ensures told { HasTold seat.old self.new.core.story seat.new }
+        ensures holds { IsHolding seat.new self.new }
+    {
+        let worker = seat.number();
+        let before = count(&self.guard.state.core);
+        let core = &mut self.guard.state.core;
+        let done = do_work(alloc, core, dependents, worker, work, ticket, formed);
+        tell_all(&mut self.guard, seat, before);
+        done
     }
 
     /// Adds to the replica what its log, which begins the core's log, lacks of that. After a refusal of

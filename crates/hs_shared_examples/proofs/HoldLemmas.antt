@@ -1,5 +1,5 @@
 -- A worker whose seat holds the table, after each call.
-use Rattle.std.proofs.Common.{◌≡◌, refl, sym, ◌∙◌, ap, subst, ℕ, List, Some}
+use Rattle.std.proofs.Common.{◌≡◌, refl, sym, ◌∙◌, ap, subst, ℕ, List, Some, None}
 use mathlib.Core.List.{IsPrefix}
 use Rattle.atomic_table.specs.Seated.{TableId}
 use Rattle.hs_scheme.specs.Automaton.{IsAutomaton}
@@ -10,15 +10,17 @@ use Rattle.hs_table_laws.proofs.Growing.{by_append}
 use Rattle.hs_types.specs.Interned.{InternerData, entry_of}
 use Rattle.hs_rules.specs.Conclusions.{DeducedData, IsDeduced}
 use Rattle.hs_history.specs.declared.step.Work.{Work}
-use Rattle.hs_history.specs.Story.{Story}
+use Rattle.hs_history.specs.Story.{Base, Story}
 use Rattle.hs_history.specs.CoreStep.{Holds, CanFinish, IsClosedWork}
 use Rattle.hs_history.specs.History.{state_after}
 use Rattle.hs_core.specs.Core.{state_of, log_of}
+use Rattle.hs_core.specs.Draining.{GoesAlone}
+use Rattle.hs_core.proofs.Moving.{longer}
 use Rattle.hs_shared.specs.Seats.{SeatData}
 use Rattle.hs_shared.specs.Calls.{Finds}
 use Rattle.hs_shared.specs.Holding.{HoldData, holding, having_left, HasTold, IsHolding}
 use Rattle.hs_shared_examples.specs.Working.{WorkHeld, IsAtWork, IsWorker, IsHolder}
-use Rattle.hs_shared_examples.proofs.StepLemmas.{Knows}
+use Rattle.hs_shared_examples.proofs.StepLemmas.{Knows, prefix_trans, none_flies}
 use Rattle.hs_shared_examples.proofs.CallLemmas.{found_works, begins_shape}
 
 -- it enters
@@ -34,6 +36,17 @@ module _ (table : TableId) (p : ProblemData) (old : SeatData) (h : HoldData) (lo
   holds_on new h' held' turn told holds works =
       let number : new.known.number ≡ old.known.number = ap (λ (s : SeatData). s.known.number) told.2 in
       record { holds = holds; turn = turn ∙ w.turn; works = subst (λ n. IsAtWork p n log held' h'.core.base (state_of h'.core)) (sym number) works }
+
+  -- it has done steps of its own, and holds nothing
+  pub holds_worked : (new : SeatData) (h' : HoldData) → h'.turn ≡ h.turn → HasTold old h'.core.story new → IsHolding new h' → GoesAlone old.known.number h.core h'.core → IsHolder table p new h' log None
+  holds_worked new h' turn told holds goes =
+      let more = longer h.core h'.core goes in
+      holds_on new h' None turn told holds (record {
+        upon = ap (λ (b : Base). b.problem) goes.base ∙ w.works.upon;
+        begins = prefix_trans log (log_of h.core) (log_of h'.core) w.works.begins (more.more, sym more.log);
+        shape = w.works.shape;
+        holds = none_flies old.known.number (state_of h'.core);
+      })
 
   -- its replica is another beginning of the log
   pub holds_caught_up : (after : List EntryData) → IsAutomaton p.sorted.automaton → IsPrefix after (log_of h.core) → IsHolder table p old h after held

@@ -40,7 +40,7 @@ some_same x y e = (cc)
 abbrev pub Flies : ℕ → WorkHeld → State → Type 0
 Flies n held s = (work : Work) (ticket : ℕ) → held ≡ Some (work, ticket) → s.flight ticket ≡ Some (record { worker = n; work = work })
 
-none_flies : (n : ℕ) (s : State) → Flies n None s
+pub none_flies : (n : ℕ) (s : State) → Flies n None s
 none_flies n s work ticket e = absurd (cc e)
 
 module _ (p : ProblemData) (n : ℕ) (log : List EntryData) where

@@ -1,6 +1,7 @@
 //! The same calls while the worker's seat holds the table.
 
 ghost use Rattle.std.specs.Prelude.{◌≡◌, Some};
+ghost use Rattle.hs_flow.specs.Dependents.{HasDependents};
 ghost use Rattle.hs_rules.specs.Conclusions.{IsDeduced};
 ghost use Rattle.hs_core.specs.Core.{log_of};
 ghost use Rattle.hs_shared_examples.specs.Working.{IsHolder};
@@ -8,6 +9,7 @@ ghost use Rattle.hs_shared_examples.specs.Working.{IsHolder};
 use crate::forming::{following, is_closed, only};
 use crate::making::know;
 use crate::worker::{Worker, held_after};
+use hs_flow::Dependents;
 use hs_scheme::Problem;
 use hs_shared::{Deduced, Hold, Published, SharedTable, Taken, Work};
 use std::alloc::Global;
@@ -139,4 +141,31 @@ pub(crate) fn give_back<'p, R: Abort>(
     };
     worker.held = None;
     hold.give_back(&mut worker.seat, ticket);
+}
+
+/// Does the work that the worker holds on the core itself. Answers whether it is closed; else it was
+/// given back.
+pub(crate) fn work<'p, R: Abort>(
+    rt: &R,
+    alloc: Global,
+    table: &SharedTable<'p>,
+    problem: &Problem,
+    dependents: &Dependents,
+    hold: &mut Hold<'_, 'p>,
+    worker: &mut Worker<'p>,
+) -> bool
+    requires holder { IsHolder table.now problem.now worker.old.seat hold.old
+        worker.old.replica.log worker.old.held }
+    requires dependents { HasDependents problem.now.points problem.now.flow.pairs dependents.now }
+    ensures { IsHolder table.now problem.now worker.new.seat hold.new
+        worker.new.replica.log worker.new.held }
+{
+    let Some((work, ticket)) = worker.held else {
+        panic!(rt; "no work is held");
+    };
+    worker.held = None;
+    let mut formed = 0;
+    let seat = &mut worker.seat;
+    let done = hold.work(alloc, seat, dependents, work, ticket, &mut formed);
+    done.expect(rt, "memory")
 }

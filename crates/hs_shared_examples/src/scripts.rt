@@ -1,12 +1,14 @@
 //! Three workers at the shared table of a small scheme, and one that holds it, step by step.
 
 ghost use Rattle.std.specs.Prelude.{◌≡◌, ◌≤◌};
+ghost use Rattle.hs_flow.specs.Dependents.{HasDependents};
 ghost use Rattle.hs_shared.specs.Seats.{IsSeatOf};
 ghost use Rattle.hs_shared_examples.specs.Working.{IsWorker, IsHolder, IsSameSeat, IsFresh, IsFirstSeat};
 
 use crate::holder;
 use crate::making::problem_of;
 use crate::worker::{Worker, catch_up, finish, give_back, publish, take};
+use hs_flow::Dependents;
 use hs_scheme::Problem;
 use hs_shared::{Core, Held, Hold, Published, Replica, Seat, SharedTable, Taken, Work};
 use hs_table::{Entry, Shape};
@@ -326,6 +328,72 @@ fn play_held<R: Abort + Wait>(
     assert_eq!(rt; last, Answer::Quiet);
 }
 
+/// Takes works in turn while the worker's seat holds the table, and does each on the core itself. Looks
+/// which work it is, whether it is closed, and how many entries there are and works pending after it.
+fn do_works<'p, R: Abort>(
+    rt: &R,
+    alloc: Global,
+    table: &SharedTable<'p>,
+    problem: &Problem,
+    dependents: &Dependents,
+    hold: &mut Hold<'_, 'p>,
+    worker: &mut Worker<'p>,
+    rows: &[(Work, bool, usize, usize)],
+)
+    requires holder { IsHolder table.now problem.now worker.old.seat hold.old
+        worker.old.replica.log worker.old.held }
+    requires dependents { HasDependents problem.now.points problem.now.flow.pairs dependents.now }
+    ensures { IsHolder table.now problem.now worker.new.seat hold.new
+        worker.new.replica.log worker.new.held }
+{
+    for row in 0..rows.len() {
+        let (expected, closed, entries, pending) = rows[row];
+        let took = taken(holder::take(rt, table, problem, hold, worker));
+        assert_eq!(rt; took, Answer::Took(expected), "work {row}");
+        let done = holder::work(rt, alloc, table, problem, dependents, hold, worker);
+        assert_eq!(rt;
+            (done, hold.entries(), hold.pending()),
+            (closed, entries, pending),
+            "work {row}"
+        );
+    }
+}
+
+/// A worker does works on the core while its seat holds a new table, and leaves it. It then takes
+/// again, with this answer.
+fn play_works<R: Abort + Wait>(
+    rt: &R,
+    alloc: Global,
+    problem: &Problem,
+    budget: u32,
+    rows: &[(Work, bool, usize, usize)],
+    last: Answer,
+)
+    requires least { 1 ≤ budget }
+    requires greatest { budget ≤ 1000000 }
+{
+    let dependents = Dependents::of(alloc, problem).expect(rt, "memory");
+    let (table, first) = share(rt, alloc, problem, budget);
+    let mut worker = worker_at(alloc, &table, problem, first);
+    let mut hold = table.enter(rt, &mut worker.seat);
+    do_works(
+        rt,
+        alloc,
+        &table,
+        problem,
+        &dependents,
+        &mut hold,
+        &mut worker,
+        rows,
+    );
+    hold.leave(&mut worker.seat);
+    let found = taken(take(rt, &table, problem, &mut worker));
+    forget(worker);
+    forget(table);
+    forget(dependents);
+    assert_eq!(rt; found, last);
+}
+
 /// Seats 1 and 2 take the two seeds, one entry follows from nothing, and its place is taken. The other
 /// entry follows with it.
 const TO_THE_END: &[(u32, Call, Answer)] = &[
@@ -380,6 +448,21 @@ const IN_ONE_HOLD: &[(Call, Answer, usize)] = &[
     (Call::Take, Answer::Quiet, 0),
 ];
 
+/// The works in their order, each done at once.
+const DONE_ON_THE_CORE: &[(Work, bool, usize, usize)] = &[
+    (Work::Seed(0), true, 0, 1),
+    (Work::Seed(1), true, 1, 1),
+    (Work::Place(0), true, 2, 1),
+    (Work::Place(1), true, 2, 0),
+];
+
+/// There is no room for the other entry.
+const NO_ROOM_ON_THE_CORE: &[(Work, bool, usize, usize)] = &[
+    (Work::Seed(0), true, 0, 1),
+    (Work::Seed(1), true, 1, 1),
+    (Work::Place(0), false, 1, 1),
+];
+
 #[test]
 fn three_workers_step_by_step(rt: HostRuntime) -> Result<(), Fail> {
     let rejected = problem_of(rt.alloc(), "S -> a b.", "q0 a -> q0.")?;
@@ -393,6 +476,29 @@ fn three_workers_step_by_step(rt: HostRuntime) -> Result<(), Fail> {
 fn a_hold_makes_the_same_calls(rt: HostRuntime) -> Result<(), Fail> {
     let rejected = problem_of(rt.alloc(), "S -> a b.", "q0 a -> q0.")?;
     play_held(&rt, rt.alloc(), &rejected, IN_ONE_HOLD, &[1, 0]);
+    forget(rejected);
+    Ok(())
+}
+
+#[test]
+fn a_hold_does_works_on_the_core(rt: HostRuntime) -> Result<(), Fail> {
+    let rejected = problem_of(rt.alloc(), "S -> a b.", "q0 a -> q0.")?;
+    play_works(
+        &rt,
+        rt.alloc(),
+        &rejected,
+        2,
+        DONE_ON_THE_CORE,
+        Answer::Quiet,
+    );
+    play_works(
+        &rt,
+        rt.alloc(),
+        &rejected,
+        1,
+        NO_ROOM_ON_THE_CORE,
+        Answer::Over,
+    );
     forget(rejected);
     Ok(())
 }
