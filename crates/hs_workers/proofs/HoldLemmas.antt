@@ -33,7 +33,9 @@ use Rattle.hs_shared.specs.Holding.{HoldData, having_left, HasTold, IsHolding}
 use Rattle.hs_shared.proofs.Seen.{sees, replica_begins, others}
 use Rattle.hs_workers.specs.declared.job.Job.{Job}
 use Rattle.hs_workers.specs.Jobs.{keys, Carries, IsFormed}
-use Rattle.hs_workers.specs.Working.{IsSeated, StepsInHold, IsFree, IsLoaded}
+use Rattle.hs_workers.specs.declared.handing.Next.{Next}
+use Rattle.hs_workers.specs.declared.handing.Next.TheVariants.{Serve, Pass, Rest, Wait, End}
+use Rattle.hs_workers.specs.Working.{IsSeated, StepsInHold, IfServes, IsFree, IsLoaded}
 use Rattle.hs_workers.proofs.SeatLemmas.{see, seen}
 use Rattle.hs_workers.proofs.JobLemmas.{carries_kept}
 use Rattle.hs_workers.proofs.WorkingLemmas.{shapes}
@@ -89,13 +91,6 @@ module _ (core found new : CoreData) (base : found.base ≡ core.base) (story : 
   published_there (Added place) room h = subst (λ (x : State). Contains x.log d.entry) (sym (state_stepped found new worker (adds ticket d) (found.spare - 1) h.3)) (Contains-push (log_of found) d.entry)
   published_there NoRoom room h = absurd (room refl)
 
--- closing and giving back
-pub finished_flight : (a b : CoreData) (worker ticket spare : ℕ) → b ≡ stepped a worker (finishes ticket) spare → (t : ℕ) → (state_of b).flight t ≡ put ticket None (state_of a).flight t
-finished_flight a b worker ticket spare is t = ap (λ (s : State). s.flight t) (state_stepped a b worker (finishes ticket) spare is)
-
-pub given_flight : (a b : CoreData) (worker ticket spare : ℕ) → b ≡ stepped a worker (gives_back ticket) spare → (t : ℕ) → (state_of b).flight t ≡ put ticket None (state_of a).flight t
-given_flight a b worker ticket spare is t = ap (λ (s : State). s.flight t) (state_stepped a b worker (gives_back ticket) spare is)
-
 -- taking
 module _ (core new : CoreData) (spare worker : ℕ) where
   abbrev Takes_ : Taken → Type 0
@@ -110,10 +105,6 @@ module _ (core new : CoreData) (spare worker : ℕ) where
 
   pub taken_flight : (work : Work) (ticket : ℕ) → Takes_ (Item work ticket) → (t : ℕ) → (state_of new).flight t ≡ put ticket (Some (record { worker = worker; work = work })) (state_of core).flight t
   taken_flight work ticket h t = ap (λ (s : State). s.flight t) (state_stepped (record core { spare = spare }) new worker (takes work ticket) (spare - 1) h.1)
-
--- a work in flight is one
-pub flying_work : (c : CoreData) → IsCore c → (t worker : ℕ) (w : Work) → (state_of c).flight t ≡ Some (record { worker = worker; work = w }) → IsWork c.base.problem (log_of c) w
-flying_work c is t worker w h = (holds_after c.base c.story is.legal).sound.real w (inr (inl (t, worker, h)))
 
 -- deductions keep their meaning in a log that has grown
 pub deduced_still : (p q : ProblemData) (ids : InternerData) (log whole : List EntryData) (d : DeducedData) → q ≡ p → IsPrefix log whole → IsDeduced q ids log d → FollowsBy p whole d.support (entry_of ids d.row)
@@ -201,3 +192,10 @@ loaded_none table p s ids log jobs f empty none = record {
 -- without any the log is as it was
 pub begins_none : (r : ReplicaData) (rows : List RowData) (log whole : List EntryData) → r.log ≡ log → rows ≡ [] → IsPrefix log whole → IsPrefix (extended r rows) whole
 begins_none r rows log whole same none p = subst (λ (xs : List EntryData). IsPrefix xs whole) (sym (ap (λ (rs : List RowData). extended r rs) none ∙ append-nil r.log ∙ same)) p
+
+pub served : {P Q : Type 0} (next : Next) → (P → Q) → IfServes next P → IfServes next Q
+served Serve f p = f p
+served Pass f p = tt
+served Rest f p = tt
+served Wait f p = tt
+served End f p = tt

@@ -32,12 +32,6 @@ carries_kept worker f g (k ∷ ks) keeps c = (keeps k.0 k.1 c.0, carries_kept wo
 pub carries_same : (worker : ℕ) (f g : ℕ → Option Flight) (ks : List (ℕ × Work)) → ((t : ℕ) → g t ≡ f t) → Carries worker f ks → Carries worker g ks
 carries_same worker f g ks same c = carries_kept worker f g ks (λ t w h. same t ∙ h) c
 
-pub put_same : (ticket : ℕ) (x : Option Flight) (f g : ℕ → Option Flight) → ((t : ℕ) → g t ≡ f t) → (t : ℕ) → put ticket x g t ≡ put ticket x f t
-put_same ticket x f g same t = elim (cases_eq t ticket) [
-  | inl is ↦ ap (λ n. put ticket x g n) is ∙ put_here ticket x g ∙ sym (ap (λ n. put ticket x f n) is ∙ put_here ticket x f)
-  | inr ne ↦ put_other ticket t x g ne ∙ same t ∙ sym (put_other ticket t x f ne)
-]
-
 -- puts at two tickets
 put_put : (k ticket : ℕ) (x : Option Flight) (f g : ℕ → Option Flight) → (k ≡ ticket → ⊥) → ((t : ℕ) → g t ≡ put ticket x f t) → (t : ℕ) → put k None g t ≡ put ticket x (put k None f) t
 put_put k ticket x f g ne is t = elim (cases_eq t k) [

@@ -3,6 +3,7 @@
 --     IsUpon              the table's problem is this one
 --     BeginsSeen          a replica's log begins the log that the seat has seen
 --     StepsInHold         the seat has done steps in one hold
+--     IfServes            it holds where the worker forms next, on its replica
 --     IsFree              a worker with a replica that begins what it has seen
 --     IsLoaded            it carries works
 --     IsFirstSeat         seat 0, which has told of nothing
@@ -19,6 +20,8 @@ use Rattle.hs_core.specs.Core.{log_of}
 use Rattle.hs_shared.specs.Seats.{SeatData, IsSeatOf, Sees, HasSeenOwn}
 use Rattle.hs_shared.specs.Holding.{HoldData, IsHolding}
 use Rattle.hs_workers.specs.declared.job.Job.{Job}
+use Rattle.hs_workers.specs.declared.handing.Next.{Next}
+use Rattle.hs_workers.specs.declared.handing.Next.TheVariants.{Serve, Pass, Rest, Wait, End}
 use Rattle.hs_workers.specs.Jobs.{keys, Carries, IsFormed}
 
 pub record IsSeated (table : TableId) (s : SeatData) : Type 0 where
@@ -41,6 +44,13 @@ pub record StepsInHold (old new : SeatData) (before after : HoldData) : Type 0 w
   pub turn : after.turn ≡ before.turn
   pub base : after.core.base ≡ before.core.base
   pub log : IsPrefix (log_of before.core) (log_of after.core)
+
+abbrev pub IfServes : Next → Type 0 → Type 0
+IfServes Serve P = P
+IfServes Pass P = Unit {0}
+IfServes Rest P = Unit {0}
+IfServes Wait P = Unit {0}
+IfServes End P = Unit {0}
 
 -- a worker that holds no work: its seat is the table's, upon this problem, and its replica's log begins what it has seen
 pub record IsFree (table : TableId) (p : ProblemData) (s : SeatData) (log : List EntryData) : Type 0 where

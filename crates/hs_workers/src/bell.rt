@@ -5,6 +5,7 @@
 //! counted before it looked for a work for the last time. Whoever leaves works pending after that look
 //! sees the count when it tells of them. The last worker that holds a work ends in its turn, and rings.
 
+use crate::sharing::Sharing;
 use std::hint::spin_loop;
 use std::sync::Wait;
 use std::sync::atomic::AtomicU64;
@@ -22,6 +23,8 @@ pub(crate) struct Bell {
     waiting: AtomicU64,
     /// How many workers there are.
     workers: usize,
+    /// Whether they share the works.
+    pub(crate) sharing: Sharing,
 }
 
 impl Bell {
@@ -30,6 +33,7 @@ impl Bell {
             rings: AtomicU64::new(0),
             waiting: AtomicU64::new(0),
             workers,
+            sharing: Sharing::new(),
         }
     }
 
@@ -80,7 +84,8 @@ impl Bell {
     }
 
     /// A worker ends, and wakes all others: none of them waits for it.
-    pub(crate) fn end(&self, heard: Option<u64>) {
+    pub(crate) fn end(&self, worker: u32, heard: Option<u64>) {
+        self.sharing.call(worker);
         self.go_on(heard);
         self.ring();
     }

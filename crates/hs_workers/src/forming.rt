@@ -43,13 +43,15 @@ fn keep_new(
     Ok(())
 }
 
-/// What follows at these points by the entry at the place, and isn't in the log.
+/// What follows at these points by the entry at the place, and isn't in the log. Adds to `tally` how
+/// many conclusions were formed, known ones too, as the others here do.
 fn form_at(
     alloc: Global,
     problem: &Problem,
     points: &[u32],
     replica: &mut Replica,
     place: u32,
+    tally: &mut usize,
 ) -> Result<Vec<Deduced>, OutOfMemory>
     requires points { All (λ point. point < length problem.now.points.points) points.now }
     requires place { place < length replica.old.log }
@@ -62,6 +64,7 @@ fn form_at(
     let mut found = Vec::new(alloc);
     for point in points {
         let formed = conclusions_with(alloc, problem, replica, *point, place)?;
+        *tally = tally.saturating_add(formed.len());
         keep_new(replica, formed, &mut found)?;
     }
     Ok(found)
@@ -73,6 +76,7 @@ fn form_seed(
     problem: &Problem,
     replica: &mut Replica,
     point: u32,
+    tally: &mut usize,
 ) -> Result<Vec<Deduced>, OutOfMemory>
     requires { point < length problem.now.points.points }
     ensures log { replica.new.log ≡ replica.old.log }
@@ -81,6 +85,7 @@ fn form_seed(
         (Work.Seed point) found.items) }
 {
     let formed = seed_conclusions(alloc, problem, replica, point)?;
+    *tally = tally.saturating_add(formed.len());
     let mut found = Vec::new(alloc);
     keep_new(replica, formed, &mut found)?;
     Ok(found)
@@ -93,6 +98,7 @@ fn form_place(
     dependents: &Dependents,
     replica: &mut Replica,
     place: u32,
+    tally: &mut usize,
 ) -> Result<Vec<Deduced>, OutOfMemory>
     requires place { place < length replica.old.log }
     requires shape { All (InShape problem.now) replica.old.log }
@@ -103,7 +109,7 @@ fn form_place(
         (Work.Place place) found.items) }
 {
     let points = dependents.list(replica.row(place).point);
-    form_at(alloc, problem, points, replica, place)
+    form_at(alloc, problem, points, replica, place, tally)
 }
 
 /// What follows by the work and isn't in the log, each once, with what it follows from.
@@ -113,6 +119,7 @@ pub(crate) fn form(
     dependents: &Dependents,
     replica: &mut Replica,
     work: Work,
+    tally: &mut usize,
 ) -> Result<Vec<Deduced>, OutOfMemory>
     requires work { IsWork problem.now replica.old.log work }
     requires shape { All (InShape problem.now) replica.old.log }
@@ -123,7 +130,7 @@ pub(crate) fn form(
         found.items) }
 {
     match work {
-        Work::Seed(point) => form_seed(alloc, problem, replica, point),
-        Work::Place(place) => form_place(alloc, problem, dependents, replica, place),
+        Work::Seed(point) => form_seed(alloc, problem, replica, point, tally),
+        Work::Place(place) => form_place(alloc, problem, dependents, replica, place, tally),
     }
 }

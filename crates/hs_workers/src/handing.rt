@@ -2,6 +2,7 @@
 
 ghost use Rattle.std.specs.Prelude.{◌≡◌, ℕ, [], None, IfOk, IsTrue, All, Contains};
 ghost use mathlib.Core.List.{IsPrefix};
+ghost use Rattle.hs_flow.specs.Dependents.{HasDependents};
 ghost use Rattle.hs_types.specs.Interned.{entry_of};
 ghost use Rattle.hs_rules.specs.Conclusions.{IsDeduced};
 ghost use Rattle.hs_replica.specs.Extending.{CanExtend, extended};
@@ -12,10 +13,13 @@ ghost use Rattle.hs_core.specs.Draining.{SameFlight};
 ghost use Rattle.hs_shared.specs.Holding.{IsHolding};
 ghost use Rattle.hs_workers.specs.Forming.{HasFound};
 ghost use Rattle.hs_workers.specs.Jobs.{key, keys, Carries, IsUnformed, IsFormed};
-ghost use Rattle.hs_workers.specs.Working.{StepsInHold};
+ghost use Rattle.hs_workers.specs.Working.{StepsInHold, IfServes};
 
+use crate::bell::Bell;
 use crate::job::Job;
+use crate::sharing::Sharing;
 use hs_core::{Published, Taken};
+use hs_flow::Dependents;
 use hs_rules::{Deduced, Replica};
 use hs_scheme::OutOfMemory;
 use hs_shared::{Held, Hold, Seat};
@@ -29,8 +33,13 @@ const MOST: usize = 256;
 /// What a worker does next.
 #[derive(Clone, Copy)]
 pub(crate) enum Next {
-    /// It does the works that it has taken.
+    /// It forms what follows by the works that it has taken.
     Serve,
+    /// It passes the gate before the works that it has taken, and does them in its next turn, on the
+    /// core itself.
+    Pass,
+    /// It rests until it is called.
+    Rest,
     /// Nothing is pending, but others hold works: it takes again once the bell has rung.
     Wait,
     /// It ends.
@@ -163,6 +172,57 @@ fn hand_in<'p>(
     going
 }
 
+/// Does the work on the core itself, where `going` is set; or gives it back. Answers whether it is
+/// closed.
+fn do_one<'p>(
+    alloc: Global,
+    hold: &mut Hold<'_, 'p>,
+    seat: &mut Seat<Held<'p>>,
+    dependents: &Dependents,
+    job: &Job,
+    going: bool,
+    tally: &mut usize,
+) -> bool
+    requires holds { IsHolding seat.old hold.old }
+    requires flies { (state_of hold.old.core).flight job.now.ticket ≡ Some
+        (record { worker = seat.old.known.number; work = job.now.work }) }
+    requires dependents { HasDependents hold.old.core.base.problem.points
+        hold.old.core.base.problem.flow.pairs dependents.now }
+    ensures goes { StepsInHold seat.old seat.new hold.old hold.new }
+    ensures flight { (ticket : ℕ) → (state_of hold.new.core).flight ticket ≡ put job.now.ticket None
+        (state_of hold.old.core).flight ticket }
+{
+    if !going {
+        hold.give_back(seat, job.ticket);
+        return false;
+    }
+    let done = hold.work(alloc, seat, dependents, job.work, job.ticket, tally);
+    done.unwrap_or(false)
+}
+
+/// Does the works on the core itself, as long as there are memory and room; the others it gives back.
+/// Answers whether all are closed. Adds to `tally` how many conclusions were formed, known ones too.
+fn do_each<'p>(
+    alloc: Global,
+    hold: &mut Hold<'_, 'p>,
+    seat: &mut Seat<Held<'p>>,
+    dependents: &Dependents,
+    jobs: Vec<Job>,
+    tally: &mut usize,
+) -> bool
+    requires holds { IsHolding seat.old hold.old }
+    requires carries { Carries seat.old.known.number (state_of hold.old.core).flight (keys jobs.items) }
+    requires dependents { HasDependents hold.old.core.base.problem.points
+        hold.old.core.base.problem.flow.pairs dependents.now }
+    ensures goes { StepsInHold seat.old seat.new hold.old hold.new }
+{
+    let mut going = true;
+    for job in jobs {
+        going = do_one(alloc, hold, seat, dependents, &job, going, tally);
+    }
+    going
+}
+
 /// Takes a work, where there is one.
 fn take_one<'p>(
     hold: &mut Hold<'_, 'p>,
@@ -222,10 +282,9 @@ fn share_of(pending: usize, workers: usize) -> usize {
     share.max(1).min(MOST)
 }
 
-/// Hands in the works that are done, reads the rows of the entries that the replica lacks, and takes
-/// further works. Answers what the worker does next, which ends where it hasn't closed all works or
-/// memory is refused.
-pub(crate) fn turn<'p>(
+/// Takes the worker's share of the pending works, and reads the rows of the entries that the replica
+/// lacks, where it took any. Where memory is refused for the rows it gives the works back.
+fn take_and_read<'p>(
     alloc: Global,
     hold: &mut Hold<'_, 'p>,
     seat: &mut Seat<Held<'p>>,
@@ -236,29 +295,144 @@ pub(crate) fn turn<'p>(
     workers: usize,
 ) -> Next
     requires holds { IsHolding seat.old hold.old }
-    requires carries { Carries seat.old.known.number (state_of hold.old.core).flight (keys jobs.old.items) }
     requires begins { IsPrefix replica.old.log (log_of hold.old.core) }
-    requires formed { All (IsFormed hold.old.core.base.problem replica.old.ids replica.old.log)
-        jobs.old.items }
     requires none { rows.old.items ≡ [] }
+    requires free { jobs.old.items ≡ [] }
     ensures goes { StepsInHold seat.old seat.new hold.old hold.new }
     ensures fits { CanExtend replica.new rows.new.items }
     ensures begins { IsPrefix (extended replica.new rows.new.items) (log_of hold.new.core) }
     ensures carries { Carries seat.new.known.number (state_of hold.new.core).flight (keys jobs.new.items) }
     ensures unformed { All IsUnformed jobs.new.items }
-    ensures works { All (λ j. IsWork hold.new.core.base.problem
-        (extended replica.new rows.new.items) j.work) jobs.new.items }
+    ensures works { IfServes result (All (λ j. IsWork hold.new.core.base.problem
+        (extended replica.new rows.new.items) j.work) jobs.new.items) }
 {
-    let done = replace(jobs, Vec::new(alloc));
-    let _entries = replica.len();
-    if !hand_in(hold, seat, replica, done) {
-        return Next::End;
+    let _known = replica.len();
+    let share = share_of(hold.pending(), workers);
+    let next = take_some(hold, seat, jobs, share);
+    if jobs.is_empty() {
+        return next;
     }
     let Ok(read) = hold.read_new(replica, found) else {
+        let taken = replace(jobs, Vec::new(alloc));
+        let _ = hand_in(hold, seat, replica, taken);
         return Next::End;
     };
     *rows = read;
-    let share = share_of(hold.pending(), workers);
-    let next = take_some(hold, seat, jobs, share);
-    if jobs.is_empty() { next } else { Next::Serve }
+    Next::Serve
+}
+
+/// Takes further works. A worker that does all works reads no rows, and one that rests takes nothing.
+fn take_next<'p>(
+    alloc: Global,
+    hold: &mut Hold<'_, 'p>,
+    seat: &mut Seat<Held<'p>>,
+    replica: &mut Replica,
+    found: &mut ImportedNumbers,
+    rows: &mut Vec<Row>,
+    jobs: &mut Vec<Job>,
+    bell: &Bell,
+) -> Next
+    requires holds { IsHolding seat.old hold.old }
+    requires begins { IsPrefix replica.old.log (log_of hold.old.core) }
+    requires none { rows.old.items ≡ [] }
+    requires free { jobs.old.items ≡ [] }
+    ensures goes { StepsInHold seat.old seat.new hold.old hold.new }
+    ensures fits { CanExtend replica.new rows.new.items }
+    ensures begins { IsPrefix (extended replica.new rows.new.items) (log_of hold.new.core) }
+    ensures carries { Carries seat.new.known.number (state_of hold.new.core).flight (keys jobs.new.items) }
+    ensures unformed { All IsUnformed jobs.new.items }
+    ensures works { IfServes result (All (λ j. IsWork hold.new.core.base.problem
+        (extended replica.new rows.new.items) j.work) jobs.new.items) }
+{
+    let _known = replica.len();
+    if bell.sharing.is_resting(seat.number()) {
+        return Next::Rest;
+    }
+    if !bell.sharing.is_lone(seat.number()) {
+        return take_and_read(
+            alloc,
+            hold,
+            seat,
+            replica,
+            found,
+            rows,
+            jobs,
+            bell.workers(),
+        );
+    }
+    let next = take_some(hold, seat, jobs, share_of(hold.pending(), 1));
+    if jobs.is_empty() { next } else { Next::Pass }
+}
+
+/// Hands in the works that are done; or, where the worker does all works, does them now, on the core
+/// itself. Answers whether all are closed. `tally` says how many conclusions it has formed since its
+/// last turn, known ones too.
+fn hand_over<'p>(
+    alloc: Global,
+    hold: &mut Hold<'_, 'p>,
+    seat: &mut Seat<Held<'p>>,
+    replica: &Replica,
+    jobs: Vec<Job>,
+    dependents: &Dependents,
+    sharing: &Sharing,
+    tally: &mut usize,
+) -> bool
+    requires holds { IsHolding seat.old hold.old }
+    requires carries { Carries seat.old.known.number (state_of hold.old.core).flight (keys jobs.items) }
+    requires begins { IsPrefix replica.now.log (log_of hold.old.core) }
+    requires formed { All (IsFormed hold.old.core.base.problem replica.now.ids replica.now.log) jobs.items }
+    requires dependents { HasDependents hold.old.core.base.problem.points
+        hold.old.core.base.problem.flow.pairs dependents.now }
+    ensures goes { StepsInHold seat.old seat.new hold.old hold.new }
+{
+    let worker = seat.number();
+    let before = hold.entries();
+    let all = if sharing.is_lone(worker) {
+        do_each(alloc, hold, seat, dependents, jobs, tally)
+    } else {
+        hand_in(hold, seat, replica, jobs)
+    };
+    let entries = hold.entries();
+    let new = entries.saturating_sub(before);
+    sharing.count(worker, replace(tally, 0), new, entries);
+    all
+}
+
+/// Hands in the works that are done, and takes further ones. Answers what the worker does next, which
+/// ends where it hasn't closed all works or memory is refused.
+pub(crate) fn turn<'p>(
+    alloc: Global,
+    hold: &mut Hold<'_, 'p>,
+    seat: &mut Seat<Held<'p>>,
+    replica: &mut Replica,
+    found: &mut ImportedNumbers,
+    rows: &mut Vec<Row>,
+    jobs: &mut Vec<Job>,
+    dependents: &Dependents,
+    bell: &Bell,
+    tally: &mut usize,
+) -> Next
+    requires holds { IsHolding seat.old hold.old }
+    requires carries { Carries seat.old.known.number (state_of hold.old.core).flight (keys jobs.old.items) }
+    requires begins { IsPrefix replica.old.log (log_of hold.old.core) }
+    requires formed { All (IsFormed hold.old.core.base.problem replica.old.ids replica.old.log)
+        jobs.old.items }
+    requires none { rows.old.items ≡ [] }
+    requires dependents { HasDependents hold.old.core.base.problem.points
+        hold.old.core.base.problem.flow.pairs dependents.now }
+    ensures goes { StepsInHold seat.old seat.new hold.old hold.new }
+    ensures fits { CanExtend replica.new rows.new.items }
+    ensures begins { IsPrefix (extended replica.new rows.new.items) (log_of hold.new.core) }
+    ensures carries { Carries seat.new.known.number (state_of hold.new.core).flight (keys jobs.new.items) }
+    ensures unformed { All IsUnformed jobs.new.items }
+    ensures works { IfServes result (All (λ j. IsWork hold.new.core.base.problem
+        (extended replica.new rows.new.items) j.work) jobs.new.items) }
+{
+    let done = replace(jobs, Vec::new(alloc));
+    let _known = replica.len();
+    let sharing = &bell.sharing;
+    if !hand_over(alloc, hold, seat, replica, done, dependents, sharing, tally) {
+        return Next::End;
+    }
+    take_next(alloc, hold, seat, replica, found, rows, jobs, bell)
 }

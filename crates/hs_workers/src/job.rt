@@ -31,6 +31,7 @@ fn formed(
     dependents: &Dependents,
     replica: &mut Replica,
     job: Job,
+    tally: &mut usize,
 ) -> Job
     requires work { IsWork problem.now replica.old.log job.work }
     requires shape { All (InShape problem.now) replica.old.log }
@@ -43,7 +44,7 @@ fn formed(
 {
     let work = job.work;
     let ticket = job.ticket;
-    match form(alloc, problem, dependents, replica, work) {
+    match form(alloc, problem, dependents, replica, work, tally) {
         Ok(found) => Job {
             work,
             ticket,
@@ -57,7 +58,15 @@ fn formed(
     }
 }
 
-/// Forms what follows by each work, as far as there is memory, and passes the gate before each.
+/// Passes the gate before each work.
+pub(crate) fn pass_each<G: Gate>(gate: &G, worker: u32, jobs: &[Job]) {
+    for job in jobs {
+        gate.before(worker, job.work);
+    }
+}
+
+/// Forms what follows by each work, as far as there is memory, and passes the gate before each. Adds to
+/// `tally` how many conclusions were formed, known ones too.
 pub(crate) fn form_each<G: Gate>(
     alloc: Global,
     problem: &Problem,
@@ -66,6 +75,7 @@ pub(crate) fn form_each<G: Gate>(
     worker: u32,
     replica: &mut Replica,
     jobs: &mut Vec<Job>,
+    tally: &mut usize,
 )
     requires works { All (λ j. IsWork problem.now replica.old.log j.work) jobs.old.items }
     requires unformed { All IsUnformed jobs.old.items }
@@ -80,6 +90,6 @@ pub(crate) fn form_each<G: Gate>(
     };
     for job in replace(jobs, room) {
         gate.before(worker, job.work);
-        jobs.push_reserved(formed(alloc, problem, dependents, replica, job));
+        jobs.push_reserved(formed(alloc, problem, dependents, replica, job, tally));
     }
 }

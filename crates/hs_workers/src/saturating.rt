@@ -242,7 +242,9 @@ fn work<'p, R: Threads + Wait + Sync, G: Gate + Sync>(
 /// all of them ended so, the answer is want of memory.
 ///
 /// One worker works in the caller's thread, on the core itself. Of more workers each has a thread of
-/// its own and keeps a replica of the log, which takes as much memory as the log itself.
+/// its own. While they share the works, each keeps a replica of the log, which takes as much memory as
+/// the log itself. While nearly each conclusion is new, one of them works on the core, and the others
+/// rest.
 ///
 /// After Broadbent and Kobayashi, "Saturation-based model checking of higher-order recursion schemes"
 /// (CSL 2013).

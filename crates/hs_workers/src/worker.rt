@@ -6,11 +6,11 @@ ghost use Rattle.hs_history.specs.History.{IsWork};
 ghost use Rattle.hs_turn.specs.Seats.{RestsIn};
 ghost use Rattle.hs_shared.specs.Seats.{IsSeatOf};
 ghost use Rattle.hs_workers.specs.Jobs.{IsUnformed};
-ghost use Rattle.hs_workers.specs.Working.{IsFree, IsLoaded, RestsSeated};
+ghost use Rattle.hs_workers.specs.Working.{IsFree, IsLoaded, RestsSeated, IfServes};
 
 use crate::bell::Bell;
 use crate::handing::{Next, turn};
-use crate::job::{Job, form_each};
+use crate::job::{Job, form_each, pass_each};
 use hs_core::Gate;
 use hs_flow::Dependents;
 use hs_rules::Replica;
@@ -22,8 +22,8 @@ use std::alloc::Global;
 use std::mem::replace;
 use std::sync::Wait;
 
-/// Hands in the works that are done and takes further ones, under one hold of the table, and then makes
-/// the replica the log that was found.
+/// Hands in the works that are done and takes further ones, under one hold of the table, and then adds
+/// to the replica what was read.
 fn exchange<'p, R: Wait>(
     rt: &R,
     alloc: Global,
@@ -34,23 +34,19 @@ fn exchange<'p, R: Wait>(
     replica: &mut Replica,
     found: &mut ImportedNumbers,
     jobs: &mut Vec<Job>,
+    dependents: &Dependents,
+    tally: &mut usize,
 ) -> Next
+    requires dependents { HasDependents problem.now.points problem.now.flow.pairs dependents.now }
     requires loaded { IsLoaded table.now problem.now seat.old replica.old.ids replica.old.log jobs.old.items }
     ensures loaded { IsLoaded table.now problem.now seat.new replica.new.ids replica.new.log jobs.new.items }
     ensures unformed { All IsUnformed jobs.new.items }
-    ensures works { All (λ j. IsWork problem.now replica.new.log j.work) jobs.new.items }
+    ensures works { IfServes result (All (λ j. IsWork problem.now replica.new.log j.work) jobs.new.items) }
 {
     let mut rows = Vec::new(alloc);
     let mut hold = table.enter(rt, seat);
     let next = turn(
-        alloc,
-        &mut hold,
-        seat,
-        replica,
-        found,
-        &mut rows,
-        jobs,
-        bell.workers(),
+        alloc, &mut hold, seat, replica, found, &mut rows, jobs, dependents, bell, tally,
     );
     let pending = hold.pending();
     hold.leave(seat);
@@ -69,6 +65,7 @@ fn serve<'p, G: Gate>(
     seat: &Seat<Held<'p>>,
     replica: &mut Replica,
     jobs: &mut Vec<Job>,
+    tally: &mut usize,
 )
     requires dependents { HasDependents problem.now.points problem.now.flow.pairs dependents.now }
     requires loaded { IsLoaded table.now problem.now seat.now replica.old.ids replica.old.log jobs.old.items }
@@ -86,6 +83,7 @@ fn serve<'p, G: Gate>(
         seat.number(),
         replica,
         jobs,
+        tally,
     );
 }
 
@@ -108,6 +106,7 @@ fn work_on<'p, R: Wait, G: Gate>(
     let mut found = ImportedNumbers::new(alloc);
     let mut jobs = Vec::new(alloc);
     let mut heard = None;
+    let mut tally = 0;
     for _ in rt.forever() {
         match exchange(
             rt,
@@ -119,6 +118,8 @@ fn work_on<'p, R: Wait, G: Gate>(
             &mut replica,
             &mut found,
             &mut jobs,
+            dependents,
+            &mut tally,
         ) {
             Next::Serve => {
                 heard = bell.go_on(heard);
@@ -131,11 +132,21 @@ fn work_on<'p, R: Wait, G: Gate>(
                     seat,
                     &mut replica,
                     &mut jobs,
+                    &mut tally,
                 );
+            }
+            Next::Pass => {
+                heard = bell.go_on(heard);
+                pass_each(gate, seat.number(), jobs.as_slice());
+            }
+            Next::Rest => {
+                heard = bell.go_on(heard);
+                bell.ring();
+                bell.sharing.rest(rt, seat.number());
             }
             Next::Wait => heard = bell.wait(rt, heard),
             Next::End => {
-                bell.end(heard);
+                bell.end(seat.number(), heard);
                 drop(replica);
                 drop(found);
                 drop(jobs);

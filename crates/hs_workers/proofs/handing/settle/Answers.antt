@@ -1,7 +1,7 @@
 use Rattle.std.proofs.Common.{◌∙◌, None}
 use Rattle.hs_core.specs.Core.{state_of}
-use Rattle.hs_workers.proofs.JobLemmas.{put_same}
-use Rattle.hs_workers.proofs.HoldLemmas.{goes_by, goes_trans, still_holds, finished_flight, given_flight}
+use Rattle.hs_core.proofs.Flying.{put_same, finished_flight, given_flight}
+use Rattle.hs_workers.proofs.HoldLemmas.{goes_by, goes_trans, still_holds}
 use Rattle.hs_workers.proofs.handing.settle.Goals as goal
 
 pub returns-then-publish_job-clause-goes : goal.returns-then-publish_job-clause-goes

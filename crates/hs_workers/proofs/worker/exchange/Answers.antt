@@ -1,5 +1,7 @@
 use Rattle.std.proofs.Common.{sym, ◌∙◌, ap, subst, List, All}
 use mathlib.Core.List.{IsPrefix}
+use Rattle.hs_scheme.specs.Problem.{ProblemData}
+use Rattle.hs_flow.specs.Dependents.{HasDependents}
 use Rattle.hs_table.specs.Entries.{EntryData}
 use Rattle.hs_replica.specs.Replica.{ReplicaData}
 use Rattle.hs_replica.specs.Extending.{extended}
@@ -10,7 +12,7 @@ use Rattle.hs_shared.specs.Seats.{SeatData}
 use Rattle.hs_workers.specs.declared.job.Job.{Job}
 use Rattle.hs_workers.specs.Jobs.{keys, Carries, IsFormed}
 use Rattle.hs_workers.proofs.JobLemmas.{all_unformed}
-use Rattle.hs_workers.proofs.HoldLemmas.{found_problem, found_begins, found_carries, left_loaded}
+use Rattle.hs_workers.proofs.HoldLemmas.{found_problem, found_begins, found_carries, left_loaded, served}
 use Rattle.hs_workers.proofs.worker.exchange.Goals as goal
 
 pub enter-hold-requires : goal.enter-hold-requires
@@ -32,6 +34,12 @@ turn-next-requires-clause-formed g c =
     subst (λ q. All (IsFormed q c.args.replica.now.ids c.args.replica.now.log) c.args.jobs.now.items)
     (sym (found_problem c.args.table.now c.args.problem.now c.args.seat.now c.enter-hold.result.core c.enter-hold.ensures.finds c.args.replica.now.log c.requires.loaded.free))
     c.requires.loaded.formed
+
+pub turn-next-requires-clause-dependents : goal.turn-next-requires-clause-dependents
+turn-next-requires-clause-dependents g c =
+    subst (λ (q : ProblemData). HasDependents q.points q.flow.pairs c.args.dependents.now)
+    (sym (found_problem c.args.table.now c.args.problem.now c.args.seat.now c.enter-hold.result.core c.enter-hold.ensures.finds c.args.replica.now.log c.requires.loaded.free))
+    c.requires.dependents
 
 pub leave-requires : goal.leave-requires
 leave-requires g c = c.turn-next.ensures.goes.holds
@@ -55,5 +63,7 @@ returns-clause-works g c =
     let upon = ap (λ (b : Base). b.problem) now.goes.base
     ∙ found_problem c.args.table.now c.args.problem.now c.args.seat.now c.enter-hold.result.core c.enter-hold.ensures.finds c.args.replica.now.log c.requires.loaded.free in
     let log = ap (λ (r : ReplicaData). r.log) c.extend.ensures ∙ ap (extended c.turn-next.new.replica) c.as_slice.ensures.value in
-    subst (λ (xs : List EntryData). All (λ (j : Job). IsWork c.args.problem.now xs j.work) c.turn-next.new.jobs.items) (sym log)
-    (subst (λ q. All (λ (j : Job). IsWork q (extended c.turn-next.new.replica c.turn-next.new.rows.items) j.work) c.turn-next.new.jobs.items) upon now.works)
+    served c.turn-next.result
+    (λ works. subst (λ (xs : List EntryData). All (λ (j : Job). IsWork c.args.problem.now xs j.work) c.turn-next.new.jobs.items) (sym log)
+    (subst (λ q. All (λ (j : Job). IsWork q (extended c.turn-next.new.replica c.turn-next.new.rows.items) j.work) c.turn-next.new.jobs.items) upon works))
+    now.works
