@@ -11,6 +11,7 @@ use Rattle.std.proofs.lemmas.Map.Made.{is_member-Decides}
 use Rattle.std.proofs.lemmas.Option.{slice_get_within}
 use Rattle.indexmap.specs.IndexSet.{insert_key}
 use Rattle.hs_scheme.proofs.DemandLemmas.{slice_get-read}
+use Rattle.hs_table.specs.Types.{state}
 use Rattle.hs_table.specs.Entries.{EntryData}
 use Rattle.hs_types.specs.Interned.{InternerData, RowData, entry_of, IsRow, IsInterner, Grows}
 use Rattle.hs_types.specs.contracts.ids.RowPartialEq.TheImpl.{eq-value}
@@ -19,7 +20,7 @@ use Rattle.hs_replica.specs.declared.key.Key.{Key}
 use Rattle.hs_replica.specs.declared.key.Key.TheVariants.{At, Typed, Asking, Taking}
 use Rattle.hs_replica.specs.Places.{Question, here, typed, asks, takes, Meets, Answers, ArePlaces}
 use Rattle.hs_replica.specs.Replica.{ReplicaData, IsReplica, KeepsLog}
-use Rattle.hs_replica.specs.Index.{log_of, question, IsAtOnce, reach, IsKey, RisesTo, IsListed, IsIndex, IsKept}
+use Rattle.hs_replica.specs.Index.{log_of, question, IsByType, reach, IsKey, RisesTo, IsListed, IsIndex, IsKept}
 use Rattle.hs_replica.proofs.RowLemmas.{same_key}
 
 row_true : (a b : RowData) → eq-value.it a b ≡ true → a ≡ b
@@ -69,23 +70,23 @@ module _ (ids new : InternerData) (g : Grows ids new) where
   question_stays (Asking p j t) h = ap (asks p j) (type_stays ids new g t h)
   question_stays (Taking p j t) h = ap (takes p j) (type_stays ids new g t h)
 
-  reach_stays : (asked : List ℕ) (n : ℕ) (k : Key) → reach asked n (question ids k) ≡ reach asked n (question new k)
-  reach_stays asked n (At p) = refl
-  reach_stays asked n (Typed p t) = refl
-  reach_stays asked n (Asking p j t) = refl
-  reach_stays asked n (Taking p j t) = refl
+  reach_stays : (by_type asked : List ℕ) (n : ℕ) (k : Key) → reach by_type asked n (question ids k) ≡ reach by_type asked n (question new k)
+  reach_stays by_type asked n (At p) = refl
+  reach_stays by_type asked n (Typed p t) = refl
+  reach_stays by_type asked n (Asking p j t) = refl
+  reach_stays by_type asked n (Taking p j t) = refl
 
-  index_grows : (log : List EntryData) (asked : List ℕ) (n : ℕ) (list : Key → List ℕ) → IsIndex ids log (reach asked n) list → IsIndex new log (reach asked n) list
-  index_grows log asked n list was = record {
+  index_grows : (log : List EntryData) (by_type asked : List ℕ) (n : ℕ) (list : Key → List ℕ) → IsIndex ids log (reach by_type asked n) list → IsIndex new log (reach by_type asked n) list
+  index_grows log by_type asked n list was = record {
     known = λ k i h. key_within k (was.known k i h);
     sound = λ k i h. subst (λ (q : Question). Answers log i q) (sym (question_stays k (was.known k i h))) (was.sound k i h);
     complete = λ i q lt a. let l = was.complete i q lt a in record { key = l.key; known = key_within l.key l.known; for = question_stays l.key l.known ∙ l.for; among = l.among };
     within = was.within;
-    rises = λ k. subst (λ (m : ℕ). RisesTo m (list k)) (reach_stays asked n k) (was.rises k);
+    rises = λ k. subst (λ (m : ℕ). RisesTo m (list k)) (reach_stays by_type asked n k) (was.rises k);
   }
 
-  pub kept_grows : (rows : List RowData) (room reserved indexed : ℕ) (asked : List ℕ) (list : Key → List ℕ) → IsKept ids rows room reserved indexed asked list → IsKept new rows room reserved indexed asked list
-  kept_grows rows room reserved indexed asked list was =
+  pub kept_grows : (rows : List RowData) (room reserved indexed : ℕ) (by_type asked : List ℕ) (list : Key → List ℕ) → IsKept ids rows room reserved indexed by_type asked list → IsKept new rows room reserved indexed by_type asked list
+  kept_grows rows room reserved indexed by_type asked list was =
       let same = log_stays rows was.known in
       record {
         known = λ k d lt. row_within ids new g (get_or rows k d) (was.known k d lt);
@@ -93,7 +94,7 @@ module _ (ids new : InternerData) (g : Grows ids new) where
         short = was.short;
         fits = was.fits;
         within = was.within;
-        index = subst (λ (log : List EntryData). IsIndex new log (reach asked indexed) list) (sym same) (index_grows (log_of ids rows) asked indexed list was.index);
+        index = subst (λ (log : List EntryData). IsIndex new log (reach by_type asked indexed) list) (sym same) (index_grows (log_of ids rows) by_type asked indexed list was.index);
       }
 
 -- while the log grows
@@ -127,9 +128,9 @@ module _ (log more : List EntryData) where
 pub log_push : (ids : InternerData) (rows : List RowData) (row : RowData) → log_of ids (rows ++ row ∷ []) ≡ log_of ids rows ++ entry_of ids row ∷ []
 log_push ids rows row = map-append (entry_of ids) rows (row ∷ [])
 
-pub kept_push : (ids : InternerData) (rows : List RowData) (row : RowData) (room later reserved kept indexed : ℕ) (asked : List ℕ) (list : Key → List ℕ) → IsKept ids rows room reserved indexed asked list
-    → IsRow ids row → (Contains (log_of ids rows) (entry_of ids row) → ⊥) → length rows + 1 < 2 ^ 32 → kept ≤ later → IsKept ids (rows ++ row ∷ []) later kept indexed asked list
-kept_push ids rows row room later reserved kept indexed asked list was known absent short fits =
+pub kept_push : (ids : InternerData) (rows : List RowData) (row : RowData) (room later reserved kept indexed : ℕ) (by_type asked : List ℕ) (list : Key → List ℕ) → IsKept ids rows room reserved indexed by_type asked list
+    → IsRow ids row → (Contains (log_of ids rows) (entry_of ids row) → ⊥) → length rows + 1 < 2 ^ 32 → kept ≤ later → IsKept ids (rows ++ row ∷ []) later kept indexed by_type asked list
+kept_push ids rows row room later reserved kept indexed by_type asked list was known absent short fits =
     let log = log_of ids rows in
     let same = log_push ids rows row in
     record {
@@ -139,8 +140,8 @@ kept_push ids rows row room later reserved kept indexed asked list was known abs
       short = omega (arith, length-append rows (row ∷ []));
       fits = fits;
       within = omega (arith, length-append rows (row ∷ []), was.within);
-      index = subst (λ (es : List EntryData). IsIndex ids es (reach asked indexed) list) (sym same)
-          (index_front log (entry_of ids row ∷ []) ids (reach asked indexed) list (omega (arith, length-map rows (entry_of ids), was.within)) was.index);
+      index = subst (λ (es : List EntryData). IsIndex ids es (reach by_type asked indexed) list) (sym same)
+          (index_front log (entry_of ids row ∷ []) ids (reach by_type asked indexed) list (omega (arith, length-map rows (entry_of ids), was.within)) was.index);
     }
 
 -- a row whose entry the log lacks goes last
@@ -176,34 +177,35 @@ places_of ids is log reached n list index k known complete xs up exact = record 
   );
 }
 
--- what is listed at once reaches so far
-pub reach_at_once : (ids : InternerData) (asked : List ℕ) (n : ℕ) (k : Key) → IsAtOnce k → reach asked n (question ids k) ≡ n
-reach_at_once ids asked n (At p) h = refl
-reach_at_once ids asked n (Typed p t) h = refl
-reach_at_once ids asked n (Asking p j t) h = absurd h
-reach_at_once ids asked n (Taking p j t) h = refl
+-- what is about types reaches so far
+pub reach_by_type : (ids : InternerData) (by_type asked : List ℕ) (n point : ℕ) (k : Key) → IsByType point k → reach by_type asked n (question ids k) ≡ get_or by_type point 0
+reach_by_type ids by_type asked n point (Typed p t) h = ap (λ i. get_or by_type i 0) h
+reach_by_type ids by_type asked n point (Taking p j t) h = ap (λ i. get_or by_type i 0) h
+reach_by_type ids by_type asked n point (At p) h = absurd h
+reach_by_type ids by_type asked n point (Asking p j t) h = absurd h
 
 -- what contracts see of these fields
-abbrev pub view_of : InternerData → List RowData → ℕ → ℕ → ReplicaData
-view_of ids rows reserved indexed = record { ids = ids; log = log_of ids rows; spare = reserved; indexed = indexed }
+abbrev pub view_of : InternerData → List RowData → ℕ → ℕ → List ℕ → ReplicaData
+view_of ids rows reserved indexed by_type = record { ids = ids; log = log_of ids rows; spare = reserved; indexed = indexed; by_type = by_type }
 
-pub keeps_log : (ids new : InternerData) → Grows ids new → (rows : List RowData) (room reserved indexed : ℕ) (asked : List ℕ) (list : Key → List ℕ) → IsKept ids rows room reserved indexed asked list
-    → (was : ReplicaData) → view_of ids rows reserved indexed ≡ was → KeepsLog was (view_of new rows reserved indexed)
-keeps_log ids new g rows room reserved indexed asked list kept was is =
-    subst (λ (r : ReplicaData). KeepsLog r (view_of new rows reserved indexed)) is
-    (record { log = log_stays ids new g rows kept.known; spare = refl; indexed = refl; grows = g })
+pub keeps_log : (ids new : InternerData) → Grows ids new → (rows : List RowData) (room reserved indexed : ℕ) (by_type asked : List ℕ) (list : Key → List ℕ) → IsKept ids rows room reserved indexed by_type asked list
+    → (was : ReplicaData) → view_of ids rows reserved indexed by_type ≡ was → KeepsLog was (view_of new rows reserved indexed by_type)
+keeps_log ids new g rows room reserved indexed by_type asked list kept was is =
+    subst (λ (r : ReplicaData). KeepsLog r (view_of new rows reserved indexed by_type)) is
+    (record { log = log_stays ids new g rows kept.known; spare = refl; indexed = refl; typed = λ point. omega arith; grows = g })
 
-pub is_replica : (ids : InternerData) (rows : List RowData) (room reserved indexed : ℕ) (asked : List ℕ) (list : Key → List ℕ) → IsKept ids rows room reserved indexed asked list
-    → (was : ReplicaData) → view_of ids rows reserved indexed ≡ was → IsReplica was
-is_replica ids rows room reserved indexed asked list kept was is = subst IsReplica is (record {
+pub is_replica : (ids : InternerData) (rows : List RowData) (room reserved indexed : ℕ) (by_type asked : List ℕ) (list : Key → List ℕ) → IsKept ids rows room reserved indexed by_type asked list
+    → (was : ReplicaData) → view_of ids rows reserved indexed by_type ≡ was → IsReplica was
+is_replica ids rows room reserved indexed by_type asked list kept was is = subst IsReplica is (record {
   distinct = kept.distinct;
   short = omega (arith, length-map rows (entry_of ids), kept.short);
   indexed = omega (arith, length-map rows (entry_of ids), kept.within);
+  typed = λ point. kept.index.within (typed point (state 0)) 0;
 })
 
 -- other room
-pub kept_room : (ids : InternerData) (rows : List RowData) (room later reserved indexed : ℕ) (asked : List ℕ) (list : Key → List ℕ) → IsKept ids rows room reserved indexed asked list → reserved ≤ later → IsKept ids rows later reserved indexed asked list
-kept_room ids rows room later reserved indexed asked list was fits =
+pub kept_room : (ids : InternerData) (rows : List RowData) (room later reserved indexed : ℕ) (by_type asked : List ℕ) (list : Key → List ℕ) → IsKept ids rows room reserved indexed by_type asked list → reserved ≤ later → IsKept ids rows later reserved indexed by_type asked list
+kept_room ids rows room later reserved indexed by_type asked list was fits =
     record { known = was.known; distinct = was.distinct; short = was.short; fits = fits; within = was.within; index = was.index }
 
 pub on_err : {T E P : Type 0} (r : Result T E) → P → OnErr r P
@@ -214,7 +216,7 @@ pub at_ok : {T E : Type 0} (r : Result T E) (x : T) (P : T → Type 0) → r ≡
 at_ok {T} {E} r x P is h = subst (λ (s : Result T E). IfOk s P) is h
 
 -- nothing is kept yet
-pub kept_none : (ids : InternerData) (room : ℕ) (list : Key → List ℕ) → ((k : Key) → list k ≡ []) → IsKept ids [] room 0 0 [] list
+pub kept_none : (ids : InternerData) (room : ℕ) (list : Key → List ℕ) → ((k : Key) → list k ≡ []) → IsKept ids [] room 0 0 [] [] list
 kept_none ids room list none = record {
   known = λ k d lt. absurd (omega arith);
   distinct = λ i j d lt less. absurd (omega arith);
@@ -226,11 +228,11 @@ kept_none ids room list none = record {
     sound = λ k i h. absurd (not_in k i h);
     complete = λ i q lt a. absurd (omega (arith, lt, nothing q));
     within = λ q p. omega (arith, nothing q);
-    rises = λ k. subst (λ (xs : List ℕ). RisesTo (reach [] 0 (question ids k)) xs) (sym (none k)) (record { ascending = λ k lt. absurd (omega arith); below = λ k d lt. absurd (omega arith) });
+    rises = λ k. subst (λ (xs : List ℕ). RisesTo (reach [] [] 0 (question ids k)) xs) (sym (none k)) (record { ascending = λ k lt. absurd (omega arith); below = λ k d lt. absurd (omega arith) });
   };
 }
   where
-    nothing : (q : Question) → reach [] 0 q ≡ 0
+    nothing : (q : Question) → reach [] [] 0 q ≡ 0
     nothing (here p) = refl
     nothing (typed p a) = refl
     nothing (asks p j a) = refl
@@ -240,13 +242,13 @@ kept_none ids room list none = record {
     not_in k i h = let g = subst (λ (xs : List ℕ). Contains xs i) (none k) h in absurd (omega (arith, g.1))
 
 -- more places are listed
-pub kept_index : (ids : InternerData) (rows : List RowData) (room reserved indexed more : ℕ) (asked later : List ℕ) (list new : Key → List ℕ) → IsKept ids rows room reserved indexed asked list
-    → more ≤ length rows → IsIndex ids (log_of ids rows) (reach later more) new → IsKept ids rows room reserved more later new
-kept_index ids rows room reserved indexed more asked later list new was within index =
+pub kept_index : (ids : InternerData) (rows : List RowData) (room reserved indexed more : ℕ) (by_type asked types later : List ℕ) (list new : Key → List ℕ) → IsKept ids rows room reserved indexed by_type asked list
+    → more ≤ length rows → IsIndex ids (log_of ids rows) (reach types later more) new → IsKept ids rows room reserved more types later new
+kept_index ids rows room reserved indexed more by_type asked types later list new was within index =
     record { known = was.known; distinct = was.distinct; short = was.short; fits = was.fits; within = within; index = index }
 
 -- more rows have room
-pub kept_reserved : (ids : InternerData) (rows : List RowData) (room later reserved more indexed : ℕ) (asked : List ℕ) (list : Key → List ℕ) → IsKept ids rows room reserved indexed asked list → more ≤ later
-    → IsKept ids rows later more indexed asked list
-kept_reserved ids rows room later reserved more indexed asked list was fits =
+pub kept_reserved : (ids : InternerData) (rows : List RowData) (room later reserved more indexed : ℕ) (by_type asked : List ℕ) (list : Key → List ℕ) → IsKept ids rows room reserved indexed by_type asked list → more ≤ later
+    → IsKept ids rows later more indexed by_type asked list
+kept_reserved ids rows room later reserved more indexed by_type asked list was fits =
     record { known = was.known; distinct = was.distinct; short = was.short; fits = fits; within = was.within; index = was.index }

@@ -5,7 +5,9 @@ pub mod EnvLemmas
 pub mod TypeLemmas
 pub mod FromLemmas
 pub mod RowLemmas
+pub mod ReachLemmas
 pub mod AskLemmas
+pub mod TypesLemmas
 pub mod KeptLemmas
 pub mod Firsts
 pub mod ExtendLemmas

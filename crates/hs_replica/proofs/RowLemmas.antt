@@ -6,13 +6,14 @@ use Rattle.std.proofs.lemmas.List.Elements.{Contains-get_or}
 use Rattle.std.proofs.lemmas.List.Kept.{AllPairs-from_increasing}
 use Rattle.std.proofs.lemmas.Option.{slice_get-get_or, get_or_from_slice_get, slice_get-map}
 use Rattle.hs_scheme.proofs.DemandLemmas.{some_same, slice_get-read}
+use Rattle.hs_table.specs.Types.{TypeTree}
 use Rattle.hs_table.specs.Entries.{EntryData}
 use Rattle.hs_types.specs.Interned.{InternerData, RowData, type_of_id, IsRow, entry_of, IsInterner}
 use Rattle.hs_types.proofs.Numbers.{same_type}
 use Rattle.hs_replica.specs.declared.key.Key.{Key}
 use Rattle.hs_replica.specs.declared.key.Key.TheVariants.{At, Typed, Asking, Taking}
 use Rattle.hs_replica.specs.Places.{Question, here, typed, asks, takes, IsFirst, Meets, Answers}
-use Rattle.hs_replica.specs.Index.{log_of, question, reach, IsKey, RisesTo, IsListed, IsIndex, AddsAt, Gains, HasAll, TakesBy, TakesFirst}
+use Rattle.hs_replica.specs.Index.{log_of, question, reach, IsKey, RisesTo, IsListed, IsIndex, IsNextTyped, AddsAt, Gains, HasAll, OfTypes, TakesBy, TakesFirst}
 use Rattle.hs_replica.proofs.SetLemmas.{gains_then, gains_weaker, gains_one, still_listed}
 
 -- the first of an ascending list is the least
@@ -117,81 +118,100 @@ module _ (ids : InternerData) (log : List EntryData) (place : ℕ) (e : EntryDat
       (λ i q after lt a. elim (moves q) [ inl e ↦ absurd (omega (arith, e, after, lt)) | inr m ↦ answered all i q (omega (arith, m.0, m.1.0, after, lt)) m.1.1 a ])
       index_kept
 
--- the entry answers this, which isn't what its environment asks for
-abbrev pub AtOnce : List EntryData → ℕ → EntryData → Question → Type 0
-AtOnce log place e (here p) = Meets log place e (here p)
-AtOnce log place e (typed p a) = Meets log place e (typed p a)
-AtOnce log place e (asks p j a) = ⊥
-AtOnce log place e (takes p j a) = Meets log place e (takes p j a)
+-- the entry stands at this point
+abbrev pub IsHere : List EntryData → ℕ → EntryData → Question → Type 0
+IsHere log place e (here p) = Meets log place e (here p)
+IsHere log place e (typed p a) = ⊥
+IsHere log place e (asks p j a) = ⊥
+IsHere log place e (takes p j a) = ⊥
 
-module _ (ids : InternerData) (log : List EntryData) (asked : List ℕ) (place : ℕ) (e : EntryData) (at : slice_get log place ≡ Some e)
-    (old new : Key → List ℕ) (was : IsIndex ids log (reach asked place) old) (gains : Gains ids (AtOnce log place e) place old new) where
-  meets : (q : Question) → AtOnce log place e q → Meets log place e q
+module _ (ids : InternerData) (log : List EntryData) (by_type asked : List ℕ) (place : ℕ) (e : EntryData) (at : slice_get log place ≡ Some e)
+    (old new : Key → List ℕ) (was : IsIndex ids log (reach by_type asked place) old) (adds : AddsAt (At e.point) place old new) where
+  gains : Gains ids (IsHere log place e) place old new
+  gains = gains_one ids (IsHere log place e) (At e.point) place old new tt refl adds
+
+  meets : (q : Question) → IsHere log place e q → Meets log place e q
   meets (here p) h = h
-  meets (typed p a) h = h
+  meets (typed p a) h = absurd h
   meets (asks p j a) h = absurd h
-  meets (takes p j a) h = h
+  meets (takes p j a) h = absurd h
 
-  due : (q : Question) → AtOnce log place e q → reach asked place q ≡ place
+  due : (q : Question) → IsHere log place e q → reach by_type asked place q ≡ place
   due (here p) h = refl
-  due (typed p a) h = refl
+  due (typed p a) h = absurd h
   due (asks p j a) h = absurd h
-  due (takes p j a) h = refl
+  due (takes p j a) h = absurd h
 
-  moves : (q : Question) → (reach asked (place + 1) q ≡ reach asked place q) ⊎ ((reach asked place q ≡ place) × ((reach asked (place + 1) q ≡ place + 1) × (Meets log place e q → AtOnce log place e q)))
+  moves : (q : Question) → (reach by_type asked (place + 1) q ≡ reach by_type asked place q)
+      ⊎ ((reach by_type asked place q ≡ place) × ((reach by_type asked (place + 1) q ≡ place + 1) × (Meets log place e q → IsHere log place e q)))
   moves (here p) = inr (refl, (refl, λ m. m))
-  moves (typed p a) = inr (refl, (refl, λ m. m))
+  moves (typed p a) = inl refl
   moves (asks p j a) = inl refl
-  moves (takes p j a) = inr (refl, (refl, λ m. m))
+  moves (takes p j a) = inl refl
 
-  within : (q : Question) (p : ℕ) → reach asked (place + 1) q ≤ place + 1
+  within : (q : Question) (p : ℕ) → reach by_type asked (place + 1) q ≤ place + 1
   within (here k) p = omega arith
-  within (typed k a) p = omega arith
+  within (typed k a) p = omega (arith, was.within (typed k a) p)
   within (asks k j a) p = omega (arith, was.within (asks k j a) p)
-  within (takes k j a) p = omega arith
+  within (takes k j a) p = omega (arith, was.within (takes k j a) p)
 
-  pub place_kept : IsIndex ids log (reach asked place) new
-  place_kept = index_kept ids log place e at (reach asked place) (AtOnce log place e) meets due old new was gains
+  all_here : Contains (new (At e.point)) place → HasAll ids (IsHere log place e) place new
+  all_here there (here p) h = record { key = At e.point; known = tt; for = ap here h; among = there }
+  all_here there (typed p a) h = absurd h
+  all_here there (asks p j a) h = absurd h
+  all_here there (takes p j a) h = absurd h
 
-  pub place_more : HasAll ids (AtOnce log place e) place new → IsIndex ids log (reach asked (place + 1)) new
-  place_more all = index_more ids log place e at (reach asked place) (AtOnce log place e) meets due old new was gains all (reach asked (place + 1)) within moves
+  pub place_kept : IsIndex ids log (reach by_type asked place) new
+  place_kept = index_kept ids log place e at (reach by_type asked place) (IsHere log place e) meets due old new was gains
 
--- the keys of a row, one after another
+  pub place_more : Contains (new (At e.point)) place → IsIndex ids log (reach by_type asked (place + 1)) new
+  place_more there = index_more ids log place e at (reach by_type asked place) (IsHere log place e) meets due old new was gains (all_here there) (reach by_type asked (place + 1)) within moves
+
+-- the entry of a place answers what it meets, and meets what it answers
+module _ (log : List EntryData) (place : ℕ) (e : EntryData) (at : slice_get log place ≡ Some e) where
+  pub answers : (q : Question) → Meets log place e q → Answers log place q
+  answers q m = record { entry = e; at = at; meets = m }
+
+  pub answered_by : (q : Question) → Answers log place q → Meets log place e q
+  answered_by q a = subst (λ (d : EntryData). Meets log place d q) (some_same a.entry e (sym a.at ∙ at)) a.meets
+
+-- the keys of a row's type, one after another
 module _ (ids : InternerData) (is : IsInterner ids) (log : List EntryData) (place : ℕ) (row : RowData) (at : slice_get log place ≡ Some (entry_of ids row)) (known : row.ty < length ids.types)
-    (asked : List ℕ) (old : Key → List ℕ) (was : IsIndex ids log (reach asked place) old) where
+    (old : Key → List ℕ) (was : IsNextTyped ids log place old) where
   abbrev e : EntryData
   e = entry_of ids row
 
+  abbrev ty : TypeTree
+  ty = type_of_id ids row.ty
+
   abbrev Met : Question → Type 0
-  Met = AtOnce log place e
+  Met = OfTypes log place
 
-  pub here_gains : (mid : Key → List ℕ) → AddsAt (At row.point) place old mid → Gains ids Met place old mid
-  here_gains mid adds = gains_one ids Met (At row.point) place old mid tt refl adds
+  upto : was.reached (typed row.point ty) ≡ place
+  upto = was.upto e at ty
 
-  module _ (mid : Key → List ℕ) (first : AddsAt (At row.point) place old mid) where
-    pub typed_gains : (new : Key → List ℕ) → AddsAt (Typed row.point row.ty) place mid new → Gains ids Met place old new
-    typed_gains new adds =
-        gains_then ids Met Met Met place old mid new (λ q h. h) (λ q h. h) (here_gains mid first)
-        (gains_one ids Met (Typed row.point row.ty) place mid new known (refl, refl) adds)
+  module _ (list : Key → List ℕ) (adds : AddsAt (Typed row.point row.ty) place old list) where
+    pub typed_gains : Gains ids Met place old list
+    typed_gains = gains_one ids Met (Typed row.point row.ty) place old list known (answers log place e at (typed row.point ty) (refl, refl)) adds
 
-    module _ (here_there : Contains (mid (At row.point)) place) (list : Key → List ℕ) (second : AddsAt (Typed row.point row.ty) place mid list) (typed_there : Contains (list (Typed row.point row.ty)) place) where
+    module _ (there : Contains (list (Typed row.point row.ty)) place) where
       abbrev own : List ℕ
       own = list (Typed row.point row.ty)
 
       own_rises : RisesTo place own
-      own_rises = (typed_gains list second).rises (Typed row.point row.ty) place (λ h. refl) (was.rises (Typed row.point row.ty))
+      own_rises = typed_gains.rises (Typed row.point row.ty) place (λ h. refl) (subst (λ (n : ℕ). RisesTo n (old (Typed row.point row.ty))) upto (was.index.rises (Typed row.point row.ty)))
 
       -- the list of its point and its type begins with it where it is the first
       is_first : slice_get own 0 ≡ Some place → IsFirst log place e
-      is_first begins j d lt there point ty =
-          let l = was.complete j (typed row.point (type_of_id ids row.ty)) lt (record { entry = d; at = there; meets = (point, ty) }) in
+      is_first begins j d lt stands point ty_is =
+          let l = was.index.complete j (typed row.point ty) (omega (arith, upto, lt)) (record { entry = d; at = stands; meets = (point, ty_is) }) in
           let k = same_key ids is l.key (Typed row.point row.ty) l.known known l.for in
-          let among : Contains own j = (typed_gains list second).keeps (Typed row.point row.ty) j (subst (λ (m : Key). Contains (old m) j) k l.among) in
+          let among : Contains own j = typed_gains.keeps (Typed row.point row.ty) j (subst (λ (m : Key). Contains (old m) j) k l.among) in
           omega (arith, first_least own place j own_rises.ascending begins among)
 
       earlier : (x : ℕ) → IsFirst log place e → x ≤ place → Contains (old (Typed row.point row.ty)) x → x ≡ place
       earlier x first_of_all le h =
-          let a = was.sound (Typed row.point row.ty) x h in
+          let a = was.index.sound (Typed row.point row.ty) x h in
           elim (cases_lt x place) [
             | inl lt ↦ absurd (first_of_all x a.entry lt a.at a.meets.0 a.meets.1)
             | inr ge ↦ omega arith
@@ -199,33 +219,32 @@ module _ (ids : InternerData) (is : IsInterner ids) (log : List EntryData) (plac
 
       begins_own : IsFirst log place e → slice_get own 0 ≡ Some place
       begins_own first_of_all =
-          let b = begins_by own place typed_there in
-          let le : b.0 ≤ place = first_least own b.0 place own_rises.ascending b.1.0 typed_there in
-          let same : b.0 ≡ place = elim ((typed_gains list second).only (Typed row.point row.ty) b.0 b.1.1) [ inl before ↦ earlier b.0 first_of_all le before | inr now ↦ now.0 ] in
+          let b = begins_by own place there in
+          let le : b.0 ≤ place = first_least own b.0 place own_rises.ascending b.1.0 there in
+          let same : b.0 ≡ place = elim (typed_gains.only (Typed row.point row.ty) b.0 b.1.1) [ inl before ↦ earlier b.0 first_of_all le before | inr now ↦ now.0 ] in
           b.1.0 ∙ ap (λ x. Some x) same
 
       takes_met : (q : Question) → TakesFirst ids row list place q → Met q
-      takes_met (takes p j a) h = (sym h.1.0, (h.1.1, is_first h.0))
+      takes_met (takes p j a) h = answers log place e at (takes p j a) (sym h.1.0, (h.1.1, is_first h.0))
       takes_met (here p) h = absurd h.1
       takes_met (typed p a) h = absurd h.1
       takes_met (asks p j a) h = absurd h.1
 
       module _ (new : Key → List ℕ) (firsts : Gains ids (TakesFirst ids row list place) place list new) where
         pub all_gains : Gains ids Met place old new
-        all_gains = gains_then ids Met (TakesFirst ids row list place) Met place old list new (λ q h. h) takes_met (typed_gains list second) firsts
+        all_gains = gains_then ids Met (TakesFirst ids row list place) Met place old list new (λ q h. h) takes_met typed_gains firsts
 
         pub all_met : HasAll ids (TakesFirst ids row list place) place new → HasAll ids Met place new
-        all_met all (here p) h = record {
-          key = At row.point;
-          known = tt;
-          for = ap here h;
-          among = firsts.keeps (At row.point) place (second.keeps (At row.point) place here_there);
-        }
-        all_met all (typed p a) h = record {
-          key = Typed row.point row.ty;
-          known = known;
-          for = λ i. typed (h.0 i) (h.1 i);
-          among = firsts.keeps (Typed row.point row.ty) place typed_there;
-        }
+        all_met all (typed p a) h =
+            let m = answered_by log place e at (typed p a) h in
+            record {
+              key = Typed row.point row.ty;
+              known = known;
+              for = λ i. typed (m.0 i) (m.1 i);
+              among = firsts.keeps (Typed row.point row.ty) place there;
+            }
+        all_met all (takes p j a) h =
+            let m = answered_by log place e at (takes p j a) h in
+            all (takes p j a) (begins_own m.1.1, (sym m.0, m.1.0))
+        all_met all (here p) h = absurd h
         all_met all (asks p j a) h = absurd h
-        all_met all (takes p j a) h = all (takes p j a) (begins_own h.1.1, (sym h.0, h.1.0))

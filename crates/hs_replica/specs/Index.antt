@@ -1,7 +1,7 @@
 -- How places are kept by what they answer.
 --     list_at lists k       the list of this key, by `row_at` or `keyed_at`
 --     question ids k        what the key asks for
---     reach asked n q       so many places, from the first, are listed by the question; by what entries ask for, when their point is asked about
+--     reach types asked n q so many places, from the first, are listed by the question; by types and by what entries ask for, when these are wanted of a point
 --     IsIndex               the lists have just the places that answer what their keys ask for, as far as these are reached
 --     Gains, HasAll         lists that gain a place
 use Rattle.std.specs.Prelude.{◌≡◌, ◌≢◌, ◌^◌, AllPairs, Some, slice_get, slice_index_or, ℕ, ◌<◌, ◌≤◌, List, [], length, map, All, Contains, ◌⊎◌}
@@ -42,19 +42,19 @@ question ids (Typed p t) = typed p (type_of_id ids t)
 question ids (Asking p j t) = asks p j (type_of_id ids t)
 question ids (Taking p j t) = takes p j (type_of_id ids t)
 
--- it is listed by this when the log is indexed
-abbrev pub IsAtOnce : Key → Type 0
-IsAtOnce (At p) = Unit {0}
-IsAtOnce (Typed p t) = Unit {0}
-IsAtOnce (Asking p j t) = ⊥
-IsAtOnce (Taking p j t) = Unit {0}
+-- it is about the types of entries at the point
+abbrev pub IsByType : ℕ → Key → Type 0
+IsByType point (At p) = ⊥
+IsByType point (Typed p t) = p ≡ point
+IsByType point (Asking p j t) = ⊥
+IsByType point (Taking p j t) = p ≡ point
 
--- n places, or number p of `asked` where it is what entries at p ask for
-abbrev pub reach : List ℕ → ℕ → Question → ℕ
-reach asked n (here p) = n
-reach asked n (typed p a) = n
-reach asked n (asks p j a) = slice_index_or asked p 0
-reach asked n (takes p j a) = n
+-- n places, or number p of `by_type` or `asked` where it is about the types of entries at p or what they ask for
+abbrev pub reach : List ℕ → List ℕ → ℕ → Question → ℕ
+reach by_type asked n (here p) = n
+reach by_type asked n (typed p a) = slice_index_or by_type p 0
+reach by_type asked n (asks p j a) = slice_index_or asked p 0
+reach by_type asked n (takes p j a) = slice_index_or by_type p 0
 
 -- its type has a number
 abbrev pub IsKey : InternerData → Key → Type 0
@@ -83,9 +83,29 @@ pub record IsIndex (ids : InternerData) (log : List EntryData) (reached : Questi
   pub within : (q : Question) (p : ℕ) → reached q ≤ reached (here p)
   pub rises : (k : Key) → RisesTo (reached (question ids k)) (list k)
 
--- what was an index of the first n entries becomes one of the first m, and as to what they ask for it stays
-abbrev pub KeepsIndex : InternerData → List EntryData → ℕ → ℕ → (Key → List ℕ) → (Key → List ℕ) → Type 0
-KeepsIndex ids log n m old new = (asked : List ℕ) → IsIndex ids log (reach asked n) old → IsIndex ids log (reach asked m) new
+-- what was an index of the first n entries becomes one of the first m, and stays as it was as to their types and what they ask for
+abbrev pub KeepsIndex : List RowData → ℕ → ℕ → (Key → List ℕ) → (Key → List ℕ) → Type 0
+KeepsIndex rows n m old new = (ids : InternerData) (by_type asked : List ℕ) → IsIndex ids (log_of ids rows) (reach by_type asked n) old → IsIndex ids (log_of ids rows) (reach by_type asked m) new
+
+-- the lists are an index that reaches as these numbers say: of types, or of what entries ask for, with some others for the rest
+abbrev pub IsTypedIndex : InternerData → List EntryData → ℕ → List ℕ → (Key → List ℕ) → Type 0
+IsTypedIndex ids log n by_type list = (asked : List ℕ) × IsIndex ids log (reach by_type asked n) list
+
+abbrev pub IsAskedIndex : InternerData → List EntryData → ℕ → List ℕ → (Key → List ℕ) → Type 0
+IsAskedIndex ids log n asked list = (by_type : List ℕ) × IsIndex ids log (reach by_type asked n) list
+
+-- what was such an index reaches as the later numbers say, and stays as it was for the rest
+abbrev pub KeepsTyped : InternerData → List EntryData → ℕ → List ℕ → List ℕ → (Key → List ℕ) → (Key → List ℕ) → Type 0
+KeepsTyped ids log n by_type later old new = (asked : List ℕ) → IsIndex ids log (reach by_type asked n) old → IsIndex ids log (reach later asked n) new
+
+abbrev pub KeepsAsked : InternerData → List EntryData → ℕ → List ℕ → List ℕ → (Key → List ℕ) → (Key → List ℕ) → Type 0
+KeepsAsked ids log n asked later old new = (by_type : List ℕ) → IsIndex ids log (reach by_type asked n) old → IsIndex ids log (reach by_type later n) new
+
+-- by types, at the point of the entry at this place, the lists reach just up to it
+pub record IsNextTyped (ids : InternerData) (log : List EntryData) (place : ℕ) (list : Key → List ℕ) : Type 0 where
+  pub reached : Question → ℕ
+  pub index : IsIndex ids log reached list
+  pub upto : (e : EntryData) → slice_get log place ≡ Some e → (a : TypeTree) → reached (typed e.point a) ≡ place
 
 -- all that the first n entries ask for at the point is listed
 abbrev pub HasAsked : InternerData → List EntryData → ℕ → ℕ → (Key → List ℕ) → Type 0
@@ -112,6 +132,13 @@ pub record Gains (ids : InternerData) (P : Question → Type 0) (place : ℕ) (o
 -- all that P holds of is listed
 abbrev pub HasAll : InternerData → (Question → Type 0) → ℕ → (Key → List ℕ) → Type 0
 HasAll ids P place list = (q : Question) → P q → IsListed ids list place q
+
+-- the entry at this place answers it, and it is about types
+abbrev pub OfTypes : List EntryData → ℕ → Question → Type 0
+OfTypes log place (here p) = ⊥
+OfTypes log place (typed p a) = Answers log place (typed p a)
+OfTypes log place (asks p j a) = ⊥
+OfTypes log place (takes p j a) = Answers log place (takes p j a)
 
 -- types of this set are asked for at parameter j, of an environment at any
 abbrev pub AsksAt : ℕ → ℕ → List TypeTree → Question → Type 0
@@ -144,10 +171,10 @@ abbrev pub AsksBy : InternerData → RowData → Question → Type 0
 AsksBy ids row q = IsState (type_of_id ids row.ty) × AsksIn row.point (env_of_id ids row.env) q
 
 -- what a replica keeps: room for so many rows, and the lists of the first of them
-pub record IsKept (ids : InternerData) (rows : List RowData) (room reserved indexed : ℕ) (asked : List ℕ) (list : Key → List ℕ) : Type 0 where
+pub record IsKept (ids : InternerData) (rows : List RowData) (room reserved indexed : ℕ) (by_type asked : List ℕ) (list : Key → List ℕ) : Type 0 where
   pub known : All (IsRow ids) rows
   pub distinct : AllPairs (λ a b. a ≢ b) (log_of ids rows)
   pub short : length rows < 2 ^ 32
   pub fits : reserved ≤ room
   pub within : indexed ≤ length rows
-  pub index : IsIndex ids (log_of ids rows) (reach asked indexed) list
+  pub index : IsIndex ids (log_of ids rows) (reach by_type asked indexed) list

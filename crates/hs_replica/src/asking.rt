@@ -1,13 +1,12 @@
 //! How places come into the lists of what environments ask for, when their point is asked about.
 
-ghost use Rattle.std.specs.Prelude.{◌≡◌, ℕ, ◌<◌, ◌≤◌, All, Contains, IfNone, IfOk, IfSome, OnOk, length, slice_index_or};
-ghost use Rattle.std.specs.List.Sorted.{IsStrictlyIncreasing};
+ghost use Rattle.std.specs.Prelude.{◌≡◌, ◌<◌, ◌≤◌, All, IfOk, OnOk, length};
 ghost use Rattle.hs_types.specs.Interned.{set_of_id, env_of_id, IsRow};
-ghost use Rattle.hs_replica.specs.declared.key.Key.TheVariants.{At};
-ghost use Rattle.hs_replica.specs.Index.{list_at, log_of, reach, RisesTo, IsIndex, HasAsked, Gains, HasAll, AsksAt, AsksIn, AsksBy};
+ghost use Rattle.hs_replica.specs.Index.{list_at, log_of, IsAskedIndex, KeepsAsked, HasAsked, Gains, HasAll, AsksAt, AsksIn, AsksBy};
 
 use crate::key::Key;
-use crate::lists::{Lists, add_once, below, list_of};
+use crate::lists::{Lists, add_once};
+use crate::reaching::{lengthen, next_at};
 use hs_scheme::OutOfMemory;
 use hs_types::{EnvId, Interner, Row, SetId, View};
 
@@ -76,44 +75,6 @@ fn add_row(lists: &mut Lists, interner: &Interner, row: Row, place: u32) -> Resu
     Ok(())
 }
 
-/// The first place of the list that isn't below `from`.
-fn first_from(list: &[u32], from: u32) -> Option<u32>
-    requires { IsStrictlyIncreasing list.now }
-    ensures there { IfSome result (λ place. (from ≤ place) × Contains list.now place) }
-    ensures first { IfSome result (λ place. (i : ℕ) → Contains list.now i → from ≤ i → place ≤ i) }
-    ensures none { IfNone result ((i : ℕ) → Contains list.now i → i < from) }
-{
-    let begin = list.partition_point(|place| *place < from);
-    if begin >= list.len() {
-        return None;
-    }
-    Some(list[begin])
-}
-
-/// The first place of the point among the first `indexed` that isn't below `from`.
-fn next_at(lists: &Lists, point: u32, from: u32, indexed: u32) -> Option<u32>
-    requires { RisesTo indexed (list_at lists.now (At point)) }
-    ensures there { IfSome result (λ place. (from ≤ place) × ((place < indexed)
-        × Contains (list_at lists.now (At point)) place)) }
-    ensures first { IfSome result (λ place. (i : ℕ) → Contains (list_at lists.now (At point)) i
-        → from ≤ i → i < indexed → place ≤ i) }
-    ensures none { IfNone result ((i : ℕ) → Contains (list_at lists.now (At point)) i → i < indexed
-        → i < from) }
-{
-    first_from(below(list_of(lists, Key::At(point)), indexed), from)
-}
-
-/// Adds zeros until the point has a number.
-fn lengthen(asked: &mut Vec<u32>, point: u32) -> Result<(), OutOfMemory>
-    ensures same { (p : ℕ) → slice_index_or asked.new.items p 0 ≡ slice_index_or asked.old.items p 0 }
-    ensures long { OnOk result (point < length asked.new.items) }
-{
-    while asked.len() <= point as usize {
-        asked.push(0)?;
-    }
-    Ok(())
-}
-
 /// Lists the places of the point, of the first `indexed`, under what their entries ask for. `asked`
 /// says for each point how many places of the log that has been done for, so it goes on from there,
 /// and after a refusal of memory it tells how far this came.
@@ -127,10 +88,10 @@ pub(crate) fn add_asks(
 ) -> Result<(), OutOfMemory>
     requires rows { All (IsRow interner.now) rows.now }
     requires within { indexed ≤ length rows.now }
-    requires index { IsIndex interner.now (log_of interner.now rows.now) (reach asked.old.items indexed)
+    requires index { IsAskedIndex interner.now (log_of interner.now rows.now) indexed asked.old.items
         (list_at lists.old) }
-    ensures index { IsIndex interner.now (log_of interner.now rows.now) (reach asked.new.items indexed)
-        (list_at lists.new) }
+    ensures index { KeepsAsked interner.now (log_of interner.now rows.now) indexed asked.old.items
+        asked.new.items (list_at lists.old) (list_at lists.new) }
     ensures ok { OnOk result (HasAsked interner.now (log_of interner.now rows.now) indexed point
         (list_at lists.new)) }
 {

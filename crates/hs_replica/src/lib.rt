@@ -9,7 +9,9 @@ mod indexing;
 mod key;
 mod lists;
 mod lookups;
+mod reaching;
 mod replica;
+mod typing;
 
 pub use lists::Places;
 pub use lookups::each_entry_has_a_first;

@@ -1,14 +1,18 @@
 //! Places of the entries that answer a question.
 
-ghost use Rattle.std.specs.Prelude.{◌≡◌, ◌<◌, ℕ, List, Some, IfOk, length, slice_get};
+ghost use Rattle.std.specs.Prelude.{◌≡◌, ◌<◌, ℕ, List, Some, IfOk, OnOk, length, slice_get};
 ghost use Rattle.hs_table.specs.Entries.{EntryData};
 ghost use Rattle.hs_types.specs.Interned.{type_of_id};
 ghost use Rattle.hs_replica.specs.Places.{here, typed, asks, takes, IsFirstLike, ArePlaces};
+ghost use Rattle.hs_replica.specs.Replica.{typed_to, ListsMore};
+ghost use Rattle.hs_replica.specs.Index.{question, IsKey, IsByType};
 
 use crate::asking::add_asks;
 use crate::key::Key;
 use crate::lists::{Places, below, list_of};
+use crate::reaching::number_of;
 use crate::replica::Replica;
+use crate::typing::add_types;
 use hs_scheme::OutOfMemory;
 use hs_types::TyId;
 use smallvec::SmallVec;
@@ -21,21 +25,68 @@ pub fn each_entry_has_a_first()
 {}
 
 impl Replica {
-    /// The places of the entries at this point, ascending, of those that are indexed. This,
-    /// `with_type` and `taking` take no memory, and constant time on average.
+    /// The places of the entries at this point, ascending, of those that are indexed. Takes no
+    /// memory, and constant time.
     pub fn at_point(&self, point: u32) -> &[u32]
         ensures { ArePlaces self.now.log self.now.indexed (here point) result.now }
     {
-        self.places(Key::At(point))
+        self.interner.numbers_are_exact();
+        below(list_of(&self.lists, Key::At(point)), self.indexed)
     }
 
-    /// The places of the entries at this point with this type.
+    /// Makes `with_type` and `taking` tell of all that are indexed of the entries at this point. After
+    /// a refusal of memory they tell of as much as before or of more, and the next call goes on from
+    /// there.
+    ///
+    /// This lists the entries at the point that were indexed since it was last called for it, each by
+    /// its type and, where it is the first with that, by each type in the sets of its type. So a point
+    /// whose types are never asked about costs nothing. Time is in proportion to what is listed, with a
+    /// binary search in the places of the point for each of these entries; it is constant where nothing
+    /// was indexed since. A point takes 4 bytes, and so does each below it.
+    pub fn list_types(&mut self, point: u32) -> Result<(), OutOfMemory>
+        ensures ok { OnOk result (typed_to self.new point ≡ self.new.indexed) }
+        ensures kept { ListsMore self.old self.new }
+    {
+        add_types(
+            &mut self.lists,
+            &mut self.by_type,
+            &self.interner,
+            self.rows.as_slice(),
+            self.indexed,
+            point,
+        )
+    }
+
+    /// The places that are listed by this key, which is about the types at this point.
+    fn places(&self, point: u32, key: Key) -> &[u32]
+        requires known { IsKey self.now.ids key }
+        requires by_type { IsByType point key }
+        ensures { ArePlaces self.now.log (typed_to self.now point) (question self.now.ids key) result.now }
+    {
+        self.interner.numbers_are_exact();
+        let end = number_of(self.by_type.as_slice(), point);
+        below(list_of(&self.lists, key), end)
+    }
+
+    /// The places of the entries at this point with this type, ascending, of those that `list_types`
+    /// has listed there. This and `taking` take no memory, and constant time on average.
     pub fn with_type(&self, point: u32, ty: TyId) -> &[u32]
         requires { ty < length self.now.ids.types }
-        ensures { ArePlaces self.now.log self.now.indexed
+        ensures { ArePlaces self.now.log (typed_to self.now point)
             (typed point (type_of_id self.now.ids ty)) result.now }
     {
-        self.places(Key::Typed(point, ty))
+        self.places(point, Key::Typed(point, ty))
+    }
+
+    /// The places of the entries at this point whose type takes as this argument, counted from 0,
+    /// something with this type, of those that `list_types` has listed there: of each such type the
+    /// first place.
+    pub fn taking(&self, point: u32, arg: u32, ty: TyId) -> &[u32]
+        requires { ty < length self.now.ids.types }
+        ensures { ArePlaces self.now.log (typed_to self.now point)
+            (takes point arg (type_of_id self.now.ids ty)) result.now }
+    {
+        self.places(point, Key::Taking(point, arg, ty))
     }
 
     /// The places of the entries at this point whose type is a state, and whose environment has
@@ -64,15 +115,5 @@ impl Replica {
         let list = list_of(&self.lists, Key::Asking(point, param, ty));
         let places = SmallVec::from_slice(*self.asked.allocator(), below(list, self.indexed))?;
         Ok(places)
-    }
-
-    /// The places of the entries at this point whose type takes as this argument, counted from 0,
-    /// something with this type: of each such type the first place.
-    pub fn taking(&self, point: u32, arg: u32, ty: TyId) -> &[u32]
-        requires { ty < length self.now.ids.types }
-        ensures { ArePlaces self.now.log self.now.indexed
-            (takes point arg (type_of_id self.now.ids ty)) result.now }
-    {
-        self.places(Key::Taking(point, arg, ty))
     }
 }

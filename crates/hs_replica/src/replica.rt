@@ -5,12 +5,9 @@ ghost use mathlib.Core.List.{IsPrefix};
 ghost use Rattle.hs_types.specs.Interned.{IsRow, entry_of, Grows};
 ghost use Rattle.hs_replica.specs.Replica.{IsReplica, KeepsLog};
 ghost use Rattle.hs_replica.specs.Extending.{CanExtend, extended};
-ghost use Rattle.hs_replica.specs.Places.{ArePlaces};
-ghost use Rattle.hs_replica.specs.Index.{question, IsAtOnce, IsKey};
 
 use crate::indexing::add_places;
-use crate::key::Key;
-use crate::lists::{Lists, below, list_of};
+use crate::lists::Lists;
 use hs_scheme::OutOfMemory;
 use hs_types::{ImportedNumbers, Interner, Row};
 use indexmap::IndexSet;
@@ -29,6 +26,8 @@ pub struct Replica {
     pub(crate) interner: Interner,
     pub(crate) rows: IndexSet<Row>,
     pub(crate) lists: Lists,
+    /// For each point, so many places of the log, from the first, are listed by their types there.
+    pub(crate) by_type: Vec<u32>,
     /// For each point, so many places of the log, from the first, are listed by what environments
     /// ask for there.
     pub(crate) asked: Vec<u32>,
@@ -52,10 +51,11 @@ impl Model for Replica {
       log = log_of a.interner a.rows.keys;
       spare = a.reserved;
       indexed = a.indexed;
+      by_type = a.by_type.items;
     } };
 
     ghost invariant = { λ a. IsKept a.interner a.rows.keys (spare a.rows) a.reserved a.indexed
-        a.asked.items (list_at a.lists) };
+        a.by_type.items a.asked.items (list_at a.lists) };
 }
 
 impl Replica {
@@ -66,12 +66,14 @@ impl Replica {
           log = [];
           spare = 0;
           indexed = 0;
+          by_type = [];
         } }
     {
         Replica {
             interner: Interner::new(alloc),
             rows: IndexSet::new(alloc),
             lists: Lists::new(alloc),
+            by_type: Vec::new(alloc),
             asked: Vec::new(alloc),
             reserved: 0,
             indexed: 0,
@@ -127,6 +129,7 @@ impl Replica {
         ensures err { OnErr result (self.new.log ≡ self.old.log) }
         ensures spare { self.new.spare ≡ self.old.spare }
         ensures indexed { self.new.indexed ≡ self.old.indexed }
+        ensures by_type { self.new.by_type ≡ self.old.by_type }
         ensures grows { Grows self.old.ids self.new.ids }
     {
         let own = self.interner.import(from, row)?;
@@ -169,6 +172,7 @@ impl Replica {
         ensures whole { IfOk result (λ rows. extended self.new rows.items ≡ from.now.log) }
         ensures log { self.new.log ≡ self.old.log }
         ensures indexed { self.new.indexed ≡ self.old.indexed }
+        ensures by_type { self.new.by_type ≡ self.old.by_type }
         ensures grows { Grows self.old.ids self.new.ids }
     {
         let begin = self.rows.len();
@@ -222,31 +226,15 @@ impl Replica {
     /// Makes the look-ups tell of the whole log. After a refusal of memory they tell of as much as
     /// before or of more.
     ///
-    /// An entry is listed by its point and by its point and type, and, if no entry before it has
-    /// these, by each type in the sets of its type; `asking` lists it by each type in its
-    /// environment. A place in a list costs 4 bytes beyond the first four, and a list with these about
-    /// 64; that of a point 32, which each point below takes, too. Time is in proportion to the places,
-    /// and to the points that are new, on average.
+    /// An entry is listed by its point; `list_types` lists it by its type, and `asking` by each type in
+    /// its environment. A place in a list costs 4 bytes beyond the first four; a list of a point takes
+    /// 32 bytes, which each point below takes, too, and another one about 64 with its first four. Time
+    /// is in proportion to the places, and to the points that are new.
     pub fn index(&mut self) -> Result<(), OutOfMemory>
         ensures ok { OnOk result (self.new.indexed ≡ length self.new.log) }
         ensures kept { self.new ≡ record self.old { indexed = self.new.indexed } }
         ensures more { self.old.indexed ≤ self.new.indexed }
     {
-        add_places(
-            &mut self.lists,
-            &self.interner,
-            self.rows.as_slice(),
-            &mut self.indexed,
-        )
-    }
-
-    /// The places that are listed by this key.
-    pub(crate) fn places(&self, key: Key) -> &[u32]
-        requires known { IsKey self.now.ids key }
-        requires at_once { IsAtOnce key }
-        ensures { ArePlaces self.now.log self.now.indexed (question self.now.ids key) result.now }
-    {
-        self.interner.numbers_are_exact();
-        below(list_of(&self.lists, key), self.indexed)
+        add_places(&mut self.lists, self.rows.as_slice(), &mut self.indexed)
     }
 }

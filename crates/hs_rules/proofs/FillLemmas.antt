@@ -2,7 +2,7 @@
 use Rattle.std.proofs.Common.{◌≡◌, refl, sym, ◌∙◌, ap, subst, ℕ, zero, suc, ◌+◌, ◌<◌, ◌≤◌, List, [], ◌∷◌, ◌++◌, length, map, take, get_or, slice_get, Option, Some, None, true, false, arith, append_assoc, Contains, inl, inr, ltb, ◌↔◌}
 use Rattle.std.specs.List.Sorted.{IsStrictlyIncreasing, IsPartitionPoint}
 use Rattle.std.proofs.lemmas.List.Kept.{AllPairs-from_increasing}
-use Rattle.std.proofs.lemmas.List.{map-append, append-nil, length-take-le, length-map}
+use Rattle.std.proofs.lemmas.List.{map-append, append-nil, length-take-le, length-map, get_or-map}
 use Rattle.std.proofs.lemmas.Bool.{cases_lt, cases_order, ltb-true, ltb-false}
 use Rattle.hs_table.specs.Types.{TypeTree}
 use Rattle.hs_table.specs.Entries.{Env, EntryData, set_at}
@@ -91,11 +91,16 @@ slots_of-append i u [] ys = refl
 slots_of-append i u (x ∷ xs) ys = ap (λ (ss : List SlotData). (let s : SlotData = record { arg = i; point = u; ty = x } in s) ∷ ss) (slots_of-append i u xs ys)
 
 -- one more type of a set
-pub next_of_set : (I : InternerData) (i u k : ℕ) (ids : List ℕ) (t : ℕ) → k < length ids → t ≡ get_or ids k t
-    → slots_of i u (map (type_of_id I) (take (k + 1) ids)) ≡ slots_of i u (map (type_of_id I) (take k ids)) ++ (record { arg = i; point = u; ty = type_of_id I t }) ∷ []
-next_of_set I i u k ids t lt is =
-    ap (λ (xs : List ℕ). slots_of i u (map (type_of_id I) xs)) (taken_next ids k t lt is)
-    ∙ (ap (slots_of i u) (map-append (type_of_id I) (take k ids) (t ∷ [])) ∙ slots_of-append i u (map (type_of_id I) (take k ids)) (type_of_id I t ∷ []))
+pub next_of_types : (i u k : ℕ) (s : List TypeTree) (a : TypeTree) → k < length s → a ≡ get_or s k a → slots_of i u (take (k + 1) s) ≡ slots_of i u (take k s) ++ (record { arg = i; point = u; ty = a }) ∷ []
+next_of_types i u k s a lt is = ap (slots_of i u) (taken_next s k a lt is) ∙ slots_of-append i u (take k s) (a ∷ [])
+
+-- a member of a set by its place
+module _ (I : InternerData) (members : List ℕ) (s : List TypeTree) (are : map (type_of_id I) members ≡ s) where
+  pub members_long : length members ≡ length s
+  members_long = sym (length-map members (type_of_id I)) ∙ ap (λ (xs : List TypeTree). length xs) are
+
+  pub member_is : (k t : ℕ) → k < length members → t ≡ get_or members k t → type_of_id I t ≡ get_or s k (type_of_id I t)
+  member_is k t lt is = ap (type_of_id I) is ∙ (sym (get_or-map (type_of_id I) members k t (type_of_id I t) lt) ∙ ap (λ (xs : List TypeTree). get_or xs k (type_of_id I t)) are)
 
 slots-append : (i : ℕ) (us : List ℕ) (ss : Env) (u : ℕ) (s : List TypeTree) → length us ≡ length ss → slots i (us ++ u ∷ []) (ss ++ s ∷ []) ≡ slots i us ss ++ slots_of (i + length us) u s
 slots-append i [] [] u s long = let z : i ≡ i + 0 = omega arith in append-nil (slots_of i u s) ∙ ap (λ n. slots_of n u s) z
@@ -121,12 +126,11 @@ next_of_args I k args ids u s long lt at is =
     ∙ ap (λ n. slots 0 (take k args) (map (set_of_id I) (take k ids)) ++ slots_of n u (set_of_id I s)) z)
 
 -- the first place of an ascending list isn't below the limit, so none is
-pub none_below : (log : List EntryData) (indexed limit point : ℕ) (ty : TypeTree) (places : List ℕ) → indexed ≡ length log → ArePlaces log indexed (typed point ty) places → ((place : ℕ) → Contains places place → place < limit → ⊥)
+pub none_below : (log : List EntryData) (n limit point : ℕ) (ty : TypeTree) (places : List ℕ) → limit ≤ n → ArePlaces log n (typed point ty) places → ((place : ℕ) → Contains places place → place < limit → ⊥)
     → (place : ℕ) (e : EntryData) → slice_get (take limit log) place ≡ Some e → e.point ≡ point → e.ty ≡ ty → ⊥
-none_below log indexed limit point ty places all are none place e at point_is ty_is =
+none_below log n limit point ty places all are none place e at point_is ty_is =
     let t = at_take limit log place e at in
-    let w = within_from log place e t.1 in
-    none place ((are.exact place).1 (omega (arith, w, all), record { entry = e; at = t.1; meets = (point_is, ty_is) })) t.0
+    none place ((are.exact place).1 (omega (arith, t.0, all), record { entry = e; at = t.1; meets = (point_is, ty_is) })) t.0
 
 pub none_first : (places : List ℕ) (limit : ℕ) → IsStrictlyIncreasing places → 0 < length places → limit ≤ get_or places 0 0 → (place : ℕ) → Contains places place → place < limit → ⊥
 none_first places limit rises some high place c lt = elim (cases_order c.0 0) [

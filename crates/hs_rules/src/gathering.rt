@@ -5,7 +5,7 @@ ghost use Rattle.std.specs.Bool.{OnFalse};
 ghost use Rattle.hs_scheme.specs.Points.{IsArgument};
 ghost use Rattle.hs_table.specs.Entries.{EntryData, params_of};
 ghost use Rattle.hs_table.specs.Follows.{head_premise, Support, FollowsBy};
-ghost use Rattle.hs_replica.specs.Replica.{KeepsLog};
+ghost use Rattle.hs_replica.specs.Replica.{ListsMore, KeepsLog};
 ghost use Rattle.hs_rules.specs.Conclusions.{DeducedData, AnySupport, Uses};
 ghost use Rattle.hs_rules.specs.Filling.{CanSearch};
 ghost use Rattle.hs_rules.specs.Found.{HaveEnvs};
@@ -81,23 +81,67 @@ pub(crate) fn add_by_argument(
 }
 
 /// Whether something may follow with the entry at the place as the head's. Of a nonterminal's type
-/// the slots are asked for candidates, before anything of it is copied. Takes no memory.
-fn may_follow(spot: &Spot, replica: &Replica, search: &Search, head: Head, place: u32) -> bool
-    requires search { CanSearch replica.now search.now.args.now search.now.limit search.now.fixed }
+/// the slots are asked for candidates, before anything of it is copied.
+fn may_follow(
+    spot: &Spot,
+    replica: &mut Replica,
+    search: &Search,
+    head: Head,
+    place: u32,
+) -> Result<bool, OutOfMemory>
+    requires search { CanSearch replica.old search.now.args.now search.now.limit search.now.fixed }
     requires free { search.now.fixed ≡ None }
     requires head { IsHeadWithin spot.now.problem.now spot.now.params head }
     requires at { slice_get spot.now.problem.now.points.points search.now.point ≡ Some
         (record { rule = spot.now.rule; head = head; args = search.now.args.now }) }
     requires place { place < search.now.limit }
-    ensures { OnFalse result ((s : Support) (e : EntryData) → e.point ≡ search.now.point →
-        FollowsBy spot.now.problem.now (take search.now.limit replica.now.log) s e
-        → head_premise s.head ≡ place ∷ [] → ⊥) }
+    ensures nothing { IfOk result (λ may. OnFalse may ((s : Support) (e : EntryData)
+        → e.point ≡ search.now.point →
+        FollowsBy spot.now.problem.now (take search.now.limit replica.old.log) s e
+        → head_premise s.head ≡ place ∷ [] → ⊥)) }
+    ensures kept { ListsMore replica.old replica.new }
 {
     match head {
         Head::Nt(nonterminal) => is_body_open(spot, replica, search, nonterminal, place),
-        Head::Tm(_) => true,
-        Head::Var(_) => true,
+        Head::Tm(_) => Ok(true),
+        Head::Var(_) => Ok(true),
     }
+}
+
+/// Adds what follows by the types of the head that come from the entry at the place.
+fn add_from_head(
+    alloc: Global,
+    spot: &Spot,
+    replica: &mut Replica,
+    search: &Search,
+    head: Head,
+    place: u32,
+    found: &mut Found,
+) -> Result<(), OutOfMemory>
+    requires search { CanSearch replica.old search.now.args.now search.now.limit search.now.fixed }
+    requires free { search.now.fixed ≡ None }
+    requires spot { IsParameterSpot spot.now.problem.now spot.now.rule spot.now.params
+        (take search.now.limit replica.old.log) }
+    requires head { IsHeadWithin spot.now.problem.now spot.now.params head }
+    requires at { slice_get spot.now.problem.now.points.points search.now.point ≡ Some
+        (record { rule = spot.now.rule; head = head; args = search.now.args.now }) }
+    requires envs { HaveEnvs (take search.now.limit replica.old.log) search.now.args.now spot.now.params }
+    requires place { place < search.now.limit }
+    requires part { ArePart spot.now.problem.now replica.old.ids
+        (take search.now.limit replica.old.log) search.now.point
+        (Uses place) found.old.rows.keys found.old.list.items }
+    ensures part { OnOk result (ArePart spot.now.problem.now replica.new.ids
+        (take search.now.limit replica.old.log) search.now.point
+        (Uses place) found.new.rows.keys found.new.list.items) }
+    ensures keeps { OnOk result ((d : DeducedData) → Contains found.old.list.items d
+        → Contains found.new.list.items d) }
+    ensures all { OnOk result (HasAll spot.now.problem.now replica.new.ids
+        (take search.now.limit replica.old.log) search.now.point
+        (λ s. head_premise s.head ≡ place ∷ []) found.new.list.items) }
+    ensures kept { KeepsLog replica.old replica.new }
+{
+    let heads = heads_at(alloc, spot, replica, search, head, place)?;
+    conclude_all(alloc, replica, search, heads.as_slice(), found)
 }
 
 /// Adds what follows with the entry at the place as the head's.
@@ -132,11 +176,11 @@ pub(crate) fn add_by_head(
         (λ s. head_premise s.head ≡ place ∷ []) found.new.list.items) }
     ensures kept { KeepsLog replica.old replica.new }
 {
-    if !may_follow(spot, replica, search, head, place) {
+    let may = may_follow(spot, replica, search, head, place)?;
+    if !may {
         return Ok(());
     }
-    let heads = heads_at(alloc, spot, replica, search, head, place)?;
-    conclude_all(alloc, replica, search, heads.as_slice(), found)
+    add_from_head(alloc, spot, replica, search, head, place, found)
 }
 
 /// Adds all that follows.

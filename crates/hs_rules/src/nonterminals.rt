@@ -4,14 +4,14 @@ ghost use Rattle.std.specs.Prelude.{◌<◌, IfOk, length, take};
 ghost use Rattle.std.specs.Bool.{OnFalse};
 ghost use Rattle.hs_scheme.specs.declared.term.Head.TheVariants.{Nt};
 ghost use Rattle.hs_types.specs.Interned.{type_of_id};
-ghost use Rattle.hs_replica.specs.Replica.{KeepsLog};
+ghost use Rattle.hs_replica.specs.Replica.{ListsMore, KeepsLog};
 ghost use Rattle.hs_rules.specs.Filling.{CanSearch, fixed_of};
 ghost use Rattle.hs_rules.specs.Heads.{AreHeads, Asks, ComesFrom, AnyHead, IsParameterSpot};
 ghost use Rattle.hs_rules.specs.Shut.{IsBodyShut};
 
 use crate::found::HeadTypes;
 use crate::heads::push_bodies;
-use crate::search::{Search, begin_below, below, is_open};
+use crate::search::{Search, begin_below, below, is_open, list_args};
 use crate::spot::Spot;
 use hs_replica::Replica;
 use hs_scheme::OutOfMemory;
@@ -52,31 +52,34 @@ pub(crate) fn nonterminal_asking(
 }
 
 /// Whether the entry at the place may lead to something as one at the nonterminal's body: it is
-/// there, and there may be candidates for all slots of the type that it gives. Takes no memory.
+/// there, and there may be candidates for all slots of the type that it gives.
 pub(crate) fn is_body_open(
     spot: &Spot,
-    replica: &Replica,
+    replica: &mut Replica,
     search: &Search,
     nonterminal: u32,
     place: u32,
-) -> bool
-    requires search { CanSearch replica.now search.now.args.now search.now.limit search.now.fixed }
+) -> Result<bool, OutOfMemory>
+    requires search { CanSearch replica.old search.now.args.now search.now.limit search.now.fixed }
     requires head { nonterminal < length spot.now.problem.now.points.bodies }
     requires place { place < search.now.limit }
-    ensures { OnFalse result (IsBodyShut spot.now.problem.now (take search.now.limit replica.now.log)
-        (fixed_of replica.now.log search.now.fixed) search.now.args.now nonterminal place) }
+    ensures shut { IfOk result (λ may. OnFalse may (IsBodyShut spot.now.problem.now
+        (take search.now.limit replica.old.log) (fixed_of replica.old.log search.now.fixed)
+        search.now.args.now nonterminal place)) }
+    ensures kept { ListsMore replica.old replica.new }
 {
     let problem = spot.problem;
     let row = replica.row(place);
     if row.point != problem.points.body_of(nonterminal) {
-        return false;
+        return Ok(false);
     }
+    list_args(replica, search.args)?;
     let sets = replica.interner().sets(row.env);
     let count = search.args.len();
     if sets.len() < count {
-        return false;
+        return Ok(false);
     }
-    is_open(replica, search, &sets[..count])
+    Ok(is_open(replica, search, &sets[..count]))
 }
 
 /// The type of a nonterminal at the head that comes from the place.

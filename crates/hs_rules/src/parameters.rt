@@ -40,6 +40,7 @@ fn push_taking(
     ensures kept { KeepsLog replica.old replica.new }
 {
     for pair in pairs {
+        replica.list_types(pair.point)?;
         let places = below(alloc, replica.taking(pair.point, arg, ty), search.limit)?;
         push_params(
             alloc,

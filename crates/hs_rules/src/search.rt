@@ -1,9 +1,10 @@
 //! Where conclusions are sought, and the candidates for the slots there.
 
-ghost use Rattle.std.specs.Prelude.{◌≡◌, ◌<◌, ◌↔◌, ℕ, length, map, take, slice_get, Some, All, Contains, IfOk, MatchOption};
+ghost use Rattle.std.specs.Prelude.{◌≡◌, ◌<◌, ◌≤◌, ◌↔◌, ℕ, length, map, take, slice_get, Some, All, Contains, IfOk, MatchOption, OnOk};
 ghost use Rattle.std.specs.List.Sorted.{IsStrictlyIncreasing};
 ghost use Rattle.hs_table.specs.Entries.{EntryData};
 ghost use Rattle.hs_types.specs.Interned.{type_of_id, set_of_id};
+ghost use Rattle.hs_replica.specs.Replica.{typed_to, ListsMore};
 ghost use Rattle.std.specs.Bool.{OnFalse, OnTrue};
 ghost use Rattle.hs_rules.specs.Slots.{slots_of, slots, IsCandidate};
 ghost use Rattle.hs_rules.specs.Filling.{CanSearch, fixed_of, AreFilled, GainsFilled, LacksCandidate, LacksSlot};
@@ -83,18 +84,19 @@ pub(crate) fn below(alloc: Global, places: &[u32], limit: u32) -> Result<Places,
 /// The places of the candidates for the slot of this type at this argument.
 fn places_for(
     alloc: Global,
-    replica: &Replica,
+    replica: &mut Replica,
     search: &Search,
     arg: u32,
     point: u32,
     ty: TyId,
 ) -> Result<Places, OutOfMemory>
-    requires search { CanSearch replica.now search.now.args.now search.now.limit search.now.fixed }
-    requires ty { ty < length replica.now.ids.types }
+    requires search { CanSearch replica.old search.now.args.now search.now.limit search.now.fixed }
+    requires ty { ty < length replica.old.ids.types }
     requires point { slice_get search.now.args.now arg ≡ Some point }
-    ensures { IfOk result (λ places. (place : ℕ) → Contains places.items place ↔ ((e : EntryData) ×
-        IsCandidate (take search.now.limit replica.now.log) (fixed_of replica.now.log search.now.fixed)
-        (record { arg = arg; point = point; ty = type_of_id replica.now.ids ty }) place e)) }
+    ensures candidates { IfOk result (λ places. (place : ℕ) → Contains places.items place ↔ ((e : EntryData) ×
+        IsCandidate (take search.now.limit replica.old.log) (fixed_of replica.old.log search.now.fixed)
+        (record { arg = arg; point = point; ty = type_of_id replica.old.ids ty }) place e)) }
+    ensures kept { ListsMore replica.old replica.new }
 {
     replica.interner().numbers_are_exact();
     if let Some(fixed) = search.fixed {
@@ -104,6 +106,7 @@ fn places_for(
             return Ok(only);
         }
     }
+    replica.list_types(point)?;
     below(alloc, replica.with_type(point, ty), search.limit)
 }
 
@@ -111,24 +114,27 @@ fn places_for(
 /// that has none.
 fn fill_set(
     alloc: Global,
-    replica: &Replica,
+    replica: &mut Replica,
     search: &Search,
     arg: u32,
     point: u32,
     set: SetId,
     out: &mut Slots,
 ) -> Result<bool, OutOfMemory>
-    requires search { CanSearch replica.now search.now.args.now search.now.limit search.now.fixed }
-    requires set { set < length replica.now.ids.sets }
+    requires search { CanSearch replica.old search.now.args.now search.now.limit search.now.fixed }
+    requires set { set < length replica.old.ids.sets }
     requires point { slice_get search.now.args.now arg ≡ Some point }
-    ensures filled { IfOk result (λ all. OnTrue all (GainsFilled (take search.now.limit replica.now.log)
-        (fixed_of replica.now.log search.now.fixed)
-        (slots_of arg point (set_of_id replica.now.ids set)) out.old.items out.new.items)) }
-    ensures lacks { IfOk result (λ all. OnFalse all (LacksSlot (take search.now.limit replica.now.log)
-        (fixed_of replica.now.log search.now.fixed) arg point (set_of_id replica.now.ids set))) }
+    ensures filled { IfOk result (λ all. OnTrue all (GainsFilled (take search.now.limit replica.old.log)
+        (fixed_of replica.old.log search.now.fixed)
+        (slots_of arg point (set_of_id replica.old.ids set)) out.old.items out.new.items)) }
+    ensures lacks { IfOk result (λ all. OnFalse all (LacksSlot (take search.now.limit replica.old.log)
+        (fixed_of replica.old.log search.now.fixed) arg point (set_of_id replica.old.ids set))) }
+    ensures kept { ListsMore replica.old replica.new }
 {
-    for ty in replica.interner().members(set) {
-        let places = places_for(alloc, replica, search, arg, point, *ty)?;
+    let count = replica.interner().members(set).len();
+    for number in 0..count {
+        let ty = replica.interner().members(set)[number];
+        let places = places_for(alloc, replica, search, arg, point, ty)?;
         if places.is_empty() {
             return Ok(false);
         }
@@ -137,10 +143,21 @@ fn fill_set(
     Ok(true)
 }
 
+/// Makes the look-ups by type tell of the whole log at each of these points.
+pub(crate) fn list_args(replica: &mut Replica, args: &[u32]) -> Result<(), OutOfMemory>
+    ensures listed { OnOk result (All (λ p. replica.old.indexed ≤ typed_to replica.new p) args.now) }
+    ensures kept { ListsMore replica.old replica.new }
+{
+    for arg in args {
+        replica.list_types(*arg)?;
+    }
+    Ok(())
+}
+
 /// Whether there may be candidates for the slots of this type at this point: some place below the
 /// limit has an entry there with the type.
 fn has_candidate(replica: &Replica, limit: u32, point: u32, ty: TyId) -> bool
-    requires indexed { replica.now.indexed ≡ length replica.now.log }
+    requires listed { limit ≤ typed_to replica.now point }
     requires ty { ty < length replica.now.ids.types }
     ensures { OnFalse result ((place : ℕ) (e : EntryData)
         → slice_get (take limit replica.now.log) place ≡ Some e →
@@ -158,7 +175,7 @@ fn has_candidate(replica: &Replica, limit: u32, point: u32, ty: TyId) -> bool
 
 /// Whether there may be candidates for all slots of one argument.
 fn is_set_open(replica: &Replica, limit: u32, point: u32, set: SetId) -> bool
-    requires indexed { replica.now.indexed ≡ length replica.now.log }
+    requires listed { limit ≤ typed_to replica.now point }
     requires set { set < length replica.now.ids.sets }
     ensures { OnFalse result (LacksCandidate (take limit replica.now.log) point
         (set_of_id replica.now.ids set)) }
@@ -177,6 +194,7 @@ pub(crate) fn is_open(replica: &Replica, search: &Search, sets: &[SetId]) -> boo
     requires search { CanSearch replica.now search.now.args.now search.now.limit search.now.fixed }
     requires sets { All (λ s. s < length replica.now.ids.sets) sets.now }
     requires long { length sets.now ≡ length search.now.args.now }
+    requires listed { All (λ p. search.now.limit ≤ typed_to replica.now p) search.now.args.now }
     ensures { OnFalse result (AreShut (take search.now.limit replica.now.log)
         (fixed_of replica.now.log search.now.fixed)
         (slots 0 search.now.args.now (map (set_of_id replica.now.ids) sets.now))) }
@@ -193,19 +211,20 @@ pub(crate) fn is_open(replica: &Replica, search: &Search, sets: &[SetId]) -> boo
 /// The slots for these sets, one set for each argument; `None` where one of them has no candidates.
 pub(crate) fn fill(
     alloc: Global,
-    replica: &Replica,
+    replica: &mut Replica,
     search: &Search,
     sets: &[SetId],
 ) -> Result<Option<Slots>, OutOfMemory>
-    requires search { CanSearch replica.now search.now.args.now search.now.limit search.now.fixed }
-    requires sets { All (λ s. s < length replica.now.ids.sets) sets.now }
+    requires search { CanSearch replica.old search.now.args.now search.now.limit search.now.fixed }
+    requires sets { All (λ s. s < length replica.old.ids.sets) sets.now }
     requires long { length sets.now ≡ length search.now.args.now }
-    ensures { IfOk result (λ slots_or. MatchOption slots_or (AreShut (take search.now.limit replica.now.log)
-        (fixed_of replica.now.log search.now.fixed)
-        (slots 0 search.now.args.now (map (set_of_id replica.now.ids) sets.now)))
-        (λ out. AreFilled (take search.now.limit replica.now.log)
-        (fixed_of replica.now.log search.now.fixed)
-        (slots 0 search.now.args.now (map (set_of_id replica.now.ids) sets.now)) out.items)) }
+    ensures filled { IfOk result (λ slots_or. MatchOption slots_or (AreShut (take search.now.limit replica.old.log)
+        (fixed_of replica.old.log search.now.fixed)
+        (slots 0 search.now.args.now (map (set_of_id replica.old.ids) sets.now)))
+        (λ out. AreFilled (take search.now.limit replica.old.log)
+        (fixed_of replica.old.log search.now.fixed)
+        (slots 0 search.now.args.now (map (set_of_id replica.old.ids) sets.now)) out.items)) }
+    ensures kept { ListsMore replica.old replica.new }
 {
     let mut out = SmallVec::new(alloc);
     let args = search.args;

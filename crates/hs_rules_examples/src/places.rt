@@ -163,6 +163,7 @@ fn see_who_asks(rt: &impl Abort, replica: &mut Replica) -> Result<(), OutOfMemor
 }
 
 fn see_who_takes(rt: &impl Abort, replica: &mut Replica) -> Result<(), OutOfMemory> {
+    replica.list_types(4)?;
     let ty = arrow_type(replica, 1)?;
     assert_eq!(rt; replica.with_type(4, ty), [1, 2].as_slice());
     let one = replica.base(1)?;

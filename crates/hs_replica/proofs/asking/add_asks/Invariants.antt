@@ -1,12 +1,12 @@
 -- the lists are an index as far as it is reached
 use Rattle.std.proofs.Common.{◌-◌, ◌<◌, length, get_or}
-use Rattle.hs_replica.specs.Index.{log_of, list_at, reach, IsIndex}
+use Rattle.hs_replica.specs.Index.{log_of, list_at, KeepsAsked}
 use Rattle.hs_replica.proofs.asking.add_asks.Given as goal
 
 abbrev pub invariant-loop-place : goal.invariant-loop-place
 invariant-loop-place l = record {
   long : l.point < length l.asked.items;
-  index : IsIndex l.interner (log_of l.interner l.rows) (reach l.asked.items l.indexed) (list_at l.lists);
+  index : KeepsAsked l.interner (log_of l.interner l.rows) l.indexed l.fn.asked.items l.asked.items (list_at l.fn.lists) (list_at l.lists);
 }
 
 abbrev pub decreases-loop-place : goal.decreases-loop-place

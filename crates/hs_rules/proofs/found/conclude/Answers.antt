@@ -7,6 +7,7 @@ use Rattle.hs_rules.specs.Filling.{fixed_of, AreFilled}
 use Rattle.hs_rules.specs.Shut.{AreShut}
 use Rattle.hs_rules.specs.Joins.{PartialData, ArePlaced, AreJoined}
 use Rattle.hs_rules.specs.Found.{HeadData, seek, IsRowOf, HasRow, HeadLeadsTo, IsConclusion, HasEnvFound}
+use Rattle.hs_rules.proofs.KeepLemmas.{as_before, as_then}
 use Rattle.hs_rules.proofs.Lists.{on_ok_map, match_some}
 use Rattle.hs_rules.proofs.FoundLemmas.{filled_placed, rows_conclude, conclude_rows}
 use Rattle.hs_rules.proofs.found.conclude.Goals as goal
@@ -20,11 +21,12 @@ joined-requires-clause-placed c = λ f there.
     let sets_is = c.as_slice.ensures ∙ ap (λ (x : HeadData). x.sets) c.head.view_is in
     let seen = c.as_slice.result.now in
     let are = match_some c.in_ok-slots.field-0 c.in-Some.slots (AreShut (take s.limit log) (fixed_of log s.fixed) (slots 0 s.args (map (set_of_id ids) seen)))
-    (λ out. AreFilled (take s.limit log) (fixed_of log s.fixed) (slots 0 s.args (map (set_of_id ids) seen)) out.items) c.in-Some.is c.in_ok-slots.ensures in
+    (λ out. AreFilled (take s.limit log) (fixed_of log s.fixed) (slots 0 s.args (map (set_of_id ids) seen)) out.items) c.in-Some.is c.in_ok-slots.ensures.filled in
     let filled = subst (λ (xs : List ℕ). AreFilled (take s.limit log) (fixed_of log s.fixed) (slots 0 s.args (map (set_of_id ids) xs)) c.in-Some.slots.items) sets_is are in
-    subst (λ (n : ℕ). ArePlaced log (length (env_of_id ids n)) f) (sym (ap (λ (x : HeadData). x.own) c.head.view_is))
+    as_then c.args.replica.now c.fill.new.replica c.in_ok-slots.ensures.kept (λ I es. ArePlaced es (length (env_of_id I c.head.inside.own)) f)
+    (subst (λ (n : ℕ). ArePlaced log (length (env_of_id ids n)) f) (sym (ap (λ (x : HeadData). x.own) c.head.view_is))
     (filled_placed log s.limit (fixed_of log s.fixed) s.args (map (set_of_id ids) h.sets) c.in-Some.slots.items (length (env_of_id ids h.own)) filled c.requires.envs f
-    (subst (λ (fs : List FilledData). Contains fs f) c.as_slice-2.ensures there))
+    (subst (λ (fs : List FilledData). Contains fs f) c.as_slice-2.ensures there)))
 
 pub returns-clause-only : goal.returns-clause-only
 returns-clause-only c =
@@ -38,10 +40,12 @@ returns-clause-only c =
     let sets_is = c.as_slice.ensures ∙ ap (λ (x : HeadData). x.sets) c.head.view_is in
     let seen = c.as_slice.result.now in
     let are = match_some c.in_ok-slots.field-0 c.in-Some.slots (AreShut (take s.limit log) (fixed_of log s.fixed) (slots 0 s.args (map (set_of_id ids) seen)))
-    (λ out. AreFilled (take s.limit log) (fixed_of log s.fixed) (slots 0 s.args (map (set_of_id ids) seen)) out.items) c.in-Some.is c.in_ok-slots.ensures in
+    (λ out. AreFilled (take s.limit log) (fixed_of log s.fixed) (slots 0 s.args (map (set_of_id ids) seen)) out.items) c.in-Some.is c.in_ok-slots.ensures.filled in
     let filled = subst (λ (xs : List ℕ). AreFilled (take s.limit log) (fixed_of log s.fixed) (slots 0 s.args (map (set_of_id ids) xs)) fs) sets_is are in
     let joined = subst (λ (n : ℕ). AreJoined K log (length (env_of_id ids n)) (env_of_id ids n) fs partials) (ap (λ (x : HeadData). x.own) c.head.view_is)
-    (subst (λ (gs : List FilledData). AreJoined K log (length (env_of_id ids c.head.inside.own)) (env_of_id ids c.head.inside.own) gs partials) c.as_slice-2.ensures c.in_ok-partials.ensures.joined) in
+    (as_before c.args.replica.now c.fill.new.replica c.in_ok-slots.ensures.kept (λ I es. AreJoined K es (length (env_of_id I c.head.inside.own)) (env_of_id I c.head.inside.own) fs partials)
+    (subst (λ (gs : List FilledData). AreJoined K c.fill.new.replica.log (length (env_of_id c.fill.new.replica.ids c.head.inside.own)) (env_of_id c.fill.new.replica.ids c.head.inside.own) gs partials) c.as_slice-2.ensures
+    c.in_ok-partials.ensures.joined)) in
     on_ok_map c.add_all.result ((d : DeducedData) → Contains c.add_all.new.found.list.items d → Contains c.args.found.now.list.items d ⊎ IsRowOf s.point h c.as_slice-3.result.now d)
     ((d : DeducedData) → Contains c.add_all.new.found.list.items d → Contains c.args.found.now.list.items d ⊎ IsConclusion ids K log s h d)
     (λ some d there. elim (some d there) [
@@ -61,10 +65,12 @@ returns-clause-all c =
     let sets_is = c.as_slice.ensures ∙ ap (λ (x : HeadData). x.sets) c.head.view_is in
     let seen = c.as_slice.result.now in
     let are = match_some c.in_ok-slots.field-0 c.in-Some.slots (AreShut (take s.limit log) (fixed_of log s.fixed) (slots 0 s.args (map (set_of_id ids) seen)))
-    (λ out. AreFilled (take s.limit log) (fixed_of log s.fixed) (slots 0 s.args (map (set_of_id ids) seen)) out.items) c.in-Some.is c.in_ok-slots.ensures in
+    (λ out. AreFilled (take s.limit log) (fixed_of log s.fixed) (slots 0 s.args (map (set_of_id ids) seen)) out.items) c.in-Some.is c.in_ok-slots.ensures.filled in
     let filled = subst (λ (xs : List ℕ). AreFilled (take s.limit log) (fixed_of log s.fixed) (slots 0 s.args (map (set_of_id ids) xs)) fs) sets_is are in
     let joined = subst (λ (n : ℕ). AreJoined K log (length (env_of_id ids n)) (env_of_id ids n) fs partials) (ap (λ (x : HeadData). x.own) c.head.view_is)
-    (subst (λ (gs : List FilledData). AreJoined K log (length (env_of_id ids c.head.inside.own)) (env_of_id ids c.head.inside.own) gs partials) c.as_slice-2.ensures c.in_ok-partials.ensures.joined) in
+    (as_before c.args.replica.now c.fill.new.replica c.in_ok-slots.ensures.kept (λ I es. AreJoined K es (length (env_of_id I c.head.inside.own)) (env_of_id I c.head.inside.own) fs partials)
+    (subst (λ (gs : List FilledData). AreJoined K c.fill.new.replica.log (length (env_of_id c.fill.new.replica.ids c.head.inside.own)) (env_of_id c.fill.new.replica.ids c.head.inside.own) gs partials) c.as_slice-2.ensures
+    c.in_ok-partials.ensures.joined)) in
     on_ok_map c.add_all.result ((x : PartialData) → Contains c.as_slice-3.result.now x → HasRow s.point h x c.add_all.new.found.list.items)
     ((args : List (ℕ × ℕ)) (env : Env) → HeadLeadsTo ids log s h args env → HasEnvFound K s h env c.add_all.new.found.list.items)
     (λ all. conclude_rows ids K log s h fs partials filled joined c.add_all.new.found.list.items (λ x there. all x (subst (λ (xs : List PartialData). Contains xs x) (sym c.as_slice-3.ensures) there))) c.add_all.ensures.all

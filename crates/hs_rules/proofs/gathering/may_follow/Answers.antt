@@ -1,4 +1,5 @@
 use Rattle.std.proofs.Common.{◌≡◌, ap, subst, ◌∷◌, [], slice_get, take, Option, Some}
+use Rattle.std.specs.Bool.{OnFalse}
 use Rattle.std.proofs.lemmas.Bool.{OnFalse_from, OnFalse_at}
 use Rattle.hs_scheme.specs.declared.term.Head.{Head}
 use Rattle.hs_table.specs.Entries.{EntryData}
@@ -6,17 +7,21 @@ use Rattle.hs_table.specs.Follows.{head_premise, Support, FollowsBy}
 use Rattle.hs_rules.specs.Slots.{FixedData}
 use Rattle.hs_rules.specs.Filling.{fixed_of}
 use Rattle.hs_rules.specs.Shut.{IsBodyShut}
+use Rattle.hs_rules.proofs.Lists.{if_ok_map}
 use Rattle.hs_rules.proofs.ShutLemmas.{nothing_by}
 use Rattle.hs_rules.proofs.gathering.may_follow.Goals as goal
 
-pub returns-in-Nt : goal.returns-in-Nt
-returns-in-Nt c =
+pub returns-in-Nt-clause-nothing : goal.returns-in-Nt-clause-nothing
+returns-in-Nt-clause-nothing c =
     let p = c.args.spot.now.problem.now in
     let log = c.args.replica.now.log in
     let s = c.args.search.now in
     let E = take s.limit log in
     let f = c.in-Nt.nonterminal in
     let at = subst (λ (h : Head). slice_get p.points.points s.point ≡ Some (record { rule = c.args.spot.now.rule; head = h; args = s.args.now })) c.in-Nt.is c.requires.at in
-    OnFalse_from c.is_body_open.result ((d : Support) (e : EntryData) → e.point ≡ s.point → FollowsBy p E d e → head_premise d.head ≡ c.args.place ∷ [] → ⊥) (λ no.
+    let free = ap (fixed_of log) c.requires.free in
+    if_ok_map c.is_body_open.result (λ may. OnFalse may (IsBodyShut p E (fixed_of log s.fixed) s.args.now f c.args.place))
+    (λ may. OnFalse may ((d : Support) (e : EntryData) → e.point ≡ s.point → FollowsBy p E d e → head_premise d.head ≡ c.args.place ∷ [] → ⊥))
+    (λ may shut. OnFalse_from may ((d : Support) (e : EntryData) → e.point ≡ s.point → FollowsBy p E d e → head_premise d.head ≡ c.args.place ∷ [] → ⊥) (λ no.
     nothing_by p E c.args.spot.now.rule f c.args.place s.args.now s.point at
-    (subst (λ (x : Option FixedData). IsBodyShut p E x s.args.now f c.args.place) (ap (fixed_of log) c.requires.free) (OnFalse_at no c.is_body_open.ensures)))
+    (subst (λ (x : Option FixedData). IsBodyShut p E x s.args.now f c.args.place) free (OnFalse_at no shut)))) c.is_body_open.ensures.shut

@@ -1,30 +1,33 @@
 use Rattle.std.proofs.Common.{◌≡◌, sym, ◌∙◌, ap, subst, length, map, take, arith}
+use Rattle.std.specs.Bool.{OnFalse}
 use Rattle.std.proofs.lemmas.Bool.{OnFalse_from, OnFalse_at}
 use Rattle.std.proofs.lemmas.List.{length-map, take-map}
 use Rattle.hs_table.specs.Types.{state, arrows}
 use Rattle.hs_table.specs.Entries.{Env, EntryData}
 use Rattle.hs_table_laws.proofs.Places.{some_same, to_take}
 use Rattle.hs_types.specs.Interned.{InternerData, set_of_id, env_of_id, entry_of}
+use Rattle.hs_replica.specs.Replica.{ReplicaData}
 use Rattle.hs_rules.specs.Slots.{SlotData, slots, IsCandidate, Picked}
 use Rattle.hs_rules.specs.Filling.{fixed_of}
-use Rattle.hs_rules.specs.Shut.{IsBodyShut}
+use Rattle.hs_rules.specs.Shut.{AreShut, IsBodyShut}
+use Rattle.hs_rules.proofs.KeepLemmas.{as_before}
 use Rattle.hs_rules.proofs.ArrowLemmas.{arrows_long, arrows_first}
 use Rattle.hs_rules.proofs.nonterminals.is_body_open.Goals as goal
 
-pub returns-then-sets-count : goal.returns-then-sets-count
-returns-then-sets-count c = λ sets rest from long args es picked.
+pub returns-then-sets-count-clause-shut : goal.returns-then-sets-count-clause-shut
+returns-then-sets-count-clause-shut c = λ sets rest from long args es picked.
     let ids = c.args.replica.now.ids in
     let limit = c.args.search.now.limit in
     let log = c.args.replica.now.log in
     let e0 = entry_of ids c.row-row.result in
     let full = c.sets-sets.result.now in
     let same : from.entry ≡ e0 = some_same from.entry e0 (sym from.holds.at ∙ to_take limit log c.args.place e0 c.requires.place c.row-row.ensures.entry) in
-    let env_is : map (set_of_id ids) full ≡ e0.env = subst (λ (I : InternerData). map (set_of_id I) full ≡ env_of_id I c.row-row.result.env) c.interner.ensures c.sets-sets.ensures.sets in
+    let env_is : map (set_of_id ids) full ≡ e0.env = subst (λ (I : InternerData). map (set_of_id I) full ≡ env_of_id I c.row-row.result.env) (c.interner.ensures ∙ ap (λ (q : ReplicaData). q.ids) c.in_ok-list_args.ensures.kept.same) c.sets-sets.ensures.sets in
     let is : arrows (map (set_of_id ids) full) (state from.q) ≡ arrows sets rest = ap (λ (e : Env). arrows e (state from.q)) env_is ∙ (ap (λ (e : EntryData). arrows e.env (state from.q)) (sym same) ∙ sym from.is) in
     omega (arith, arrows_long (map (set_of_id ids) full) sets from.q rest is, long, c.if-sets-count.true, length-map full (set_of_id ids))
 
-pub returns : goal.returns
-returns c = OnFalse_from c.is_open.result (IsBodyShut c.args.spot.now.problem.now (take c.args.search.now.limit c.args.replica.now.log) (fixed_of c.args.replica.now.log c.args.search.now.fixed) c.args.search.now.args.now c.args.nonterminal c.args.place) (λ no sets rest from long args es picked.
+pub returns-clause-shut : goal.returns-clause-shut
+returns-clause-shut c = OnFalse_from c.is_open.result (IsBodyShut c.args.spot.now.problem.now (take c.args.search.now.limit c.args.replica.now.log) (fixed_of c.args.replica.now.log c.args.search.now.fixed) c.args.search.now.args.now c.args.nonterminal c.args.place) (λ no sets rest from long args es picked.
     let ids = c.args.replica.now.ids in
     let limit = c.args.search.now.limit in
     let log = c.args.replica.now.log in
@@ -32,8 +35,10 @@ returns c = OnFalse_from c.is_open.result (IsBodyShut c.args.spot.now.problem.no
     let e0 = entry_of ids c.row-row.result in
     let full = c.sets-sets.result.now in
     let same : from.entry ≡ e0 = some_same from.entry e0 (sym from.holds.at ∙ to_take limit log c.args.place e0 c.requires.place c.row-row.ensures.entry) in
-    let env_is : map (set_of_id ids) full ≡ e0.env = subst (λ (I : InternerData). map (set_of_id I) full ≡ env_of_id I c.row-row.result.env) c.interner.ensures c.sets-sets.ensures.sets in
+    let env_is : map (set_of_id ids) full ≡ e0.env = subst (λ (I : InternerData). map (set_of_id I) full ≡ env_of_id I c.row-row.result.env) (c.interner.ensures ∙ ap (λ (q : ReplicaData). q.ids) c.in_ok-list_args.ensures.kept.same) c.sets-sets.ensures.sets in
     let is : arrows (map (set_of_id ids) full) (state from.q) ≡ arrows sets rest = ap (λ (e : Env). arrows e (state from.q)) env_is ∙ (ap (λ (e : EntryData). arrows e.env (state from.q)) (sym same) ∙ sym from.is) in
     let first = arrows_first (length us) (map (set_of_id ids) full) sets (state from.q) rest (omega (arith, c.if-sets-count.false, length-map full (set_of_id ids))) long is in
     let sets_are : sets ≡ map (set_of_id ids) (take (length us) full) = sym first.0 ∙ take-map (set_of_id ids) (length us) full in
-    OnFalse_at no c.is_open.ensures args es (subst (λ (ss : Env). Picked (λ (s : SlotData). s.arg) (IsCandidate (take limit log) (fixed_of log c.args.search.now.fixed)) (slots 0 us ss) args es) sets_are picked))
+    let shut = as_before c.args.replica.now c.list_args.new.replica c.in_ok-list_args.ensures.kept
+    (λ I es. OnFalse c.is_open.result (AreShut (take limit es) (fixed_of es c.args.search.now.fixed) (slots 0 us (map (set_of_id I) (take (length us) full))))) c.is_open.ensures in
+    OnFalse_at no shut args es (subst (λ (ss : Env). Picked (λ (s : SlotData). s.arg) (IsCandidate (take limit log) (fixed_of log c.args.search.now.fixed)) (slots 0 us ss) args es) sets_are picked))

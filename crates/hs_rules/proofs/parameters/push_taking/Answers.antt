@@ -1,4 +1,4 @@
-use Rattle.std.proofs.Common.{sym, ◌∙◌, ap, subst, List, ℕ, ◌<◌, length, get_or, arith, All}
+use Rattle.std.proofs.Common.{◌≡◌, sym, ◌∙◌, ap, subst, List, ℕ, ◌<◌, length, take, get_or, arith, All}
 use Rattle.std.proofs.lemmas.List.{take_all}
 use Rattle.hs_scheme.specs.declared.flow.FlowPair.{FlowPair}
 use Rattle.hs_table.specs.Types.{TypeTree}
@@ -6,26 +6,36 @@ use Rattle.hs_table.specs.Entries.{EntryData}
 use Rattle.hs_types.specs.Interned.{type_of_id}
 use Rattle.hs_types.proofs.Numbers.{type_within, type_stays}
 use Rattle.hs_replica.specs.Places.{takes, ArePlaces}
+use Rattle.hs_replica.specs.Replica.{ReplicaData, typed_to, ListsMore, KeepsLog}
 use Rattle.hs_rules.specs.Heads.{GainsHeads, ParamAt, AtSome, AtFlow}
-use Rattle.hs_rules.proofs.KeepLemmas.{keeps_then}
+use Rattle.hs_rules.proofs.KeepLemmas.{keeps_then, as_then, lists_keep}
 use Rattle.hs_rules.proofs.Lists.{along, all_from}
 use Rattle.hs_rules.proofs.HeadLemmas.{flow_next}
 use Rattle.hs_rules.proofs.parameters.push_taking.Goals as goal
 
+-- the log as it is kept when the point is listed
+listed : (r s t : ReplicaData) → KeepsLog r s → ListsMore s t → KeepsLog r t
+listed r s t k l = keeps_then r s t k (lists_keep s t l)
+
 pub taking-requires : goal.taking-requires
-taking-requires c = type_within c.args.replica.now.ids c.loop-pair.replica.ids c.loop-pair.invariant.kept.grows c.args.ty c.requires.ty
+taking-requires c =
+    let kept = listed c.args.replica.now c.loop-pair.replica c.list_types.new.self c.loop-pair.invariant.kept c.in_ok-list_types.ensures.kept in
+    type_within c.args.replica.now.ids c.list_types.new.self.ids kept.grows c.args.ty c.requires.ty
 
 pub push_params-requires-clause-places : goal.push_params-requires-clause-places
 push_params-requires-clause-places c =
-    subst (λ (xs : List ℕ). All (λ place. place < length c.loop-pair.replica.log) xs) (sym c.as_slice.ensures)
-    (all_from (λ place. place < length c.loop-pair.replica.log) c.in_ok-places.places.items (λ place there.
+    let now = c.list_types.new.self in
+    let kept = listed c.args.replica.now c.loop-pair.replica now c.loop-pair.invariant.kept c.in_ok-list_types.ensures.kept in
+    subst (λ (xs : List ℕ). All (λ place. place < length now.log) xs) (sym c.as_slice.ensures)
+    (all_from (λ place. place < length now.log) c.in_ok-places.places.items (λ place there.
     let b = (c.in_ok-places.ensures place).0 there in
-    omega (arith, b.1, c.requires.search.limited, ap (λ (l : List EntryData). length l) c.loop-pair.invariant.kept.log)))
+    omega (arith, b.1, c.requires.search.limited, ap (λ (l : List EntryData). length l) kept.log)))
 
 pub loop-pair-preserved : goal.loop-pair-preserved
 loop-pair-preserved c =
     let I = c.args.replica.now.ids in
-    let J = c.loop-pair.replica.ids in
+    let now = c.list_types.new.self in
+    let J = now.ids in
     let K = c.push_params.new.replica.ids in
     let log = c.args.replica.now.log in
     let pairs = c.args.pairs.now in
@@ -34,15 +44,19 @@ loop-pair-preserved c =
     let pair = get_or pairs k d in
     let ty = type_of_id I c.args.ty in
     let count = length c.args.search.now.args.now in
-    let same = c.loop-pair.invariant.kept.log in
-    let are = subst (λ (t : TypeTree). ArePlaces log c.loop-pair.replica.indexed (takes pair.point c.args.arg t) c.taking.result.now) (type_stays I J c.loop-pair.invariant.kept.grows c.args.ty c.requires.ty)
-    (subst (λ (l : List EntryData). ArePlaces l c.loop-pair.replica.indexed (takes pair.point c.args.arg (type_of_id J c.args.ty)) c.taking.result.now) same c.taking.ensures) in
+    let kept = listed c.args.replica.now c.loop-pair.replica now c.loop-pair.invariant.kept c.in_ok-list_types.ensures.kept in
+    let same = kept.log in
+    let told : typed_to now pair.point ≡ length log = c.in_ok-list_types.ensures.ok ∙ (kept.indexed ∙ c.requires.search.indexed) in
+    let are = subst (λ (t : TypeTree). ArePlaces log (typed_to now pair.point) (takes pair.point c.args.arg t) c.taking.result.now) (type_stays I J kept.grows c.args.ty c.requires.ty)
+    (subst (λ (l : List EntryData). ArePlaces l (typed_to now pair.point) (takes pair.point c.args.arg (type_of_id J c.args.ty)) c.taking.result.now) same c.taking.ensures) in
     let gains = along (λ i. GainsHeads K count (AtSome (ParamAt (same i) c.args.params c.args.x) (c.as_slice.ensures i)) c.loop-pair.out.items c.push_params.new.out.items) c.in_ok-push_params.ensures.gains in
+    let before = as_then c.loop-pair.replica now c.in_ok-list_types.ensures.kept
+    (λ ids es. GainsHeads ids count (AtFlow log c.args.params c.args.x c.args.search.now.limit (λ u. takes u c.args.arg ty) (take k pairs)) c.args.out.now.items c.loop-pair.out.items) c.loop-pair.invariant.gains in
     record {
-      kept = keeps_then c.args.replica.now c.loop-pair.replica c.push_params.new.replica c.loop-pair.invariant.kept c.in_ok-push_params.ensures.kept;
-      gains = flow_next J K count log c.args.params c.args.x c.args.search.now.limit (λ u. takes u c.args.arg ty) pairs k d c.taking.result.now c.in_ok-places.places.items c.loop-pair.replica.indexed
-          c.args.out.now.items c.loop-pair.out.items c.push_params.new.out.items c.in_ok-push_params.ensures.kept.grows c.loop-pair-test.true (c.loop-pair.invariant.kept.indexed ∙ c.requires.search.indexed) are c.in_ok-places.ensures
-          c.loop-pair.invariant.gains gains;
+      kept = keeps_then c.args.replica.now now c.push_params.new.replica kept c.in_ok-push_params.ensures.kept;
+      gains = flow_next J K count log c.args.params c.args.x c.args.search.now.limit (λ u. takes u c.args.arg ty) pairs k d c.taking.result.now c.in_ok-places.places.items (typed_to now pair.point)
+          c.args.out.now.items c.loop-pair.out.items c.push_params.new.out.items c.in_ok-push_params.ensures.kept.grows c.loop-pair-test.true told are c.in_ok-places.ensures
+          before gains;
     }
 
 pub returns-clause-gains : goal.returns-clause-gains

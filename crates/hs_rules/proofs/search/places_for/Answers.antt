@@ -1,4 +1,4 @@
-use Rattle.std.proofs.Common.{◌≡◌, sym, ◌∙◌, ◌<◌, ap, subst, ℕ, [], true, false, take, Contains, ◌↔◌}
+use Rattle.std.proofs.Common.{◌≡◌, sym, ◌∙◌, ◌<◌, ap, subst, ℕ, [], true, false, length, take, Contains, ◌↔◌}
 use Rattle.std.proofs.lemmas.Bool.{eq-eqb}
 use Rattle.hs_table.specs.Types.{state}
 use Rattle.hs_table.specs.Entries.{EntryData}
@@ -7,13 +7,16 @@ use Rattle.hs_types.specs.Interned.{InternerData, type_of_id, entry_of, IsIntern
 use Rattle.hs_types.proofs.Numbers.{same_type}
 use Rattle.hs_rules.specs.Slots.{Respects, IsCandidate}
 use Rattle.hs_rules.specs.Filling.{fixed_of}
+use Rattle.hs_replica.specs.Places.{typed, ArePlaces}
+use Rattle.hs_replica.specs.Replica.{ReplicaData, typed_to}
+use Rattle.hs_rules.proofs.KeepLemmas.{as_before}
 use Rattle.hs_rules.proofs.Lists.{if_ok_map}
 use Rattle.hs_rules.proofs.FillLemmas.{free_none, free_arg, free_type, free_candidates}
 use Rattle.hs_rules.proofs.search.places_for.Goals as goal
 use Rattle.hs_rules.proofs.search.places_for.Goals.{in-Some+else-fixed-arg, else-fixed-arg-via-then-fixed-arg+else-eq, else-fixed-arg-via-else-fixed-arg, in_default}
 
-pub returns : goal.returns
-returns c =
+pub returns-clause-candidates : goal.returns-clause-candidates
+returns-clause-candidates c =
     let log = c.args.replica.now.log in
     let ids = c.args.replica.now.ids in
     let ty = type_of_id ids c.args.ty in
@@ -29,7 +32,11 @@ returns c =
       ]
       | in_default w ↦ free_none log c.args.search.now.fixed c.args.arg c.args.point ty place w.in_default.is
     ] in
-    if_ok_map c.below.result (λ out. (place : ℕ) → Contains out.items place ↔ (Contains c.with_type.result.now place × (place < c.args.search.now.limit)))
-    (λ out. (place : ℕ) → Contains out.items place ↔ ((e : EntryData) × IsCandidate (take c.args.search.now.limit log) (fixed_of log c.args.search.now.fixed) (record { arg = c.args.arg; point = c.args.point; ty = ty }) place e))
-    (λ out h. free_candidates log c.args.replica.now.indexed c.args.search.now.limit c.args.arg c.args.point ty (fixed_of log c.args.search.now.fixed) c.with_type.result.now out.items c.requires.search.indexed c.requires.search.limited
-    free c.with_type.ensures h) c.below.ensures
+    let limit = c.args.search.now.limit in
+    let then = c.list_types.new.self in
+    let kept = c.in_ok-list_types.ensures.kept in
+    let told : typed_to then c.args.point ≡ length log = c.in_ok-list_types.ensures.ok ∙ (ap (λ (r : ReplicaData). r.indexed) kept.same ∙ c.requires.search.indexed) in
+    let are = as_before c.args.replica.now then kept (λ I es. ArePlaces es (typed_to then c.args.point) (typed c.args.point (type_of_id I c.args.ty)) c.with_type.result.now) c.with_type.ensures in
+    if_ok_map c.below.result (λ out. (place : ℕ) → Contains out.items place ↔ (Contains c.with_type.result.now place × (place < limit)))
+    (λ out. (place : ℕ) → Contains out.items place ↔ ((e : EntryData) × IsCandidate (take limit log) (fixed_of log c.args.search.now.fixed) (record { arg = c.args.arg; point = c.args.point; ty = ty }) place e))
+    (λ out h. free_candidates log (typed_to then c.args.point) limit c.args.arg c.args.point ty (fixed_of log c.args.search.now.fixed) c.with_type.result.now out.items told c.requires.search.limited free are h) c.below.ensures

@@ -12,7 +12,7 @@ use Rattle.hs_replica.proofs.replica.Replica.append.Goals as goal
 pub invariant_of-self : goal.invariant_of-self
 invariant_of-self c =
     let a = c.self.inside in
-    kept_grows a.interner c.import.new.self c.in_err-own.ensures.grows a.rows.keys (spare a.rows) a.reserved a.indexed a.asked.items (list_at a.lists) c.self.invariant
+    kept_grows a.interner c.import.new.self c.in_err-own.ensures.grows a.rows.keys (spare a.rows) a.reserved a.indexed a.by_type.items a.asked.items (list_at a.lists) c.self.invariant
 
 pub returns-in_err-own-clause-err : goal.returns-in_err-own-clause-err
 returns-in_err-own-clause-err c =
@@ -23,9 +23,9 @@ pub invariant_of-self-in_err-reserve : goal.invariant_of-self-in_err-reserve
 invariant_of-self-in_err-reserve c =
     let a = c.self.inside in
     let new = c.import.new.self in
-    subst (λ (rows : List RowData). IsKept new rows (spare c.reserve.new.self) a.reserved a.indexed a.asked.items (list_at a.lists)) (sym c.in_err-reserve.ensures.keys)
-    (kept_room new a.rows.keys (spare a.rows) (spare c.reserve.new.self) a.reserved a.indexed a.asked.items (list_at a.lists)
-    (kept_grows a.interner new c.in_ok-own.ensures.grows a.rows.keys (spare a.rows) a.reserved a.indexed a.asked.items (list_at a.lists) c.self.invariant)
+    subst (λ (rows : List RowData). IsKept new rows (spare c.reserve.new.self) a.reserved a.indexed a.by_type.items a.asked.items (list_at a.lists)) (sym c.in_err-reserve.ensures.keys)
+    (kept_room new a.rows.keys (spare a.rows) (spare c.reserve.new.self) a.reserved a.indexed a.by_type.items a.asked.items (list_at a.lists)
+    (kept_grows a.interner new c.in_ok-own.ensures.grows a.rows.keys (spare a.rows) a.reserved a.indexed a.by_type.items a.asked.items (list_at a.lists) c.self.invariant)
     (omega (arith, c.in_err-reserve.ensures.room.0, c.self.invariant.fits)))
 
 pub returns-in_err-reserve-clause-err : goal.returns-in_err-reserve-clause-err
@@ -38,9 +38,9 @@ pub invariant_of-self-in_err-insert : goal.invariant_of-self-in_err-insert
 invariant_of-self-in_err-insert c =
     let a = c.self.inside in
     let new = c.import.new.self in
-    subst (λ (rows : List RowData). IsKept new rows (spare c.insert.new.self) a.reserved a.indexed a.asked.items (list_at a.lists)) (sym (c.in_err-insert.ensures.err ∙ c.in_ok-reserve.ensures.keys))
-    (kept_room new a.rows.keys (spare a.rows) (spare c.insert.new.self) a.reserved a.indexed a.asked.items (list_at a.lists)
-    (kept_grows a.interner new c.in_ok-own.ensures.grows a.rows.keys (spare a.rows) a.reserved a.indexed a.asked.items (list_at a.lists) c.self.invariant)
+    subst (λ (rows : List RowData). IsKept new rows (spare c.insert.new.self) a.reserved a.indexed a.by_type.items a.asked.items (list_at a.lists)) (sym (c.in_err-insert.ensures.err ∙ c.in_ok-reserve.ensures.keys))
+    (kept_room new a.rows.keys (spare a.rows) (spare c.insert.new.self) a.reserved a.indexed a.by_type.items a.asked.items (list_at a.lists)
+    (kept_grows a.interner new c.in_ok-own.ensures.grows a.rows.keys (spare a.rows) a.reserved a.indexed a.by_type.items a.asked.items (list_at a.lists) c.self.invariant)
     (omega (arith, c.in_err-insert.ensures.spare, c.in_ok-reserve.ensures.ok)))
 
 pub returns-in_err-insert-clause-err : goal.returns-in_err-insert-clause-err
@@ -68,9 +68,9 @@ invariant_of-self-2 c =
     let short : length a.rows.keys + 1 < 2 ^ 32 = omega (arith, length-map a.rows.keys (entry_of ids), ap length log, c.requires.room) in
     let keys : c.insert.new.self.keys ≡ a.rows.keys ++ own ∷ [] =
     c.in_ok-insert.ensures.keys ∙ (ap (λ (rows : List RowData). insert_key eq-value.it rows own) c.in_ok-reserve.ensures.keys ∙ insert_last new a.rows.keys own absent) in
-    subst (λ (rows : List RowData). IsKept new rows (spare c.insert.new.self) a.reserved a.indexed a.asked.items (list_at a.lists)) (sym keys)
-    (kept_push new a.rows.keys own (spare a.rows) (spare c.insert.new.self) a.reserved a.reserved a.indexed a.asked.items (list_at a.lists)
-    (kept_grows ids new g a.rows.keys (spare a.rows) a.reserved a.indexed a.asked.items (list_at a.lists) c.self.invariant) c.in_ok-own.ensures.row absent short
+    subst (λ (rows : List RowData). IsKept new rows (spare c.insert.new.self) a.reserved a.indexed a.by_type.items a.asked.items (list_at a.lists)) (sym keys)
+    (kept_push new a.rows.keys own (spare a.rows) (spare c.insert.new.self) a.reserved a.reserved a.indexed a.by_type.items a.asked.items (list_at a.lists)
+    (kept_grows ids new g a.rows.keys (spare a.rows) a.reserved a.indexed a.by_type.items a.asked.items (list_at a.lists) c.self.invariant) c.in_ok-own.ensures.row absent short
     (omega (arith, c.in_ok-insert.ensures.spare, c.in_ok-reserve.ensures.ok)))
 
 pub returns-clause-ok : goal.returns-clause-ok

@@ -15,12 +15,12 @@ use Rattle.hs_replica.proofs.replica.Replica.read_new.Goals as goal
 pub invariant_of-self : goal.invariant_of-self
 invariant_of-self c =
     let a = c.self.inside in
-    kept_grows a.interner c.import_rows.new.self c.import_rows.ensures.grows a.rows.keys (spare a.rows) a.reserved a.indexed a.asked.items (list_at a.lists) c.self.invariant
+    kept_grows a.interner c.import_rows.new.self c.import_rows.ensures.grows a.rows.keys (spare a.rows) a.reserved a.indexed a.by_type.items a.asked.items (list_at a.lists) c.self.invariant
 
 pub invariant_of-self-2 : goal.invariant_of-self-2
 invariant_of-self-2 c =
     let a = c.self.inside in
-    kept_grows a.interner c.import_rows.new.self c.import_rows.ensures.grows a.rows.keys (spare a.rows) a.reserved a.indexed a.asked.items (list_at a.lists) c.self.invariant
+    kept_grows a.interner c.import_rows.new.self c.import_rows.ensures.grows a.rows.keys (spare a.rows) a.reserved a.indexed a.by_type.items a.asked.items (list_at a.lists) c.self.invariant
 
 pub returns-in_err-rows-clause-log : goal.returns-in_err-rows-clause-log
 returns-in_err-rows-clause-log c =
@@ -62,7 +62,7 @@ module _ (c : goal.In_ok-make_room) where
   others : IsReplica c.args.from.now
   others =
       let f = c.from.inside in
-      is_replica f.interner f.rows.keys (spare f.rows) f.reserved f.indexed f.asked.items (list_at f.lists) c.from.invariant c.args.from.now c.from.view_is
+      is_replica f.interner f.rows.keys (spare f.rows) f.reserved f.indexed f.by_type.items f.asked.items (list_at f.lists) c.from.invariant c.args.from.now c.from.view_is
 
   begins : IsPrefix new.log c.args.from.now.log
   begins = subst (λ (xs : List EntryData). IsPrefix xs c.args.from.now.log) (sym log_is) c.requires

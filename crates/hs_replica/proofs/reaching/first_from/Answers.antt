@@ -1,7 +1,7 @@
 use Rattle.std.proofs.Common.{ltb, arith, rules}
 use Rattle.std.proofs.lemmas.List.Sorted.{IsPartitionPoint-from_clause, IsPartitionedBy-ltb}
 use Rattle.hs_replica.proofs.FromLemmas.{rises_by, none_from, there_from, first_of}
-use Rattle.hs_replica.proofs.asking.first_from.Goals as goal
+use Rattle.hs_replica.proofs.reaching.first_from.Goals as goal
 
 pub returns-then-begin-list-clause-none : goal.returns-then-begin-list-clause-none
 returns-then-begin-list-clause-none c =

@@ -1,7 +1,7 @@
 use Rattle.std.proofs.Common.{subst, ℕ, ◌<◌, List, Contains, ◌↔◌}
 use Rattle.std.proofs.lemmas.Option.{IfSome_then}
 use Rattle.hs_replica.proofs.FromLemmas.{none_then}
-use Rattle.hs_replica.proofs.asking.next_at.Goals as goal
+use Rattle.hs_replica.proofs.reaching.next_at.Goals as goal
 
 pub returns-clause-there : goal.returns-clause-there
 returns-clause-there c =

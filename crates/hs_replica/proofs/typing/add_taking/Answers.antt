@@ -2,7 +2,7 @@ use Rattle.std.proofs.Common.{sym, subst, ℕ}
 use Rattle.hs_types.specs.Interned.{type_of_id}
 use Rattle.hs_replica.specs.Index.{list_at}
 use Rattle.hs_replica.proofs.TypeLemmas.{TypeSoFar, type_stopped, type_more, type_all}
-use Rattle.hs_replica.proofs.indexing.add_taking.Goals as goal
+use Rattle.hs_replica.proofs.typing.add_taking.Goals as goal
 
 pub returns-in_err-add_taken-clause-gains : goal.returns-in_err-add_taken-clause-gains
 returns-in_err-add_taken-clause-gains c =

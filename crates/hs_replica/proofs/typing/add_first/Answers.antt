@@ -3,7 +3,7 @@ use Rattle.std.proofs.lemmas.Result.{on_ok_weaker}
 use Rattle.hs_replica.specs.Index.{list_at, TakesFirst}
 use Rattle.hs_replica.proofs.SetLemmas.{gains_nothing}
 use Rattle.hs_replica.proofs.RowLemmas.{first_gains, first_all, later_all}
-use Rattle.hs_replica.proofs.indexing.add_first.Goals as goal
+use Rattle.hs_replica.proofs.typing.add_first.Goals as goal
 
 pub returns-then-first-clause-gains : goal.returns-then-first-clause-gains
 returns-then-first-clause-gains c =

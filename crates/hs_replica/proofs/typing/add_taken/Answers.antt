@@ -3,7 +3,7 @@ use Rattle.hs_types.specs.Interned.{set_of_id}
 use Rattle.hs_replica.specs.declared.key.Key.TheVariants.{Taking}
 use Rattle.hs_replica.specs.Index.{list_at, TakesAt}
 use Rattle.hs_replica.proofs.SetLemmas.{set_none, set_stopped, set_more, set_all, member_in, taken_all}
-use Rattle.hs_replica.proofs.indexing.add_taken.Goals as goal
+use Rattle.hs_replica.proofs.typing.add_taken.Goals as goal
 
 pub loop-ty-init : goal.loop-ty-init
 loop-ty-init c =
