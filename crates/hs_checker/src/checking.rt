@@ -3,7 +3,7 @@
 ghost use Rattle.std.specs.Prelude.{◌≡◌, ◌↔◌, ◌<◌, [], length, Contains, IsTrue, IfOk, IfErr, OnOk};
 ghost use Rattle.hs_scheme.specs.Run.{Accepts};
 ghost use Rattle.hs_table.specs.Types.{state};
-ghost use Rattle.hs_table.specs.Entries.{EntryData};
+ghost use Rattle.hs_table.specs.Entries.{EntryData, InShape};
 ghost use Rattle.hs_table.specs.Follows.{Follows};
 ghost use Rattle.hs_table.specs.Tables.{IsClosedTable, HasStart};
 ghost use Rattle.hs_verdict.specs.Premises.{HasClosedFlow};
@@ -123,6 +123,36 @@ fn count_closed(
     Ok(count)
 }
 
+/// The check of a table by its index.
+fn check_index(
+    alloc: Global,
+    problem: &Problem,
+    table: &[Entry],
+    index: &EntryIndex,
+) -> Result<u64, CheckFault>
+    requires { (e : EntryData) → Contains index.now e ↔ (Contains table.now e × InShape problem.now e) }
+    ensures closed { OnOk result (HasClosedFlow problem.now
+        × (IsClosedTable problem.now table.now × (HasStart problem.now table.now → ⊥))) }
+    ensures count { IfOk result (IsCount problem.now table.now) }
+    ensures accepted { OnOk result
+        (Accepts problem.now.sorted.scheme.rules problem.now.sorted.automaton.transitions) }
+    ensures fault { IfErr result (IsFault problem.now table.now) }
+{
+    is_sorted_problem(problem);
+    let heads = HeadPairs::of(alloc, problem)?;
+    let inert = inert_points(alloc, problem, index, &heads)?;
+    let gap = first_gap(problem, &heads, inert.as_slice());
+    drop(heads);
+    if let Some(pair) = gap {
+        return Err(open(pair));
+    }
+    let count = count_closed(alloc, problem, index, inert.as_slice())?;
+    if has_start(problem, table) {
+        return Err(CheckFault::HasStart);
+    }
+    Ok(count)
+}
+
 /// The number of the table's instances, or 2^64 - 1 where there are more, where the flow holds all
 /// that is demanded, and the table all that follows from it and not the start entry. Then the
 /// automaton accepts the scheme's value tree, by Kobayashi, "Types and higher-order recursion schemes
@@ -146,16 +176,8 @@ pub fn check(alloc: Global, problem: &Problem, table: &[Entry]) -> Result<u64, C
         (Accepts problem.now.sorted.scheme.rules problem.now.sorted.automaton.transitions) }
     ensures fault { IfErr result (IsFault problem.now table.now) }
 {
-    is_sorted_problem(problem);
     let index = EntryIndex::of(alloc, problem, table)?;
-    let heads = HeadPairs::of(alloc, problem)?;
-    let inert = inert_points(alloc, problem, &index, &heads)?;
-    if let Some(pair) = first_gap(problem, &heads, inert.as_slice()) {
-        return Err(open(pair));
-    }
-    let count = count_closed(alloc, problem, &index, inert.as_slice())?;
-    if has_start(problem, table) {
-        return Err(CheckFault::HasStart);
-    }
-    Ok(count)
+    let checked = check_index(alloc, problem, table, &index);
+    drop(index);
+    checked
 }

@@ -52,30 +52,30 @@ none_below test (suc n) e k lt = by (none_below (λ j. test (suc j)) n) (test 0)
     by rest false d e zero lt = d
     by rest false d e (suc k) lt = rest (later (first_below (λ j. test (suc j)) n) refl e) k (omega arith)
 
--- and that for a parameter
-pub record Found (test : ℕ → ℕ → Bool) (rules : List Rule) (p : ℕ × ℕ) : Type 0 where
+-- the parameter is one of a rule, and passes the test
+pub record PassesTest (test : ℕ → ℕ → Bool) (rules : List Rule) (p : ℕ × ℕ) : Type 0 where
   pub rule : Rule
   pub at : slice_get rules p.0 ≡ Some rule
   pub within : p.1 < rule.params
   pub holds : test p.0 p.1 ≡ true
 
-pub found_parameter : (test : ℕ → ℕ → Bool) (rules : List Rule) (p : ℕ × ℕ) → first_parameter test rules ≡ Some p → Found test rules p
+pub found_parameter : (test : ℕ → ℕ → Bool) (rules : List Rule) (p : ℕ × ℕ) → first_parameter test rules ≡ Some p → PassesTest test rules p
 found_parameter test [] p e = absurd (cc)
 found_parameter test (r ∷ rules) p e = by (found_parameter (λ f. test (suc f)) rules) (first_below (test 0) r.params) refl e
   where
-    later : ((q : ℕ × ℕ) → first_parameter (λ f. test (suc f)) rules ≡ Some q → Found (λ f. test (suc f)) rules q) → (o : Option (ℕ × ℕ)) → first_parameter (λ f. test (suc f)) rules ≡ o → option_map (λ q. (suc q.0, q.1)) o ≡ Some p → Found test (r ∷ rules) p
+    later : ((q : ℕ × ℕ) → first_parameter (λ f. test (suc f)) rules ≡ Some q → PassesTest (λ f. test (suc f)) rules q) → (o : Option (ℕ × ℕ)) → first_parameter (λ f. test (suc f)) rules ≡ o → option_map (λ q. (suc q.0, q.1)) o ≡ Some p → PassesTest test (r ∷ rules) p
     later rest None d e = absurd (cc)
     later rest (Some q) d e =
         let h = rest q d in
         let is : (suc q.0, q.1) ≡ p = same_some (suc q.0, q.1) p e in
-        subst (Found test (r ∷ rules)) is (record { rule = h.rule; at = h.at; within = h.within; holds = h.holds })
+        subst (PassesTest test (r ∷ rules)) is (record { rule = h.rule; at = h.at; within = h.within; holds = h.holds })
 
-    by : ((q : ℕ × ℕ) → first_parameter (λ f. test (suc f)) rules ≡ Some q → Found (λ f. test (suc f)) rules q) → (o : Option ℕ) → first_below (test 0) r.params ≡ o → here_or_later o (first_parameter (λ f. test (suc f)) rules) ≡ Some p → Found test (r ∷ rules) p
+    by : ((q : ℕ × ℕ) → first_parameter (λ f. test (suc f)) rules ≡ Some q → PassesTest (λ f. test (suc f)) rules q) → (o : Option ℕ) → first_below (test 0) r.params ≡ o → here_or_later o (first_parameter (λ f. test (suc f)) rules) ≡ Some p → PassesTest test (r ∷ rules) p
     by rest None d e = later rest (first_parameter (λ f. test (suc f)) rules) refl e
     by rest (Some k) d e =
         let h = found_below (test 0) r.params k d in
         let is : (0, k) ≡ p = same_some (0, k) p e in
-        subst (Found test (r ∷ rules)) is (record { rule = r; at = refl; within = h.within; holds = h.holds })
+        subst (PassesTest test (r ∷ rules)) is (record { rule = r; at = refl; within = h.within; holds = h.holds })
 
 pub no_parameter : (test : ℕ → ℕ → Bool) (rules : List Rule) → first_parameter test rules ≡ None → (f j : ℕ) (r : Rule) → slice_get rules f ≡ Some r → j < r.params → test f j ≡ false
 no_parameter test [] e f j r at lt = absurd (cc)
@@ -137,7 +137,7 @@ module _ (s : SortedData) where
       let p = kept_place (keep f) b.item.params k (subst (λ (q : Rule). k < q.params) (sym b.is) lt) in
       record { param = p.number; rule = b.item; at = b.at; within = p.within; on = p.on; is = p.is }
 
-  module _ (keep : Keep) (h : Reached keep) (p : ℕ × ℕ) (found : Found (λ f j. not (is_needed (new keep) f j)) (new keep) p) where
+  module _ (keep : Keep) (h : Reached keep) (p : ℕ × ℕ) (found : PassesTest (λ f j. not (is_needed (new keep) f j)) (new keep) p) where
     abbrev gone : Keep
     gone g k = not (nat_eq g p.0 && nat_eq k p.1)
 

@@ -112,18 +112,19 @@ module _ (bound : ℕ) (s : Store) where
       piled_behind front numbers n from at packs long rest,
     )
 
-    abbrev pub Found : List ℕ → ℕ → Pack → Type 0
-    Found numbers at pack = (number : ℕ) × (slice_get numbers at ≡ Some number) × IsPack bound s below number pack
+    -- at this place of the numbers stands that of the pack
+    abbrev pub HasPackAt : List ℕ → ℕ → Pack → Type 0
+    HasPackAt numbers at pack = (number : ℕ) × (slice_get numbers at ≡ Some number) × IsPack bound s below number pack
 
     pub piled_at : (numbers : List ℕ) (from to : ℕ) (packs : Packs) (place : ℕ) → Piled bound s below numbers from to packs → from + place < to
-        → Found numbers (to - 1 - place) (pack_at packs place)
+        → HasPackAt numbers (to - 1 - place) (pack_at packs place)
     piled_at numbers from to no_packs place e lt = absurd (omega (arith, e))
     piled_at numbers from to (put pack packs) zero (at, number, span, e, is, there, members, rest) lt =
         let same : at ≡ to - 1 - 0 = omega (arith, e) in
         (number, along (λ k. slice_get numbers k ≡ Some number) same is, record { span = span; at = there; members = members })
     piled_at numbers from to (put pack packs) (suc place) (at, number, span, e, is, there, members, rest) lt =
         let same : at - 1 - place ≡ to - 1 - suc place = omega (arith, e) in
-        along (λ k. Found numbers k (pack_at packs place)) same (piled_at numbers from at packs place rest (omega (arith, e)))
+        along (λ k. HasPackAt numbers k (pack_at packs place)) same (piled_at numbers from at packs place rest (omega (arith, e)))
 
     pub piled_past : (numbers : List ℕ) (from to : ℕ) (packs : Packs) (place : ℕ) → Piled bound s below numbers from to packs → to ≤ from + place → pack_at packs place ≡ empty
     piled_past numbers from to no_packs place e le = refl

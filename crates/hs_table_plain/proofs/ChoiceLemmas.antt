@@ -104,14 +104,15 @@ module _ (p : ProblemData) (E : List EntryData) (shapes : (e : EntryData) → Co
             ((i, place.0) ∷ r.0, choose place.1 (eqb-true candidate.item.point u parts.0) (type_same candidate.item.ty a (equal_of (type_cmp candidate.item.ty a) parts.1)) r.1);
       }
 
-  pub record Found (us : List ℕ) (ss : Env) (es : List EntryData) (y : EntryData) : Type 0 where
+  -- the entry is one of the given ones, joined with entries chosen for the sets
+  pub record JoinedWithChosen (us : List ℕ) (ss : Env) (es : List EntryData) (y : EntryData) : Type 0 where
     pub from : EntryData
     pub there : Contains es from
     pub xs : List EntryData
     pub is : y ≡ joins from xs
     pub are : (i : ℕ) → (args : List (ℕ × ℕ)) × Chosen p E i us ss args xs
 
-  pub from_all : (us : List ℕ) (ss : Env) (es : List EntryData) (y : EntryData) → length ss ≡ length us → Contains (choose_all E us ss es) y → Found us ss es y
+  pub from_all : (us : List ℕ) (ss : Env) (es : List EntryData) (y : EntryData) → length ss ≡ length us → Contains (choose_all E us ss es) y → JoinedWithChosen us ss es y
   from_all [] [] es y e c = record { from = y; there = c; xs = []; is = refl; are = λ i. ([], done) }
   from_all [] (s ∷ ss) es y e c = absurd (omega arith)
   from_all (u ∷ us) [] es y e c = absurd (omega arith)
