@@ -3,7 +3,8 @@
 //! Nothing is proved of it, and no contract speaks of it: a worker that is never woken would wait for
 //! ever, and one that is woken for nothing takes again. By argument, none waits for ever: who waits was
 //! counted before it looked for a work for the last time. Whoever leaves works pending after that look
-//! sees the count when it tells of them. The last worker that holds a work ends in its turn, and rings.
+//! sees the count when it tells of them. The last worker that holds a work ends in its turn or goes
+//! to rest, and rings.
 
 use crate::sharing::Sharing;
 use std::hint::spin_loop;
