@@ -1,39 +1,21 @@
 //! The least table, in two ways.
 
-ghost use Rattle.std.specs.Prelude.{◌<◌, ◌≤◌, List, length, All, OnOk};
+ghost use Rattle.std.specs.Prelude.{◌<◌, ◌≤◌, length, All, OnOk};
 ghost use Rattle.hs_flow.specs.Dependents.{HasDependents};
-ghost use Rattle.hs_scheme.specs.Automaton.{IsAutomaton};
-ghost use Rattle.hs_table.specs.Entries.{EntryData, InShape};
-ghost use Rattle.hs_rules.specs.Conclusions.{IsDeduced};
-ghost use Rattle.core_cost.specs.Shaped.{IsShaped};
+ghost use Rattle.hs_table.specs.Entries.{InShape};
+ghost use Rattle.hs_rules.specs.Conclusions.{IsShaped};
 
 use hs_core::{Done, saturate_alone};
 use hs_flow::Dependents;
-use hs_rules::{Deduced, Replica, conclusions_with, seed_conclusions};
+use hs_rules::{
+    Deduced, Replica, conclusions_with, deduced_entries_are_in_shape, seed_conclusions,
+};
 use hs_scheme::{OutOfMemory, Problem};
-use hs_table_laws::what_follows_is_in_shape;
 use std::alloc::Global;
 use std::mem::forget;
 
 /// The most entries of a table; further ones are left out.
 const MOST_ENTRIES: u32 = 1_000_000;
-
-/// What holds of the automaton of each problem.
-fn know(problem: &Problem)
-    ensures { IsAutomaton problem.now.sorted.automaton }
-{
-    let sorted = &problem.sorted;
-    sorted.automaton.is_automaton();
-}
-
-/// What was deduced from some entries is in shape.
-fn are_shaped(problem: &Problem, replica: &Replica, found: &[Deduced])
-    requires { (log : List EntryData) × All (IsDeduced problem.now replica.now.ids log) found.now }
-    ensures { All (IsShaped problem.now replica.now.ids) found.now }
-{
-    know(problem);
-    what_follows_is_in_shape();
-}
 
 /// Adds those of the entries that the log lacks.
 fn add_new(problem: &Problem, replica: &mut Replica, found: &[Deduced]) -> Result<(), OutOfMemory>
@@ -63,7 +45,7 @@ fn add_seed(
     ensures shape { OnOk result (All (InShape problem.now) replica.new.log) }
 {
     let found = seed_conclusions(alloc, problem, replica, point)?;
-    are_shaped(problem, replica, found.as_slice());
+    deduced_entries_are_in_shape(problem, replica, found.as_slice());
     add_new(problem, replica, found.as_slice())?;
     Ok(found.len() as u64)
 }
@@ -84,7 +66,7 @@ fn add_at(
     ensures longer { OnOk result (length replica.old.log ≤ length replica.new.log) }
 {
     let found = conclusions_with(alloc, problem, replica, point, place)?;
-    are_shaped(problem, replica, found.as_slice());
+    deduced_entries_are_in_shape(problem, replica, found.as_slice());
     add_new(problem, replica, found.as_slice())?;
     Ok(found.len() as u64)
 }

@@ -5,19 +5,20 @@ use Rattle.hs_scheme.specs.declared.term.Rule.{Rule}
 use Rattle.std.specs.Option.{IsSome, IfSome}
 use Rattle.hs_scheme.specs.Problem.{ProblemData}
 use Rattle.hs_scheme.specs.Run.{Accepts}
+use Rattle.hs_scheme.proofs.Lists.{Contains-at}
 use Rattle.hs_table.specs.Entries.{EntryData}
 use Rattle.hs_table.specs.Tables.{IsSupportedTable, IsLeastTable, HasStart, Exceeds}
-use Rattle.hs_table_laws.proofs.Places.{member_at}
 use Rattle.hs_verdict.specs.Premises.{IsSortedProblem}
 use Rattle.hs_naming.proofs.Ending.{supported_rejects}
 use Rattle.hs_history.specs.Story.{Base}
 use Rattle.hs_core.specs.Core.{CoreData, log_of, IsCore, StartsAt}
 use Rattle.hs_core.specs.Answers.{IsLeastAnswer, IsOverAnswer, IsFirstAnswer}
+use Rattle.hs_core.proofs.Tables.{core_table}
 use Rattle.hs_workers.specs.Answers.{IsShared}
 use Rattle.hs_app.specs.declared.verdict.Settings.{Settings}
 use Rattle.hs_app.specs.Problems.{IsReportedTable}
 use Rattle.hs_app.specs.Verdict.{IsOver}
-use Rattle.hs_app.proofs.CoreLemmas.{core_table, reported_least, reported_first}
+use Rattle.hs_app.proofs.ReportedTables.{reported_least, reported_first}
 
 abbrev pub base_of : ProblemData → Settings → Base
 base_of p settings = record { problem = p; budget = settings.entries; first = settings.first }
@@ -29,7 +30,7 @@ either_way false P rules h = h
 
 pub starts : (p : ProblemData) (log : List EntryData) (place : Option ℕ) → IsSome place → IfSome place (StartsAt p log) → HasStart p log
 starts p log None some h = absurd (cc)
-starts p log (Some place) some h = (h.entry, (h.is_start, member_at log place h.entry h.at))
+starts p log (Some place) some h = (h.entry, (h.is_start, Contains-at log place h.entry h.at))
 
 module _ (p : ProblemData) (settings : Settings) (core : CoreData) (is : IsCore core) (sorted : IsSortedProblem p) (shared : IsShared (base_of p settings) settings.workers core) where
   abbrev log : List EntryData

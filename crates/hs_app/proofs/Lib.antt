@@ -1,6 +1,6 @@
 pub mod OneProblem
 pub mod OneScheme
-pub mod CoreLemmas
+pub mod ReportedTables
 pub mod DecidingLemmas
 pub mod OrderLemmas
 pub mod AnswerLemmas

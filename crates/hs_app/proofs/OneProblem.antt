@@ -1,8 +1,10 @@
 -- A scheme has one problem at most.
-use Rattle.std.proofs.Common.{◌≡◌, refl, sym, ◌∙◌, ap, subst, ℕ, zero, suc, ◌+◌, ◌<◌, ◌≤◌, List, [], ◌∷◌, length, map, length-append, slice_get, unwrap_or, Contains, inl, inr, arith}
+use Rattle.std.proofs.Common.{◌≡◌, sym, ◌∙◌, ap, subst, ℕ, ◌+◌, ◌<◌, ◌≤◌, List, [], ◌∷◌, length, map, length-append, slice_get, unwrap_or, Contains, inl, inr, arith}
 use Rattle.std.proofs.lemmas.Option.{unwrap_or-slice_get}
 use Rattle.std.proofs.lemmas.List.{ext_get_or, length-map}
 use Rattle.std.proofs.lemmas.List.Elements.{Contains-append_left, Contains-append_right, Contains-append_cases}
+use Rattle.hs_steps.proofs.Trees.{length-lengthening}
+use Rattle.hs_flow.proofs.TableLemmas.{mapped}
 use Rattle.hs_scheme.specs.declared.flow.FlowPair.{FlowPair}
 use Rattle.hs_scheme.specs.declared.flow.HeadPair.{HeadPair}
 use Rattle.hs_scheme.specs.declared.flow.Pair.{Pair}
@@ -10,35 +12,22 @@ use Rattle.hs_scheme.specs.declared.flow.Pair.TheVariants.{OfFlow, OfHead}
 use Rattle.hs_scheme.specs.declared.term.Rule.{Rule}
 use Rattle.hs_scheme.specs.Names.{NamesData}
 use Rattle.hs_scheme.specs.Points.{PointsData, points_of}
-use Rattle.hs_scheme.specs.Tree.{node}
-use Rattle.hs_scheme.specs.Sorting.{SortTree, o, arrow, ranked, arguments, AreEqual}
+use Rattle.hs_scheme.specs.Sorting.{SortTree, o, ranked, arguments, AreEqual}
 use Rattle.hs_scheme.specs.Unsorted.{UnsortedData}
 use Rattle.hs_scheme.specs.Sorted.{SortedData, sorts_of}
 use Rattle.hs_scheme.specs.Lengthening.{lengthening}
 use Rattle.hs_scheme.specs.Flow.{FlowData, pairs_of, IsFlow, IsSupported, IsFlowTable, flow_cmp, head_cmp}
 use Rattle.hs_scheme.specs.Problem.{ProblemData}
-use Rattle.hs_scheme.proofs.DemandLemmas.{flow_unique, fewer}
+use Rattle.hs_scheme.proofs.DemandLemmas.{flow_unique, fewer, same_flow, same_head, no_head}
 use Rattle.hs_scheme.proofs.FlowLemmas.{flow_cmp-equal, head_cmp-equal, flow_cmp_total, head_cmp_total}
-use Rattle.hs_scheme.proofs.Sortings.{least_unique}
+use Rattle.hs_scheme.proofs.Sortings.{least_unique, length-ranked}
+use Rattle.hs_scheme.proofs.Lists.{none_in, here, later, uncons}
 use Rattle.hs_sorts.specs.Naming.{lengthened_names}
-use Rattle.hs_table_laws.proofs.Places.{none_in, here, later, uncons}
 use Rattle.hs_table_laws.proofs.Sets.{ascending_same}
 use Rattle.hs_app.specs.Problems.{Asked, form_asked, IsSortedFormOf, IsProblemOf, HasManyPoints, HasMuchFlow}
 
-length-lengthening : (rules : List Rule) (ks : List SortTree) → length (lengthening rules ks) ≡ length rules
-length-lengthening [] ks = refl
-length-lengthening (r ∷ rules) [] = refl
-length-lengthening (r ∷ rules) (k ∷ ks) = ap suc (length-lengthening rules ks)
-
-arguments-arrow : (a b : SortTree) → length (arguments (arrow a b)) ≡ suc (length (arguments b))
-arguments-arrow a (node u ks) = refl
-
-arity-ranked : (n : ℕ) → length (arguments (ranked n)) ≡ n
-arity-ranked zero = refl
-arity-ranked (suc n) = arguments-arrow o (ranked n) ∙ ap suc (arity-ranked n)
-
 same_rank : (m n : ℕ) → ranked m ≡ ranked n → m ≡ n
-same_rank m n e = sym (arity-ranked m) ∙ (ap (λ (k : SortTree). length (arguments k)) e ∙ arity-ranked n)
+same_rank m n e = sym (length-ranked m) ∙ (ap (λ (k : SortTree). length (arguments k)) e ∙ length-ranked n)
 
 module _ (u : UnsortedData) (s t : SortedData) (is : IsSortedFormOf u s) (other : IsSortedFormOf u t) where
   equal : AreEqual u.rules u.ranks (sorts_of s.sorts s.scheme.ranks) (sorts_of t.sorts t.scheme.ranks)
@@ -82,29 +71,6 @@ module _ (u : UnsortedData) (s t : SortedData) (is : IsSortedFormOf u s) (other 
 
 -- ---- flow pairs and head pairs in one list
 
-flow_of : Pair → FlowPair → FlowPair
-flow_of (OfFlow f) g = f
-flow_of (OfHead h) g = g
-
-head_of : Pair → HeadPair → HeadPair
-head_of (OfFlow f) g = g
-head_of (OfHead h) g = h
-
-same_flow : (f g : FlowPair) → OfFlow f ≡ OfFlow g → f ≡ g
-unfolding flow_of
-same_flow f g e = ap (λ pair. flow_of pair f) e
-
-same_head : (h k : HeadPair) → OfHead h ≡ OfHead k → h ≡ k
-unfolding head_of
-same_head h k e = ap (λ pair. head_of pair h) e
-
-wrapped : {X : Type 0} (wrap : X → Pair) (xs : List X) (x : X) → Contains xs x → Contains (map wrap xs) (wrap x)
-wrapped wrap [] x h = absurd (none_in x h)
-wrapped wrap (y ∷ xs) x h = elim (uncons y x xs h) [
-  | inl e ↦ subst (λ z. Contains (map wrap (z ∷ xs)) (wrap x)) e (here (wrap x) (map wrap xs))
-  | inr there ↦ later (wrap y) (wrap x) (map wrap xs) (wrapped wrap xs x there)
-]
-
 unwrapped : {X : Type 0} (wrap : X → Pair) (same : (x y : X) → wrap x ≡ wrap y → x ≡ y) (xs : List X) (x : X) → Contains (map wrap xs) (wrap x) → Contains xs x
 unwrapped wrap same [] x h = absurd (none_in (wrap x) h)
 unwrapped wrap same (y ∷ xs) x h = elim (uncons (wrap y) (wrap x) (map wrap xs) h) [
@@ -119,9 +85,6 @@ none_wrapped wrap q other (x ∷ xs) h = elim (uncons (wrap x) q (map wrap xs) h
   | inr there ↦ none_wrapped wrap q other xs there
 ]
 
-no_head : (f : FlowPair) (h : HeadPair) → OfFlow f ≡ OfHead h → ⊥
-no_head f h e = (cc)
-
 no_flow : (h : HeadPair) (f : FlowPair) → OfHead h ≡ OfFlow f → ⊥
 no_flow h f e = (cc)
 
@@ -133,7 +96,7 @@ module _ (flows : List FlowPair) (heads : List HeadPair) where
   as_heads = map (λ (h : HeadPair). OfHead h) heads
 
   flow_there : (f : FlowPair) → Contains flows f → Contains (pairs_of flows heads) (OfFlow f)
-  flow_there f h = Contains-append_left as_flows as_heads (OfFlow f) (wrapped (λ (g : FlowPair). OfFlow g) flows f h)
+  flow_there f h = Contains-append_left as_flows as_heads (OfFlow f) (mapped (λ (g : FlowPair). OfFlow g) flows f h)
 
   flow_back : (f : FlowPair) → Contains (pairs_of flows heads) (OfFlow f) → Contains flows f
   flow_back f h = elim (Contains-append_cases as_flows as_heads (OfFlow f) h) [
@@ -142,7 +105,7 @@ module _ (flows : List FlowPair) (heads : List HeadPair) where
   ]
 
   head_there : (h : HeadPair) → Contains heads h → Contains (pairs_of flows heads) (OfHead h)
-  head_there h c = Contains-append_right as_flows as_heads (OfHead h) (wrapped (λ (g : HeadPair). OfHead g) heads h c)
+  head_there h c = Contains-append_right as_flows as_heads (OfHead h) (mapped (λ (g : HeadPair). OfHead g) heads h c)
 
   head_back : (h : HeadPair) → Contains (pairs_of flows heads) (OfHead h) → Contains heads h
   head_back h c = elim (Contains-append_cases as_flows as_heads (OfHead h) c) [

@@ -2,14 +2,15 @@
 --     file_pieces     the pieces of a file
 --     spelled         their bytes
 --     AllWhole        each takes its whole run of name bytes, and knows its line
-use Rattle.std.proofs.Common.{◌≡◌, refl, sym, ◌∙◌, ap, subst, ℕ, suc, ◌+◌, true, false, ◌&&◌, ◌==◌, cond, List, [], ◌∷◌, ◌++◌, length, map, add-zero, arith}
-use Rattle.std.specs.List.{flat_map, list_all, AllByRecursion}
+use Rattle.std.proofs.Common.{◌≡◌, refl, sym, ◌∙◌, ap, subst, ℕ, suc, ◌+◌, true, false, ◌==◌, List, [], ◌∷◌, ◌++◌, length, map, add-zero, arith}
+use Rattle.std.specs.List.{flat_map, AllByRecursion}
 use Rattle.std.proofs.lemmas.Bool.{eqb-true}
 use Rattle.hs_scheme.specs.Tree.{Tree, Trees, node, none, more}
 use Rattle.hs_reader.specs.declared.raw.RawName.{RawName}
 use Rattle.hs_reader.specs.Raw.{Rule, Transition, File}
 use Rattle.hs_reader.specs.Tokens.{is_name_byte, word, rules_begin, rules_end, automaton_begin, automaton_end, arrow, dot, left, right, end_of_file, Piece, blank, token, piece_bytes, line_ends, EndsRun, IsName, IsWhole, IsCut}
 use Rattle.hs_reader.specs.Limits.{term_names, terms_names, rule_names, transition_names, names}
+use Rattle.hs_reader.proofs.Lexing.{name_lines}
 use Rattle.hs_resolve.proofs.Members.{all-append}
 use Rattle.hs_app.proofs.Relined.{reline, reline_tree, reline_trees, reline_rule, reline_transition, lined, relined}
 
@@ -91,16 +92,8 @@ name-byte b h =
       | false ↦ λ e. refl
     ] refl
 
-name-lines : (bytes : List ℕ) → list_all is_name_byte bytes ≡ true → line_ends bytes ≡ 0
-name-lines [] h = refl
-name-lines (b ∷ bs) h =
-    elim (is_name_byte b) as (λ c. is_name_byte b ≡ c → (c && list_all is_name_byte bs) ≡ true → cond (b == 10) 1 0 + line_ends bs ≡ 0) [
-      | true ↦ λ e f. (λ i. cond (name-byte b e i) 1 0 + name-lines bs f i)
-      | false ↦ λ e f. absurd (cc)
-    ] refl h
-
 word-whole : (line : ℕ) (n : RawName) (ps : List Piece) → IsName n → EndsRun (spelled ps) → AllWhole line ps → AllWhole line (token (word (reline line n)) ∷ ps)
-word-whole line n ps name ends h = on-line line (token (word (reline line n))) ps (name, ends, refl) (name-lines n.text name.1) h
+word-whole line n ps name ends h = on-line line (token (word (reline line n))) ps (name, ends, refl) (name_lines n.text name.1) h
 
 blank-whole : (line : ℕ) (ps : List Piece) → AllWhole line ps → AllWhole line (blank 32 ∷ ps)
 blank-whole line ps h = on-line line (blank 32) ps refl refl h

@@ -1,8 +1,9 @@
 -- A file with other lines has no other faults, and is within the same limits.
-use Rattle.std.proofs.Common.{◌≡◌, ◌≢◌, refl, sym, ◌∙◌, ap, subst, ℕ, ◌+◌, ◌<◌, ◌≤◌, true, false, List, [], ◌∷◌, ◌++◌, length, take, map, slice_get, Option, Some, None, option_map, IsTrue, inl, inr, arith}
+use Rattle.std.proofs.Common.{◌≡◌, ◌≢◌, refl, sym, ◌∙◌, ap, subst, ℕ, ◌+◌, ◌<◌, ◌≤◌, true, false, List, [], ◌∷◌, ◌++◌, length, take, map, slice_get, Some, option_map, IsTrue, inl, inr, arith}
 use Rattle.std.specs.List.{flat_map, list_any, list_all, AllByRecursion}
 use Rattle.std.proofs.lemmas.List.{map-append, length-map}
-use Rattle.std.proofs.lemmas.Option.{slice_get-map, same_Some}
+use Rattle.std.proofs.lemmas.Option.{slice_get-map}
+use Rattle.hs_scheme.proofs.TransitionLemmas.{mapped}
 use Rattle.hs_reader.specs.declared.raw.RawName.{RawName}
 use Rattle.hs_reader.specs.Raw.{Rule, Transition, File}
 use Rattle.hs_reader.specs.Tokens.{is_name_byte}
@@ -15,14 +16,10 @@ use Rattle.hs_resolve.specs.Answer.{HasNoLineFault, IsFaultless}
 use Rattle.hs_resolve.proofs.Lists.{at_map}
 use Rattle.hs_app.proofs.Relined.{reline, reline_rule, reline_transition, lined, relined, len-lined, flat_map-lined, any-lined, take-lined, all-lined, at-lined, texts-reline, texts-tree, few-tree, rank-same, left-same, states-same}
 
-image-of : {A B : Type 0} (f : A → B) (o : Option A) (y : B) → option_map f o ≡ Some y → (x : A) × ((o ≡ Some x) × (f x ≡ y))
-image-of f None y h = absurd (cc)
-image-of f (Some x) y h = (x, (refl, same_Some (f x) y h))
-
 -- the name at the same place of a list with the same texts
 name-at : (xs ys : List RawName) (i : ℕ) (n : RawName) → texts xs ≡ texts ys → slice_get xs i ≡ Some n → (m : RawName) × ((slice_get ys i ≡ Some m) × (m.text ≡ n.text))
 name-at xs ys i n e at =
-    image-of (λ m. m.text) (slice_get ys i) n.text (sym (slice_get-map (λ m. m.text) ys i) ∙ (ap (λ ts. slice_get ts i) (sym e) ∙ at_map (λ m. m.text) xs i n at))
+    mapped (λ m. m.text) (slice_get ys i) n.text (sym (slice_get-map (λ m. m.text) ys i) ∙ (ap (λ ts. slice_get ts i) (sym e) ∙ at_map (λ m. m.text) xs i n at))
 
 repeats-same : (xs ys : List RawName) → texts xs ≡ texts ys → (line : ℕ) → Repeats xs line → (other : ℕ) × Repeats ys other
 repeats-same xs ys e line s =
@@ -72,7 +69,7 @@ module _ (raw : File) (clean : IsFaultless raw) where
       let known : rank_of raw.transitions a.0.terminal.text ≡ Some (length longer.to) =
       sym (rank-same begin raw.transitions a.0.terminal.text)
       ∙ (ap (λ (v : Transition). rank_of (relined raw).transitions v.terminal.text) a.1.1.1 ∙ ap (option_map (λ u. length u.to)) h.holds.2) in
-      let first = image-of (λ u. length u.to) (first_of raw.transitions a.0.terminal.text) (length longer.to) known in
+      let first = mapped (λ u. length u.to) (first_of raw.transitions a.0.terminal.text) (length longer.to) known in
       let len : length h.item.to ≡ length a.0.to = ap (λ (v : Transition). length v.to) (sym a.1.1.1) ∙ length-map a.0.to (reline a.1.1.0) in
       clean.lines a.0.from.line (inr (inr (inr (inr (inr (record {
         place = h.place;

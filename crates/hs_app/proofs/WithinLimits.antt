@@ -1,9 +1,9 @@
 -- Where the parts of a file are within their limits, no token passes a limit but the depth.
-use Rattle.std.proofs.Common.{◌≡◌, refl, sym, ◌∙◌, ap, subst, ◌+◌, ◌<◌, ◌≤◌, Bool, true, false, nat_eq, List, [], ◌∷◌, ◌++◌, length, Option, Some, None, length-append, arith}
+use Rattle.std.proofs.Common.{◌≡◌, refl, sym, ◌∙◌, ap, subst, ◌<◌, ◌≤◌, Bool, true, false, nat_eq, List, [], ◌∷◌, ◌++◌, length, Option, Some, None, length-append, arith}
 use Rattle.std.specs.List.{AllByRecursion}
 use Rattle.std.proofs.lemmas.Bool.{le-ltb, eqb-true}
 use Rattle.std.proofs.lemmas.Option.{same_Some}
-use Rattle.hs_scheme.specs.Tree.{Tree, Trees, node, none, more, children}
+use Rattle.hs_scheme.specs.Tree.{Tree, Trees, node, none, more}
 use Rattle.hs_reader.specs.declared.raw.RawName.{RawName}
 use Rattle.hs_reader.specs.declared.fault.Which.{Which}
 use Rattle.hs_reader.specs.declared.fault.Which.TheVariants as which
@@ -17,6 +17,7 @@ use Rattle.hs_reader.proofs.Stages.{steps_split, steps_rest}
 use Rattle.hs_reader.proofs.Completeness.{file_steps}
 use Rattle.hs_reader.proofs.Passing.{passes_passed, passed_passes}
 use Rattle.hs_reader.proofs.Names.{words, words_append, file_words}
+use Rattle.hs_reader.proofs.Nodes.{last_count}
 use Rattle.hs_resolve.proofs.Members.{all-append}
 
 -- a term begun is within the limit, and one argument more is too
@@ -58,10 +59,6 @@ came_when : (b : Bool) (s next : Stage) → when b s ≡ Some next → StageFits
 came_when true s next e h = came s next e h
 came_when false s next e h = absurd (cc)
 
-len-last : (ts : Trees RawName) (u : Tree RawName) → length (children (with_last ts u)) ≡ length (children ts) + 1
-len-last none u = refl
-len-last (more t ts) u = let e = len-last ts u in omega (arith, e)
-
 few-last : (ts : Trees RawName) (u : Tree RawName) → HaveFewArguments (with_last ts u) → HaveFewArguments ts × HasFewArguments u
 few-last none u h = (tt, h.0)
 few-last (more t ts) u h = let r = few-last ts u h.1 in ((h.0, r.0), r.1)
@@ -70,7 +67,7 @@ few-before : (top : Option (Tree RawName)) (u : Tree RawName) → HasFewArgument
 few-before None u h = (tt, h)
 few-before (Some (node head args)) u h =
     let r = few-last args u h.1 in
-    let e = len-last args u in (((omega (arith, e, h.0), r.0), omega (arith, e, h.0)), r.1)
+    let e = last_count args u in (((omega (arith, e, h.0), r.0), omega (arith, e, h.0)), r.1)
 
 room-few : (top : Option (Tree RawName)) → Room top → Few top
 room-few None h = tt

@@ -7,7 +7,8 @@ use Rattle.std.specs.List.Sorted.{IsPartitionedBy, IsPartitionPoint, IsNonDecrea
 use Rattle.std.proofs.lemmas.List.{get_or-drop, length-drop, take_all}
 use Rattle.hs_scheme.proofs.FlowLemmas.{filter-middle}
 use Rattle.hs_scheme.proofs.FlowRowLemmas.{filter_keeps, filter_has}
-use Rattle.hs_table_laws.proofs.Places.{none_in, uncons}
+use Rattle.hs_scheme.proofs.Orderings.{equal_of}
+use Rattle.hs_scheme.proofs.Lists.{none_in, uncons}
 
 lt_below : (a b : Ordering) → ordering_index a ≤ ordering_index b → is_lt b ≡ true → is_lt a ≡ true
 lt_below Less b le h = refl
@@ -29,11 +30,6 @@ lt_not_eq : (a : Ordering) → is_lt a ≡ true → is_eq a ≡ false
 lt_not_eq Less h = refl
 lt_not_eq Equal h = absurd (cc)
 lt_not_eq Greater h = refl
-
-pub equal_of : (o : Ordering) → is_eq o ≡ true → o ≡ Equal
-equal_of Less e = absurd (cc)
-equal_of Equal e = refl
-equal_of Greater e = absurd (cc)
 
 pub filter_passes : {X : Type 0} (m : X → Bool) (xs : List X) (x : X) → Contains (filter m xs) x → m x ≡ true
 filter_passes m [] x c = absurd (none_in x c)

@@ -4,8 +4,8 @@ use Rattle.std.specs.List.{flat_map}
 use Rattle.std.specs.declared.cmp.Ordering.TheVariants.{Less, Equal}
 use Rattle.std.proofs.lemmas.Bool.{cases_lt}
 use Rattle.std.proofs.lemmas.Cmp.{tied_itself}
-use Rattle.std.proofs.lemmas.List.{get_or-take, length-take, get_or_default}
-use Rattle.std.proofs.lemmas.Option.{slice_get-get_or}
+use Rattle.std.proofs.lemmas.List.{get_or-take, length-take, get_or_default, length_push}
+use Rattle.std.proofs.lemmas.Option.{slice_get-get_or, same_Some}
 use Rattle.hs_scheme.specs.Flow.{IsAscending}
 use Rattle.hs_scheme.specs.declared.term.Head.TheVariants.{Nt, Tm}
 use Rattle.hs_scheme.specs.Points.{PointData, point_at}
@@ -13,13 +13,12 @@ use Rattle.hs_scheme.specs.Problem.{ProblemData}
 use Rattle.hs_table.specs.Types.{TypeTree, arrows}
 use Rattle.hs_table.specs.Entries.{EntryData, params_of}
 use Rattle.hs_table.specs.Follows.{Follows}
-use Rattle.hs_table_laws.proofs.Places.{some_same, within_from}
+use Rattle.hs_table_laws.proofs.Places.{within_from}
 use Rattle.hs_table_laws.proofs.Members.{into_map}
 use Rattle.hs_table_laws.proofs.Arrows.{arrows_same}
 use Rattle.hs_table_plain.specs.Enumeration.{is_state, body_type, body_at, head_types, through, opening}
 use Rattle.hs_table_plain.proofs.ChoiceLemmas.{from_cond}
 use Rattle.hs_table_plain.proofs.Members.{in_pushed, pairs_push}
-use Rattle.hs_table_plain.proofs.TableLemmas.{one_more as one_longer}
 use Rattle.hs_checker.specs.Any.{AnyOf}
 use Rattle.hs_checker.specs.Order.{index_cmp}
 use Rattle.hs_checker.specs.Slots.{FitsSets, Says, AreInShape, IsCountAt}
@@ -92,7 +91,7 @@ module _ (E : List EntryData) (args : List ℕ) (b : ℕ) (rows : List (Bor Entr
           distinct = pairs_push before.types ty before.distinct (new_type before.types before.exact);
           exact = any_step (SaysFitting E args b) rows k r lt read (λ t. Contains before.types t) (λ t. Contains news t)
               (λ t. or_same _ _ _ _ (in_pushed before.types ty t) (says_type E args b r.now t (at r here_row) says)) before.exact;
-          count = omega (arith, before.count, one_longer before.types ty);
+          count = omega (arith, before.count, length_push before.types ty);
         }
 
 -- all that rows say and that fits is said by the entries
@@ -135,7 +134,7 @@ module _ (p : ProblemData) (E : List EntryData) (shapes : AreInShape p E) (point
       let shape = shapes r.now both.0 in
       let none : PointData = record { rule = 0; head = Tm 0; args = [] } in
       let same : shape.of ≡ get_or p.points.points r.now.point none =
-      some_same shape.of (get_or p.points.points r.now.point none) (sym shape.at ∙ slice_get-get_or p.points.points r.now.point none (within_from p.points.points r.now.point shape.of shape.at)) in
+      same_Some shape.of (get_or p.points.points r.now.point none) (sym shape.at ∙ slice_get-get_or p.points.points r.now.point none (within_from p.points.points r.now.point shape.of shape.at)) in
       shape.env.long ∙ (ap (λ (o : PointData). params_of p o.rule) same ∙ ap (λ n. params_of p (get_or p.points.points n none).rule) both.1)
 
   types_said : (t : TypeTree) → AnyOf (SaysFitting E args b) rows t ↔ (Contains (head_types p E rule (Nt f)) t × FitsSets E args t)

@@ -3,6 +3,7 @@ use Rattle.std.proofs.Common.{◌≡◌, ◌≢◌, refl, sym, ◌∙◌, ap, su
 use Rattle.std.proofs.lemmas.Cmp.{tied_itself}
 use Rattle.std.proofs.lemmas.Bool.Decides.{nat_tests}
 use Rattle.std.specs.declared.cmp.Ordering.TheVariants.{Less, Equal}
+use Rattle.std.proofs.lemmas.List.{length_push}
 use Rattle.hs_scheme.specs.declared.term.Head.{Head}
 use Rattle.hs_scheme.specs.declared.term.Head.TheVariants.{Var, Nt, Tm}
 use Rattle.hs_scheme.specs.Automaton.{IsAutomaton}
@@ -13,13 +14,14 @@ use Rattle.hs_table.specs.Types.{TypeTree, arrows, type_cmp, IsSet}
 use Rattle.hs_table.specs.Entries.{Env, EntryData, InShape}
 use Rattle.hs_table.specs.Follows.{IsAt, IsHeadType, Chosen, done, next_argument, choose, Follows}
 use Rattle.hs_table.specs.Tables.{IsClosedTable, IsInstance, HasStart as HasStartEntry}
-use Rattle.hs_table_laws.proofs.Places.{none_in, here, later, uncons, place_of, member_at, pairs_tail, pairs_head, within_from}
+use Rattle.hs_table_laws.proofs.Places.{place_of, pairs_tail, pairs_head, within_from}
 use Rattle.hs_table_laws.proofs.Orders.{type_cmp_total}
 use Rattle.hs_table_laws.proofs.Shapes.{follows_shape}
 use Rattle.hs_table_plain.proofs.Members.{in_pushed, pairs_push}
-use Rattle.hs_table_plain.proofs.TableLemmas.{below_or_last, one_more}
+use Rattle.hs_table_plain.proofs.TableLemmas.{below_or_last}
 use Rattle.hs_scheme.specs.declared.flow.Pair.{Pair}
 use Rattle.hs_scheme.specs.declared.flow.Pair.TheVariants.{OfFlow, OfHead}
+use Rattle.hs_scheme.proofs.Lists.{none_in, here, later, uncons, Contains-at}
 use Rattle.hs_verdict.specs.Premises.{HasClosedFlow}
 use Rattle.hs_checker.specs.declared.fault.CheckFault.{CheckFault}
 use Rattle.hs_checker.specs.declared.fault.CheckFault.TheVariants.{FlowOpen, HeadOpen, Missing, HasStart, OutOfMemory}
@@ -35,7 +37,7 @@ module _ (p : ProblemData) (E F : List EntryData) (all : (e : EntryData) → InS
     at : IsAt p F place e
 
   found : (place : ℕ) (e : EntryData) → IsAt p E place e → Elsewhere e
-  found place e h = let r = place_of F e (all e h.shape (member_at E place e h.at)) in record { place = r.0; at = record { at = r.1; shape = h.shape } }
+  found place e h = let r = place_of F e (all e h.shape (Contains-at E place e h.at)) in record { place = r.0; at = record { at = r.1; shape = h.shape } }
 
   head_moved : (rule : ℕ) (h : Head) (by : HeadBy) (ty : TypeTree) → IsHeadType p E rule h by ty → (b : HeadBy) × IsHeadType p F rule h b ty
   head_moved rule (Tm a) (Terminal q child) ty x = (Terminal q child, x)
@@ -142,7 +144,7 @@ beside olds k (t ∷ types) distinct set new =
           ]
         ]),
       );
-      long = omega (arith, rest.long, one_more olds (k, t));
+      long = omega (arith, rest.long, length_push olds (k, t));
     }
 
 cut_sum : (a b c n m : ℕ) → n ≡ min a (2 ^ 64 - 1) → m ≡ min (n + b) (2 ^ 64 - 1) → c ≡ a + b → m ≡ min c (2 ^ 64 - 1)

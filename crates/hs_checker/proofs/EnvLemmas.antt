@@ -5,17 +5,17 @@ use Rattle.std.specs.Ordering.{is_eq}
 use Rattle.std.proofs.lemmas.Bool.{eqb-true, eq-eqb, and_parts, and_from}
 use Rattle.std.proofs.lemmas.Cmp.{tied_itself}
 use Rattle.hs_scheme.specs.Tree.{node, none, more, children, children-forest}
+use Rattle.hs_scheme.proofs.Orderings.{equal_of}
+use Rattle.hs_scheme.proofs.Lists.{here, only}
 use Rattle.hs_table.specs.Types.{TypeTree, arrow, arrows, type_cmp}
 use Rattle.hs_table.specs.Entries.{Env, EntryData, set_at}
 use Rattle.hs_table_laws.proofs.Orders.{type_cmp_total, type_same}
-use Rattle.hs_table_laws.proofs.Places.{here}
-use Rattle.hs_table_laws.proofs.Members.{from_map, into_map, only}
+use Rattle.hs_table_laws.proofs.Members.{from_map, into_map}
 use Rattle.hs_table_plain.specs.Enumeration.{union, union_from, joined, extended, picks, retyped, through}
 use Rattle.hs_table_plain.proofs.Loops.{through_step}
 use Rattle.hs_table_plain.proofs.Members.{from_flat_map, into_flat_map}
 use Rattle.hs_table_plain.proofs.ChoiceLemmas.{from_cond, into_cond}
 use Rattle.hs_checker.specs.Any.{AnyOf}
-use Rattle.hs_checker.proofs.Between.{equal_of}
 
 -- each item joined with each row for the type at the point
 pub extended_by : (E : List EntryData) (rows : List (Bor EntryData)) (u : ℕ) (a : TypeTree) (es : List EntryData)

@@ -13,7 +13,7 @@ use Rattle.hs_scheme.specs.declared.flow.Pair.{Pair}
 use Rattle.hs_scheme.specs.declared.flow.Pair.TheVariants.{OfFlow, OfHead}
 use Rattle.hs_scheme.specs.Flow.{IsAscending, head_cmp, pairs_of}
 use Rattle.hs_scheme.specs.Problem.{ProblemData}
-use Rattle.hs_table_laws.proofs.Places.{none_in, here, uncons, some_same, within_from}
+use Rattle.hs_table_laws.proofs.Places.{within_from}
 use Rattle.std.proofs.lemmas.Bool.{eqb-true, eq-eqb, and_parts, and_from}
 use Rattle.hs_scheme.specs.declared.term.Head.TheVariants.{Var, Nt}
 use Rattle.hs_scheme.specs.Flow.{HasParameter, IsBase}
@@ -22,10 +22,11 @@ use Rattle.hs_table_laws.proofs.Members.{from_map, into_map}
 use Rattle.hs_table_plain.proofs.Members.{next_member}
 use Rattle.hs_table_plain.proofs.TableLemmas.{below_or_last}
 use Rattle.hs_checker.specs.declared.flow.Base.{Base}
-use Rattle.std.proofs.lemmas.Option.{slice_get-get_or}
+use Rattle.std.proofs.lemmas.Option.{slice_get-get_or, same_Some}
 use Rattle.hs_scheme.specs.declared.term.Head.{Head}
 use Rattle.hs_scheme.specs.declared.term.Head.TheVariants.{Tm}
 use Rattle.hs_scheme.specs.Points.{PointData, PointsData, point_at, points_of}
+use Rattle.hs_scheme.proofs.Lists.{none_in, here, uncons}
 use Rattle.hs_checker.specs.declared.flow.Kind.{Kind}
 use Rattle.hs_checker.specs.declared.flow.Kind.TheVariants.{Flow, Heads}
 use Rattle.hs_checker.specs.Order.{IsStartBy}
@@ -56,9 +57,6 @@ start_kept heads t n up within before next = record {
     | inr less ↦ omega (arith, next d (omega arith), point_up (get_or heads n d) (get_or heads k d) (up n k d less lt))
   ];
 }
-
-pub nat_equal : (x y : ℕ) → nat_cmp x y ≡ Equal → x ≡ y
-nat_equal x y h = grind (arith, nat_tests)
 
 pub nat_itself : (x y : ℕ) → x ≡ y → nat_cmp x y ≡ Equal
 nat_itself x y h = grind (arith, nat_tests)
@@ -158,7 +156,7 @@ pub next_argument : (p : ProblemData) (bases : List HeadPair) (args : List ℕ) 
 next_argument p bases args n u at before own h there i v lt is has = elim (below_or_last i n lt) [
   | inl below ↦ before h there i v below is has
   | inr same ↦
-      let same_point : u ≡ v = some_same u v (sym at ∙ (ap (λ k. slice_get args k) (sym same) ∙ is)) in
+      let same_point : u ≡ v = same_Some u v (sym at ∙ (ap (λ k. slice_get args k) (sym same) ∙ is)) in
       let f : FlowPair = record { rule = h.rule; param = h.given + n; point = u } in
       let g : FlowPair = record { rule = h.rule; param = h.given + i; point = v } in
       let e : f ≡ g = λ j. record { rule = h.rule; param = h.given + (sym same) j; point = same_point j } in
@@ -244,7 +242,7 @@ module _ (p : ProblemData) (point rule : ℕ) (head : Head) (args : List ℕ) (l
 
   pub demand_by : (pair : Pair) → DemandsAt p point pair → (b : Base) × (IsBase (held p) rule head b.rule b.given × PassesBy p point args b pair)
   demand_by pair d =
-      let same : d.of ≡ point_at p.points point = some_same d.of (point_at p.points point) (sym d.at ∙ there) in
+      let same : d.of ≡ point_at p.points point = same_Some d.of (point_at p.points point) (sym d.at ∙ there) in
       let b = d.by in (
         b,
         (

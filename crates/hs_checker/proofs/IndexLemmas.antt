@@ -12,20 +12,16 @@ use Rattle.std.proofs.lemmas.List.Sorted.{searchable_from_sorted}
 use Rattle.std.proofs.lemmas.List.{get_or_default}
 use Rattle.hs_table.specs.Types.{TypeTree, type_cmp}
 use Rattle.hs_scheme.specs.Problem.{ProblemData}
+use Rattle.hs_scheme.proofs.Orderings.{then_equal, nat_equal}
 use Rattle.hs_table.specs.Entries.{EntryData, entry_cmp, InShape}
 use Rattle.hs_table_laws.proofs.Orders.{type_cmp_total, type_same, entry_cmp_total, entry_same}
 use Rattle.hs_table_laws.proofs.Members.{from_map, into_map}
 use Rattle.hs_table_plain.proofs.Members.{in_pushed, next_member}
 use Rattle.hs_checker.specs.Order.{key_cmp, index_cmp, IsInIndexOrder}
-use Rattle.hs_checker.proofs.GapLemmas.{nat_equal, nat_itself}
+use Rattle.hs_checker.proofs.GapLemmas.{nat_itself}
 
 pub index_total : IsTotalOrder index_cmp
 index_total = then_total (then_total (on_total (λ (e : EntryData). e.point) nat_cmp_total) (on_total (λ (e : EntryData). e.ty) type_cmp_total)) entry_cmp_total
-
-then_equal : (a b : Ordering) → ordering_then a b ≡ Equal → (a ≡ Equal) × (b ≡ Equal)
-then_equal Less b h = absurd (cc)
-then_equal Equal b h = (refl, h)
-then_equal Greater b h = absurd (cc)
 
 both_equal : (a b : Ordering) → a ≡ Equal → b ≡ Equal → ordering_then a b ≡ Equal
 both_equal a b e f = ap (λ o. ordering_then o b) e ∙ f

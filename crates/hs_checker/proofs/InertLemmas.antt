@@ -1,18 +1,19 @@
 -- At an inert point nothing is demanded, and nothing follows.
 use Rattle.std.proofs.Common.{◌≡◌, refl, sym, ◌∙◌, ap, subst, ℕ, zero, suc, Bool, true, List, [], ◌∷◌, ◌++◌, length, Some, slice_get, inl, inr, ◌⊎◌, arith}
-use Rattle.std.proofs.lemmas.Option.{slice_get-get_or}
+use Rattle.std.proofs.lemmas.Option.{slice_get-get_or, same_Some}
 use Rattle.hs_scheme.specs.declared.flow.HeadPair.{HeadPair}
 use Rattle.hs_scheme.specs.declared.term.Head.{Head}
 use Rattle.hs_scheme.specs.declared.term.Head.TheVariants.{Var, Tm}
 use Rattle.hs_scheme.specs.Flow.{IsBase}
 use Rattle.hs_scheme.specs.Points.{PointData, point_at}
 use Rattle.hs_scheme.specs.Problem.{ProblemData}
+use Rattle.hs_scheme.proofs.Lists.{none_in, Contains-at}
 use Rattle.hs_table.specs.declared.support.HeadBy.{HeadBy}
 use Rattle.hs_table.specs.declared.support.HeadBy.TheVariants.{Terminal, Rule, Param}
 use Rattle.hs_table.specs.Types.{TypeTree}
 use Rattle.hs_table.specs.Entries.{EntryData}
 use Rattle.hs_table.specs.Follows.{IsHeadType, Follows}
-use Rattle.hs_table_laws.proofs.Places.{some_same, within_from, member_at, none_in}
+use Rattle.hs_table_laws.proofs.Places.{within_from}
 use Rattle.hs_checker.specs.Gaps.{held}
 use Rattle.hs_checker.specs.Inert.{IsInert, AreInert, DemandNothing}
 use Rattle.hs_checker.specs.Slots.{IsCountAt}
@@ -20,7 +21,7 @@ use Rattle.hs_checker.proofs.GapLemmas.{flow_held, head_held}
 
 -- one mark more
 pub marks_push : (olds : List Bool) (b : Bool) (u : ℕ) → slice_get (olds ++ b ∷ []) u ≡ Some true → slice_get olds u ≡ Some true ⊎ ((u ≡ length olds) × (b ≡ true))
-marks_push [] b zero h = inr (refl, some_same b true h)
+marks_push [] b zero h = inr (refl, same_Some b true h)
 marks_push [] b (suc u) h = absurd (cc)
 marks_push (o ∷ olds) b zero h = inl h
 marks_push (o ∷ olds) b (suc u) h = elim (marks_push olds b u h) [
@@ -32,7 +33,7 @@ marks_push (o ∷ olds) b (suc u) h = elim (marks_push olds b u h) [
 is_point : (p : ProblemData) (point : ℕ) (of : PointData) → slice_get p.points.points point ≡ Some of → of ≡ point_at p.points point
 is_point p point of at =
     let d : PointData = record { rule = 0; head = Tm 0; args = [] } in
-    some_same of (point_at p.points point) (sym at ∙ slice_get-get_or p.points.points point d (within_from p.points.points point of at))
+    same_Some of (point_at p.points point) (sym at ∙ slice_get-get_or p.points.points point d (within_from p.points.points point of at))
 
 pub inert_demands : (p : ProblemData) (E : List EntryData) (marks : List Bool) → AreInert p E marks → DemandNothing p marks
 inert_demands p E marks are point pair marked d =
@@ -49,7 +50,7 @@ inert_demands p E marks are point pair marked d =
 no_type : (p : ProblemData) (E : List EntryData) (point : ℕ) (own : IsInert p E point) (by : HeadBy) (ty : TypeTree) → IsHeadType p E (point_at p.points point).rule (Var own.parameter) by ty → ⊥
 no_type p E point own (Terminal q child) ty x = x
 no_type p E point own (Rule place) ty x = x
-no_type p E point own (Param y place) ty x = (own.silent x.1.entry.point x.1.flows).has x.1.entry (member_at E place x.1.entry x.1.holds.at) refl
+no_type p E point own (Param y place) ty x = (own.silent x.1.entry.point x.1.flows).has x.1.entry (Contains-at E place x.1.entry x.1.holds.at) refl
 
 no_head : (p : ProblemData) (E : List EntryData) (point : ℕ) → IsInert p E point → (of : PointData) → slice_get p.points.points point ≡ Some of → (by : HeadBy) (ty : TypeTree) → IsHeadType p E of.rule of.head by ty → ⊥
 no_head p E point own of at by ty x =

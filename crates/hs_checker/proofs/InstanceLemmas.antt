@@ -4,14 +4,14 @@ use Rattle.hs_scheme.specs.declared.term.Head.{Head}
 use Rattle.hs_scheme.specs.Tree.{node, none, more, children, children-forest, forest-children}
 use Rattle.hs_scheme.specs.declared.term.Head.TheVariants.{Tm}
 use Rattle.hs_scheme.specs.Points.{PointData, point_at, NonterminalWithin}
-use Rattle.std.proofs.lemmas.Option.{slice_get-get_or}
+use Rattle.std.proofs.lemmas.Option.{slice_get-get_or, same_Some}
 use Rattle.hs_scheme.specs.Automaton.{next}
 use Rattle.hs_scheme.specs.Problem.{ProblemData}
+use Rattle.hs_scheme.proofs.Lists.{none_in, here, later, uncons, Contains-at}
 use Rattle.hs_table.specs.Types.{TypeTree, state, arrow, arrows}
 use Rattle.hs_table.specs.Entries.{Env, EntryData, params_of}
-use Rattle.hs_table.specs.Follows.{IsHeadType, Chosen, done, next_argument, choose, Follows}
+use Rattle.hs_table.specs.Follows.{IsHeadType, Chosen, done, next_argument, choose, Follows, HasMove}
 use Rattle.hs_table.specs.Tables.{IsInstance}
-use Rattle.hs_table_laws.proofs.Places.{some_same, none_in, here, later, uncons, member_at}
 use Rattle.std.proofs.Math.ListN.{length-set, length-replicate}
 use Rattle.std.proofs.lemmas.List.{get_or-set_same}
 use Rattle.std.proofs.lemmas.List.Elements.{Contains-get_or, Contains-append_cases}
@@ -20,10 +20,10 @@ use Rattle.hs_table_plain.specs.Enumeration.{through, opening, head_types, retyp
 use Rattle.hs_checker.proofs.TypeLemmas.{pushed_is, body_says}
 use Rattle.hs_table_plain.proofs.Members.{from_flat_map, into_flat_map, next_member, in_pushed}
 use Rattle.hs_table_plain.proofs.ChoiceLemmas.{choose_all, through_arrows, split_from, at_place, from_all}
-use Rattle.hs_table_plain.proofs.HeadLemmas.{from_heads, into_heads}
+use Rattle.hs_table_plain.proofs.HeadLemmas.{from_heads, into_heads, from_children}
 use Rattle.hs_table_plain.proofs.ConclusionLemmas.{all_at_exact}
 use Rattle.hs_table_plain.proofs.TableLemmas.{below_or_last}
-use Rattle.hs_checker.specs.Slots.{HasTypeAt, HasTypesAt, FitsSets, AreBare, HasMove, AreInShape, IsConclusion}
+use Rattle.hs_checker.specs.Slots.{HasTypeAt, HasTypesAt, FitsSets, AreBare, AreInShape, IsConclusion}
 
 module _ (p : ProblemData) (E : List EntryData) (shapes : AreInShape p E) where
   pub record Choice (i : ℕ) (us : List ℕ) (ty : TypeTree) : Type 0 where
@@ -64,7 +64,7 @@ module _ (p : ProblemData) (E : List EntryData) (shapes : AreInShape p E) where
   choice_fits t (next_argument {us = us} {ss = ss} h) = (λ a c. absurd (none_in a c), choice_fits t h)
   choice_fits t (choose {u = u} {place = place} {a = a} {s = s} {e = e} at point ty h) =
       let before = choice_fits t h in
-      let own : HasTypeAt E u a = record { entry = e; there = member_at E place e at.at; at = point; typed = ty } in (
+      let own : HasTypeAt E u a = record { entry = e; there = Contains-at E place e at.at; at = point; typed = ty } in (
         λ b c. elim (uncons a b s (subst (λ xs. Contains xs b) (children-forest (a ∷ s)) c)) [
           | inl is ↦ subst (λ z. HasTypeAt E u z) (sym is) own
           | inr there ↦ before.0 b (subst (λ xs. Contains xs b) (sym (children-forest s)) there)
@@ -105,7 +105,7 @@ module _ (p : ProblemData) (E : List EntryData) (shapes : AreInShape p E) where
 
     from_instance : (t : TypeTree) → IsInstance p E point t → Contains (head_types p E rule head) t × FitsSets E args t
     from_instance t h =
-        let same : h.of ≡ point_at p.points point = some_same h.of (point_at p.points point) (sym h.at ∙ at) in
+        let same : h.of ≡ point_at p.points point = same_Some h.of (point_at p.points point) (sym h.at ∙ at) in
         let typed = into_heads p E shapes h.of.rule h.of.head h.by t h.head in
         let fits = subst (λ z. FitsSets E h.of.args z) (sym h.is) (choice_fits h.rest h.are) in
         let rules_same : h.of.rule ≡ rule = ap (λ (d : PointData). d.rule) same ∙ sym rule_is in
@@ -168,7 +168,7 @@ types_at_more E u set k a lt read before own b c = elim ((next_member set k a b 
 pub fits_arrow : (E : List EntryData) (us : List ℕ) (u : ℕ) (set : List TypeTree) (t ty : TypeTree) → slice_get us 0 ≡ Some u → ty ≡ arrow set t → (HasTypesAt E u set × FitsSets E (drop 1 us) t) ↔ FitsSets E us ty
 fits_arrow E [] u set t ty at is = absurd (cc)
 fits_arrow E (v ∷ us) u set t ty at is =
-    let same : v ≡ u = some_same v u at in
+    let same : v ≡ u = same_Some v u at in
     let kids = children-forest set in (
       λ both. subst (λ z. FitsSets E (v ∷ us) z) (sym is) (subst (λ (s : List TypeTree). HasTypesAt E v s) (sym kids) (subst (λ w. HasTypesAt E w set) (sym same) both.0), both.1),
       λ h. let g = subst (λ z. FitsSets E (v ∷ us) z) is h in (subst (λ w. HasTypesAt E w set) same (subst (λ (s : List TypeTree). HasTypesAt E v s) kids g.0), g.1),
@@ -185,7 +185,7 @@ nothing_found (Some x) P Q e h = absurd (cc)
 
 pub one_found : {X : Type 0} (o : Option X) (x : X) (P : Type 0) (Q : X → Type 0) → o ≡ Some x → MatchOption o P Q → Q x
 one_found None x P Q e h = absurd (cc)
-one_found (Some y) x P Q e h = subst Q (some_same y x e) h
+one_found (Some y) x P Q e h = subst Q (same_Some y x e) h
 
 -- what comes of the types so far, and of one more
 pub conclusion_more : (E : List EntryData) (point params : ℕ) (head : Head) (args : List ℕ) (types : List TypeTree) (k : ℕ) (ty : TypeTree) → k < length types → ty ≡ get_or types k ty
@@ -232,7 +232,7 @@ pub sets_more : (E : List EntryData) (us : List ℕ) (ss : Env) (k : ℕ) → k 
 sets_more E us ss k lt before own n u low at = elim (below_or_last n k low) [
   | inl below ↦ before n u below at
   | inr same ↦
-      let is : get_or us k 0 ≡ u = some_same (get_or us k 0) u (sym (slice_get-get_or us k 0 lt) ∙ (ap (λ m. slice_get us m) (sym same) ∙ at)) in
+      let is : get_or us k 0 ≡ u = same_Some (get_or us k 0) u (sym (slice_get-get_or us k 0 lt) ∙ (ap (λ m. slice_get us m) (sym same) ∙ at)) in
       subst (λ w. HasTypesAt E w (get_or ss n [])) is (subst (λ m. HasTypesAt E (get_or us k 0) (get_or ss m [])) (sym same) own)
 ]
 
@@ -245,17 +245,10 @@ sets_too_few E (u ∷ us) (s ∷ ss) q lt h = sets_too_few E us ss q (omega arit
 pub body_fits : (E : List EntryData) (args : List ℕ) (b : ℕ) (x : EntryData) (q : ℕ) (t : TypeTree) → x.point ≡ b → x.ty ≡ state q → FitsSets E args (arrows x.env (state q)) → (t ≡ arrows x.env (state q)) ↔ (Contains (body_type b x) t × FitsSets E args t)
 body_fits E args b x q t point is fits = let says = body_says b x q t point is in (λ e. (says.0 e, subst (λ z. FitsSets E args z) (sym e) fits), λ both. says.1 both.0)
 
-child_place : (to : List ℕ) (q n : ℕ) (t : TypeTree) → Contains (child_types to q n) t → (k : ℕ) × ((k < n) × (t ≡ child_type to q k))
-child_place to q zero t c = absurd (none_in t c)
-child_place to q (suc n) t c = elim ((in_pushed (child_types to q n) (child_type to q n) t).0 c) [
-  | inl before ↦ let r = child_place to q n t before in (r.0, (omega (arith, r.1.0), r.1.1))
-  | inr same ↦ (n, (omega arith, same))
-]
-
 -- over arguments without entries no child's type fits
 pub bare_unfit : (E : List EntryData) (us to : List ℕ) (q : ℕ) (t : TypeTree) → AreBare E us → length to ≤ length us → Contains (child_types to q (length to)) t → FitsSets E us t → ⊥
 bare_unfit E us to q t bare le c fits =
-    let r = child_place to q (length to) t c in
+    let r = from_children to q (length to) t c in
     let lt : r.0 < length us = omega (arith, r.1.0) in
     let u = get_or us r.0 0 in
     unfit_child E us to q r.0 u r.1.0 (slice_get-get_or us r.0 0 lt) (bare u (state (slice_index to r.0)) (Contains-get_or us r.0 0 lt)) (subst (λ z. FitsSets E us z) r.1.1 fits)

@@ -11,7 +11,6 @@ pub mod TypeLemmas
 pub mod EnvLemmas
 pub mod InstanceLemmas
 pub mod BodyLemmas
-pub mod TerminalLemmas
 pub mod ShapeLemmas
 pub mod CountLemmas
 mod Once

@@ -5,9 +5,9 @@ use Rattle.std.proofs.lemmas.Bool.{eqb-true, eq-eqb}
 use Rattle.std.proofs.lemmas.List.{ext_get_or, get_or-set_same, get_or-set_other, get_or-replicate, take_all, length-set}
 use Rattle.hs_scheme.specs.declared.term.Head.{Head}
 use Rattle.hs_scheme.specs.declared.term.Head.TheVariants.{Var, Nt, Tm}
+use Rattle.hs_scheme.proofs.Lists.{only}
 use Rattle.hs_table.specs.Types.{TypeTree, arrow}
 use Rattle.hs_table.specs.Entries.{Env, EntryData}
-use Rattle.hs_table_laws.proofs.Members.{only}
 use Rattle.hs_table_plain.specs.Enumeration.{through, own_env, opening, retyped}
 use Rattle.hs_checker.specs.Slots.{asked}
 
@@ -32,10 +32,6 @@ own_length n (Tm a) ty = length-replicate n none
 
 pub own_env_read : (env : Env) (n : ℕ) (h : Head) (ty : TypeTree) → length env ≡ n → ((j : ℕ) → j < n → get_or env j [] ≡ asked h ty j) → env ≡ own_env n h ty
 own_env_read env n h ty long each = ext_get_or none env (own_env n h ty) (long ∙ sym (own_length n h ty)) (λ j lt. each j (omega (arith, long)) ∙ sym (asked_at n h ty j (omega (arith, long))))
-
-pub empty_list : {X : Type 0} (xs : List X) → length xs ≡ 0 → xs ≡ []
-empty_list [] h = refl
-empty_list (x ∷ xs) h = absurd (omega arith)
 
 pub just_one : (ts : List TypeTree) (t : TypeTree) → length ts ≡ 1 → t ≡ get_or ts 0 t → ts ≡ t ∷ []
 just_one [] t long read = absurd (omega arith)

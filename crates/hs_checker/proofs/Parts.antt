@@ -2,7 +2,7 @@
 use Rattle.std.proofs.Common.{◌≡◌, sym, subst, ℕ, ◌-◌, List, [], ◌∷◌, length, take, drop, Contains, ◌⊎◌, inl, inr, arith}
 use Rattle.std.proofs.lemmas.List.{take-append-drop, take_all, length-drop}
 use Rattle.std.proofs.lemmas.List.Elements.{Contains-append_right, Contains-append_cases}
-use Rattle.hs_table_laws.proofs.Places.{none_in}
+use Rattle.hs_scheme.proofs.Lists.{none_in}
 
 tail_is : {X : Type 0} (xs : List X) (n : ℕ) → take (length xs - n) (drop n xs) ≡ drop n xs
 tail_is xs n = take_all (length xs - n) (drop n xs) (omega (arith, length-drop n xs))

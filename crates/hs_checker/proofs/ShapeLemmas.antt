@@ -1,13 +1,13 @@
 -- Types and entries in shape, part by part.
 use Rattle.std.proofs.Common.{◌≡◌, refl, sym, ◌∙◌, ap, subst, ℕ, zero, suc, ◌+◌, ◌<◌, List, [], ◌∷◌, ◌++◌, length, get_or, take, slice_get, Some, arith, Contains, inl, inr, ◌⊎◌}
-use Rattle.std.proofs.lemmas.Option.{slice_get-get_or}
+use Rattle.std.proofs.lemmas.Option.{slice_get-get_or, same_Some}
 use Rattle.hs_scheme.specs.Tree.{forest, children-forest}
 use Rattle.hs_scheme.specs.declared.term.Head.TheVariants.{Tm}
 use Rattle.hs_scheme.specs.Points.{PointData, point_at}
 use Rattle.hs_scheme.specs.Problem.{ProblemData}
+use Rattle.hs_scheme.proofs.Lists.{none_in, uncons}
 use Rattle.hs_table.specs.Types.{TypeTree, arrow, IsSet, IsType, AreTypes}
 use Rattle.hs_table.specs.Entries.{Env, EntryData, Has, set_at, IsEnv, InShape, params_of}
-use Rattle.hs_table_laws.proofs.Places.{some_same, none_in, uncons}
 use Rattle.hs_table_laws.proofs.Shapes.{arrow_shape}
 use Rattle.hs_table_laws.proofs.Members.{taken_next}
 use Rattle.hs_checker.specs.Shape.{AreAllTypes}
@@ -69,6 +69,6 @@ module _ (p : ProblemData) (e : EntryData) (rule states params : ℕ) (lt : e.po
 
   pub shape_parts : InShape p e → (IsEnv params e.env × ((j : ℕ) (a : TypeTree) → Has e.env j a → IsType states a)) × IsType states e.ty
   shape_parts h =
-      let same : h.of ≡ point_at p.points e.point = some_same h.of (point_at p.points e.point) (sym h.at ∙ there) in
+      let same : h.of ≡ point_at p.points e.point = same_Some h.of (point_at p.points e.point) (sym h.at ∙ there) in
       let n : params_of p h.of.rule ≡ params = ap (λ (d : PointData). params_of p d.rule) same ∙ (ap (params_of p) (sym rule_is) ∙ sym params_are) in
       ((subst (λ m. IsEnv m e.env) n h.env, λ j a c. subst (λ m. IsType m a) (sym states_are) (h.types j a c)), subst (λ m. IsType m e.ty) (sym states_are) h.ty)

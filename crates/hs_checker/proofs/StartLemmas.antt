@@ -12,10 +12,10 @@ use Rattle.std.proofs.lemmas.Bool.{cases_lt}
 use Rattle.std.proofs.lemmas.Bool.Decides.{nat_tests}
 use Rattle.std.proofs.lemmas.List.{get_or-take, get_or-drop, length-drop, length-take, length-append, drop-map, take-map, get_or_default}
 use Rattle.hs_scheme.specs.Flow.{IsAscending}
+use Rattle.hs_scheme.proofs.Orderings.{equal_of}
+use Rattle.hs_scheme.proofs.Lists.{none_in}
 use Rattle.hs_table.specs.Entries.{EntryData}
-use Rattle.hs_table_laws.proofs.Places.{none_in}
 use Rattle.hs_checker.specs.Order.{IsInIndexOrder, IsStartOfPoint, AreStartsOfPoints, IsStartBy, AreStartsBy, IsEmptyAt, index_cmp}
-use Rattle.hs_checker.proofs.Between.{equal_of}
 use Rattle.hs_checker.proofs.IndexLemmas.{get_or-map, length-map, points_up}
 
 lt_from : (a b : ℕ) → is_lt (nat_cmp a b) ≡ true → a < b

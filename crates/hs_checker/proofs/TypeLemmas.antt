@@ -8,11 +8,11 @@ use Rattle.hs_scheme.specs.declared.flow.FlowPair.{FlowPair}
 use Rattle.hs_scheme.specs.Automaton.{next}
 use Rattle.hs_scheme.specs.Problem.{ProblemData}
 use Rattle.hs_scheme.proofs.FlowRowLemmas.{filter_keeps, filter_has}
+use Rattle.hs_scheme.proofs.Lists.{none_in, here, only}
 use Rattle.hs_table.specs.Types.{TypeTree, state, arrows}
 use Rattle.hs_table.specs.Entries.{EntryData}
 use Rattle.hs_table.specs.Follows.{rank_of}
-use Rattle.hs_table_laws.proofs.Places.{here, none_in}
-use Rattle.hs_table_laws.proofs.Members.{from_map, into_map, only}
+use Rattle.hs_table_laws.proofs.Members.{from_map, into_map}
 use Rattle.hs_table_plain.specs.Enumeration.{child_type, child_types, types_in, terminal_types, is_state, body_type, is_pair, flow_type}
 use Rattle.hs_table_plain.proofs.Loops.{pair_there, pair_found}
 use Rattle.hs_table_plain.proofs.Members.{from_flat_map, into_flat_map, in_pushed}

@@ -4,15 +4,13 @@
 --     AreBare E us        no argument has an entry
 --     Says E us e         the entry's type is a state, and the type that it says of its nonterminal fits
 --     IsCountAt p E u n   n is the number of instances at the point
-use Rattle.std.specs.Prelude.{◌≡◌, ◌≢◌, ◌↔◌, ℕ, ◌<◌, ◌≤◌, Bool, true, List, [], ◌∷◌, length, slice_get, Some, None, Contains, AllPairs, nat_eq, cond}
+use Rattle.std.specs.Prelude.{◌≡◌, ◌≢◌, ◌↔◌, ℕ, ◌<◌, Bool, true, List, [], ◌∷◌, length, slice_get, Some, None, Contains, AllPairs, nat_eq, cond}
 use Rattle.hs_scheme.specs.Tree.{node, none, more, children}
 use Rattle.hs_table.specs.Types.{TypeTree, state, arrows}
 use Rattle.hs_table.specs.Tables.{IsInstance}
-use Rattle.hs_table.specs.Follows.{rank_of}
+use Rattle.hs_table.specs.Follows.{rank_of, HasMove}
 use Rattle.hs_scheme.specs.declared.term.Head.{Head}
 use Rattle.hs_scheme.specs.declared.term.Head.TheVariants.{Var, Nt, Tm}
-use Rattle.hs_scheme.specs.Transition.{TransitionData}
-use Rattle.hs_scheme.specs.Automaton.{next}
 use Rattle.hs_scheme.specs.Problem.{ProblemData}
 use Rattle.hs_table.specs.Entries.{EntryData, InShape}
 use Rattle.hs_table_plain.specs.Enumeration.{through, opening}
@@ -34,10 +32,6 @@ FitsSets E (u ∷ us) (node None (more t ts)) = HasTypesAt E u (children ts) × 
 
 abbrev pub AreBare : List EntryData → List ℕ → Type 0
 AreBare E us = (u : ℕ) (a : TypeTree) → Contains us u → HasTypeAt E u a → ⊥
-
--- in state q the terminal a has a transition, with at most n children
-abbrev pub HasMove : List TransitionData → ℕ → ℕ → ℕ → Type 0
-HasMove ts a n q = (to : List ℕ) × ((next ts q a ≡ Some to) × (length to ≤ n))
 
 -- the automaton is complete at the terminal: each state has a transition for it, with no more children than its rank
 abbrev pub IsComplete : ProblemData → ℕ → Type 0

@@ -16,10 +16,9 @@ use crate::fault::CheckFault;
 use crate::index::EntryIndex;
 use crate::instances::sets_fit;
 use crate::missing::{first_missing, opening};
-use crate::shape::parameters;
 use crate::unions::through_sets;
 use hs_scheme::{Head, OutOfMemory, Problem};
-use hs_table::{Entry, Shape};
+use hs_table::{Entry, Shape, parameters};
 use std::alloc::Global;
 
 /// Whether the entry's type is a state and its sets have entries at the arguments, so that it says a

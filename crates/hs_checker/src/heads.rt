@@ -1,66 +1,17 @@
-//! The types of parameters, as the entries say, and what types are made of.
+//! The types of parameters, as the entries say.
 
-ghost use Rattle.std.specs.Prelude.{◌≡◌, ◌↔◌, ◌⊎◌, [], ◌∷◌, replicate, IsTrue, Contains, IfOk, OnOk};
+ghost use Rattle.std.specs.Prelude.{◌≡◌, ◌↔◌, ◌⊎◌, IsTrue, Contains, IfOk, OnOk};
 ghost use Rattle.std.specs.List.{flat_map};
-ghost use Rattle.hs_scheme.specs.Points.{NonterminalWithin};
-ghost use Rattle.hs_scheme.specs.Automaton as automaton;
-ghost use Rattle.hs_table.specs.Types as types;
 ghost use Rattle.hs_table.specs.Types.{TypeTree, IsSet};
-ghost use Rattle.hs_table.specs.Follows.{rank_of};
 ghost use Rattle.hs_checker.specs.Slots.{HasTypeAt};
 ghost use Rattle.hs_table_plain.specs.Enumeration as plain;
 
 use crate::index::{EntryIndex, compare_arrows};
 use crate::shape::is_set;
-use hs_scheme::{Head, OutOfMemory, Problem};
-use hs_table::{Entry, Shape, Ty, TypeSet};
+use hs_scheme::{OutOfMemory, Problem};
+use hs_table::Ty;
 use std::alloc::Global;
 use std::cmp::Ordering;
-
-pub(crate) fn state(q: u32) -> Ty
-    ensures { result ≡ types.state q }
-{
-    Ty {
-        shape: Shape::State(q),
-    }
-}
-
-/// The set with one type.
-pub(crate) fn singleton(alloc: Global, ty: Ty) -> Result<TypeSet, OutOfMemory>
-    ensures { IfOk result (λ set. set ≡ ty ∷ []) }
-{
-    let mut types = Vec::new(alloc);
-    types.push(ty)?;
-    Ok(TypeSet { types })
-}
-
-pub(crate) fn empty_sets(alloc: Global, count: usize) -> Result<Vec<TypeSet>, OutOfMemory>
-    ensures { IfOk result (λ sets. sets.items ≡ replicate count []) }
-{
-    let mut sets = Vec::with_capacity(alloc, count)?;
-    for _ in 0..count {
-        sets.push(TypeSet {
-            types: Vec::new(alloc),
-        })?;
-    }
-    Ok(sets)
-}
-
-/// `s1 -> .. -> sk -> t`.
-pub(crate) fn arrows(alloc: Global, sets: &[TypeSet], result_type: Ty) -> Result<Ty, OutOfMemory>
-    ensures { IfOk result (λ ty. ty ≡ types.arrows sets.now result_type) }
-{
-    let mut ty = result_type;
-    let mut left = sets.len();
-    while left > 0 {
-        left -= 1;
-        let set = sets[left].copy(alloc)?.types;
-        ty = Ty {
-            shape: Shape::Arrow(set, Box::new(alloc, ty)?),
-        };
-    }
-    Ok(ty)
-}
 
 /// Whether the last of the types is this one.
 fn ends_with(found: &[Ty], ty: &Ty) -> bool

@@ -9,12 +9,10 @@ ghost use Rattle.hs_table.specs.Tables.{IsInstance};
 ghost use Rattle.hs_checker.specs.Slots.{AreInShape, IsConclusion, asked};
 ghost use Rattle.hs_table_plain.specs.Enumeration as plain;
 
-use crate::heads::{empty_sets, singleton, state};
 use crate::index::{EntryIndex, compare};
-use crate::shape::parameters;
 use crate::unions::through;
 use hs_scheme::{Head, OutOfMemory, Problem};
-use hs_table::{Entry, Shape, Ty, TypeSet};
+use hs_table::{Entry, Shape, Ty, TypeSet, empty_sets, parameters};
 use std::alloc::Global;
 use std::cmp::Ordering;
 
@@ -33,13 +31,13 @@ pub(crate) fn opening(
     let mut env = empty_sets(alloc, params as usize)?;
     if let Head::Var(parameter) = head {
         if (parameter as usize) < env.len() {
-            env[parameter as usize] = singleton(alloc, ty.copy(alloc)?)?;
+            env[parameter as usize] = TypeSet::single(alloc, ty.copy(alloc)?)?;
         }
     }
     Ok(Entry {
         point,
         env,
-        ty: state(0),
+        ty: Ty::state(0),
     })
 }
 

@@ -2,12 +2,12 @@
 
 ghost use Rattle.std.specs.Prelude.{◌≡◌, ◌↔◌, ℕ, IsTrue};
 ghost use Rattle.hs_table.specs.Types.{TypeTree, IsSet, IsType};
-ghost use Rattle.hs_table.specs.Entries.{Has, IsEnv, InShape, params_of};
+ghost use Rattle.hs_table.specs.Entries.{Has, IsEnv, InShape};
 ghost use Rattle.hs_checker.specs.Shape.{AreAllTypes};
 
 use crate::index::compare_arrows;
 use hs_scheme::Problem;
-use hs_table::{Entry, Shape, Ty, TypeSet};
+use hs_table::{Entry, Shape, Ty, TypeSet, parameters};
 use std::cmp::Ordering;
 
 /// Whether each type is less than the next.
@@ -68,16 +68,6 @@ fn is_env(env: &[TypeSet], params: u32, states: u32) -> bool
         }
     }
     true
-}
-
-/// The number of parameters of the rule.
-pub(crate) fn parameters(problem: &Problem, rule: u32) -> u32
-    ensures { result ≡ params_of problem.now rule }
-{
-    match problem.sorted.scheme.rules.get(rule as usize) {
-        None => 0,
-        Some(rule) => rule.params,
-    }
 }
 
 /// The number of states.

@@ -4,49 +4,29 @@ ghost use Rattle.std.specs.Prelude.{◌≡◌, ◌<◌, ◌≤◌, ◌↔◌, �
 ghost use Rattle.hs_scheme.specs.Automaton as automaton;
 ghost use Rattle.hs_table.specs.Types as types;
 ghost use Rattle.hs_table.specs.Types.{TypeTree};
-ghost use Rattle.hs_table.specs.Follows.{rank_of};
-ghost use Rattle.hs_checker.specs.Slots.{HasTypeAt, FitsSets, AreBare, HasMove, IsComplete, AreComplete};
+ghost use Rattle.hs_table.specs.Follows.{HasMove};
+ghost use Rattle.hs_checker.specs.Slots.{HasTypeAt, FitsSets, AreBare, IsComplete, AreComplete};
 ghost use Rattle.hs_table_plain.specs.Enumeration as plain;
 
-use crate::heads::{arrows, empty_sets, singleton, state};
 use crate::index::EntryIndex;
 use crate::instances::fits;
 use crate::shape::states;
 use hs_scheme::{Automaton, OutOfMemory, Problem, Transition};
-use hs_table::{Shape, Ty};
+use hs_table::{Shape, Ty, rank};
+use hs_table_plain::child_type;
 use std::alloc::Global;
-
-/// The type of a terminal whose child at this place, counted from 0, is rejected.
-fn child_type(alloc: Global, to: &[u32], q: u32, place: usize) -> Result<Ty, OutOfMemory>
-    requires { place < length to.now }
-    ensures { IfOk result (λ ty. ty ≡ plain.child_type to.now q place) }
-{
-    let mut sets = empty_sets(alloc, to.len())?;
-    sets[place] = singleton(alloc, state(to[place]))?;
-    arrows(alloc, sets.as_slice(), state(q))
-}
 
 /// The state behind so many empty sets.
 fn bare_type(alloc: Global, count: usize, q: u32) -> Result<Ty, OutOfMemory>
     ensures { IfOk result (λ ty. ty ≡ types.arrows (replicate count []) (types.state q)) }
 {
-    let mut ty = state(q);
+    let mut ty = Ty::state(q);
     for _ in 0..count {
         ty = Ty {
             shape: Shape::Arrow(Vec::new(alloc), Box::new(alloc, ty)?),
         };
     }
     Ok(ty)
-}
-
-/// The rank of the terminal.
-fn rank(problem: &Problem, terminal: u32) -> u32
-    ensures { result ≡ rank_of problem.now terminal }
-{
-    match problem.sorted.scheme.ranks.get(terminal as usize) {
-        None => 0,
-        Some(rank) => *rank,
-    }
 }
 
 /// The states in which the children of a node with the terminal are read, if there is a transition.
@@ -91,7 +71,7 @@ fn asks_in_vain(index: &EntryIndex, args: &[u32], place: usize, r: u32) -> bool
 {
     match args.get(place) {
         None => false,
-        Some(arg) => !index.has(*arg, &state(r)),
+        Some(arg) => !index.has(*arg, &Ty::state(r)),
     }
 }
 

@@ -1,58 +1,30 @@
 //! The environments of the entries that follow by one type of a head: for each type of its sets an
 //! entry is chosen, and what they ask is joined. Partial results are kept once each.
 
-ghost use Rattle.std.specs.Prelude.{◌≡◌, ◌∷◌, ◌++◌, ◌≤◌, ◌↔◌, ◌⊎◌, take, drop, length, Contains, IfOk, OnOk, MatchResult, map};
+ghost use Rattle.std.specs.Prelude.{◌≡◌, ◌≤◌, ◌↔◌, ◌⊎◌, length, Contains, IfOk, OnOk, map};
 ghost use Rattle.hs_checker.specs.Any.{AnyOf};
 ghost use Rattle.std.specs.List.{flat_map};
 ghost use Rattle.hs_scheme.specs.Flow.{IsAscending};
 ghost use Rattle.hs_table.specs.Types as types;
 ghost use Rattle.hs_table.specs.Entries.{EntryData, set_at, entry_cmp};
-ghost use Rattle.hs_table_laws.proofs.Sets.{insert as with_type};
 ghost use Rattle.hs_table_plain.specs.Enumeration as plain;
 
-use crate::heads::arrows;
 use crate::index::EntryIndex;
 use hs_scheme::OutOfMemory;
 use hs_table::{Entry, Shape, Ty, TypeSet};
+use hs_table_plain::insert_type;
 use std::alloc::Global;
 use std::cmp::Ordering;
 
 /// How many joined entries are kept before repeats among them are dropped.
 const ROOM: usize = 1_024;
 
-/// The place of the type in an ascending set, or the one where it belongs.
-fn place_of(set: &[Ty], ty: &Ty) -> Result<usize, usize>
-    ensures { MatchResult result
-        (λ place. with_type ty.now set.now ≡ set.now)
-        (λ place. (place ≤ length set.now)
-        × (with_type ty.now set.now ≡ take place set.now ++ ty.now ∷ drop place set.now)) }
-{
-    for (place, member) in set.iter().enumerate() {
-        match ty.compare(member) {
-            Ordering::Less => return Err(place),
-            Ordering::Equal => return Ok(place),
-            Ordering::Greater => {}
-        }
-    }
-    Err(set.len())
-}
-
-/// Adds an equal type to an ascending set, where it isn't there.
-fn insert(alloc: Global, set: &mut Vec<Ty>, ty: &Ty) -> Result<(), OutOfMemory>
-    ensures { OnOk result (set.new.items ≡ with_type ty.now set.old.items) }
-{
-    if let Err(place) = place_of(set.as_slice(), ty) {
-        set.insert(place, ty.copy(alloc)?)?;
-    }
-    Ok(())
-}
-
 /// Adds the types to an ascending set.
 fn add_types(alloc: Global, set: &mut Vec<Ty>, types: &[Ty]) -> Result<(), OutOfMemory>
     ensures { OnOk result (set.new.items ≡ plain.union set.old.items types.now) }
 {
     for member in types {
-        insert(alloc, set, member)?;
+        insert_type(alloc, set, member)?;
     }
     Ok(())
 }
@@ -267,7 +239,7 @@ pub(crate) fn through_sets(
         found = picks(alloc, index, *arg, set.types.as_slice(), found)?;
     }
     let behind = ty.copy(alloc)?;
-    let left = arrows(alloc, &sets[args.len()..], behind)?;
+    let left = Ty::arrows(alloc, &sets[args.len()..], behind)?;
     retyped(alloc, &left, found)
 }
 

@@ -1,46 +1,14 @@
-//! Problems and least tables of small files, the same problems over flows with a pair less, and tables with
-//! an entry less or changed.
+//! Least tables, problems over flows with a pair less, and tables with an entry less or changed.
 
 ghost use Rattle.std.specs.Prelude.{◌≡◌, IfOk};
 ghost use Rattle.hs_scheme.specs.Flow.{IsAscending, flow_cmp, head_cmp};
 ghost use Rattle.hs_scheme.specs.Problem.{IsProblem};
 
-use hs_flow::analyse;
-use hs_reader::read_file;
-use hs_resolve::resolve;
-use hs_scheme::{FlowPair, FlowTable, HeadPair, OutOfMemory, Points, Problem, Sorted};
-use hs_sorts::infer;
-use hs_table::{Entry, Shape, Ty, TypeSet};
+use hs_scheme::{FlowPair, FlowTable, HeadPair, OutOfMemory, Problem};
+use hs_table::{Entry, Ty, TypeSet};
 use hs_table_plain::{leads_within, least_table};
 use std::alloc::Global;
-use std::mem::forget;
 use std::test::Fail;
-
-/// The scheme of the text of a file.
-fn sorted_of(alloc: Global, text: &str) -> Result<Sorted, Fail> {
-    if text.len() > 1_000 {
-        return Err("a longer text")?;
-    }
-    let raw = read_file(alloc, text.as_bytes())?;
-    let unsorted = resolve(alloc, &raw);
-    forget(raw);
-    Ok(infer(alloc, unsorted?)?)
-}
-
-/// The problem of a scheme.
-fn of_sorted(alloc: Global, sorted: Sorted) -> Result<Problem, Fail> {
-    let points = Points::of(alloc, &sorted.scheme)?;
-    let flow = analyse(alloc, &sorted.scheme, &points, 100)?;
-    Ok(Problem::new(sorted, points, flow))
-}
-
-/// The problem of a file with these rules and transitions.
-pub(crate) fn problem_of(alloc: Global, rules: &str, transitions: &str) -> Result<Problem, Fail> {
-    let text = format!(in alloc; "%BEGING\n{rules}\n%ENDG\n%BEGINA\n{transitions}\n%ENDA\n")?;
-    let sorted = sorted_of(alloc, text.as_str());
-    forget(text);
-    of_sorted(alloc, sorted?)
-}
 
 /// The least table, by its plain definition.
 pub(crate) fn table_of(alloc: Global, problem: &Problem) -> Result<Vec<Entry>, Fail> {
@@ -121,13 +89,6 @@ pub(crate) fn without_head(alloc: Global, problem: Problem, place: usize) -> Res
     Ok(over(problem, flow))
 }
 
-/// The type that is a state.
-fn state(q: u32) -> Ty {
-    Ty {
-        shape: Shape::State(q),
-    }
-}
-
 /// The table without the entry at this place.
 pub(crate) fn without(
     alloc: Global,
@@ -152,7 +113,7 @@ pub(crate) fn changed(
     let mut other = without(alloc, table, place)?;
     if let Some(entry) = table.get(place) {
         let mut entry = entry.copy(alloc)?;
-        entry.ty = state(9);
+        entry.ty = Ty::state(9);
         other.push(entry)?;
     }
     Ok(other)
@@ -162,7 +123,7 @@ pub(crate) fn changed(
 fn set_of(alloc: Global, asked: Option<u32>) -> Result<TypeSet, OutOfMemory> {
     let mut types = Vec::new(alloc);
     if let Some(q) = asked {
-        types.push(state(q))?;
+        types.push(Ty::state(q))?;
     }
     Ok(TypeSet { types })
 }
@@ -182,7 +143,7 @@ pub(crate) fn entry_of(
     Ok(Entry {
         point,
         env: sets,
-        ty: state(q),
+        ty: Ty::state(q),
     })
 }
 

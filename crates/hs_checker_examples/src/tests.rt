@@ -1,10 +1,9 @@
 //! Answers on the least tables of small files, which `hs_workers_examples` compares with worked ones, and
 //! on the same with one entry less, more or changed, and over flows with a pair less.
 
-use crate::making::{
-    changed, elsewhere, entry_of, problem_of, table_of, without, without_head, without_pair,
-};
+use crate::making::{changed, elsewhere, entry_of, table_of, without, without_head, without_pair};
 use hs_checker::{CheckFault, check};
+use hs_fixtures::problem_of;
 use hs_scheme::{FlowPair, HeadPair, OutOfMemory, Problem};
 use hs_table::Entry;
 use std::alloc::Global;

@@ -6,3 +6,4 @@ pub mod Moving
 pub mod Turning
 pub mod Flying
 pub mod Passing
+pub mod Tables

@@ -11,10 +11,11 @@ use Rattle.hs_scheme.specs.Problem.{ProblemData}
 use Rattle.hs_scheme.specs.declared.flow.FlowPair.{FlowPair}
 use Rattle.hs_scheme.specs.Points.{PointsData}
 use Rattle.hs_scheme.specs.Dependents.{IsDependent}
+use Rattle.hs_scheme.proofs.Lists.{none_in, here, uncons, Contains-at}
 use Rattle.hs_flow.specs.Dependents.{HasDependents, list_of}
 use Rattle.hs_table.specs.Entries.{EntryData}
 use Rattle.hs_table.specs.Follows.{Support, FollowsBy, premises}
-use Rattle.hs_table_laws.proofs.Places.{none_in, here, member_at, place_of, within_from, uncons}
+use Rattle.hs_table_laws.proofs.Places.{place_of, within_from}
 use Rattle.hs_table_laws.proofs.Least.{supports_support}
 use Rattle.hs_table_laws.proofs.Growing.{by_append, by_take}
 use Rattle.hs_types.specs.Interned.{InternerData, IsRow, entry_of}
@@ -155,7 +156,7 @@ module _ (me : ℕ) (old new : CoreData) (ticket : ℕ) (d : Deduction) where
 
   -- then the entry is there, or there was no room
   pub known_there : (place : ℕ) → Publishes old me ticket d (Known place) new → Contains (log_of new) d.entry
-  known_there place h = subst (λ (c : CoreData). Contains (log_of c) d.entry) (sym h.1) (member_at (log_of old) place d.entry h.0)
+  known_there place h = subst (λ (c : CoreData). Contains (log_of c) d.entry) (sym h.1) (Contains-at (log_of old) place d.entry h.0)
 
   pub added_there : (place : ℕ) → Publishes old me ticket d (Added place) new → Contains (log_of new) d.entry
   added_there place h =
@@ -466,7 +467,7 @@ module _ (me : ℕ) where
 -- no work was given out
 module _ (me : ℕ) where
   pub not_taken : (a b : CoreData) (answer : Taken) → ((work : Work) (ticket : ℕ) → answer ≡ Item work ticket → ⊥) → NothingFlies a → Takes a me answer b → (b ≡ a) × EndsAtRest b
-  not_taken a b (Found place) other none h = (h.1, subst (λ (c : CoreData). EndsAtRest c) (sym h.1) (λ kept on. absurd (on h.0.first (h.0.start.entry, (h.0.start.is_start, member_at (log_of a) place h.0.start.entry h.0.start.at)))))
+  not_taken a b (Found place) other none h = (h.1, subst (λ (c : CoreData). EndsAtRest c) (sym h.1) (λ kept on. absurd (on h.0.first (h.0.start.entry, (h.0.start.is_start, Contains-at (log_of a) place h.0.start.entry h.0.start.at)))))
   not_taken a b Over other none h = (h.2, subst (λ (c : CoreData). EndsAtRest c) (sym h.2) (λ kept on. absurd (some_none (state_of a).kept h.1 kept)))
     where
       some_none : (o : Option Deduction) → IsSome o → o ≡ None → ⊥

@@ -1,8 +1,8 @@
 -- The seed that is pending first: seen, taken, and passed.
 use Rattle.std.proofs.Common.{◌≡◌, refl, sym, ◌∙◌, ap, subst, ℕ, ◌-◌, ◌<◌, true, List, [], ◌∷◌, ◌++◌, length, drop, get_or, Option, Some, None, arith, inl, inr}
 use Rattle.std.proofs.lemmas.Bool.{cases_eq}
+use Rattle.hs_scheme.proofs.Lists.{Contains-at}
 use Rattle.hs_table.specs.Entries.{EntryData}
-use Rattle.hs_table_laws.proofs.Places.{member_at}
 use Rattle.hs_history.specs.declared.step.Work.{Work}
 use Rattle.hs_history.specs.declared.step.Work.TheVariants.{Seed}
 use Rattle.hs_history.specs.declared.step.Flight.{Flight}
@@ -39,7 +39,7 @@ module _ (base : Base) (f : Fields) (inside : IsInside base f) (spare : ℕ) (v 
 
   module _ (point : ℕ) (next : IsNextSeed v point) where
     pub never : (place : ℕ) → IsFound v place → ⊥
-    never place found = next.goes_on found.first (found.start.entry, (found.start.is_start, member_at (log_of v) place found.start.entry found.start.at))
+    never place found = next.goes_on found.first (found.start.entry, (found.start.is_start, Contains-at (log_of v) place found.start.entry found.start.at))
 
     pub none : f.past ≡ None
     none = none_past base f inside spare v is next.none_kept

@@ -2,7 +2,8 @@
 use Rattle.std.proofs.Common.{◌≡◌, refl, ◌∙◌, ap, ℕ, zero, suc, ◌+◌, List, [], ◌∷◌, ◌++◌, length, take, slice_get, get_or, Option, Some, None, is_some, count_by, cond, false, arith}
 use Rattle.std.proofs.lemmas.List.Sums.{sum_by-cons}
 use Rattle.std.proofs.lemmas.List.{take_more}
-use Rattle.hs_table_laws.proofs.Places.{within_from, read_from}
+use Rattle.std.proofs.lemmas.Option.{get_or_from_slice_get}
+use Rattle.hs_table_laws.proofs.Places.{within_from}
 
 module _ {X : Type 0} where
   count_by-cons : (o : Option X) (xs : List (Option X)) → count_by is_some (o ∷ xs) ≡ cond (is_some o) 1 0 + count_by is_some xs
@@ -36,4 +37,4 @@ module _ {X : Type 0} where
 
   -- one more item
   pub taken_at : (xs : List X) (i : ℕ) (x : X) → slice_get xs i ≡ Some x → take (i + 1) xs ≡ take i xs ++ x ∷ []
-  taken_at xs i x at = take_more xs i x (within_from xs i x at) ∙ ap (λ y. take i xs ++ y ∷ []) (read_from xs i x x at)
+  taken_at xs i x at = take_more xs i x (within_from xs i x at) ∙ ap (λ y. take i xs ++ y ∷ []) (get_or_from_slice_get xs i x x at)

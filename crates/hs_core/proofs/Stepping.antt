@@ -3,11 +3,13 @@ use Rattle.std.proofs.Common.{◌≡◌, refl, sym, ◌∙◌, ap, subst, ℕ, �
 use Rattle.hs_scheme.specs.Problem.{ProblemData}
 use Rattle.hs_table.specs.Entries.{EntryData, InShape}
 use Rattle.hs_scheme.specs.Automaton.{IsAutomaton}
+use Rattle.hs_scheme.proofs.Lists.{here, at_append, Contains-at, slice_get-push}
 use Rattle.hs_table.specs.Tables.{IsSupportedTable, HasStart, IsStart}
-use Rattle.hs_table_laws.proofs.Places.{here, at_append, member_at, place_of, within_from, read_from}
+use Rattle.hs_table_laws.proofs.Places.{place_of, within_from}
 use Rattle.std.proofs.lemmas.Bool.{cases_order, false≢true}
 use Rattle.std.proofs.lemmas.List.Elements.{Contains-push_cases, Contains-get_or}
-use Rattle.hs_table_laws.proofs.Least.{supports_support}
+use Rattle.std.proofs.lemmas.Option.{get_or_from_slice_get}
+use Rattle.hs_table_laws.proofs.Least.{supports_support, starts_same}
 use Rattle.hs_table_laws.proofs.Shapes.{follows_shape}
 use Rattle.hs_types.specs.Interned.{InternerData, RowData, IsRow, entry_of, Grows}
 use Rattle.hs_types.proofs.Numbers.{row_within}
@@ -26,20 +28,13 @@ use Rattle.hs_core.specs.Tickets.{under}
 use Rattle.hs_core.specs.Core.{CoreData, deduction_of, state_of, log_of, stepped, StartsAt}
 use Rattle.hs_core.specs.Answers.{IsFound, AddsOrPasses}
 use Rattle.hs_core.specs.Inside.{Fields, kept_in, story_of, Shows, IsReadable, KnowsStart, IsInside}
-use Rattle.hs_core.proofs.Telling.{told_stays, told_push, get_end, places_kept, places_same, deduction_end, past_same, past_grows, past_first, readable_weaker, readable_push}
-
--- the start entry is one, and stands once in a log
-one_start : (p : ProblemData) (a b : EntryData) → IsStart p a → IsStart p b → a ≡ b
-one_start p a b s t = λ i. record { point = some_nat a.point b.point (sym s.body ∙ t.body) i; env = (s.env ∙ sym t.env) i; ty = (s.initial ∙ sym t.initial) i }
-  where
-    some_nat : (m n : ℕ) → Some m ≡ Some n → m ≡ n
-    some_nat m n e = (cc)
+use Rattle.hs_core.proofs.Telling.{told_stays, told_push, places_kept, places_same, deduction_end, past_same, past_grows, past_first, readable_weaker, readable_push}
 
 at_once : {X : Type 0} (xs : List X) (i j : ℕ) (x : X) → AllPairs (λ a b. a ≢ b) xs → slice_get xs i ≡ Some x → slice_get xs j ≡ Some x → i ≡ j
 at_once xs i j x distinct at_i at_j = elim (cases_order i j) [
   | inl same ↦ same
-  | inr (inl below) ↦ absurd (distinct i j x below (within_from xs j x at_j) (read_from xs i x x at_i ∙ sym (read_from xs j x x at_j)))
-  | inr (inr above) ↦ absurd (distinct j i x above (within_from xs i x at_i) (read_from xs j x x at_j ∙ sym (read_from xs i x x at_i)))
+  | inr (inl below) ↦ absurd (distinct i j x below (within_from xs j x at_j) (get_or_from_slice_get xs i x x at_i ∙ sym (get_or_from_slice_get xs j x x at_j)))
+  | inr (inr above) ↦ absurd (distinct j i x above (within_from xs i x at_i) (get_or_from_slice_get xs j x x at_j ∙ sym (get_or_from_slice_get xs i x x at_i)))
 ]
 
 -- the fields of a core as plain data
@@ -298,7 +293,7 @@ module _ (base : Base) (f : Fields) (inside : IsInside base f) where
 module _ (p : ProblemData) (log : List EntryData) (e : EntryData) (start : Option ℕ) (knows : KnowsStart p log start) where
   pub start_here : IsStart p e → KnowsStart p (log ++ e ∷ []) (Some (length log))
   start_here is = record {
-    place = λ i same. record { entry = e; at = ap (λ n. slice_get (log ++ e ∷ []) n) (sym (some_is (length log) i same)) ∙ get_end log e; is_start = is };
+    place = λ i same. record { entry = e; at = ap (λ n. slice_get (log ++ e ∷ []) n) (sym (some_is (length log) i same)) ∙ slice_get-push log e; is_start = is };
     none = λ none. absurd (let n : Some (length log) ≡ None = none in cc);
   }
     where
@@ -360,10 +355,10 @@ module _ (base : Base) (f : Fields) (inside : IsInside base f) (spare : ℕ) (v 
       distinct = (holds_after v.base v.story (subst (λ (w : CoreData). IsLegal w.base w.story) is inside.legal)).sound.supports.distinct
 
       go : (start : Option ℕ) → f.start ≡ start → f.start ≡ Some place
-      go None e = absurd (start_nowhere e (found.start.entry, (found.start.is_start, member_at (log_of v) place found.start.entry found.start.at)))
+      go None e = absurd (start_nowhere e (found.start.entry, (found.start.is_start, Contains-at (log_of v) place found.start.entry found.start.at)))
       go (Some i) e =
           let other = start_place i e in
-          let same = one_start v.base.problem other.entry found.start.entry other.is_start found.start.is_start in
+          let same = starts_same v.base.problem other.entry found.start.entry other.is_start found.start.is_start in
           e ∙ ap (λ n. Some n) (at_once (log_of v) i place found.start.entry distinct (other.at ∙ ap (λ x. Some x) same) found.start.at)
 
   -- where nothing is found, works are given out

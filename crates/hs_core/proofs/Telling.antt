@@ -1,7 +1,8 @@
 -- What a journal tells beside its log, while both grow.
-use Rattle.std.proofs.Common.{◌≡◌, refl, sym, ◌∙◌, ap, ℕ, zero, suc, ◌<◌, List, [], ◌∷◌, ◌++◌, length, slice_get, unwrap_or, Option, Some, None, IsSome, arith}
+use Rattle.std.proofs.Common.{◌≡◌, refl, sym, ◌∙◌, ap, ℕ, suc, ◌<◌, List, [], ◌∷◌, ◌++◌, length, slice_get, unwrap_or, Option, Some, None, IsSome, arith}
 use Rattle.std.proofs.lemmas.Bool.{false≢true}
 use Rattle.std.proofs.lemmas.List.Elements.{All-head, All-tail, All-push, All-weaker}
+use Rattle.hs_scheme.proofs.Lists.{slice_get-append, slice_get-push}
 use Rattle.hs_table.specs.Entries.{EntryData}
 use Rattle.hs_table.specs.Follows.{Support}
 use Rattle.hs_types.specs.Interned.{InternerData, IsRow, Grows}
@@ -40,20 +41,10 @@ pub told_push : (ids : InternerData) (L : List EntryData) (S : List Support) (pa
 told_push ids L S past [] s = refl
 told_push ids L S past (x ∷ journal) s = ap (λ rest. step_told L S (kept_in ids past) x ∷ rest) (told_push ids L S past journal s)
 
--- places before the end
-get_before : {X : Type 0} (xs ys : List X) (i : ℕ) → i < length xs → slice_get (xs ++ ys) i ≡ slice_get xs i
-get_before [] ys i lt = absurd (omega arith)
-get_before (x ∷ xs) ys zero lt = refl
-get_before (x ∷ xs) ys (suc i) lt = get_before xs ys i (omega arith)
-
-pub get_end : {X : Type 0} (xs : List X) (x : X) → slice_get (xs ++ x ∷ []) (length xs) ≡ Some x
-get_end [] x = refl
-get_end (y ∷ xs) x = get_end xs x
-
 pub places_kept : (L : List EntryData) (S : List Support) (e : EntryData) (s : Support) → length S ≡ length L → KeepsPlaces L S (L ++ e ∷ []) (S ++ s ∷ [])
 places_kept L S e s each = λ i lt j. record {
-  entry = unwrap_or (get_before L (e ∷ []) i lt j) no_entry;
-  support = unwrap_or (get_before S (s ∷ []) i (omega arith) j) no_support;
+  entry = unwrap_or (slice_get-append L (e ∷ []) i lt j) no_entry;
+  support = unwrap_or (slice_get-append S (s ∷ []) i (omega arith) j) no_support;
 }
 
 pub places_same : (L : List EntryData) (S : List Support) → KeepsPlaces L S L S
@@ -63,8 +54,8 @@ places_same L S = λ i lt. refl
 pub deduction_end : (L : List EntryData) (S : List Support) (e : EntryData) (s : Support) → length S ≡ length L
     → deduction_at (L ++ e ∷ []) (S ++ s ∷ []) (length L) ≡ record { entry = e; support = s }
 deduction_end L S e s each = λ j. record {
-  entry = unwrap_or (get_end L e j) no_entry;
-  support = unwrap_or ((ap (λ n. slice_get (S ++ s ∷ []) n) (sym each) ∙ get_end S s) j) no_support;
+  entry = unwrap_or (slice_get-push L e j) no_entry;
+  support = unwrap_or ((ap (λ n. slice_get (S ++ s ∷ []) n) (sym each) ∙ slice_get-push S s) j) no_support;
 }
 
 -- the kept one

@@ -3,9 +3,9 @@
 ghost use Rattle.hs_flow.specs.Dependents.{HasDependents};
 ghost use Rattle.hs_core.specs.Draining.{NothingFlies};
 
-use crate::making::problem_of;
 use crate::telling::{are_supported, entries_text, is_alone, is_for_two, is_quiet};
 use hs_core::{Core, Drained, Open, drain, work_alone};
+use hs_fixtures::problem_of;
 use hs_flow::Dependents;
 use hs_scheme::{OutOfMemory, Problem};
 use std::alloc::Global;

@@ -7,8 +7,6 @@ mod accessors;
 #[cfg(test)]
 mod following;
 #[cfg(test)]
-mod making;
-#[cfg(test)]
 mod saturating;
 #[cfg(test)]
 mod scripts;

@@ -3,8 +3,8 @@
 ghost use Rattle.std.specs.Prelude.{◌≤◌};
 ghost use Rattle.hs_flow.specs.Dependents.{HasDependents};
 
-use crate::making::{cycle, problem_of};
 use hs_core::{Core, Done, Drained, drain, saturate_alone};
+use hs_fixtures::{cycle, problem_of};
 use hs_flow::Dependents;
 use hs_scheme::{OutOfMemory, Problem};
 use std::alloc::Global;

@@ -3,10 +3,10 @@
 
 ghost use Rattle.std.specs.Prelude.{◌≤◌};
 
-use crate::making::problem_of;
 use crate::telling::entries_text;
 use crate::working::{finished, given_back, published, taken};
 use hs_core::{Core, Published, Taken, Work};
+use hs_fixtures::problem_of;
 use hs_scheme::{OutOfMemory, Problem};
 use std::alloc::Global;
 use std::mem::forget;

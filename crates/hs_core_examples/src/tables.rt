@@ -2,8 +2,8 @@
 
 ghost use Rattle.hs_flow.specs.Dependents.{HasDependents};
 
-use crate::making::problem_of;
 use hs_core::{Core, Done, saturate_alone};
+use hs_fixtures::problem_of;
 use hs_flow::Dependents;
 use hs_scheme::{OutOfMemory, Problem};
 use hs_table::Entry;

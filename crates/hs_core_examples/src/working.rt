@@ -2,7 +2,6 @@
 //! holds the work, and that the log has all that follows by a work that is to be finished.
 
 ghost use Rattle.std.specs.Prelude.{◌≡◌, [], All, IfOk, IfSome, IsTrue, Some};
-ghost use Rattle.hs_scheme.specs.Automaton.{IsAutomaton};
 ghost use Rattle.hs_flow.specs.Dependents.{HasDependents};
 ghost use Rattle.hs_table.specs.Entries.{InShape};
 ghost use Rattle.hs_table.specs.Follows.{FollowsBy};
@@ -13,10 +12,11 @@ ghost use Rattle.hs_core.specs.Core.{state_of, log_of};
 
 use crate::following::{copy_log, following, is_closed, is_work};
 use hs_core::{Core, Flight, Published, Taken, Work};
+use hs_fixtures::know;
 use hs_flow::Dependents;
 use hs_history::every_history_supported;
 use hs_rules::{Deduced, Replica};
-use hs_scheme::{OutOfMemory, Problem};
+use hs_scheme::OutOfMemory;
 use hs_table_laws::{least_tables_are_equal, what_follows_is_in_shape};
 use hs_types::Interner;
 use std::alloc::Global;
@@ -34,13 +34,6 @@ fn held(core: &Core, work: Work) -> Option<(u32, Flight)>
         }
     }
     None
-}
-
-/// What holds of the automaton of each problem.
-fn know(problem: &Problem)
-    ensures { IsAutomaton problem.now.sorted.automaton }
-{
-    problem.sorted.automaton.is_automaton();
 }
 
 /// The entries of a core are in shape.

@@ -12,25 +12,16 @@ use Rattle.hs_scheme.specs.declared.flow.Pair.{Pair}
 use Rattle.hs_scheme.specs.declared.flow.Pair.TheVariants.{OfFlow, OfHead}
 use Rattle.hs_scheme.specs.Points.{points_of}
 use Rattle.hs_scheme.specs.Flow.{IsClosed, IsSupported}
-use Rattle.hs_scheme.proofs.DemandLemmas.{slice_get-read, read-slice_get}
+use Rattle.hs_scheme.proofs.Lists.{slice_get-read, read-slice_get, none_in, only, here as first_in}
+use Rattle.hs_scheme.proofs.DemandLemmas.{same_flow, same_head, no_head}
 use Rattle.hs_flow.specs.declared.bases.Base.{Base}
 use Rattle.hs_flow.specs.Lists.{list_of, IsPushed}
 use Rattle.hs_flow.specs.Users.{IsUser}
 use Rattle.hs_flow.specs.Passing.{PassedAtFirst, MayBecome}
 use Rattle.hs_flow.specs.Pairs.{PairsData, HasBaseAt, AreNone, IsReady, FindsOnly, Extends}
 use Rattle.hs_flow.specs.Analysis.{point_of, IsByPoint, HasBases, IsAnalysis}
-use Rattle.hs_flow.proofs.PairLemmas.{nothing_in, only_in, first_in}
 use Rattle.hs_flow.proofs.PassingLemmas.{demand_cases}
 use Rattle.hs_flow.proofs.SupportLemmas.{in_take, point_within}
-
-same_flow : (f g : FlowPair) → OfFlow f ≡ OfFlow g → f ≡ g
-same_flow f g e = (cc)
-
-same_head : (h k : HeadPair) → OfHead h ≡ OfHead k → h ≡ k
-same_head h k e = (cc)
-
-apart : (f : FlowPair) (h : HeadPair) → OfFlow f ≡ OfHead h → ⊥
-apart f h e = (cc)
 
 -- the lists with one more item, and those of the other kind
 module _ {X : Type 0} (wrap : X → Pair) (inj : (x y : X) → wrap x ≡ wrap y → x ≡ y) (point : X → ℕ) (taken : List Pair) (was : ℕ → List X) (so_far : (u : ℕ) (x : X) → Contains (was u) x ↔ ((point x ≡ u) × Contains taken (wrap x))) where
@@ -41,7 +32,7 @@ module _ {X : Type 0} (wrap : X → Pair) (inj : (x y : X) → wrap x ≡ wrap y
   list_only new u x true here h = elim (Contains-append_cases (was u) (new ∷ []) x h) [
     | inl old ↦ let w = (so_far u x).0 old in (w.0, Contains-append_left taken (wrap new ∷ []) (wrap x) w.1)
     | inr last ↦
-        let same : x ≡ new = only_in new x last in
+        let same : x ≡ new = only new x last in
         (ap point same ∙ sym (eqb-true u (point new) here), subst (λ (y : X). Contains (taken ++ wrap new ∷ []) (wrap y)) (sym same) (Contains-append_right taken (wrap new ∷ []) (wrap new) (first_in (wrap new) [])))
   ]
   list_only new u x false elsewhere h = let w = (so_far u x).0 h in (w.0, Contains-append_left taken (wrap new ∷ []) (wrap x) w.1)
@@ -50,7 +41,7 @@ module _ {X : Type 0} (wrap : X → Pair) (inj : (x y : X) → wrap x ≡ wrap y
   list_all new u x b here same h = elim (Contains-append_cases taken (wrap new ∷ []) (wrap x) h) [
     | inl old ↦ old_stays b ((so_far u x).1 (same, old))
     | inr last ↦
-        let is : x ≡ new = inj x new (only_in (wrap new) (wrap x) last) in
+        let is : x ≡ new = inj x new (only (wrap new) (wrap x) last) in
         let yes : b ≡ true = sym here ∙ eq-eqb u (point new) (sym same ∙ ap point is) in
         subst (λ t. Contains (grown t u new) x) (sym yes) (subst (λ (y : X). Contains (was u ++ new ∷ []) y) (sym is) (Contains-append_right (was u) (new ∷ []) new (first_in new [])))
   ]
@@ -68,24 +59,24 @@ module _ {X : Type 0} (wrap : X → Pair) (inj : (x y : X) → wrap x ≡ wrap y
   list_same : (other : Pair) → ((x : X) → wrap x ≡ other → ⊥) → (u : ℕ) (x : X) → Contains (was u) x ↔ ((point x ≡ u) × Contains (taken ++ other ∷ []) (wrap x))
   list_same other never u x = (
     λ h. let w = (so_far u x).0 h in (w.0, Contains-append_left taken (other ∷ []) (wrap x) w.1),
-    λ h. elim (Contains-append_cases taken (other ∷ []) (wrap x) h.1) [ inl old ↦ (so_far u x).1 (h.0, old) | inr last ↦ absurd (never x (only_in other (wrap x) last)) ],
+    λ h. elim (Contains-append_cases taken (other ∷ []) (wrap x) h.1) [ inl old ↦ (so_far u x).1 (h.0, old) | inr last ↦ absurd (never x (only other (wrap x) last)) ],
   )
 
 -- before any pair is taken
 pub by_point_none : (rules : List Rule) (flows : List (List FlowPair)) (heads : List (List HeadPair)) → ((u : ℕ) → list_of flows u ≡ []) → ((u : ℕ) → list_of heads u ≡ []) → IsByPoint rules [] flows heads
 by_point_none rules flows heads no_flows no_heads = record {
-  flows = λ u f h. absurd (nothing_in f (subst (λ (fs : List FlowPair). Contains fs f) (no_flows u) h));
-  used = λ f p h k. absurd (nothing_in (OfFlow f) h);
-  heads = λ u k. (λ h. absurd (nothing_in k (subst (λ (ks : List HeadPair). Contains ks k) (no_heads u) h)), λ h. absurd (nothing_in (OfHead k) h.1));
+  flows = λ u f h. absurd (none_in f (subst (λ (fs : List FlowPair). Contains fs f) (no_flows u) h));
+  used = λ f p h k. absurd (none_in (OfFlow f) h);
+  heads = λ u k. (λ h. absurd (none_in k (subst (λ (ks : List HeadPair). Contains ks k) (no_heads u) h)), λ h. absurd (none_in (OfHead k) h.1));
 }
 
 module _ (rules : List Rule) (taken : List Pair) (flows : List (List FlowPair)) (heads : List (List HeadPair)) (is : IsByPoint rules taken flows heads) where
   module _ (f : FlowPair) where
     later_heads : (u : ℕ) (h : HeadPair) → Contains (list_of heads u) h ↔ ((h.point ≡ u) × Contains (taken ++ OfFlow f ∷ []) (OfHead h))
-    later_heads = list_same (λ h. OfHead h) same_head (λ h. h.point) taken (list_of heads) is.heads (OfFlow f) (λ h e. apart f h (sym e))
+    later_heads = list_same (λ h. OfHead h) same_head (λ h. h.point) taken (list_of heads) is.heads (OfFlow f) (λ h e. no_head f h (sym e))
 
     earlier : (g : FlowPair) → Contains (taken ++ OfFlow f ∷ []) (OfFlow g) → Contains taken (OfFlow g) ⊎ (g ≡ f)
-    earlier g h = elim (Contains-append_cases taken (OfFlow f ∷ []) (OfFlow g) h) [ inl old ↦ inl old | inr last ↦ inr (same_flow g f (only_in (OfFlow f) (OfFlow g) last)) ]
+    earlier g h = elim (Contains-append_cases taken (OfFlow f ∷ []) (OfFlow g) h) [ inl old ↦ inl old | inr last ↦ inr (same_flow g f (only (OfFlow f) (OfFlow g) last)) ]
 
     -- the parameter is at no head
     pub flow_unused : ((p : ℕ) → IsUser (points_of rules).points f.rule f.param p → ⊥) → IsByPoint rules (taken ++ OfFlow f ∷ []) flows heads
@@ -104,7 +95,7 @@ module _ (rules : List Rule) (taken : List Pair) (flows : List (List FlowPair)) 
       list_from u g true here h = elim (Contains-append_cases (list_of flows u) (f ∷ []) g h) [
         | inl old ↦ let w = is.flows u g old in (w.0, Contains-append_left taken (OfFlow f ∷ []) (OfFlow g) w.1)
         | inr last ↦
-            let same : g ≡ f = only_in f g last in (
+            let same : g ≡ f = only f g last in (
               ap (λ (e : FlowPair). e.point) same ∙ sym (eqb-true u f.point here),
               subst (λ (e : FlowPair). Contains (taken ++ OfFlow f ∷ []) (OfFlow e)) (sym same) (Contains-append_right taken (OfFlow f ∷ []) (OfFlow f) (first_in (OfFlow f) [])),
             )
@@ -132,7 +123,7 @@ module _ (rules : List Rule) (taken : List Pair) (flows : List (List FlowPair)) 
   pub head_taken : (h : HeadPair) (new : List (List HeadPair)) → IsPushed h.point h heads new → IsByPoint rules (taken ++ OfHead h ∷ []) flows new
   head_taken h new pushed = record {
     flows = λ u f k. let w = is.flows u f k in (w.0, Contains-append_left taken (OfHead h ∷ []) (OfFlow f) w.1);
-    used = λ f p k user. elim (Contains-append_cases taken (OfHead h ∷ []) (OfFlow f) k) [ inl old ↦ is.used f p old user | inr other ↦ absurd (apart f h (only_in (OfHead h) (OfFlow f) other)) ];
+    used = λ f p k user. elim (Contains-append_cases taken (OfHead h ∷ []) (OfFlow f) k) [ inl old ↦ is.used f p old user | inr other ↦ absurd (no_head f h (only (OfHead h) (OfFlow f) other)) ];
     heads = list_more (λ k. OfHead k) same_head (λ k. k.point) taken (list_of heads) is.heads (list_of new) h pushed.each;
   }
 
@@ -141,11 +132,11 @@ module _ (rules : List Rule) (taken : List Pair) (flows : List (List FlowPair)) 
     pub flow_bases : (f : FlowPair) → ((h : HeadPair) (p : ℕ) → Contains (list_of heads f.point) h → IsUser (points_of rules).points f.rule f.param p → Known (record { rule = f.rule; param = f.param; base = h.rule; given = h.given }))
         → (c : Base) (p : ℕ) → MayBecome (taken ++ OfFlow f ∷ []) c → IsUser (points_of rules).points c.rule c.param p → Known c
     flow_bases f now c p may user = elim (Contains-append_cases taken (OfFlow f ∷ []) _ may.head) [
-      | inr other ↦ absurd (apart f _ (sym (only_in (OfFlow f) _ other)))
+      | inr other ↦ absurd (no_head f _ (sym (only (OfFlow f) _ other)))
       | inl old_head ↦ elim (Contains-append_cases taken (OfFlow f ∷ []) _ may.flow) [
         | inl old_flow ↦ before c p (record { point = may.point; flow = old_flow; head = old_head }) user
         | inr last ↦
-            let same : record { rule = c.rule; param = c.param; point = may.point } ≡ f = same_flow _ f (only_in (OfFlow f) _ last) in
+            let same : record { rule = c.rule; param = c.param; point = may.point } ≡ f = same_flow _ f (only (OfFlow f) _ last) in
             let rule : c.rule ≡ f.rule = ap (λ (g : FlowPair). g.rule) same in
             let param : c.param ≡ f.param = ap (λ (g : FlowPair). g.param) same in
             let there : Contains (list_of heads f.point) (record { point = may.point; rule = c.base; given = c.given }) = (is.heads f.point _).1 (ap (λ (g : FlowPair). g.point) same, old_head) in
@@ -157,11 +148,11 @@ module _ (rules : List Rule) (taken : List Pair) (flows : List (List FlowPair)) 
     pub head_bases : (h : HeadPair) → ((f : FlowPair) → Contains (list_of flows h.point) f → Known (record { rule = f.rule; param = f.param; base = h.rule; given = h.given }))
         → (c : Base) (p : ℕ) → MayBecome (taken ++ OfHead h ∷ []) c → IsUser (points_of rules).points c.rule c.param p → Known c
     head_bases h now c p may user = elim (Contains-append_cases taken (OfHead h ∷ []) _ may.flow) [
-      | inr other ↦ absurd (apart _ h (only_in (OfHead h) _ other))
+      | inr other ↦ absurd (no_head _ h (only (OfHead h) _ other))
       | inl old_flow ↦ elim (Contains-append_cases taken (OfHead h ∷ []) _ may.head) [
         | inl old_head ↦ before c p (record { point = may.point; flow = old_flow; head = old_head }) user
         | inr last ↦
-            let same : record { point = may.point; rule = c.base; given = c.given } ≡ h = same_head _ h (only_in (OfHead h) _ last) in
+            let same : record { point = may.point; rule = c.base; given = c.given } ≡ h = same_head _ h (only (OfHead h) _ last) in
             let there : Contains (list_of flows h.point) (record { rule = c.rule; param = c.param; point = may.point }) =
             subst (λ u. Contains (list_of flows u) (record { rule = c.rule; param = c.param; point = may.point })) (ap (λ (k : HeadPair). k.point) same) (is.used _ p old_flow user) in
             subst (λ (k : HeadPair). Known (record { rule = c.rule; param = c.param; base = k.rule; given = k.given })) (sym same) (now _ there)
@@ -235,7 +226,7 @@ analysis_none rules max a flows heads none fits flows_len heads_len no_flows no_
   flows_len = flows_len ∙ ap (λ (rs : List Rule). length (points_of rs).points) (sym none.rules_are);
   heads_len = heads_len ∙ ap (λ (rs : List Rule). length (points_of rs).points) (sym none.rules_are);
   by_point = by_point_none a.rules flows heads no_flows no_heads;
-  bases = λ c p may user. absurd (nothing_in _ may.flow);
+  bases = λ c p may user. absurd (none_in _ may.flow);
 }
 
 -- all that is demanded is found

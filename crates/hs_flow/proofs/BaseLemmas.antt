@@ -9,8 +9,8 @@ use Rattle.hs_flow.specs.declared.bases.Base.{Base}
 use Rattle.hs_flow.specs.contracts.bases.BasePartialEq.TheImpl.{eq-value}
 use Rattle.hs_scheme.specs.Parameters.{IsParameter, parameter_of}
 use Rattle.hs_scheme.proofs.ParameterLemmas.{number_once}
+use Rattle.hs_scheme.proofs.Lists.{only}
 use Rattle.hs_flow.specs.Bases.{HasFlag, InRows, IsOutside, TellsNew}
-use Rattle.hs_flow.proofs.PairLemmas.{only_in}
 
 base_true : (a b : Base) → eq-value.it a b ≡ true → a ≡ b
 base_true a b h =
@@ -47,7 +47,7 @@ module _ (old new : List Base) (b : Base) where
 
   by_case : (t : Bool) (c : Base) → Contains (inserted t) c → Contains old c ⊎ (c ≡ b)
   by_case true c h = inl h
-  by_case false c h = elim (Contains-append_cases old (b ∷ []) c h) [ inl was ↦ inl was | inr last ↦ inr (only_in b c last) ]
+  by_case false c h = elim (Contains-append_cases old (b ∷ []) c h) [ inl was ↦ inl was | inr last ↦ inr (only b c last) ]
 
   pub bases_cases : new ≡ inserted (list_any (eq-value.it b) old) → (c : Base) → Contains new c → Contains old c ⊎ (c ≡ b)
   bases_cases keys c h = by_case (list_any (eq-value.it b) old) c (subst (λ (bs : List Base). Contains bs c) keys h)

@@ -2,16 +2,15 @@
 use Rattle.std.proofs.Common.{◌≡◌, ◌≢◌, refl, sym, ◌∙◌, ap, subst, ℕ, zero, suc, ◌+◌, ◌-◌, ◌<◌, ◌≤◌, Bool, true, false, nat_eq, ◌&&◌, List, [], ◌∷◌, ◌++◌, length, get_or, take, slice_get, Some, length-append, arith, ◌⊎◌, inl, inr, Contains, ◌↔◌, cond, filter}
 use Rattle.std.specs.List.Sorted.{IsStrictlyIncreasing}
 use Rattle.std.proofs.lemmas.Bool.{eqb-true, eq-eqb, cases_lt, and_parts}
-use Rattle.std.proofs.lemmas.Option.{slice_get_within}
+use Rattle.std.proofs.lemmas.Option.{slice_get_within, same_Some}
 use Rattle.std.proofs.lemmas.List.{take_more, get_or_append_left, get_or_push, get_or_default}
 use Rattle.std.proofs.lemmas.List.Elements.{All-append, All-cons, Contains-append_left, Contains-append_right, Contains-append_cases}
 use Rattle.hs_scheme.specs.declared.flow.FlowPair.{FlowPair}
 use Rattle.hs_scheme.specs.declared.term.Head.{Head}
 use Rattle.hs_scheme.specs.Points.{PointData, PointsData, point_at}
 use Rattle.hs_scheme.specs.Dependents.{HeadReads, IsDependent}
-use Rattle.hs_scheme.proofs.DemandLemmas.{some_same, slice_get-read}
+use Rattle.hs_scheme.proofs.Lists.{slice_get-read, none_in, only, here as first_in, later}
 use Rattle.hs_flow.specs.Dependents.{RisesToPoint, AddsPoint, HasPoint, HasDependents, list_of}
-use Rattle.hs_flow.proofs.PairLemmas.{nothing_in, only_in, first_in}
 use Rattle.std.proofs.lemmas.Option.{slice_get-get_or}
 
 -- the point at the end of an ascending list, of which it isn't the last yet
@@ -40,7 +39,7 @@ module _ (old new : List (List ℕ)) (number point : ℕ) (long : length new ≡
   grown b p = cond b (list_of old p ++ point ∷ []) (list_of old p)
 
   pushed_only : (p d : ℕ) (b : Bool) → nat_eq p number ≡ b → Contains (grown b p) d → Contains (list_of old p) d ⊎ ((d ≡ point) × (p ≡ number))
-  pushed_only p d true here h = elim (Contains-append_cases (list_of old p) (point ∷ []) d h) [ inl was ↦ inl was | inr last ↦ inr (only_in point d last, eqb-true p number here) ]
+  pushed_only p d true here h = elim (Contains-append_cases (list_of old p) (point ∷ []) d h) [ inl was ↦ inl was | inr last ↦ inr (only point d last, eqb-true p number here) ]
   pushed_only p d false elsewhere h = inl h
 
   pushed_all : (p d : ℕ) (b : Bool) → nat_eq p number ≡ b → Contains (list_of old p) d ⊎ ((d ≡ point) × (p ≡ number)) → Contains (grown b p) d
@@ -97,7 +96,7 @@ argument_more args i lt p =
         | inl was ↦ Contains-append_left (take i args) (get_or args i 0 ∷ []) p was
         | inr new ↦ Contains-append_right (take i args) (get_or args i 0 ∷ []) p (subst (λ q. Contains (get_or args i 0 ∷ []) q) (sym new) (first_in (get_or args i 0) []))
       ]),
-      λ h. elim (Contains-append_cases (take i args) (get_or args i 0 ∷ []) p (subst (λ (xs : List ℕ). Contains xs p) e h)) [ inl was ↦ inl was | inr last ↦ inr (only_in (get_or args i 0) p last) ],
+      λ h. elim (Contains-append_cases (take i args) (get_or args i 0 ∷ []) p (subst (λ (xs : List ℕ). Contains xs p) e h)) [ inl was ↦ inl was | inr last ↦ inr (only (get_or args i 0) p last) ],
     )
 
 -- one more flow pair
@@ -110,32 +109,28 @@ flow_more flows i f lt is p =
       ]),
       λ h. let g = subst (λ (xs : List FlowPair). HasPoint xs p) e h in elim (Contains-append_cases (take i flows) (f ∷ []) g.0 g.1.0) [
         | inl was ↦ inl (g.0, (was, g.1.1))
-        | inr last ↦ inr (sym g.1.1 ∙ ap (λ (k : FlowPair). k.point) (only_in f g.0 last))
+        | inr last ↦ inr (sym g.1.1 ∙ ap (λ (k : FlowPair). k.point) (only f g.0 last))
       ],
     )
-
--- membership in a filter
-skip : {X : Type 0} (x y : X) (xs : List X) → Contains xs y → Contains (x ∷ xs) y
-skip x y xs (k, within, is) = (suc k, omega arith, is)
 
 module _ {X : Type 0} (m : X → Bool) where
   from_step : (y : X) (ys : List X) (x : X) → (Contains (filter m ys) x → Contains ys x × (m x ≡ true)) → (t : Bool) → m y ≡ t → Contains (cond t (y ∷ filter m ys) (filter m ys)) x → Contains (y ∷ ys) x × (m x ≡ true)
   from_step y ys x rest true e (zero, within, is) = ((0, omega arith, is), ap m (sym is) ∙ e)
-  from_step y ys x rest true e (suc k, within, is) = let r = rest (k, omega arith, is) in (skip y x ys r.0, r.1)
-  from_step y ys x rest false e there = let r = rest there in (skip y x ys r.0, r.1)
+  from_step y ys x rest true e (suc k, within, is) = let r = rest (k, omega arith, is) in (later y x ys r.0, r.1)
+  from_step y ys x rest false e there = let r = rest there in (later y x ys r.0, r.1)
 
   pub filter_from : (xs : List X) (x : X) → Contains (filter m xs) x → Contains xs x × (m x ≡ true)
-  filter_from [] x h = absurd (nothing_in x h)
+  filter_from [] x h = absurd (none_in x h)
   filter_from (y ∷ ys) x h = from_step y ys x (filter_from ys x) (m y) refl h
 
   to_step : (y : X) (ys : List X) (x : X) → (Contains ys x → Contains (filter m ys) x) → m x ≡ true → Contains (y ∷ ys) x → (t : Bool) → m y ≡ t → Contains (cond t (y ∷ filter m ys) (filter m ys)) x
   to_step y ys x rest e (zero, within, is) true f = (0, omega arith, is)
   to_step y ys x rest e (zero, within, is) false f = let g : m y ≡ true = ap m is ∙ e in absurd (cc)
-  to_step y ys x rest e (suc k, within, is) true f = skip y x (filter m ys) (rest (k, omega arith, is))
+  to_step y ys x rest e (suc k, within, is) true f = later y x (filter m ys) (rest (k, omega arith, is))
   to_step y ys x rest e (suc k, within, is) false f = rest (k, omega arith, is)
 
   filter_to : (xs : List X) (x : X) → Contains xs x → m x ≡ true → Contains (filter m xs) x
-  filter_to [] x h e = absurd (nothing_in x h)
+  filter_to [] x h e = absurd (none_in x h)
   filter_to (y ∷ ys) x h e = to_step y ys x (λ k. filter_to ys x k e) e h (m y) refl
 
 -- the points of the pairs of a parameter
@@ -152,7 +147,7 @@ flow_reads flows rule param p = (
 )
 
 pub body_reads : (bodies : List ℕ) (base body p : ℕ) → slice_get bodies base ≡ Some body → (p ≡ body) ↔ (slice_get bodies base ≡ Some p)
-body_reads bodies base body p at = (λ h. at ∙ ap (λ q. Some q) (sym h), λ h. some_same p body (sym h ∙ at))
+body_reads bodies base body p at = (λ h. at ∙ ap (λ q. Some q) (sym h), λ h. same_Some p body (sym h ∙ at))
 
 -- what a point reads, as its parts say
 pub point_reads : (points : PointsData) (flows : List FlowPair) (d rule : ℕ) (head : Head) (args : List ℕ)
@@ -171,7 +166,7 @@ point_reads points flows d rule head args lt their_args their_rule their_head p 
           | inr by_head ↦ inr (subst (λ q. HeadReads points.bodies flows q of.head p) (sym same_rule) (subst (λ (k : Head). HeadReads points.bodies flows rule k p) (sym same_head) by_head))
         ];
       },
-      λ e. let of_same : e.of ≡ of = some_same e.of of (sym e.at ∙ at) in elim e.reads [
+      λ e. let of_same : e.of ≡ of = same_Some e.of of (sym e.at ∙ at) in elim e.reads [
         | inl arg ↦ inl (subst (λ (xs : List ℕ). Contains xs p) (ap (λ (o : PointData). o.args) of_same ∙ sym their_args) arg)
         | inr by_head ↦ inr (subst (λ q. HeadReads points.bodies flows q head p) (ap (λ (o : PointData). o.rule) of_same ∙ same_rule)
             (subst (λ (k : Head). HeadReads points.bodies flows e.of.rule k p) (ap (λ (o : PointData). o.head) of_same ∙ same_head) by_head))

@@ -1,6 +1,6 @@
 -- Lists by number.
-use Rattle.std.proofs.Common.{◌≡◌, refl, sym, ◌∙◌, ap, subst, ℕ, zero, suc, ◌<◌, Bool, true, false, nat_eq, List, [], ◌∷◌, ◌++◌, map, set, length, get_or, slice_get, Option, Some, cond, Vec, arith, ◌⊎◌, inl, inr, ◌↔◌, Result, Ok, Err}
-use Rattle.std.specs.Prelude.{unwrap_or, OnErr}
+use Rattle.std.proofs.Common.{◌≡◌, refl, sym, ◌∙◌, ap, subst, ℕ, zero, suc, ◌<◌, Bool, true, false, nat_eq, List, [], ◌∷◌, ◌++◌, map, set, length, get_or, slice_get, Option, Some, cond, Vec, arith, ◌⊎◌, inl, inr, ◌↔◌}
+use Rattle.std.specs.Prelude.{unwrap_or}
 use Rattle.std.specs.Option.{option_map}
 use Rattle.std.specs.declared.alloc.Global.{Global}
 use Rattle.std.proofs.Math.Seq.{map-set_same}
@@ -8,13 +8,9 @@ use Rattle.std.proofs.lemmas.Bool.{eqb-true, eq-eqb}
 use Rattle.std.proofs.lemmas.List.{length-set, length-map, map-set, get_or-set_other}
 use Rattle.std.proofs.lemmas.Option.{slice_get-map, unwrap_or-slice_get}
 use Rattle.std.proofs.lemmas.Grind.{get_or-set_at}
-use Rattle.hs_scheme.proofs.DemandLemmas.{slice_get-read}
+use Rattle.hs_scheme.proofs.Lists.{slice_get-read}
 use Rattle.hs_flow.specs.Lists.{list_of, IsPushed}
 use Rattle.hs_flow.specs.Bases.{HasFlag}
-
-pub on_err : {A E : Type 0} (r : Result A E) (P : Type 0) → P → OnErr r P
-on_err (Ok a) P p = tt
-on_err (Err e) P p = p
 
 -- a list that was read is the list of its number
 pub list-read : {T : Type 0} (lists : List (List T)) (k : ℕ) (xs : List T) → slice_get lists k ≡ Some xs → list_of lists k ≡ xs

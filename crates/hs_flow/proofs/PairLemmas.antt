@@ -1,23 +1,14 @@
 -- How the pairs found grow: by one, by one step after another, and what stays.
-use Rattle.std.proofs.Common.{◌≡◌, ◌≢◌, refl, sym, ◌∙◌, ap, subst, zero, suc, ◌+◌, ◌-◌, ◌⊎◌, List, [], ◌∷◌, ◌++◌, length, length-append, get_or, append_assoc, arith, inl, inr, Contains, AllPairs}
+use Rattle.std.proofs.Common.{◌≡◌, ◌≢◌, refl, sym, ◌∙◌, ap, subst, ◌+◌, ◌-◌, ◌⊎◌, List, [], ◌∷◌, ◌++◌, length, length-append, get_or, append_assoc, arith, inl, inr, Contains, AllPairs}
 use Rattle.std.proofs.lemmas.Bool.{cases_lt}
 use Rattle.std.proofs.lemmas.List.{append-nil, get_or_append_left, get_or-append_right}
 use Rattle.std.proofs.lemmas.List.Elements.{Contains-append_left, Contains-append_right, Contains-append_cases, Contains-get_or}
 use Rattle.hs_scheme.specs.declared.flow.Pair.{Pair}
+use Rattle.hs_scheme.proofs.Lists.{none_in, only, here}
 use Rattle.hs_flow.specs.declared.bases.Base.{Base}
 use Rattle.hs_flow.specs.Bases.{BasesData}
 use Rattle.hs_flow.specs.Passing.{PassedAtFirst, PassedFor, MayBecome}
 use Rattle.hs_flow.specs.Pairs.{PairsData, HasBaseAt, IsAddable, FindsOnly, Extends}
-
-pub nothing_in : {X : Type 0} (x : X) → Contains [] x → ⊥
-nothing_in x (k, within, is) = omega arith
-
-pub only_in : {X : Type 0} (x y : X) → Contains (x ∷ []) y → y ≡ x
-only_in x y (zero, within, is) = sym is
-only_in x y (suc k, within, is) = absurd (omega arith)
-
-pub first_in : {X : Type 0} (x : X) (xs : List X) → Contains (x ∷ xs) x
-first_in x xs = (0, omega arith, refl)
 
 -- no pair twice in two lists, and none in both
 pub append_once : (xs ys : List Pair) → AllPairs (λ a b. a ≢ b) xs → AllPairs (λ a b. a ≢ b) ys → ((q : Pair) → Contains xs q → Contains ys q → ⊥) → AllPairs (λ a b. a ≢ b) (xs ++ ys)
@@ -41,15 +32,15 @@ pub finds_nothing : (P : Pair → Type 0) (a : PairsData) → FindsOnly P a a
 finds_nothing P a = record {
   added = [];
   is = λ i. record { rules = a.rules; max = a.max; found = sym (append-nil a.found) i; bases = a.bases };
-  with = λ q h. absurd (nothing_in q h);
+  with = λ q h. absurd (none_in q h);
 }
 
 -- a pair is added
 pub finds_one : (a b : PairsData) (k : Pair) → b ≡ grown a (k ∷ []) → FindsOnly (λ q. q ≡ k) a b
-finds_one a b k is = record { added = k ∷ []; is = is; with = only_in k }
+finds_one a b k is = record { added = k ∷ []; is = is; with = only k }
 
 pub finds_there : (a b : PairsData) (k : Pair) → b ≡ grown a (k ∷ []) → Contains b.found k
-finds_there a b k is = subst (λ (x : PairsData). Contains x.found k) (sym is) (Contains-append_right a.found (k ∷ []) k (first_in k []))
+finds_there a b k is = subst (λ (x : PairsData). Contains x.found k) (sym is) (Contains-append_right a.found (k ∷ []) k (here k []))
 
 module _ (P : Pair → Type 0) (a b : PairsData) (f : FindsOnly P a b) where
   pub finds_rules : b.rules ≡ a.rules

@@ -1,35 +1,24 @@
 -- The flow pairs parameter by parameter, each parameter's in ascending order, are all in ascending order.
-use Rattle.std.proofs.Common.{◌≡◌, ◌≢◌, refl, sym, ◌∙◌, ap, subst, ℕ, suc, ◌+◌, ◌-◌, ◌<◌, ◌≤◌, ◌⊎◌, Bool, true, false, not, ◌&&◌, nat_eq, nat_lt, List, [], ◌∷◌, ◌++◌, length, length-append, get_or, take, filter, cond, sum, inl, inr, Contains, AllPairs, arith}
+use Rattle.std.proofs.Common.{◌≡◌, ◌≢◌, refl, sym, ◌∙◌, ap, subst, ℕ, ◌+◌, ◌<◌, ◌≤◌, Bool, true, false, not, ◌&&◌, nat_eq, nat_lt, List, [], ◌∷◌, ◌++◌, take, filter, cond, sum, inl, inr, Contains, AllPairs, arith}
 use Rattle.std.specs.Ordering.{ordering_reverse}
 use Rattle.std.specs.declared.cmp.Ordering.{Ordering}
 use Rattle.std.specs.declared.cmp.Ordering.TheVariants.{Less, Equal, Greater}
 use Rattle.std.specs.List.Sorted.{IsPermutation}
 use Rattle.std.proofs.lemmas.Bool.{cases_lt, eqb-true, eq-eqb}
-use Rattle.std.proofs.lemmas.Bool.Decides.{nat_tests}
-use Rattle.std.proofs.lemmas.List.{get_or_append_left, get_or-append_right}
-use Rattle.std.proofs.lemmas.List.Elements.{Contains-get_or}
 use Rattle.std.proofs.lemmas.List.Sorted.{IsPermutation-filter_both, IsPermutation-append, IsPermutation-trans, IsPermutation-sym, IsPermutation-refl, Contains-permutation}
+use Rattle.std.proofs.Math.Bool.{and-false}
 use Rattle.hs_scheme.specs.declared.flow.FlowPair.{FlowPair}
 use Rattle.hs_scheme.specs.Parameters.{IsParameter}
 use Rattle.hs_scheme.specs.FlowRows.{number_of}
 use Rattle.hs_scheme.specs.Flow.{flow_cmp, IsAscending}
 use Rattle.hs_scheme.proofs.FlowLemmas.{flow_cmp_total, flow_cmp-equal}
 use Rattle.hs_scheme.proofs.ParameterLemmas.{number_less}
+use Rattle.hs_scheme.proofs.Orderings.{ascends}
+use Rattle.hs_scheme.proofs.FlowRowLemmas.{parts}
+use Rattle.hs_scheme.proofs.Lists.{later as further, pairs_append, not_equal}
 use Rattle.hs_flow.specs.Tables.{of_number, HasSorted}
 use Rattle.hs_flow.proofs.DependentLemmas.{filter_from}
-use Rattle.hs_flow.proofs.TableLemmas.{ascends}
-
--- a relation of all in two lists, and of those of the one to those of the other
-all_pairs_append : {X : Type 0} (R : X → X → Type 0) (xs ys : List X) → AllPairs R xs → AllPairs R ys → ((x y : X) → Contains xs x → Contains ys y → R x y) → AllPairs R (xs ++ ys)
-all_pairs_append {X} R xs ys front back across i j d less within =
-    let long : length (xs ++ ys) ≡ length xs + length ys = length-append xs ys in
-    elim (cases_lt j (length xs)) [
-      | inl lt ↦ subst (λ (x : X). R x (get_or (xs ++ ys) j d)) (sym (get_or_append_left xs ys d i (omega arith))) (subst (R (get_or xs i d)) (sym (get_or_append_left xs ys d j lt)) (front i j d less lt))
-      | inr ge ↦ subst (R (get_or (xs ++ ys) i d)) (sym (get_or-append_right xs ys (length xs) j d refl ge)) (elim (cases_lt i (length xs)) [
-        | inl lt ↦ subst (λ (x : X). R x (get_or ys (j - length xs) d)) (sym (get_or_append_left xs ys d i lt)) (across (get_or xs i d) (get_or ys (j - length xs) d) (Contains-get_or xs i d lt) (Contains-get_or ys (j - length xs) d (omega arith)))
-        | inr later ↦ subst (λ (x : X). R x (get_or ys (j - length xs) d)) (sym (get_or-append_right xs ys (length xs) i d refl later)) (back (i - length xs) (j - length xs) d (omega arith) (omega arith))
-      ])
-    ]
+use Rattle.hs_flow.proofs.UserLemmas.{lt_of, is_lt}
 
 -- two tests, one after the other
 module _ {X : Type 0} (p q r : X → Bool) (both : (x : X) → q x && p x ≡ r x) where
@@ -53,19 +42,10 @@ filter_none : {X : Type 0} (p : X → Bool) → ((x : X) → p x ≡ false) → 
 filter_none p never [] = refl
 filter_none p never (x ∷ xs) = ap (λ b. cond b (x ∷ filter p xs) (filter p xs)) (never x) ∙ filter_none p never xs
 
-further : {X : Type 0} (x y : X) (xs : List X) → Contains xs y → Contains (x ∷ xs) y
-further x y xs (k, within, is) = (suc k, omega arith, is)
-
 filter_all : {X : Type 0} (p : X → Bool) (xs : List X) → ((x : X) → Contains xs x → p x ≡ true) → filter p xs ≡ xs
 filter_all p [] every = refl
 filter_all p (x ∷ xs) every =
     ap (λ b. cond b (x ∷ filter p xs) (filter p xs)) (every x (0, omega arith, refl)) ∙ ap (λ ys. x ∷ ys) (filter_all p xs (λ y h. every y (further x y xs h)))
-
-lt_of : (x n : ℕ) → nat_lt x n ≡ true → x < n
-lt_of x n h = grind (arith, nat_tests)
-
-is_lt : (x n : ℕ) → x < n → nat_lt x n ≡ true
-is_lt x n lt = grind (arith, nat_tests)
 
 isnt_lt : (x n : ℕ) → n ≤ x → nat_lt x n ≡ false
 isnt_lt x n ge = by (nat_lt x n) refl
@@ -74,44 +54,20 @@ isnt_lt x n ge = by (nat_lt x n) refl
     by true e = absurd (omega (arith, lt_of x n e))
     by false e = refl
 
-isnt_eq : (x n : ℕ) → (x ≡ n → ⊥) → nat_eq x n ≡ false
-isnt_eq x n never = by (nat_eq x n) refl
-  where
-    by : (t : Bool) → nat_eq x n ≡ t → t ≡ false
-    by true e = absurd (never (eqb-true x n e))
-    by false e = refl
-
-and_false : (b : Bool) → b && false ≡ false
-and_false true = refl
-and_false false = refl
-
 low_both : (k n : ℕ) → nat_lt k (n + 1) && nat_lt k n ≡ nat_lt k n
 low_both k n = elim (cases_lt k n) [
   | inl lt ↦ (λ i. is_lt k (n + 1) (omega arith) i && nat_lt k n)
-  | inr ge ↦ (λ i. nat_lt k (n + 1) && isnt_lt k n ge i) ∙ (and_false (nat_lt k (n + 1)) ∙ sym (isnt_lt k n ge))
+  | inr ge ↦ (λ i. nat_lt k (n + 1) && isnt_lt k n ge i) ∙ (and-false (nat_lt k (n + 1)) ∙ sym (isnt_lt k n ge))
 ]
 
 high_both : (k n : ℕ) → nat_lt k (n + 1) && not (nat_lt k n) ≡ nat_eq k n
 high_both k n = elim (cases_lt k n) [
-  | inl lt ↦ (λ i. nat_lt k (n + 1) && not (is_lt k n lt i)) ∙ (and_false (nat_lt k (n + 1)) ∙ sym (isnt_eq k n (λ e. omega (arith, e))))
+  | inl lt ↦ (λ i. nat_lt k (n + 1) && not (is_lt k n lt i)) ∙ (and-false (nat_lt k (n + 1)) ∙ sym (not_equal k n (λ e. omega (arith, e))))
   | inr ge ↦ (λ i. nat_lt k (n + 1) && not (isnt_lt k n ge i)) ∙ elim (cases_lt k (n + 1)) [
     | inl lt ↦ (λ i. is_lt k (n + 1) lt i && true) ∙ sym (eq-eqb k n (omega arith))
-    | inr more ↦ (λ i. isnt_lt k (n + 1) more i && true) ∙ sym (isnt_eq k n (λ e. omega (arith, e)))
+    | inr more ↦ (λ i. isnt_lt k (n + 1) more i && true) ∙ sym (not_equal k n (λ e. omega (arith, e)))
   ]
 ]
-
--- a pair of a parameter with a lesser number is less
-parts : (a b : FlowPair) → flow_cmp a b ≡ Less → (a.rule < b.rule) ⊎ ((a.rule ≡ b.rule) × (a.param ≤ b.param))
-parts a b less = elim (cases_lt a.rule b.rule) [
-  | inl lt ↦ inl lt
-  | inr ge ↦ inr (same a b less ge, up a b less ge)
-]
-  where
-    same : (a b : FlowPair) → flow_cmp a b ≡ Less → b.rule ≤ a.rule → a.rule ≡ b.rule
-    same a b less ge = grind (arith, nat_tests)
-
-    up : (a b : FlowPair) → flow_cmp a b ≡ Less → b.rule ≤ a.rule → a.param ≤ b.param
-    up a b less ge = grind (arith, nat_tests)
 
 number_up : (counts : List ℕ) (a b : FlowPair) → IsParameter counts b.rule b.param → number_of counts a < number_of counts b → flow_cmp a b ≡ Less
 number_up counts a b of less = by (flow_cmp a b) refl
@@ -163,5 +119,5 @@ module _ (counts : List ℕ) (flows : List FlowPair) (of : (f : FlowPair) → Co
 
     pub ascends_more : AllPairs (λ a b. a ≢ b) row → IsAscending flow_cmp pairs → IsAscending flow_cmp new
     ascends_more row_once up = subst (λ (ys : List FlowPair). IsAscending flow_cmp ys) (sym h.is)
-        (all_pairs_append (λ a b. flow_cmp a b ≡ Less) pairs h.added up (ascends flow_cmp flow_cmp_total flow_cmp-equal row h.added row_once h.permutation h.sorted)
+        (pairs_append (λ a b. flow_cmp a b ≡ Less) pairs h.added up (ascends flow_cmp flow_cmp_total flow_cmp-equal row h.added row_once h.permutation h.sorted)
         (λ a b in_front in_back. let r = its_row b in_back in number_up counts a b (of b r.0) (omega (arith, before a in_front, r.1))))

@@ -1,15 +1,15 @@
 -- What a point passes on, argument by argument.
 use Rattle.std.proofs.Common.{◌≡◌, refl, sym, ◌∙◌, ap, subst, ℕ, ◌+◌, ◌<◌, ◌≤◌, ◌⊎◌, List, length, get_or, slice_get, Some, arith, inl, inr, Contains}
 use Rattle.std.proofs.lemmas.List.{get_or_default}
-use Rattle.std.proofs.lemmas.Option.{slice_get_within}
+use Rattle.std.proofs.lemmas.Option.{slice_get_within, same_Some}
 use Rattle.std.proofs.lemmas.Bool.{cases_lt}
 use Rattle.hs_scheme.specs.declared.term.Rule.{Rule}
 use Rattle.hs_scheme.specs.declared.flow.FlowPair.{FlowPair}
 use Rattle.hs_scheme.specs.declared.flow.Pair.{Pair}
 use Rattle.hs_scheme.specs.declared.flow.Pair.TheVariants.{OfFlow, OfHead}
 use Rattle.hs_scheme.specs.Flow.{Passes}
-use Rattle.hs_scheme.proofs.DemandLemmas.{some_same, slice_get-read}
 use Rattle.hs_scheme.specs.Points.{PointsData, points_of, point_at}
+use Rattle.hs_scheme.proofs.Lists.{slice_get-read}
 use Rattle.hs_flow.specs.Users.{UserMap}
 use Rattle.hs_flow.specs.Passing.{PassedBy}
 use Rattle.hs_flow.specs.Pairs.{PairsData, IsAddable, ArePairs, FindsOnly}
@@ -38,9 +38,9 @@ module _ (rules : List Rule) (point : ℕ) (args : List ℕ) (base given : ℕ) 
     -- the parameters end with those that were passed to
     pub passed_early : rule.params ≤ given + n → n ≤ length args → (q : Pair) → Passes rules point args base given q → Contains keys q
     passed_early end short (OfFlow f) (i, (there, same_rule, same_param, (other, (found, lt)))) =
-        let same = ap (λ (r : Rule). r.params) (some_same rule other (sym at ∙ found)) in flow_there f i (omega arith) there same_rule same_param
+        let same = ap (λ (r : Rule). r.params) (same_Some rule other (sym at ∙ found)) in flow_there f i (omega arith) there same_rule same_param
     passed_early end short (OfHead h) (is, (other, (found, lt))) =
-        let same = ap (λ (r : Rule). r.params) (some_same rule other (sym at ∙ found)) in absurd (omega arith)
+        let same = ap (λ (r : Rule). r.params) (same_Some rule other (sym at ∙ found)) in absurd (omega arith)
 
     -- all arguments are passed on, and further ones are missing
     pub passed_all : (g : ℕ) → length args ≤ n → g ≡ given + length args → Contains keys (OfHead (record { point = point; rule = base; given = g })) → (q : Pair) → Passes rules point args base given q → Contains keys q
@@ -58,7 +58,7 @@ module _ (args : List ℕ) (base given : ℕ) (mid new : PairsData) (n param a :
     | inl less ↦ finds_keep (λ q. q ≡ OfFlow (record { rule = base; param = param; point = a })) mid new finds (OfFlow (record { rule = base; param = given + i; point = b })) (so_far i b less at_i)
     | inr more ↦
         let last : n ≡ i = omega arith in
-        let same : a ≡ b = some_same a b (sym there ∙ (ap (λ k. slice_get args k) last ∙ at_i)) in
+        let same : a ≡ b = same_Some a b (sym there ∙ (ap (λ k. slice_get args k) last ∙ at_i)) in
         subst (λ (p : Pair). Contains new.found p) (λ j. OfFlow (record { rule = base; param = (is ∙ ap (λ k. given + k) last) j; point = same j })) here
   ]
 

@@ -1,6 +1,6 @@
 -- What is passed on is demanded, what is demanded is passed on, and nothing is passed on twice.
 use Rattle.std.proofs.Common.{◌≡◌, refl, sym, ◌∙◌, ap, subst, ℕ, ◌<◌, ◌⊎◌, List, length, slice_get, Some, arith, inl, inr, Contains, ◌↔◌, AllPairs, ◌≢◌}
-use Rattle.std.proofs.lemmas.Option.{slice_get_within, slice_get-get_or, get_or_from_slice_get}
+use Rattle.std.proofs.lemmas.Option.{slice_get_within, slice_get-get_or, get_or_from_slice_get, same_Some}
 use Rattle.hs_scheme.specs.declared.term.Rule.{Rule}
 use Rattle.hs_scheme.specs.declared.term.Head.{Head}
 use Rattle.hs_scheme.specs.declared.term.Head.TheVariants.{Var, Nt, Tm}
@@ -10,7 +10,6 @@ use Rattle.hs_scheme.specs.declared.flow.Pair.TheVariants.{OfFlow, OfHead}
 use Rattle.hs_scheme.specs.Points.{PointData, PointsData, points_of, point_at, IsArgument}
 use Rattle.hs_scheme.specs.Flow.{IsBase, Passes, Demands}
 use Rattle.hs_scheme.proofs.PlaceLemmas.{once}
-use Rattle.hs_scheme.proofs.DemandLemmas.{some_same}
 use Rattle.hs_flow.specs.declared.bases.Base.{Base}
 use Rattle.hs_flow.specs.Users.{UserMap, users_of, IsUser}
 use Rattle.hs_flow.specs.Passing.{PassedBy, PassedAtFirst, PassedFor, MayBecome}
@@ -30,7 +29,7 @@ module _ (rules : List Rule) (points : PointsData) (are : points ≡ points_of r
 
   pub passes_of : (q : Pair) → PassedBy rules base given p q → Passes rules p args base given q
   passes_of q h =
-      let same : h.of ≡ here.0 = some_same h.of here.0 (sym h.at ∙ (ap (λ (ps : PointsData). slice_get ps.points p) (sym are) ∙ here.1.0)) in
+      let same : h.of ≡ here.0 = same_Some h.of here.0 (sym h.at ∙ (ap (λ (ps : PointsData). slice_get ps.points p) (sym are) ∙ here.1.0)) in
       subst (λ (us : List ℕ). Passes rules p us base given q) (ap (λ (d : PointData). d.args) same ∙ here.1.1) h.passes
 
 module _ (rules : List Rule) where
@@ -44,19 +43,19 @@ module _ (rules : List Rule) where
       (s.0, (sym a.passes.1.1 ∙ b.passes.1.1, omega (arith, s.1, a.passes.1.2, b.passes.1.2)))
   passed_once base given p other more r (OfHead h) a b =
       let s = same_head _ _ (sym a.passes.0 ∙ b.passes.0) in
-      let of : a.of ≡ b.of = some_same a.of b.of (sym a.at ∙ (ap (λ k. slice_get (points_of rules).points k) s.0 ∙ b.at)) in
+      let of : a.of ≡ b.of = same_Some a.of b.of (sym a.at ∙ (ap (λ k. slice_get (points_of rules).points k) s.0 ∙ b.at)) in
       (s.0, (s.1.0, omega (arith, s.1.1, ap (λ (d : PointData). length d.args) of)))
     where
       same_head : (h k : HeadPair) → h ≡ k → (h.point ≡ k.point) × ((h.rule ≡ k.rule) × (h.given ≡ k.given))
       same_head h k e = (ap (λ (x : HeadPair). x.point) e, (ap (λ (x : HeadPair). x.rule) e, ap (λ (x : HeadPair). x.given) e))
 
   same_of : (p r : ℕ) (d e : PointData) → slice_get (points_of rules).points p ≡ Some d → slice_get (points_of rules).points r ≡ Some e → p ≡ r → d ≡ e
-  same_of p r d e at at_r same = some_same d e (sym at ∙ (ap (λ k. slice_get (points_of rules).points k) same ∙ at_r))
+  same_of p r d e at at_r same = same_Some d e (sym at ∙ (ap (λ k. slice_get (points_of rules).points k) same ∙ at_r))
 
   -- what is passed on is demanded
   pub demand_first : (found : List Pair) (q : Pair) → PassedAtFirst rules q → Demands rules found q
   demand_first found q f =
-      let head : f.passed.of.head ≡ Nt f.base = ap (λ (d : PointData). d.head) (some_same f.passed.of f.of (sym f.passed.at ∙ f.at)) ∙ f.head in
+      let head : f.passed.of.head ≡ Nt f.base = ap (λ (d : PointData). d.head) (same_Some f.passed.of f.of (sym f.passed.at ∙ f.at)) ∙ f.head in
       record {
         point = f.point;
         of = f.passed.of;
@@ -69,7 +68,7 @@ module _ (rules : List Rule) where
 
   pub demand_for : (found : List Pair) (b : Base) (q : Pair) → MayBecome found b → PassedFor rules b q → Demands rules found q
   demand_for found b q may f =
-      let of : f.is_user.of ≡ f.passed.of = some_same f.is_user.of f.passed.of (sym f.is_user.at ∙ f.passed.at) in
+      let of : f.is_user.of ≡ f.passed.of = same_Some f.is_user.of f.passed.of (sym f.is_user.at ∙ f.passed.at) in
       let rule_is : f.passed.of.rule ≡ b.rule = ap (λ (d : PointData). d.rule) (sym of) ∙ f.is_user.rule_is in
       let head_is : f.passed.of.head ≡ Var b.param = ap (λ (d : PointData). d.head) (sym of) ∙ f.is_user.head_is in
       record {

@@ -3,8 +3,9 @@ use Rattle.std.proofs.Common.{◌≡◌, ◌≢◌, AllPairs, arith, sym, ◌∙
 use Rattle.std.proofs.lemmas.List.{take_more, take_all, get_or_default, get_or-take, length-take}
 use Rattle.std.proofs.lemmas.List.Elements.{Contains-append_cases, Contains-append_left, Contains-push}
 use Rattle.hs_scheme.specs.declared.flow.Pair.{Pair}
+use Rattle.hs_scheme.proofs.Lists.{only}
 use Rattle.hs_flow.specs.Pairs.{PairsData, FindsOnly}
-use Rattle.hs_flow.proofs.PairLemmas.{only_in, finds_keep, finds_cases}
+use Rattle.hs_flow.proofs.PairLemmas.{finds_keep, finds_cases}
 
 -- P holds for one of the points and the pair
 pub record ForOne (xs : List ℕ) (P : ℕ → Pair → Type 0) (q : Pair) : Type 0 where
@@ -21,7 +22,7 @@ module _ (xs : List ℕ) (P : ℕ → Pair → Type 0) (n : ℕ) (lt : n < lengt
   each_so_far mid new finds all so_far q f =
       elim (Contains-append_cases (take n xs) (this ∷ []) f.item (subst (λ (ys : List ℕ). Contains ys f.item) (take_more xs n 0 lt) f.among)) [
         | inl old ↦ finds_keep (P this) mid new finds q (so_far q (record { item = f.item; among = old; holds = f.holds }))
-        | inr last ↦ all q (subst (λ (y : ℕ). P y q) (only_in this f.item last) f.holds)
+        | inr last ↦ all q (subst (λ (y : ℕ). P y q) (only this f.item last) f.holds)
       ]
 
   -- what is there was there at first, or is of the points so far

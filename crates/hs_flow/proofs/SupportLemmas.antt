@@ -13,13 +13,13 @@ use Rattle.hs_scheme.specs.Points.{PointData, PointsData, points_of}
 use Rattle.hs_scheme.specs.Problem.{FlowWithin, HeadWithin}
 use Rattle.hs_scheme.specs.Flow.{HasParameter, Demands, IsSupported}
 use Rattle.hs_scheme.proofs.PointLemmas.{args_within}
-use Rattle.hs_scheme.proofs.DemandLemmas.{slice_get-read, read-slice_get}
+use Rattle.hs_scheme.proofs.Lists.{slice_get-read, read-slice_get, only}
 use Rattle.hs_flow.specs.declared.bases.Base.{Base}
 use Rattle.hs_flow.specs.Users.{UserMap}
 use Rattle.hs_flow.specs.Passing.{PassedAtFirst, PassedFor}
 use Rattle.hs_flow.specs.Pairs.{PairsData, HasBaseAt, IsAddable, ArePairs}
 use Rattle.hs_flow.specs.Analysis.{point_of}
-use Rattle.hs_flow.proofs.PairLemmas.{only_in, append_once, grown}
+use Rattle.hs_flow.proofs.PairLemmas.{append_once, grown}
 use Rattle.hs_flow.proofs.PassingLemmas.{addable_demanded}
 
 pub in_take : {X : Type 0} (n : ℕ) (xs : List X) (x : X) → Contains (take n xs) x → Contains xs x
@@ -40,7 +40,7 @@ module _ (rules : List Rule) (old : List Pair) (k : Pair) (absent : Contains old
 
   pub supported_push : IsSupported rules (old ++ k ∷ [])
   supported_push = record {
-    distinct = append_once old (k ∷ []) s.distinct (λ i j d less within. absurd (omega arith)) (λ q was h. absent (subst (Contains old) (only_in k q h) was));
+    distinct = append_once old (k ∷ []) s.distinct (λ i j d less within. absurd (omega arith)) (λ q was h. absent (subst (Contains old) (only k q h) was));
     demanded = by_place;
   }
 
@@ -74,7 +74,7 @@ are_push points users a q are can = record {
   supported = supported_push a.rules a.found q can.absent (addable_demanded a q can) are.supported;
   passed = λ p h. elim (Contains-append_cases a.found (q ∷ []) p h) [
     | inl was ↦ are.passed p was
-    | inr last ↦ subst (λ (x : Pair). PassedAtFirst a.rules x ⊎ ((b : Base) × (HasBaseAt a b × PassedFor a.rules b x))) (sym (only_in q p last))
+    | inr last ↦ subst (λ (x : Pair). PassedAtFirst a.rules x ⊎ ((b : Base) × (HasBaseAt a b × PassedFor a.rules b x))) (sym (only q p last))
         (elim can.passed [ inl first ↦ inl first | inr (b, (had, (may, for))) ↦ inr (b, (had, for)) ])
   ];
 }

@@ -1,15 +1,13 @@
 -- The pairs found, apart by kind and in ascending order.
-use Rattle.std.proofs.Common.{◌≡◌, ◌≢◌, refl, sym, ◌∙◌, ap, subst, ℕ, zero, suc, ◌+◌, ◌<◌, Bool, true, false, List, [], ◌∷◌, ◌++◌, length, map, get_or, take, arith, inl, inr, Contains, All, AllPairs, ◌↔◌}
+use Rattle.std.proofs.Common.{◌≡◌, ◌≢◌, refl, sym, ◌∙◌, ap, subst, ℕ, zero, suc, ◌+◌, ◌<◌, List, [], ◌∷◌, ◌++◌, length, map, get_or, take, arith, inl, inr, Contains, All, AllPairs, ◌↔◌}
 use Rattle.std.specs.Cmp.{IsTotalOrder}
-use Rattle.std.specs.Ordering.{is_lt, is_eq, ordering_reverse}
 use Rattle.std.specs.declared.cmp.Ordering.{Ordering}
-use Rattle.std.specs.declared.cmp.Ordering.TheVariants.{Less, Equal, Greater}
-use Rattle.std.specs.List.{IsDistinct}
-use Rattle.std.specs.List.Sorted.{IsPermutation, IsSorted}
+use Rattle.std.specs.declared.cmp.Ordering.TheVariants.{Less, Equal}
+use Rattle.std.specs.List.Sorted.{IsPermutation}
 use Rattle.std.proofs.lemmas.List.{take_more, get_or_default, get_or-map}
 use Rattle.std.proofs.lemmas.List.Elements.{Contains-append_left, Contains-append_right, Contains-append_cases}
-use Rattle.std.proofs.lemmas.List.Sorted.{sorted_far, ranks_by, Contains-permutation, IsPermutation-sym}
-use Rattle.std.proofs.lemmas.Map.Keys.{IsDistinct-from_apart, IsDistinct-IsPermutation, apart_from_distinct}
+use Rattle.std.proofs.lemmas.List.Sorted.{Contains-permutation, IsPermutation-sym}
+use Rattle.std.proofs.lemmas.Cmp.{tied_itself}
 use Rattle.hs_scheme.specs.declared.flow.FlowPair.{FlowPair}
 use Rattle.hs_scheme.specs.declared.flow.HeadPair.{HeadPair}
 use Rattle.hs_scheme.specs.declared.flow.Pair.{Pair}
@@ -20,11 +18,11 @@ use Rattle.hs_scheme.specs.FlowRows.{AreOfParameters}
 use Rattle.hs_scheme.specs.Flow.{HasParameter, pairs_of, IsAscending, flow_cmp, head_cmp, IsClosed, Demands, IsSupported, IsFlow, IsFlowTable}
 use Rattle.hs_scheme.specs.Points.{points_of}
 use Rattle.hs_scheme.specs.Problem.{FlowWithin, HeadWithin}
-use Rattle.hs_scheme.proofs.FlowLemmas.{flow_cmp_total, flow_cmp-equal, head_cmp_total, head_cmp-equal}
-use Rattle.hs_scheme.proofs.DemandLemmas.{Demands-more, slice_get-read, read-slice_get}
+use Rattle.hs_scheme.proofs.FlowLemmas.{flow_cmp_total, head_cmp_total}
+use Rattle.hs_scheme.proofs.DemandLemmas.{Demands-more}
+use Rattle.hs_scheme.proofs.Lists.{slice_get-read, read-slice_get, none_in, here, later as skip}
 use Rattle.hs_flow.specs.Tables.{flows_in, heads_in}
 use Rattle.hs_flow.proofs.SupportLemmas.{flow_within, head_within}
-use Rattle.hs_flow.proofs.PairLemmas.{nothing_in, first_in}
 
 flows_in-push : (ps : List Pair) (q : Pair) → flows_in (ps ++ q ∷ []) ≡ flows_in ps ++ flows_in (q ∷ [])
 flows_in-push [] q = refl
@@ -49,49 +47,46 @@ length-split [] = refl
 length-split (OfFlow f ∷ ps) = omega (arith, length-split ps)
 length-split (OfHead h ∷ ps) = omega (arith, length-split ps)
 
-skip : {X : Type 0} (x y : X) (xs : List X) → Contains xs y → Contains (x ∷ xs) y
-skip x y xs (k, within, is) = (suc k, omega arith, is)
-
 flow_in : (ps : List Pair) (f : FlowPair) → Contains ps (OfFlow f) → Contains (flows_in ps) f
-flow_in [] f h = absurd (nothing_in (OfFlow f) h)
-flow_in (OfFlow g ∷ ps) f (zero, within, is) = let e : g ≡ f = cc in subst (λ (x : FlowPair). Contains (g ∷ flows_in ps) x) e (first_in g (flows_in ps))
+flow_in [] f h = absurd (none_in (OfFlow f) h)
+flow_in (OfFlow g ∷ ps) f (zero, within, is) = let e : g ≡ f = cc in subst (λ (x : FlowPair). Contains (g ∷ flows_in ps) x) e (here g (flows_in ps))
 flow_in (OfFlow g ∷ ps) f (suc k, within, is) = skip g f (flows_in ps) (flow_in ps f (k, omega arith, is))
 flow_in (OfHead h ∷ ps) f (zero, within, is) = absurd (cc)
 flow_in (OfHead h ∷ ps) f (suc k, within, is) = flow_in ps f (k, omega arith, is)
 
 pub flow_back : (ps : List Pair) (f : FlowPair) → Contains (flows_in ps) f → Contains ps (OfFlow f)
-flow_back [] f h = absurd (nothing_in f h)
+flow_back [] f h = absurd (none_in f h)
 flow_back (OfFlow g ∷ ps) f (zero, within, is) = (0, omega arith, ap (λ x. OfFlow x) is)
 flow_back (OfFlow g ∷ ps) f (suc k, within, is) = skip (OfFlow g) (OfFlow f) ps (flow_back ps f (k, omega arith, is))
 flow_back (OfHead h ∷ ps) f there = skip (OfHead h) (OfFlow f) ps (flow_back ps f there)
 
 head_in : (ps : List Pair) (h : HeadPair) → Contains ps (OfHead h) → Contains (heads_in ps) h
-head_in [] h there = absurd (nothing_in (OfHead h) there)
+head_in [] h there = absurd (none_in (OfHead h) there)
 head_in (OfFlow g ∷ ps) h (zero, within, is) = absurd (cc)
 head_in (OfFlow g ∷ ps) h (suc k, within, is) = head_in ps h (k, omega arith, is)
-head_in (OfHead g ∷ ps) h (zero, within, is) = let e : g ≡ h = cc in subst (λ (x : HeadPair). Contains (g ∷ heads_in ps) x) e (first_in g (heads_in ps))
+head_in (OfHead g ∷ ps) h (zero, within, is) = let e : g ≡ h = cc in subst (λ (x : HeadPair). Contains (g ∷ heads_in ps) x) e (here g (heads_in ps))
 head_in (OfHead g ∷ ps) h (suc k, within, is) = skip g h (heads_in ps) (head_in ps h (k, omega arith, is))
 
 head_back : (ps : List Pair) (h : HeadPair) → Contains (heads_in ps) h → Contains ps (OfHead h)
-head_back [] h there = absurd (nothing_in h there)
+head_back [] h there = absurd (none_in h there)
 head_back (OfFlow g ∷ ps) h there = skip (OfFlow g) (OfHead h) ps (head_back ps h there)
 head_back (OfHead g ∷ ps) h (zero, within, is) = (0, omega arith, ap (λ x. OfHead x) is)
 head_back (OfHead g ∷ ps) h (suc k, within, is) = skip (OfHead g) (OfHead h) ps (head_back ps h (k, omega arith, is))
 
 -- a list of one kind and the pairs that it stands for
-mapped : {X : Type 0} (wrap : X → Pair) (xs : List X) (x : X) → Contains xs x → Contains (map wrap xs) (wrap x)
-mapped wrap [] x h = absurd (nothing_in x h)
+pub mapped : {X : Type 0} (wrap : X → Pair) (xs : List X) (x : X) → Contains xs x → Contains (map wrap xs) (wrap x)
+mapped wrap [] x h = absurd (none_in x h)
 mapped wrap (y ∷ ys) x (zero, within, is) = (0, omega arith, ap wrap is)
 mapped wrap (y ∷ ys) x (suc k, within, is) = skip (wrap y) (wrap x) (map wrap ys) (mapped wrap ys x (k, omega arith, is))
 
 of_flows : (fs : List FlowPair) (q : Pair) → Contains (map (λ f. OfFlow f) fs) q → (f : FlowPair) × ((OfFlow f ≡ q) × Contains fs f)
-of_flows [] q h = absurd (nothing_in q h)
-of_flows (f ∷ fs) q (zero, within, is) = (f, (is, first_in f fs))
+of_flows [] q h = absurd (none_in q h)
+of_flows (f ∷ fs) q (zero, within, is) = (f, (is, here f fs))
 of_flows (f ∷ fs) q (suc k, within, is) = let r = of_flows fs q (k, omega arith, is) in (r.0, (r.1.0, skip f r.0 fs r.1.1))
 
 of_heads : (hs : List HeadPair) (q : Pair) → Contains (map (λ h. OfHead h) hs) q → (h : HeadPair) × ((OfHead h ≡ q) × Contains hs h)
-of_heads [] q there = absurd (nothing_in q there)
-of_heads (h ∷ hs) q (zero, within, is) = (h, (is, first_in h hs))
+of_heads [] q there = absurd (none_in q there)
+of_heads (h ∷ hs) q (zero, within, is) = (h, (is, here h hs))
 of_heads (h ∷ hs) q (suc k, within, is) = let r = of_heads hs q (k, omega arith, is) in (r.0, (r.1.0, skip h r.0 hs r.1.1))
 
 module _ (ps : List Pair) (fs : List FlowPair) (hs : List HeadPair) (flows : IsPermutation (flows_in ps) fs) (heads : IsPermutation (heads_in ps) hs) where
@@ -133,47 +128,11 @@ heads_once [] h = λ i j d less within. absurd (omega arith)
 heads_once (OfFlow f ∷ ps) h = heads_once ps (later (OfFlow f) ps h)
 heads_once (OfHead k ∷ ps) h = one_more k (heads_in ps) (λ there. not_twice (OfHead k) ps h (head_back ps k there)) (heads_once ps (later (OfHead k) ps h))
 
--- a sorted list without repeats ascends
-module _ {X : Type 0} (cmp : X → X → Ordering) (total : IsTotalOrder cmp) (equal : (a b : X) → cmp a b ≡ Equal → a ≡ b) where
-  abbrev ties : X → X → Bool
-  ties a b = is_eq (cmp a b)
-
-  eq_of : (o : Ordering) → is_eq o ≡ true → o ≡ Equal
-  eq_of Less h = absurd (cc)
-  eq_of Equal h = refl
-  eq_of Greater h = absurd (cc)
-
-  not_eq : (o : Ordering) → (o ≡ Equal → ⊥) → is_eq o ≡ false
-  not_eq Less h = refl
-  not_eq Equal h = absurd (h refl)
-  not_eq Greater h = refl
-
-  flip : (o p : Ordering) → o ≡ ordering_reverse p → is_eq o ≡ is_eq p
-  flip o Less h = ap is_eq h
-  flip o Equal h = ap is_eq h
-  flip o Greater h = ap is_eq h
-
-  below : (o p : Ordering) → o ≡ ordering_reverse p → is_eq o ≡ false → is_lt p ≡ false → o ≡ Less
-  below o Less h e l = absurd (cc)
-  below o Equal h e l = let f : is_eq o ≡ true = ap is_eq h in absurd (cc)
-  below o Greater h e l = h
-
-  pub ascends : (old new : List X) → AllPairs (λ a b. a ≢ b) old → IsPermutation old new → IsSorted cmp new → IsAscending cmp new
-  ascends old new once moved sorted i j d less within =
-      let apart : IsDistinct ties new = IsDistinct-IsPermutation ties (λ a b. flip (cmp a b) (cmp b a) (total.antisymm a b)) old new moved
-      (IsDistinct-from_apart ties old (λ k l e lt w. not_eq (cmp (get_or old k e) (get_or old l e)) (λ h. once k l e lt w (equal (get_or old k e) (get_or old l e) h)))) in
-      below (cmp (get_or new i d) (get_or new j d)) (cmp (get_or new j d) (get_or new i d)) (total.antisymm (get_or new i d) (get_or new j d))
-      (apart_from_distinct ties new i j d apart less within) (sorted_far (λ a b. is_lt (cmp a b)) (ranks_by total (λ a. a)) new sorted i j d (omega arith) within)
-
-  self_equal : (o : Ordering) → o ≡ ordering_reverse o → o ≡ Equal
-  self_equal Less h = absurd (cc)
-  self_equal Equal h = refl
-  self_equal Greater h = absurd (cc)
-
-  -- and one that ascends has no repeats
+-- an ascending list has no repeats
+module _ {X : Type 0} (cmp : X → X → Ordering) (total : IsTotalOrder cmp) where
   pub ascending_once : (xs : List X) → IsAscending cmp xs → AllPairs (λ a b. a ≢ b) xs
   ascending_once xs up i j d less within e =
-      let same : cmp (get_or xs i d) (get_or xs j d) ≡ Equal = ap (cmp (get_or xs i d)) (sym e) ∙ self_equal (cmp (get_or xs i d) (get_or xs i d)) (total.antisymm (get_or xs i d) (get_or xs i d)) in
+      let same : cmp (get_or xs i d) (get_or xs j d) ≡ Equal = ap (cmp (get_or xs i d)) (sym e) ∙ tied_itself total (get_or xs i d) in
       let low : cmp (get_or xs i d) (get_or xs j d) ≡ Less = up i j d less within in absurd (cc)
 
 -- the flow, from the pairs found
@@ -184,8 +143,8 @@ is_flow rules found fs hs supported closed same table = record {
   order = found;
   supported = supported;
   same = same;
-  flows_once = ascending_once flow_cmp flow_cmp_total flow_cmp-equal fs table.pairs;
-  heads_once = ascending_once head_cmp head_cmp_total head_cmp-equal hs table.heads;
+  flows_once = ascending_once flow_cmp flow_cmp_total fs table.pairs;
+  heads_once = ascending_once head_cmp head_cmp_total hs table.heads;
 }
 
 -- its pairs are in range

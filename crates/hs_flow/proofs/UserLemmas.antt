@@ -6,21 +6,21 @@ use Rattle.std.proofs.lemmas.List.Quantifiers.{all_pairs_push}
 use Rattle.hs_scheme.specs.declared.term.Head.TheVariants.{Var}
 use Rattle.hs_scheme.specs.Key.{key_eq}
 use Rattle.hs_scheme.specs.Points.{PointData}
-use Rattle.hs_scheme.proofs.DemandLemmas.{some_same}
 use Rattle.hs_scheme.specs.Parameters.{IsParameter, parameter_of}
 use Rattle.hs_scheme.proofs.ParameterLemmas.{number_once}
+use Rattle.hs_scheme.proofs.Lists.{only as only_in, here as first_in}
 use Rattle.std.proofs.lemmas.Bool.Decides.{nat_tests}
+use Rattle.std.proofs.lemmas.Option.{same_Some}
 use Rattle.hs_flow.specs.Lists.{list_of}
 use Rattle.hs_flow.specs.Users.{list_for, IsUser}
-use Rattle.hs_flow.proofs.PairLemmas.{only_in, first_in}
 
-lt_of : (x n : ℕ) → nat_lt x n ≡ true → x < n
+pub lt_of : (x n : ℕ) → nat_lt x n ≡ true → x < n
 lt_of x n h = grind (arith, nat_tests)
 
 not_lt : (x n : ℕ) → nat_lt x n ≡ false → x < n → ⊥
 not_lt x n h lt = grind (arith, nat_tests)
 
-is_lt : (x n : ℕ) → x < n → nat_lt x n ≡ true
+pub is_lt : (x n : ℕ) → x < n → nat_lt x n ≡ true
 is_lt x n lt = grind (arith, nat_tests)
 
 isnt_lt : (x n : ℕ) → (x < n → ⊥) → nat_lt x n ≡ false
@@ -88,7 +88,7 @@ module _ (counts : List ℕ) (old new : List (List ℕ)) (n rule param point : �
 
 module _ (points : List PointData) (n : ℕ) (d : PointData) (at : slice_get points n ≡ Some d) (was : ℕ → ℕ → List ℕ) (so_far : (rule x p : ℕ) → Contains (was rule x) p ↔ ((p < n) × IsUser points rule x p)) where
   same_point : (p : ℕ) (e : PointData) → slice_get points p ≡ Some e → n ≡ p → d ≡ e
-  same_point p e at_p same = some_same d e (sym at ∙ (ap (λ k. slice_get points k) same ∙ at_p))
+  same_point p e at_p same = same_Some d e (sym at ∙ (ap (λ k. slice_get points k) same ∙ at_p))
 
   pub user_skip : ((x : ℕ) → d.head ≡ Var x → ⊥) → (rule x p : ℕ) → Contains (was rule x) p ↔ ((p < n + 1) × IsUser points rule x p)
   user_skip other rule x p = (

@@ -11,14 +11,14 @@ use Rattle.hs_history.proofs.Sound.{IsSound, opening_sound, step_sound, least_at
 use Rattle.hs_history.proofs.Once.{opening_once, step_once}
 use Rattle.std.proofs.lemmas.Bool.{cases_eq}
 use Rattle.std.proofs.lemmas.List.Elements.{All-head, All-tail}
-use Rattle.hs_table_laws.proofs.Places.{some_same}
+use Rattle.std.proofs.lemmas.Option.{same_Some}
 use Rattle.hs_history.specs.declared.step.Flight.{Flight}
 use Rattle.hs_history.specs.declared.step.Work.{Work}
 use Rattle.hs_history.proofs.Logs.{closed_more}
 use Rattle.hs_history.proofs.Works.{put_other}
 
 same_flight : (x y : Flight) → Some x ≡ Some y → x ≡ y
-same_flight = some_same
+same_flight = same_Some
 
 -- what holds after a story
 pub record Holds (base : Base) (s : State) : Type 0 where

@@ -5,11 +5,12 @@ use Rattle.std.proofs.lemmas.List.{take-append-le}
 use Rattle.std.proofs.Math.Seq.{take-append_seam}
 use Rattle.std.proofs.lemmas.List.Elements.{Contains-append_left, Contains-get_or}
 use Rattle.std.proofs.lemmas.List.Quantifiers.{all_pairs_push}
+use Rattle.std.proofs.lemmas.Option.{same_Some}
 use Rattle.hs_scheme.specs.Problem.{ProblemData}
 use Rattle.hs_table.specs.Entries.{EntryData}
 use Rattle.hs_table.specs.Follows.{Support, FollowsBy}
 use Rattle.hs_table.specs.Tables.{HasSupports}
-use Rattle.hs_table_laws.proofs.Places.{some_same, within_from}
+use Rattle.hs_table_laws.proofs.Places.{within_from}
 use Rattle.hs_history.specs.CoreStep.{IsClosedWork}
 use Rattle.hs_history.specs.declared.step.Work.{Work}
 use Rattle.hs_history.specs.declared.step.Work.TheVariants.{Seed, Place}
@@ -17,7 +18,7 @@ use Rattle.hs_history.specs.History.{IsWork}
 
 -- the last of a list, and what is before it
 pub at_push : {X : Type 0} (xs : List X) (x y : X) (i : ℕ) → slice_get (xs ++ x ∷ []) i ≡ Some y → (slice_get xs i ≡ Some y) ⊎ ((i ≡ length xs) × (y ≡ x))
-at_push [] x y zero e = inr (refl, sym (some_same x y e))
+at_push [] x y zero e = inr (refl, sym (same_Some x y e))
 at_push [] x y (suc i) e = absurd (cc)
 at_push (z ∷ xs) x y zero e = inl e
 at_push (z ∷ xs) x y (suc i) e = elim (at_push xs x y i e) [

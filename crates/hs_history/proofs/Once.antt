@@ -3,7 +3,9 @@ use Rattle.std.proofs.Common.{◌≡◌, ◌≢◌, ap, sym, ◌∙◌, subst, �
 use Rattle.std.proofs.lemmas.Bool.{cases_Bool, cond-true, cond-false, both_ways}
 use Rattle.std.proofs.lemmas.List.Elements.{Contains-push_cases, Contains-get_or}
 use Rattle.std.proofs.lemmas.List.Quantifiers.{all_pairs_push}
-use Rattle.hs_table_laws.proofs.Places.{none_in, some_same, here, uncons, pairs_tail, pairs_head, pairs_cons}
+use Rattle.std.proofs.lemmas.Option.{same_Some}
+use Rattle.hs_scheme.proofs.Lists.{none_in, here, uncons}
+use Rattle.hs_table_laws.proofs.Places.{pairs_tail, pairs_head, pairs_cons}
 use Rattle.hs_history.specs.declared.step.Work.{Work}
 use Rattle.hs_history.specs.declared.step.Work.TheVariants.{Seed, Place}
 use Rattle.hs_history.specs.Story.{Base, Deduction, Action, takes, adds, passes, finishes, gives_back}
@@ -70,7 +72,7 @@ opening_once base = record {
 
 module _ (base : Base) (s : State) (sound : IsSound base s) (once : IsJustOnce s) where
   same_work : (worker holder : ℕ) (work other : Work) → ◌≡◌ {A = Option Flight} (flown worker work) (flown holder other) → work ≡ other
-  same_work worker holder work other e = ap (λ f. f.work) (some_same (record { worker = worker; work = work }) (record { worker = holder; work = other }) e)
+  same_work worker holder work other e = ap (λ f. f.work) (same_Some (record { worker = worker; work = work }) (record { worker = holder; work = other }) e)
 
   takes_once : (worker ticket : ℕ) (work : Work) → CanTake base s work ticket → IsJustOnce (acted s worker (takes work ticket))
   takes_once worker ticket work can = record {

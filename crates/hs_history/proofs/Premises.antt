@@ -6,12 +6,13 @@ use Rattle.hs_scheme.specs.declared.term.Head.{Head}
 use Rattle.hs_scheme.specs.declared.term.Head.TheVariants.{Var, Nt, Tm}
 use Rattle.hs_scheme.specs.Dependents.{HeadReads, IsDependent}
 use Rattle.hs_scheme.specs.Problem.{ProblemData}
+use Rattle.hs_scheme.proofs.Lists.{none_in, here, later, uncons}
 use Rattle.hs_table.specs.declared.support.HeadBy.{HeadBy}
 use Rattle.hs_table.specs.declared.support.HeadBy.TheVariants.{Terminal, Rule, Param}
 use Rattle.hs_table.specs.Types.{TypeTree, arrows}
 use Rattle.hs_table.specs.Entries.{Env, EntryData}
 use Rattle.hs_table.specs.Follows.{IsAt, IsHeadType, Chosen, done, next_argument, choose, Support, FollowsBy, head_premise, premises}
-use Rattle.hs_table_laws.proofs.Places.{none_in, here, later, uncons, to_take}
+use Rattle.hs_table_laws.proofs.Places.{to_take}
 
 -- the places of the chosen entries
 abbrev places : List (ℕ × ℕ) → List ℕ

@@ -2,11 +2,13 @@
 use Rattle.std.proofs.Common.{◌≡◌, refl, ap, sym, ◌∙◌, subst, ℕ, zero, suc, ◌<◌, ◌≤◌, [], ◌∷◌, ◌++◌, length, slice_get, Some, None, arith, Contains, length-append, ◌⊎◌, inl, inr}
 use Rattle.std.proofs.lemmas.Bool.{cases_lt, cases_eq}
 use Rattle.std.proofs.lemmas.List.Elements.{Contains-append_left, Contains-push, Contains-push_cases}
+use Rattle.std.proofs.lemmas.Option.{same_Some}
 use Rattle.hs_scheme.specs.Problem.{ProblemData}
+use Rattle.hs_scheme.proofs.Lists.{none_in}
 use Rattle.hs_table.specs.Entries.{EntryData}
 use Rattle.hs_table.specs.Follows.{Follows, premises}
 use Rattle.hs_table.specs.Tables.{IsLeastTable, HasSupports}
-use Rattle.hs_table_laws.proofs.Places.{none_in, some_same, within_from}
+use Rattle.hs_table_laws.proofs.Places.{within_from}
 use Rattle.hs_table_laws.proofs.Least.{supports_support}
 use Rattle.hs_history.specs.declared.step.Work.{Work}
 use Rattle.hs_history.specs.declared.step.Work.TheVariants.{Seed, Place}
@@ -100,7 +102,7 @@ module _ (base : Base) (s : State) (sound : IsSound base s) where
     real = λ w in_state. sound.real w (elim in_state [
       | inl pending ↦ inl (without_less work w s.pending pending)
       | inr (inl (other, holder, is)) ↦ elim (put_cases ticket other (Some (record { worker = worker; work = work })) s.flight (Some (record { worker = holder; work = w })) is) [
-        | inl here ↦ inl (subst (λ v. Contains s.pending v) (ap (λ f. f.work) (some_same (record { worker = worker; work = work }) (record { worker = holder; work = w }) here.1)) can.pending)
+        | inl here ↦ inl (subst (λ v. Contains s.pending v) (ap (λ f. f.work) (same_Some (record { worker = worker; work = work }) (record { worker = holder; work = w }) here.1)) can.pending)
         | inr there ↦ inr (inl (other, holder, there.1))
       ]
       | inr (inr closed) ↦ inr (inr closed)
@@ -138,7 +140,7 @@ module _ (base : Base) (s : State) (sound : IsSound base s) where
     there = sound.there;
     real = sound.real;
     closed = sound.closed;
-    kept = λ e is. subst (λ x. IsPast base s.log x) (some_same d e is) (past_of d can.full can.is_new);
+    kept = λ e is. subst (λ x. IsPast base s.log x) (same_Some d e is) (past_of d can.full can.is_new);
   }
 
   -- where the work under the ticket goes elsewhere
@@ -148,7 +150,7 @@ module _ (base : Base) (s : State) (sound : IsSound base s) where
   freed : (worker ticket : ℕ) (work w : Work) → s.flight ticket ≡ Some (record { worker = worker; work = work }) → IsInFlight s w
       → (w ≡ work) ⊎ ((other holder : ℕ) × (put ticket None s.flight other ≡ Some (record { worker = holder; work = w })))
   freed worker ticket work w is (other, holder, at) = elim (cases_eq other ticket) [
-    | inl same ↦ inl (ap (λ f. f.work) (some_same (record { worker = holder; work = w }) (record { worker = worker; work = work }) (sym at ∙ ap s.flight same ∙ is)))
+    | inl same ↦ inl (ap (λ f. f.work) (same_Some (record { worker = holder; work = w }) (record { worker = worker; work = work }) (sym at ∙ ap s.flight same ∙ is)))
     | inr ne ↦ inr (other, holder, put_other ticket other None s.flight ne ∙ at)
   ]
 

@@ -1,9 +1,9 @@
 -- Works that are pending, and what is under tickets.
 use Rattle.std.proofs.Common.{◌≡◌, refl, ap, sym, ◌∙◌, subst, ℕ, true, eqb, List, [], ◌∷◌, Option, Contains, ◌⊎◌, inl, inr}
 use Rattle.std.proofs.lemmas.Bool.{cases_Bool, cases_eq, eqb-true, eq-eqb, ne_eqb, cond-true, cond-false}
+use Rattle.hs_scheme.proofs.Lists.{here, later, uncons}
 use Rattle.hs_history.specs.declared.step.Work.{Work}
 use Rattle.hs_history.specs.declared.step.Work.TheVariants.{Seed, Place}
-use Rattle.hs_table_laws.proofs.Places.{here, later, uncons}
 use Rattle.hs_history.specs.declared.step.Flight.{Flight}
 use Rattle.hs_history.specs.CoreStep.{is_work, without, put}
 

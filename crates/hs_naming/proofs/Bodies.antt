@@ -3,13 +3,13 @@ use Rattle.std.proofs.Common.{◌≡◌, refl, sym, ◌∙◌, ap, ℕ, zero, su
 use Rattle.std.proofs.Common.{subst as along}
 use Rattle.std.specs.Option.{option_map_or}
 use Rattle.std.proofs.lemmas.List.Elements.{All-contains}
+use Rattle.std.proofs.lemmas.Option.{same_Some}
 use Rattle.hs_scheme.specs.declared.term.Head.{Head}
 use Rattle.hs_scheme.specs.declared.term.Rule.{Rule}
 use Rattle.hs_scheme.specs.declared.flow.FlowPair.{FlowPair}
 use Rattle.hs_scheme.specs.Tree.{Tree, node, forest}
 use Rattle.hs_scheme.specs.Points.{PointData, PointsData, size, bodies, points_of}
 use Rattle.hs_scheme.specs.Problem.{ProblemData, FlowWithin}
-use Rattle.hs_steps.proofs.Terms.{same_some}
 use Rattle.hs_table.specs.Entries.{EntryData, InShape, params_of}
 use Rattle.hs_verdict.specs.Premises.{IsSortedProblem}
 use Rattle.hs_verdict.specs.Terms.{term_at}
@@ -56,7 +56,7 @@ module _ (p : ProblemData) (given : IsSortedProblem p) where
       let at : slice_get (points_of rules).bodies f ≡ Some b = ap (λ (all : PointsData). slice_get all.bodies f) (sym given.problem.points) ∙ e in
       let rule = body_rule 0 rules f b at in
       let body = are.bodies f rule.0 rule.1 in
-      let same : body.0 ≡ b = same_some body.0 b (sym body.2 ∙ at) in
+      let same : body.0 ≡ b = same_Some body.0 b (sym body.2 ∙ at) in
       record {
         rule = rule.0;
         at = rule.1;
@@ -67,7 +67,7 @@ module _ (p : ProblemData) (given : IsSortedProblem p) where
       }
 
   pub long_at : (e : EntryData) → InShape p e → (d : PointData) → IsPoint e.point d → length e.env ≡ params_of p d.rule
-  long_at e shape d at = shape.env.long ∙ ap (λ (x : PointData). params_of p x.rule) (same_some shape.of d (sym shape.at ∙ at))
+  long_at e shape d at = shape.env.long ∙ ap (λ (x : PointData). params_of p x.rule) (same_Some shape.of d (sym shape.at ∙ at))
 
   pub long_at_body : (f : ℕ) (e : EntryData) → InShape p e → (b : Body f e.point) → length e.env ≡ b.rule.params
   long_at_body f e shape b =

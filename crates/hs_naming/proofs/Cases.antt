@@ -2,19 +2,18 @@
 use Rattle.std.proofs.Common.{◌≡◌, refl, sym, ◌∙◌, ap, ℕ, suc, ◌+◌, ◌<◌, false, nat_eq, if◌then◌else◌, List, [], ◌∷◌, ◌++◌, map, take, length, replicate, set, slice_get, Option, Some, None, unwrap_or, arith, inl, inr}
 use Rattle.std.proofs.Common.{subst as along}
 use Rattle.std.proofs.lemmas.Bool.{eq-eqb}
-use Rattle.std.proofs.lemmas.Option.{slice_get_within}
+use Rattle.std.proofs.lemmas.Option.{slice_get_within, same_Some, get_or_from_slice_get}
 use Rattle.hs_scheme.specs.declared.term.Head.{Head}
 use Rattle.hs_scheme.specs.declared.term.Head.TheVariants.{Var, Nt, Tm}
 use Rattle.hs_scheme.specs.Tree.{Tree, node, none, join, forest}
 use Rattle.hs_scheme.specs.Replacement.{subst, applied, replaced}
 use Rattle.hs_scheme.specs.Problem.{ProblemData}
-use Rattle.hs_steps.proofs.Terms.{same_some}
 use Rattle.hs_table.specs.declared.support.HeadBy.{HeadBy}
 use Rattle.hs_table.specs.declared.support.HeadBy.TheVariants.{Terminal, Rule, Param}
 use Rattle.hs_table.specs.Types.{TypeTree, state, arrows}
 use Rattle.hs_table.specs.Entries.{Env, EntryData, Has, InShape, params_of}
 use Rattle.hs_table.specs.Follows.{rank_of, LacksTransition, RejectsChild, IsAt, FromBody, FromFlow, IsHeadType, HeadHas, Chosen, done, next_argument, choose, AnyHas, Support}
-use Rattle.hs_table_laws.proofs.Places.{read_from, at_take}
+use Rattle.hs_table_laws.proofs.Places.{at_take}
 use Rattle.hs_verdict.specs.Premises.{IsSortedProblem}
 use Rattle.hs_naming.specs.Evidence.{Evidence, Packs, Pack, evidence, no_packs, put, also, stacked, first, pack_at, child_pack, own_evidence, packs_for}
 use Rattle.hs_naming.specs.Naming.{entry_at, terminal_of, chosen_pack, argument_packs}
@@ -60,7 +59,7 @@ module _ (p : ProblemData) (T : List EntryData) (supports : List Support) (known
         → Realizes p T supports e.ty (subst (term p known e.point) ds) (premise m) no_packs
     premise_realizes m e is long asked =
         let b = at_take i T m e is.at in
-        let same : entry_at T m ≡ e = read_from T m e _ b.1 in
+        let same : entry_at T m ≡ e = get_or_from_slice_get T m e _ b.1 in
         let long_ds : length ds ≡ length env = all_length p T supports env ds own have in
         let all : RealizesAll p T supports e.env ds (packs_for (own_evidence env own) 0 e.env) =
         all_given p T supports (own_evidence env own) 0 e.env ds (long_ds ∙ sym long) (λ j a d at_j m.
@@ -68,7 +67,7 @@ module _ (p : ProblemData) (T : List EntryData) (supports : List Support) (known
         let g = at_parameter p T supports env ds own j a have (asked j a lt m) in
         let first_j : j ≡ 0 + j = omega arith in
         along (λ (k : ℕ). Realizes p T supports a d (own_evidence env own k a) no_packs) first_j
-        (along (λ (t : Tree Head). Realizes p T supports a t (own_evidence env own j a) no_packs) (same_some g.0 d (sym g.1.0 ∙ at_j)) g.1.1)) in
+        (along (λ (t : Tree Head). Realizes p T supports a t (own_evidence env own j a) no_packs) (same_Some g.0 d (sym g.1.0 ∙ at_j)) g.1.1)) in
         along (λ (x : EntryData). Realizes p T supports e.ty (subst (term p known e.point) ds) (evidence m (packs_for (own_evidence env own) 0 x.env)) no_packs) (sym same)
         (good m b.0 e b.1 ds (packs_for (own_evidence env own) 0 e.env) all)
 
@@ -114,7 +113,7 @@ module _ (p : ProblemData) (T : List EntryData) (supports : List Support) (known
       at_variable : (x y m : ℕ) → y ≡ x → FromFlow p (take i T) rule x m (arrows sets t) → Owns (Var x) → Goes (Var x) (Param y m) → Whole (Var x)
       at_variable x y m same f owns go =
           let b = at_take i T m f.entry f.holds.at in
-          let is : entry_at T m ≡ f.entry = read_from T m f.entry _ b.1 in
+          let is : entry_at T m ≡ f.entry = get_or_from_slice_get T m f.entry _ b.1 in
           let lt : x < length env = along (λ (n : ℕ). x < n) (sym long_env) (in_scope p known rule x f.entry.point f.flows) in
           let d = at_parameter p T supports env ds own x (arrows sets t) have (owns x (arrows sets t) lt (refl, refl)) in
           let ev : Evidence = own_evidence env own y (entry_at T m).ty in

@@ -1,7 +1,7 @@
 -- The naming of a log with its supports ends, it leads the start, and its path fails.
 use Rattle.std.proofs.Common.{◌≡◌, refl, sym, ◌∙◌, ap, ℕ, zero, suc, ◌<◌, List, [], ◌∷◌, map, take, length, slice_get, Some, None, arith, inl, inr}
 use Rattle.std.proofs.Common.{subst as along}
-use Rattle.std.proofs.lemmas.Option.{slice_get_within, slice_get-get_or}
+use Rattle.std.proofs.lemmas.Option.{slice_get_within, slice_get-get_or, same_Some, get_or_from_slice_get}
 use Rattle.hs_scheme.specs.declared.term.Head.{Head}
 use Rattle.hs_scheme.specs.Tree.{Tree, more, forest}
 use Rattle.hs_scheme.specs.Replacement.{subst, substs, applied, replaced}
@@ -10,14 +10,15 @@ use Rattle.hs_scheme.specs.declared.term.Rule.{Rule}
 use Rattle.hs_scheme.specs.Problem.{ProblemData}
 use Rattle.hs_scheme.specs.Run.{start, Accepts}
 use Rattle.hs_scheme.specs.Steps.{Path, HasNoTransition, Fails}
-use Rattle.hs_steps.proofs.Terms.{same_some}
+use Rattle.hs_scheme.proofs.Lists.{Contains-at}
 use Rattle.hs_table.specs.declared.support.HeadBy.{HeadBy}
 use Rattle.hs_table.specs.declared.support.HeadBy.TheVariants.{Terminal, Rule as ByRule, Param}
 use Rattle.hs_table.specs.Types.{TypeTree, state}
 use Rattle.hs_table.specs.Entries.{EntryData}
 use Rattle.hs_table.specs.Follows.{Support, FollowsBy}
 use Rattle.hs_table.specs.Tables.{IsSupportedTable, HasSupports, IsStart, HasStart}
-use Rattle.hs_table_laws.proofs.Places.{place_of, member_at, read_from}
+use Rattle.hs_table_laws.proofs.Places.{place_of}
+use Rattle.hs_table_laws.proofs.Least.{starts_same}
 use Rattle.hs_verdict.specs.Premises.{IsSortedProblem}
 use Rattle.hs_verdict.proofs.Supports.{with_supports}
 use Rattle.hs_verdict.proofs.Verdict.{never_fails}
@@ -87,8 +88,8 @@ module _ (p : ProblemData) (known : IsSortedProblem p) (T : List EntryData) (sup
       let s : Support = support_at supports i in
       let within : i < length supports = omega (arith, slice_get_within T i e at, log.each) in
       let f : FollowsBy p (take i T) s e = log.follows i s e (slice_get-get_or supports i _ within) at in
-      let is_e : entry_at T i ≡ e = read_from T i e _ at in
-      let is_d : point_at p e.point ≡ f.of = read_from p.points.points e.point f.of _ f.at in
+      let is_e : entry_at T i ≡ e = get_or_from_slice_get T i e _ at in
+      let is_d : point_at p e.point ≡ f.of = get_or_from_slice_get p.points.points e.point f.of _ f.at in
       let args : List (Tree Head) = at_args p T supports known ds f.of.args in
       let packs : Packs = argument_packs (premise p T supports known i good e.env ds own have) 0 f.of.args s.args in
       let fit : RealizesAll p T supports f.sets args packs =
@@ -108,18 +109,12 @@ module _ (p : ProblemData) (known : IsSortedProblem p) (T : List EntryData) (sup
   all_realize zero place lt = absurd (omega arith)
   all_realize (suc n) place lt = place_realizes place (λ m below. all_realize n m (omega arith))
 
-  -- two start entries are the same
-  starts_same : (d e : EntryData) → IsStart p d → IsStart p e → d ≡ e
-  starts_same d e a b =
-      let point : d.point ≡ e.point = same_some d.point e.point (sym a.body ∙ b.body) in
-      λ i. record { point = point i; env = (a.env ∙ sym b.env) i; ty = (a.initial ∙ sym b.initial) i }
-
   first_start : (place : ℕ) (e : EntryData) → slice_get T place ≡ Some e → IsStart p e → IsFirstStart p T place
   first_start place e at is = record {
     entry = e;
     at = at;
     is_start = is;
-    is_first = λ i d lt at_i is_d. log.distinct i place e lt (slice_get_within T place e at) (read_from T i d e at_i ∙ (starts_same d e is_d is ∙ sym (read_from T place e e at)));
+    is_first = λ i d lt at_i is_d. log.distinct i place e lt (slice_get_within T place e at) (get_or_from_slice_get T i d e at_i ∙ (starts_same p d e is_d is ∙ sym (get_or_from_slice_get T place e e at)));
   }
 
   -- from the first place of the start entry on the naming leads the body of the start
@@ -133,7 +128,7 @@ module _ (p : ProblemData) (known : IsSortedProblem p) (T : List EntryData) (sup
       along (λ (v : Tree Head). Realizes p T supports (state 0) (subst v []) (evidence k.0 no_packs) no_packs) body.is
       (along (λ (z : TypeTree). Realizes p T supports z (subst (term p known e.point) []) (evidence k.0 no_packs) no_packs) is.initial r) in
       let first = known.scheme.start in
-      let no_params : 0 ≡ body.rule.params = sym (ap (λ (x : Rule). x.params) (same_some body.rule first.0 (sym body.at ∙ first.1.0)) ∙ first.1.1) in
+      let no_params : 0 ≡ body.rule.params = sym (ap (λ (x : Rule). x.params) (same_Some body.rule first.0 (sym body.at ∙ first.1.0)) ∙ first.1.1) in
       record {
         place = k.0;
         is_first = first_start k.0 e k.1 is;
@@ -155,7 +150,7 @@ module _ (p : ProblemData) (known : IsSortedProblem p) (T : List EntryData) (sup
 
   pub path_fails : (need : ℕ) (path : Path) → NamesPath p T supports need path → Fails p.sorted.scheme.rules p.sorted.automaton.transitions need 0 start path
   path_fails need path x =
-      let n = naming_ends (x.start.entry, (x.start.is_start, member_at T x.place x.start.entry x.start.at)) in
+      let n = naming_ends (x.start.entry, (x.start.is_start, Contains-at T x.place x.start.entry x.start.at)) in
       let same = naming_same p T supports n.0 need n.1 path n.2 x in
       along (λ (m : ℕ). Fails p.sorted.scheme.rules p.sorted.automaton.transitions m 0 start path) same.0
       (along (λ (r : Path). Fails p.sorted.scheme.rules p.sorted.automaton.transitions n.0 0 start r) same.1 n.3)

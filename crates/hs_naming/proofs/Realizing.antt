@@ -5,18 +5,18 @@
 use Rattle.std.proofs.Common.{◌≡◌, refl, sym, ◌∙◌, ap, ℕ, zero, suc, ◌+◌, true, false, if◌then◌else◌, List, [], ◌∷◌, ◌++◌, length, slice_get, Option, Some, None, Contains, arith, inl, inr}
 use Rattle.std.proofs.Common.{subst as along}
 use Rattle.std.specs.Ordering.{is_eq}
-use Rattle.std.specs.declared.cmp.Ordering.{Ordering}
-use Rattle.std.specs.declared.cmp.Ordering.TheVariants.{Less, Equal, Greater}
 use Rattle.std.proofs.lemmas.Cmp.{tied_itself}
+use Rattle.std.proofs.lemmas.Option.{same_Some}
 use Rattle.hs_scheme.specs.declared.term.Head.{Head}
 use Rattle.hs_scheme.specs.Tree.{Tree, Trees, node, none, more, forest}
 use Rattle.hs_scheme.specs.Replacement.{applied}
 use Rattle.hs_scheme.specs.Problem.{ProblemData}
-use Rattle.hs_steps.proofs.Terms.{same_some, applied-none, applied-applied}
+use Rattle.hs_scheme.proofs.Orderings.{equal_of}
+use Rattle.hs_scheme.proofs.Lists.{none_in, here, later, uncons}
+use Rattle.hs_steps.proofs.Terms.{applied-none, applied-applied}
 use Rattle.hs_table.specs.Types.{TypeTree, arrows, type_cmp}
 use Rattle.hs_table.specs.Entries.{Env, EntryData, Has}
 use Rattle.hs_table.specs.Follows.{Support}
-use Rattle.hs_table_laws.proofs.Places.{none_in, here, later, uncons}
 use Rattle.hs_table_laws.proofs.Orders.{type_cmp_total, type_same}
 use Rattle.hs_naming.specs.Evidence.{Evidence, Packs, Pack, no_packs, put, empty, also, stacked, first, pack_at, pick, own_evidence, pack_for, packs_for}
 use Rattle.hs_naming.specs.Leading.{Leads}
@@ -30,12 +30,7 @@ stacked_stacked no_packs b c = refl
 stacked_stacked (put p ps) b c = ap (put p) (stacked_stacked ps b c)
 
 pub equal_same : (a b : TypeTree) → is_eq (type_cmp a b) ≡ true → a ≡ b
-equal_same a b e = type_same a b (by_order (type_cmp a b) e)
-  where
-    by_order : (r : Ordering) → is_eq r ≡ true → r ≡ Equal
-    by_order Less f = absurd (cc)
-    by_order Equal f = refl
-    by_order Greater f = absurd (cc)
+equal_same a b e = type_same a b (equal_of (type_cmp a b) e)
 
 pub same_equal : (a b : TypeTree) → a ≡ b → is_eq (type_cmp a b) ≡ true
 same_equal a b e = ap (λ x. is_eq (type_cmp a x)) (sym e) ∙ ap is_eq (tied_itself type_cmp_total a)
@@ -166,7 +161,7 @@ module _ (p : ProblemData) (T : List EntryData) (supports : List Support) where
   at_child (s ∷ ss) (d ∷ ds) no_packs i a h e = absurd h
   at_child (s ∷ ss) (d ∷ ds) (put pack packs) (suc i) a (h, hs) e = at_child ss ds packs i a hs e
   at_child (s ∷ ss) (d ∷ ds) (put pack packs) zero a (h, hs) e =
-      (d, (refl, front a d pack (along (λ (x : List TypeTree). RealizesEach (forest x) d pack) (same_some s (a ∷ []) e) h)))
+      (d, (refl, front a d pack (along (λ (x : List TypeTree). RealizesEach (forest x) d pack) (same_Some s (a ∷ []) e) h)))
     where
       front : (a : TypeTree) (d : Tree Head) (pack : Pack) → RealizesEach (forest (a ∷ [])) d pack → Realizes a d (first pack) no_packs
       front a d empty h = absurd h

@@ -5,7 +5,7 @@ use Rattle.std.specs.Prelude.{◌&&◌, nat_eq, not}
 use Rattle.std.proofs.Math.Numerals.{one-add}
 use Rattle.std.proofs.lemmas.Bool.{or_left, eq-eqb, eqb-true, and_parts, not-true}
 use Rattle.std.proofs.lemmas.List.{take-append-drop, length-take-le}
-use Rattle.std.proofs.lemmas.Option.{slice_get-map, slice_get_within, slice_get_cases}
+use Rattle.std.proofs.lemmas.Option.{slice_get-map, slice_get_within, slice_get_cases, same_Some}
 use Rattle.hs_scheme.specs.declared.term.Head.{Head}
 use Rattle.hs_scheme.specs.declared.term.Head.TheVariants.{Var, Nt, Tm}
 use Rattle.hs_scheme.specs.declared.term.Rule.{Rule}
@@ -19,7 +19,8 @@ use Rattle.hs_scheme.specs.Scheme.{IsScheme, AreRules}
 use Rattle.hs_scheme.specs.Sorting.{SortTree, arrow, arrows, behind, arguments, heads, HasSort, Applied}
 use Rattle.hs_scheme.specs.Sorted.{SortedData, IsSorted, sort_at, sorts_of}
 use Rattle.hs_scheme.specs.SameTree.{HaveSameTree}
-use Rattle.hs_steps.proofs.Terms.{same_some, substs-parameters, unfolding_of, unfolds}
+use Rattle.hs_scheme.proofs.Lists.{not_equal}
+use Rattle.hs_steps.proofs.Terms.{substs-parameters, unfolding_of, unfolds}
 use Rattle.hs_passes.specs.Occurrences.{mentions}
 use Rattle.hs_passes.specs.Selection.{place, renamed, renamed_rule, HasStandIn, IsSelection}
 use Rattle.hs_passes.specs.Aliases.{is_parameter, are_parameters, target_in, alias_target, or_later, alias_from, first_alias, without_alias}
@@ -62,7 +63,7 @@ passes f params (node (Nt h) ts) g e = by (not (nat_eq h f) && are_parameters 0 
     by : (b : Bool) → (not (nat_eq h f) && are_parameters 0 params ts) ≡ b → cond b (Some h) None ≡ Some g → IsAliasBody f params (node (Nt h) ts) g
     by false p q = absurd (cc)
     by true p q =
-        let is : h ≡ g = same_some h g q in
+        let is : h ≡ g = same_Some h g q in
         let pair = and_parts (not (nat_eq h f)) (are_parameters 0 params ts) p in
         along (IsAliasBody f params (node (Nt h) ts)) is record {
           other = λ same. let t = sym (not-true (nat_eq h f) pair.0) ∙ eq-eqb h f same in absurd (cc);
@@ -89,8 +90,8 @@ alias_found (r ∷ rules) all k f g lt same e = by (alias_target k r) refl e
     by : (o : Option ℕ) → alias_target k r ≡ o → or_later k o (alias_from (k + 1) rules) ≡ Some (f, g) → (alias_from (k + 1) rules ≡ Some (f, g) → IsAlias all f g) → IsAlias all f g
     by None p q later = later q
     by (Some h) p q later =
-        let fs : k ≡ f = ap (λ (x : ℕ × ℕ). x.0) (same_some (k, h) (f, g) q) in
-        let gs : h ≡ g = ap (λ (x : ℕ × ℕ). x.1) (same_some (k, h) (f, g) q) in
+        let fs : k ≡ f = ap (λ (x : ℕ × ℕ). x.0) (same_Some (k, h) (f, g) q) in
+        let gs : h ≡ g = ap (λ (x : ℕ × ℕ). x.1) (same_Some (k, h) (f, g) q) in
         let is = passes k r.params r.body h p in
         let found : IsAlias all k h = record {
           rule = r;
@@ -113,13 +114,6 @@ params_sort e j (suc d) f k (a, b, is, of, others) =
     let on : (m : ℕ) → (j + 1) + m ≡ j + suc m = λ m. omega arith in
     let rest : b ≡ arrows d (λ i. e (Var (j + suc i))) k = params_sort e (j + 1) d b k others ∙ (λ q. arrows d (λ m. e (Var (on m q))) k) in
     is ∙ λ q. arrow (first q) (rest q)
-
-pub not_equal : (a b : ℕ) → (a ≡ b → ⊥) → nat_eq a b ≡ false
-not_equal a b ne = by (nat_eq a b) refl
-  where
-    by : (c : Bool) → nat_eq a b ≡ c → c ≡ false
-    by true e = absurd (ne (eqb-true a b e))
-    by false e = refl
 
 -- an alias is replaced by its target with the same arguments
 pass_body : (r : Rule) (g : ℕ) (us : Trees Head) → r.body ≡ node (Nt g) (parameters 0 r.params) → r.params ≤ length (children us) → body_of r (children us) ≡ node (Nt g) us
@@ -212,7 +206,7 @@ module _ (s : SortedData) (scheme : IsScheme s.scheme) (sorted : IsSorted s) (f 
     alike = kept_alike g target_in_range (not_equal g f is.other);
     goes = λ us u goes.
         let un = unfolding_of rules h (children us) u goes in
-        let own : un.rule ≡ is.rule = same_some un.rule is.rule (sym un.at ∙ (ap (slice_get rules) e ∙ is.at)) in
+        let own : un.rule ≡ is.rule = same_Some un.rule is.rule (sym un.at ∙ (ap (slice_get rules) e ∙ is.at)) in
         sym un.is ∙ (ap (λ (r : Rule). body_of r (children us)) own ∙ pass_body is.rule g us is.body (along (λ (r : Rule). r.params ≤ length (children us)) own un.enough));
     comes = λ us u comes.
         let un = unfolding_of rules g (children us) u comes in

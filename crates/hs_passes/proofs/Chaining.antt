@@ -1,6 +1,6 @@
 -- Passes that are applied one after another.
 use Rattle.std.proofs.Common.{◌≡◌, refl, sym, ◌∙◌, ap, subst, ℕ, suc, ◌+◌, ◌-◌, ◌<◌, ◌≤◌, List, [], ◌∷◌, ◌++◌, length, take, drop, get_or, map, append_assoc, length-append, length-drop, append-nil, arith}
-use Rattle.std.specs.Prelude.{All, sum_by, Result, Ok, Err, OnErr}
+use Rattle.std.specs.Prelude.{All, sum_by}
 use Rattle.std.proofs.Math.ListN.{set}
 use Rattle.std.proofs.Math.Seq.{drop-cons, take-suc, set-append_seam, get_or-append_seam}
 use Rattle.std.proofs.lemmas.List.{take-map, drop-map, map-append, length-map, take_all, drop_all, take-append-drop}
@@ -26,10 +26,6 @@ rest_after s t u p q = record {
 
 pub rest_same : (s : SortedData) → KeepsRest s s
 rest_same s = record { ranks = refl; automaton = refl; terminal_names = refl; state_names = refl }
-
-pub on_err : {T E : Type 0} (r : Result T E) (P : Type 0) → P → OnErr r P
-on_err (Ok x) P p = tt
-on_err (Err e) P p = p
 
 composed-last : (fs : List Image) (f : Image) (s : SortedData) → composed (fs ++ f ∷ []) s ≡ f (composed fs s)
 composed-last [] f s = refl

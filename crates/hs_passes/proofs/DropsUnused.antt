@@ -2,11 +2,11 @@
 use Rattle.std.proofs.Common.{◌≡◌, refl, sym, ◌∙◌, ap, subst, ℕ, ◌≤◌, true, List, slice_get, inl, inr, arith}
 use Rattle.std.specs.Prelude.{◌||◌, nat_eq}
 use Rattle.std.proofs.lemmas.Bool.{or_left, or_right, eq-eqb, eqb-true, or_cases}
+use Rattle.std.proofs.lemmas.Option.{same_Some}
 use Rattle.hs_scheme.specs.declared.term.Rule.{Rule}
 use Rattle.hs_scheme.specs.Scheme.{IsScheme}
 use Rattle.hs_scheme.specs.Sorted.{SortedData, IsSorted}
 use Rattle.hs_scheme.specs.SameTree.{HaveSameTree}
-use Rattle.hs_steps.proofs.Terms.{same_some}
 use Rattle.hs_passes.specs.Passing.{KeepsRest}
 use Rattle.hs_passes.specs.Weight.{weight}
 use Rattle.hs_passes.specs.Leaving.{Keep}
@@ -40,7 +40,7 @@ module _ (s : SortedData) (scheme : IsScheme s.scheme) (sorted : IsSorted s) whe
     start_supported f j r at lt on = elim (or_cases (nat_eq f 0) (keep f j) on) [
       | inl e ↦
           let is : f ≡ 0 = eqb-true f 0 e in
-          let same : scheme.start.0 ≡ r = same_some scheme.start.0 r (sym scheme.start.1.0 ∙ (ap (slice_get rules) (sym is) ∙ at)) in
+          let same : scheme.start.0 ≡ r = same_Some scheme.start.0 r (sym scheme.start.1.0 ∙ (ap (slice_get rules) (sym is) ∙ at)) in
           absurd (omega (arith, lt, ap (λ (q : Rule). q.params) same, scheme.start.1.1))
       | inr kept ↦ is_live-mono keep with_start above_keep rules f j (supported f j r at lt kept)
     ]

@@ -1,7 +1,6 @@
 -- The scan over all rules makes what folding the aliases one after another makes.
-use Rattle.std.proofs.Common.{◌≡◌, refl, sym, ◌∙◌, ap, subst, ℕ, zero, suc, ◌+◌, ◌<◌, ◌≤◌, Bool, true, false, cond, List, [], ◌∷◌, length, map, slice_get, option_map, Option, Some, None, inl, inr, arith}
+use Rattle.std.proofs.Common.{◌≡◌, refl, sym, ◌∙◌, ap, subst, ℕ, zero, suc, ◌<◌, ◌≤◌, Bool, true, false, cond, List, [], ◌∷◌, length, map, slice_get, option_map, Option, Some, None, inl, inr, arith}
 use Rattle.std.specs.Prelude.{nat_eq, nat_lt, not}
-use Rattle.std.proofs.Math.Numerals.{one-add}
 use Rattle.std.proofs.lemmas.Bool.{eq-eqb, eqb-true, ltb-true, ltb-false}
 use Rattle.std.proofs.lemmas.Option.{slice_get_within, slice_get-map}
 use Rattle.std.proofs.lemmas.List.{length-map}
@@ -10,15 +9,18 @@ use Rattle.hs_scheme.specs.declared.term.Head.TheVariants.{Var, Nt, Tm}
 use Rattle.hs_scheme.specs.declared.term.Rule.{Rule}
 use Rattle.hs_scheme.specs.Tree.{Tree, Trees, node, none, more}
 use Rattle.hs_scheme.specs.Sorted.{SortedData}
-use Rattle.hs_passes.specs.Selection.{place, chosen, renamed_head, renamed, renamed_all, renamed_rule, selected}
+use Rattle.hs_scheme.proofs.Lists.{not_equal}
+use Rattle.hs_passes.specs.Selection.{place, renamed_head, renamed, renamed_all, renamed_rule, selected}
 use Rattle.hs_passes.specs.Aliases.{alias_target, first_alias, without_alias, folded_by, folded, without_aliases}
-use Rattle.hs_passes.proofs.AliasLemmas.{not_equal, first_is_alias}
-use Rattle.hs_passes.proofs.Choosing.{length-chosen, place-le, place-lt, chosen-at}
+use Rattle.hs_passes.proofs.AliasLemmas.{first_is_alias}
+use Rattle.hs_passes.proofs.Choosing.{length-chosen, place-lt, chosen-at}
 use Rattle.hs_passes.proofs.Reaching.{either_le}
 use Rattle.hs_passes.specs.Scan.{stood, target_of, scanned}
 use Rattle.hs_passes.proofs.Scanning.{kept_by, number_by, selected_by, folded_once}
 use Rattle.hs_passes.proofs.Selected.{RuleOrigin, rule_origin}
 use Rattle.hs_passes.proofs.Folding.{now, retarget_in, first_alias_at, no_first_alias, Scan, settle, fold_one}
+use Rattle.hs_passes.proofs.Places.{place-less}
+use Rattle.hs_passes.proofs.Remaining.{place-all, chosen-all}
 
 module _ (s : SortedData) (rep : ℕ → ℕ) (k : ℕ) (scan : Scan s.scheme.rules rep k) where
   abbrev rules : List Rule
@@ -82,23 +84,12 @@ module _ (s : SortedData) (rep : ℕ → ℕ) (k : ℕ) (scan : Scan s.scheme.ru
 abbrev fold_all : SortedData → SortedData
 fold_all s = folded (length s.scheme.rules) s
 
-place_less : (keep : ℕ → Bool) (f n : ℕ) → keep f ≡ false → f < n → place keep n < n
-place_less keep f zero e lt = absurd (omega arith)
-place_less keep zero (suc n) e lt =
-    let le = place-le (λ g. keep (suc g)) n in
-    subst (λ b. cond b 1 0 + place (λ g. keep (suc g)) n < suc n) (sym e) (omega (arith, le))
-place_less keep (suc f) (suc n) e lt = by (keep 0) (place_less (λ g. keep (suc g)) f n e (omega arith))
-  where
-    by : (b : Bool) → place (λ g. keep (suc g)) n < n → cond b 1 0 + place (λ g. keep (suc g)) n < suc n
-    by true l = omega (arith, l)
-    by false l = omega (arith, l)
-
 shorter : (s : SortedData) (f g : ℕ) → first_alias s.scheme.rules ≡ Some (f, g) → length (without_alias f g s).scheme.rules < length s.scheme.rules
 shorter s f g e =
     let is = first_is_alias s.scheme.rules f g e in
     let keep : ℕ → Bool = λ h. not (nat_eq h f) in
     let to : ℕ → ℕ = λ h. place keep (cond (nat_eq h f) g h) in
-    let less = place_less keep f (length s.scheme.rules) (ap not (eq-eqb f f refl)) (slice_get_within s.scheme.rules f is.rule is.at) in
+    let less = place-less keep f (length s.scheme.rules) (ap not (eq-eqb f f refl)) (slice_get_within s.scheme.rules f is.rule is.at) in
     let long = length-chosen keep (map (renamed_rule to) s.scheme.rules) ∙ ap (place keep) (length-map s.scheme.rules (renamed_rule to)) in
     omega (arith, less, long)
 
@@ -131,14 +122,6 @@ fold_step s f g e = by (length s.scheme.rules) refl
     by (suc n) d =
         let less = shorter s f g e in
         ap (λ o. folded_by o (folded n) s) e ∙ enough n (length (without_alias f g s).scheme.rules) (without_alias f g s) (omega (arith, less, d)) (omega arith)
-
-chosen-all : {A : Type 0} (xs : List A) → chosen (λ _. true) xs ≡ xs
-chosen-all [] = refl
-chosen-all (x ∷ xs) = ap (λ ys. x ∷ ys) (chosen-all xs)
-
-place-all : (n : ℕ) → place (λ _. true) n ≡ n
-place-all zero = refl
-place-all (suc n) = ap (λ k. 1 + k) (place-all n) ∙ one-add n
 
 own_head : (h : Head) → renamed_head (λ f. f) h ≡ h
 own_head (Var j) = refl

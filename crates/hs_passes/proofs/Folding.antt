@@ -7,9 +7,9 @@ use Rattle.hs_scheme.specs.declared.term.Head.{Head}
 use Rattle.hs_scheme.specs.declared.term.Head.TheVariants.{Var, Nt, Tm}
 use Rattle.hs_scheme.specs.declared.term.Rule.{Rule}
 use Rattle.hs_scheme.specs.Tree.{Tree, Trees, node, none, more}
+use Rattle.hs_scheme.proofs.Lists.{not_equal}
 use Rattle.hs_passes.specs.Selection.{place, renamed, renamed_all}
 use Rattle.hs_passes.specs.Aliases.{is_parameter, are_parameters, target_in, alias_target, or_later, alias_from, first_alias}
-use Rattle.hs_passes.proofs.AliasLemmas.{not_equal}
 use Rattle.hs_passes.proofs.Choosing.{place-eq}
 use Rattle.hs_passes.proofs.Reaching.{either_le}
 use Rattle.hs_passes.specs.Scan.{target_of}

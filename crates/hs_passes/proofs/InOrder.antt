@@ -3,7 +3,7 @@ use Rattle.std.proofs.Common.{◌≡◌, refl, sym, ◌∙◌, ap, subst, ℕ, z
 use Rattle.std.specs.Prelude.{◌||◌, ◌&&◌, nat_lt, nat_le, sum, slice_index}
 use Rattle.std.proofs.Math.Nat.{eq-or-lt_of_le}
 use Rattle.std.proofs.lemmas.Bool.{cases_lt, le-leb, lt-ltb, ltb-true, and_parts, or_cases, false_from_ne_true}
-use Rattle.std.proofs.lemmas.Option.{slice_get-get_or, slice_get_within}
+use Rattle.std.proofs.lemmas.Option.{slice_get-get_or, slice_get_within, same_Some}
 use Rattle.std.proofs.lemmas.List.{get_or-map}
 use Rattle.hs_scheme.specs.declared.term.Head.{Head}
 use Rattle.hs_scheme.specs.declared.term.Head.TheVariants.{Var, Nt, Tm}
@@ -11,7 +11,6 @@ use Rattle.hs_scheme.specs.declared.term.Rule.{Rule}
 use Rattle.hs_scheme.specs.Tree.{Tree, node, forest}
 use Rattle.hs_scheme.specs.Parameters.{counts_of, IsParameter, parameter_of}
 use Rattle.hs_scheme.proofs.ParameterLemmas.{number_within}
-use Rattle.hs_steps.proofs.Terms.{same_some}
 use Rattle.hs_passes.specs.Leaving.{Keep, keeps}
 use Rattle.hs_passes.specs.Unused.{needs_at}
 use Rattle.hs_passes.specs.Needing.{live, live_in, kept, KeepsOnlyLive, IsAbove}
@@ -58,7 +57,7 @@ module _ (rank : ℕ → ℕ → ℕ) where
   rules_more rules i r lt is before it g q less at = elim (eq-or-lt_of_le (at_most i g less)) [
     | inl e ↦
         let there : slice_get rules i ≡ Some r = slice_get-get_or rules i r lt ∙ ap (λ (k : Rule). Some k) (sym is) in
-        let same : r ≡ q = same_some r q (sym there ∙ (ap (slice_get rules) (sym e) ∙ at)) in
+        let same : r ≡ q = same_Some r q (sym there ∙ (ap (slice_get rules) (sym e) ∙ at)) in
         subst (λ (k : Rule). IsInOrder rank g never k.body) same (subst (λ m. IsInOrder rank m never r.body) (sym e) it)
     | inr l ↦ before g q l at
   ]

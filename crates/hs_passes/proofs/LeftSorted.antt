@@ -14,7 +14,7 @@ use Rattle.hs_passes.specs.Selection.{place, chosen}
 use Rattle.hs_passes.specs.Weight.{params_of, weight}
 use Rattle.hs_passes.specs.Leaving.{Keep, keeps, chosen_trees, head_left, term_left, terms_left, rule_left, sort_left, by_number, with_parameters}
 use Rattle.hs_passes.proofs.Choosing.{length-chosen, place-le, place-lt, chosen-at}
-use Rattle.hs_passes.proofs.Remaining.{children-chosen, chosen_trees-all, length-left, at_number, length-by_number}
+use Rattle.hs_passes.proofs.Remaining.{children-chosen, length-left, at_number, length-by_number, sort_left-all}
 use Rattle.hs_passes.proofs.Places.{place-mono, place-less}
 use Rattle.hs_passes.proofs.Fitting.{Fits, FitsIn}
 use Rattle.hs_passes.proofs.Simulation.{Before, before}
@@ -42,10 +42,6 @@ module _ (keep : Keep) (own : ℕ → Bool) (params rules terminals : ℕ) where
             → TermsInRange (place own params) rules terminals (cond b (more (term_left keep own t) (chosen_trees (λ i. stays (suc i)) (terms_left keep own ts))) (chosen_trees (λ i. stays (suc i)) (terms_left keep own ts)))
         by true e here below = (here e, below)
         by false e here below = below
-
--- sorts of which arguments go
-sort_left-all : (k : SortTree) → sort_left (λ _. true) k ≡ k
-sort_left-all (node u ks) = ap (node u) (chosen_trees-all ks)
 
 sort_left-arrow : (p : ℕ → Bool) (a b : SortTree) → sort_left p (arrow a b) ≡ cond (p 0) (arrow a (sort_left (λ i. p (suc i)) b)) (sort_left (λ i. p (suc i)) b)
 sort_left-arrow p a (node u ks) = by (p 0)

@@ -6,9 +6,9 @@ use Rattle.std.proofs.lemmas.Bool.{eq-eqb, ltb-true, ltb-false}
 use Rattle.std.proofs.lemmas.List.{get_or-set_same, get_or-set_other}
 use Rattle.std.proofs.lemmas.Option.{slice_get_past}
 use Rattle.hs_scheme.specs.declared.term.Rule.{Rule}
+use Rattle.hs_scheme.proofs.Lists.{not_equal}
 use Rattle.hs_passes.specs.Scan.{stood, target_of, scanned}
 use Rattle.hs_passes.specs.Links.{AreLinks, Follow}
-use Rattle.hs_passes.proofs.AliasLemmas.{not_equal}
 
 -- below, equal or above
 order : (a b : ℕ) → (a < b) ⊎ ((a ≡ b) ⊎ (b < a))

@@ -1,6 +1,6 @@
 -- With the parameters that stay, a scheme makes the same steps.
 use Rattle.std.proofs.Common.{◌≡◌, refl, sym, ◌∙◌, ap, subst, ℕ, zero, suc, true, List, length, map, slice_get, option_map, Some, None, inl, inr}
-use Rattle.std.proofs.lemmas.Option.{slice_get-map, slice_get_cases}
+use Rattle.std.proofs.lemmas.Option.{slice_get-map, slice_get_cases, same_Some}
 use Rattle.std.proofs.lemmas.List.{length-map}
 use Rattle.hs_scheme.specs.declared.term.Head.{Head}
 use Rattle.hs_scheme.specs.declared.term.Head.TheVariants.{Var, Nt, Tm}
@@ -18,7 +18,7 @@ use Rattle.hs_scheme.specs.Steps.{Path, StepsTo, IsChild, HasNoTransition, Fails
 use Rattle.hs_scheme.specs.TreeTerms.{IsTreeTerm, AreSortedBy}
 use Rattle.hs_scheme.specs.TreeTerms.{ground as ground_sorts}
 use Rattle.hs_scheme.specs.Unsorted.{AgreesWithRanks}
-use Rattle.hs_steps.proofs.Terms.{same_some, unfolds_full}
+use Rattle.hs_steps.proofs.Terms.{unfolds_full}
 use Rattle.hs_steps.proofs.Sorted.{count, body_in_range, start_sorted, step_sorted}
 use Rattle.hs_passes.specs.Selection.{place, chosen}
 use Rattle.hs_passes.specs.Leaving.{Keep, chosen_trees, term_left, terms_left, rule_left, by_number, with_parameters}
@@ -87,7 +87,7 @@ module _ (keep : Keep) (s : SortedData) (scheme : IsScheme s.scheme) (sorted : I
     unfolded_fits : (f : ℕ) (us : Trees Head) (u : Tree Head) → IsTreeTerm sorts (node (Nt f) us) → Fits keep ground (node (Nt f) us) → unfolded rules f (children us) ≡ Some u → Fits keep ground u
     unfolded_fits f us u is p e = elim (slice_get_cases rules f).1 [
       | inl (r, _, at, _) ↦
-          subst (Fits keep ground) (same_some (replacing r.body (children us)) u (sym (replaced_there f r us at is p) ∙ e)) (fits_there f r us at is p)
+          subst (Fits keep ground) (same_Some (replacing r.body (children us)) u (sym (replaced_there f r us at is p) ∙ e)) (fits_there f r us at is p)
       | inr (_, at) ↦ let none_there : None ≡ Some u = sym (ap (λ o. body_with o (children us)) at) ∙ e in absurd (cc)
     ]
 

@@ -3,6 +3,8 @@ use Rattle.std.proofs.Common.{◌≡◌, refl, sym, ◌∙◌, ap, subst, ℕ, z
 use Rattle.std.specs.Prelude.{◌||◌, ◌&&◌, nat_eq, nat_le, nat_lt, slice_set, slice_index}
 use Rattle.std.proofs.lemmas.Bool.{eq-eqb, eqb-true, lt-ltb, ltb-true, le-leb, leb-true, and_from, or_left, or_right, cases_lt, and_parts, or_cases, false_from_ne_true}
 use Rattle.std.proofs.Math.Seq.{take-suc}
+use Rattle.std.specs.Cmp.{both_ways}
+use Rattle.std.proofs.Math.Bool.{or-false, and-false}
 use Rattle.hs_scheme.specs.Parameters.{IsParameter, parameter_of}
 use Rattle.hs_scheme.proofs.ParameterLemmas.{number_once, number_within}
 use Rattle.hs_scheme.specs.declared.term.Head.{Head}
@@ -12,11 +14,6 @@ use Rattle.hs_passes.specs.Leaving.{Keep, keeps}
 use Rattle.hs_passes.specs.Unused.{needs_at, of_some}
 use Rattle.hs_passes.specs.Needing.{live, live_in, GainsFlags}
 use Rattle.hs_passes.specs.Selection.{stays}
-use Rattle.hs_passes.proofs.Needs.{same_bool}
-
-pub or_nothing : (b : Bool) → (b || false) ≡ b
-or_nothing true = refl
-or_nothing false = refl
 
 pub or_assoc : (a b c : Bool) → ((a || b) || c) ≡ (a || (b || c))
 or_assoc true b c = refl
@@ -30,7 +27,7 @@ first_not_later n = false_from_ne_true (nat_eq 0 (suc n)) (λ e. let is : 0 ≡ 
 
 both_later : (m n : ℕ) → nat_eq (suc m) (suc n) ≡ nat_eq m n
 both_later m n =
-    same_bool (nat_eq (suc m) (suc n)) (nat_eq m n)
+    both_ways (nat_eq (suc m) (suc n)) (nat_eq m n)
     (λ e. let is : suc m ≡ suc n = eqb-true (suc m) (suc n) e in eq-eqb m n (omega arith))
     (λ e. eq-eqb (suc m) (suc n) (ap suc (eqb-true m n e)))
 
@@ -41,13 +38,13 @@ stays-set (b ∷ flags) zero zero lt = by b
     by : (c : Bool) → true ≡ (c || true)
     by true = refl
     by false = refl
-stays-set (b ∷ flags) zero (suc m) lt = sym (ap (λ e. stays flags m || e) (later_not_first m) ∙ or_nothing (stays flags m))
-stays-set (b ∷ flags) (suc n) zero lt = sym (ap (λ e. b || e) (first_not_later n) ∙ or_nothing b)
+stays-set (b ∷ flags) zero (suc m) lt = sym (ap (λ e. stays flags m || e) (later_not_first m) ∙ or-false (stays flags m))
+stays-set (b ∷ flags) (suc n) zero lt = sym (ap (λ e. b || e) (first_not_later n) ∙ or-false b)
 stays-set (b ∷ flags) (suc n) (suc m) lt = stays-set flags n m (omega arith) ∙ ap (λ e. stays flags m || e) (sym (both_later m n))
 
 module _ (counts : List ℕ) where
   pub gains_nothing : (flags : List Bool) → GainsFlags counts flags flags (λ f j. false)
-  gains_nothing flags f j is = sym (or_nothing (stays flags (parameter_of counts f j)))
+  gains_nothing flags f j is = sym (or-false (stays flags (parameter_of counts f j)))
 
   pub gains_both : (old mid new : List Bool) (one two : ℕ → ℕ → Bool) → GainsFlags counts old mid one → GainsFlags counts mid new two → GainsFlags counts old new (λ f j. one f j || two f j)
   gains_both old mid new one two g h f j is =
@@ -59,7 +56,7 @@ module _ (counts : List ℕ) where
   module _ (rule param : ℕ) where
     same_number : (f j : ℕ) → IsParameter counts rule param → IsParameter counts f j → nat_eq (parameter_of counts f j) (parameter_of counts rule param) ≡ (nat_eq rule f && nat_eq param j)
     same_number f j p q =
-        same_bool (nat_eq (parameter_of counts f j) (parameter_of counts rule param)) (nat_eq rule f && nat_eq param j)
+        both_ways (nat_eq (parameter_of counts f j) (parameter_of counts rule param)) (nat_eq rule f && nat_eq param j)
         (λ e.
         let once = number_once counts rule param f j p q (sym (eqb-true (parameter_of counts f j) (parameter_of counts rule param) e)) in
         and_from (nat_eq rule f) (nat_eq param j) (eq-eqb rule f once.0) (eq-eqb param j once.1))
@@ -89,14 +86,10 @@ module _ (counts : List ℕ) where
     no_less : (j : ℕ) → nat_lt j 0 ≡ false
     no_less j = false_from_ne_true (nat_lt j 0) (λ e. absurd (omega (arith, ltb-true j 0 e)))
 
-    and_false : (b : Bool) → (b && false) ≡ false
-    and_false true = refl
-    and_false false = refl
-
     pub missing_none : (old : List Bool) → GainsFlags counts old old (Missing 0)
     missing_none old =
         gains_same old old (λ f j. false) (Missing 0)
-        (λ f j q. sym (ap (λ b. nat_eq rule f && (nat_le given j && b)) (no_less j) ∙ (ap (λ b. nat_eq rule f && b) (and_false (nat_le given j)) ∙ and_false (nat_eq rule f)))) (gains_nothing old)
+        (λ f j q. sym (ap (λ b. nat_eq rule f && (nat_le given j && b)) (no_less j) ∙ (ap (λ b. nat_eq rule f && b) (and-false (nat_le given j)) ∙ and-false (nat_eq rule f)))) (gains_nothing old)
 
     parts : (f j k : ℕ) → Missing k f j ≡ true → (rule ≡ f) × (given ≤ j) × (j < k)
     parts f j k e =
@@ -111,7 +104,7 @@ module _ (counts : List ℕ) where
     pub missing_more : (old mid new : List Bool) (k : ℕ) → given ≤ k → GainsFlags counts old mid (Missing k) → GainsFlags counts mid new (λ f j. nat_eq rule f && nat_eq k j) → GainsFlags counts old new (Missing (k + 1))
     missing_more old mid new k le g h =
         gains_same old new (λ f j. Missing k f j || (nat_eq rule f && nat_eq k j)) (Missing (k + 1))
-        (λ f j q. same_bool (Missing k f j || (nat_eq rule f && nat_eq k j)) (Missing (k + 1) f j)
+        (λ f j q. both_ways (Missing k f j || (nat_eq rule f && nat_eq k j)) (Missing (k + 1) f j)
         (λ e. elim (or_cases (Missing k f j) (nat_eq rule f && nat_eq k j) e) [
           | inl a ↦ let p = parts f j k a in is_missing f j (k + 1) p.0 p.1 (omega (arith, p.2))
           | inr a ↦ let b = and_parts (nat_eq rule f) (nat_eq k j) a in let is : k ≡ j = eqb-true k j b.1 in is_missing f j (k + 1) (eqb-true rule f b.0) (omega (arith, is, le)) (omega (arith, is))
@@ -127,7 +120,7 @@ module _ (counts : List ℕ) where
     pub missing_skipped : (old new : List Bool) (k : ℕ) → k < given → GainsFlags counts old new (Missing k) → GainsFlags counts old new (Missing (k + 1))
     missing_skipped old new k lt g =
         gains_same old new (Missing k) (Missing (k + 1))
-        (λ f j q. same_bool (Missing k f j) (Missing (k + 1) f j)
+        (λ f j q. both_ways (Missing k f j) (Missing (k + 1) f j)
         (λ e. let p = parts f j k e in is_missing f j (k + 1) p.0 p.1 (omega (arith, p.2)))
         (λ e. let p = parts f j (k + 1) e in is_missing f j k p.0 p.1 (omega (arith, p.1, p.2, lt))))
         g
@@ -135,7 +128,7 @@ module _ (counts : List ℕ) where
     pub missing_all : (old new : List Bool) (k : ℕ) → slice_index counts rule ≤ k → GainsFlags counts old new (Missing k) → GainsFlags counts old new (λ f j. nat_eq rule f && nat_le given j)
     missing_all old new k all g =
         gains_same old new (Missing k) (λ f j. nat_eq rule f && nat_le given j)
-        (λ f j q. same_bool (Missing k f j) (nat_eq rule f && nat_le given j)
+        (λ f j q. both_ways (Missing k f j) (nat_eq rule f && nat_le given j)
         (λ e. let p = parts f j k e in and_from (nat_eq rule f) (nat_le given j) (eq-eqb rule f p.0) (le-leb given j p.1))
         (λ e.
         let b = and_parts (nat_eq rule f) (nat_le given j) e in
@@ -146,7 +139,7 @@ module _ (counts : List ℕ) where
 
 -- arguments one after another
 live_in-append : (keep : Keep) (g f j : ℕ) (p : ℕ → Bool) (us : List (Tree Head)) (u : Tree Head) → live_in keep g f j p (forest (us ++ u ∷ [])) ≡ (live_in keep g f j p (forest us) || (p (length us) && live keep g f j u))
-live_in-append keep g f j p [] u = or_nothing (p 0 && live keep g f j u)
+live_in-append keep g f j p [] u = or-false (p 0 && live keep g f j u)
 live_in-append keep g f j p (v ∷ us) u =
     let here = p 0 && live keep g f j v in
     ap (λ b. here || b) (live_in-append keep g f j (λ i. p (suc i)) us u) ∙ sym (or_assoc here (live_in keep g f j (λ i. p (suc i)) (forest us)) (p (suc (length us)) && live keep g f j u))
@@ -164,7 +157,7 @@ whole keep g f j h us = ap (λ vs. needs_at g f j h (length vs) || live_in keep 
 
 -- rules one after another
 of_some-append : (test : ℕ → Rule → Bool) (rules : List Rule) (r : Rule) → of_some test (rules ++ r ∷ []) ≡ (of_some test rules || test (length rules) r)
-of_some-append test [] r = or_nothing (test 0 r)
+of_some-append test [] r = or-false (test 0 r)
 of_some-append test (q ∷ rules) r =
     ap (λ b. test 0 q || b) (of_some-append (λ g. test (suc g)) rules r) ∙ sym (or_assoc (test 0 q) (of_some (λ g. test (suc g)) rules) (test (suc (length rules)) r))
 

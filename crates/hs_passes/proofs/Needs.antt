@@ -15,11 +15,6 @@ use Rattle.hs_passes.proofs.Places.{place-leb}
 use Rattle.hs_passes.proofs.Remaining.{length-left}
 use Rattle.hs_passes.proofs.Fitting.{HeadFits, Fits, FitsIn}
 
-pub same_bool : (a b : Bool) → (a ≡ true → b ≡ true) → (b ≡ true → a ≡ true) → a ≡ b
-same_bool true b p q = sym (p refl)
-same_bool false true p q = q refl
-same_bool false false p q = refl
-
 -- the rule of which a test holds
 pub record OfSome (test : ℕ → Rule → Bool) (rules : List Rule) : Type 0 where
   pub number : ℕ

@@ -3,6 +3,7 @@ use Rattle.std.proofs.Common.{◌≡◌, refl, sym, ◌∙◌, ap, subst, ℕ, z
 use Rattle.std.specs.Prelude.{◌||◌, ◌&&◌, nat_le}
 use Rattle.std.proofs.lemmas.Bool.{or_left, or_right, eqb-true, leb-true, leb-false, and_parts, and_from, or_cases}
 use Rattle.std.proofs.lemmas.Option.{slice_get_within, get_or_from_slice_get}
+use Rattle.std.specs.Cmp.{both_ways}
 use Rattle.hs_scheme.specs.declared.term.Rule.{Rule}
 use Rattle.hs_scheme.specs.Scheme.{AreRules, TermInRange}
 use Rattle.hs_passes.specs.Occurrences.{mentions}
@@ -81,11 +82,6 @@ either_le m n le = by (nat_le m n) refl
     by true e = inr (leb-true m n e)
     by false e = let lt : n < m = leb-false m n e in inl (omega arith)
 
-pub same_bool : (a b : Bool) → (a ≡ true → b ≡ true) → (b ≡ true → a ≡ true) → a ≡ b
-same_bool true b p q = sym (p refl)
-same_bool false true p q = q refl
-same_bool false false p q = refl
-
 module _ (rules : List Rule) where
   is_reached : (n g : ℕ) → reached rules n g ≡ true → IsReachable rules g
   is_reached zero g e = let is : g ≡ 0 = eqb-true g 0 e in subst (IsReachable rules) (sym is) from_start
@@ -158,7 +154,7 @@ module _ (rules : List Rule) where
         → ((f g : ℕ) (r : Rule) → set f ≡ true → slice_get rules f ≡ Some r → mentions g r.body ≡ true → set g ≡ true)
         → (f : ℕ) → set f ≡ is_reachable rules f
     decides set sound first closed f =
-        same_bool (set f) (is_reachable rules f) (λ e. reachable_reached f (sound f e)) (λ e. go f (reached_reachable f e))
+        both_ways (set f) (is_reachable rules f) (λ e. reachable_reached f (sound f e)) (λ e. go f (reached_reachable f e))
       where
         go : (g : ℕ) → IsReachable rules g → set g ≡ true
         go _ from_start = first

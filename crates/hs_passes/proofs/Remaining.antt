@@ -181,11 +181,11 @@ module _ (keep other : Keep) where
 abbrev pub all : Keep
 all f j = true
 
-place-all : (n : ℕ) → place (λ _. true) n ≡ n
+pub place-all : (n : ℕ) → place (λ _. true) n ≡ n
 place-all zero = refl
 place-all (suc n) = ap (λ k. 1 + k) (place-all n) ∙ one-add n
 
-chosen-all : {A : Type 0} (xs : List A) → chosen (λ _. true) xs ≡ xs
+pub chosen-all : {A : Type 0} (xs : List A) → chosen (λ _. true) xs ≡ xs
 chosen-all [] = refl
 chosen-all (x ∷ xs) = ap (λ ys. x ∷ ys) (chosen-all xs)
 
@@ -207,7 +207,7 @@ mutual
   terms_left-all none = refl
   terms_left-all (more t ts) = λ i. more (term_left-all t i) (terms_left-all ts i)
 
-sort_left-all : (k : SortTree) → sort_left (λ _. true) k ≡ k
+pub sort_left-all : (k : SortTree) → sort_left (λ _. true) k ≡ k
 sort_left-all (node u ks) = ap (node u) (chosen_trees-all ks)
 
 by_number-own : {A : Type 0} (xs : List A) → by_number (λ f x. x) xs ≡ xs

@@ -9,8 +9,7 @@ use Rattle.hs_scheme.specs.declared.term.Head.{Head}
 use Rattle.hs_scheme.specs.declared.term.Head.TheVariants.{Var, Nt, Tm}
 use Rattle.hs_scheme.specs.declared.term.Rule.{Rule}
 use Rattle.hs_scheme.specs.Scheme.{AreRules}
-use Rattle.std.proofs.lemmas.Option.{slice_get_within}
-use Rattle.hs_steps.proofs.Terms.{same_some}
+use Rattle.std.proofs.lemmas.Option.{slice_get_within, same_Some}
 use Rattle.hs_scheme.specs.Tree.{Tree, Trees, node, none, more, forest}
 use Rattle.hs_passes.specs.Occurrences.{is_nonterminal, mentions, mentioned_in, own_nonterminal, nonterminals, nonterminals_of}
 use Rattle.hs_passes.specs.Marking.{marked, newly}
@@ -290,7 +289,7 @@ module _ (rules : List Rule) (terminals : ℕ) (are : AreRules rules terminals) 
           here : (g k : ℕ) (q : Rule) → In g (f ∷ []) → slice_get rules g ≡ Some q → mentions k q.body ≡ true → stays (marked ns keep) k ≡ true
           here g k q (inr p) at_g occurs = absurd p
           here g k q (inl e) at_g occurs =
-              let same : r ≡ q = same_some r q (sym at ∙ (ap (slice_get rules) e ∙ at_g)) in
+              let same : r ≡ q = same_Some r q (sym at ∙ (ap (slice_get rules) e ∙ at_g)) in
               let i : In k ns = subst (λ (s : Rule). In k (nonterminals s.body)) (sym same) (mention_in k q.body occurs) in
               marked_in ns keep k (within k i) i
 

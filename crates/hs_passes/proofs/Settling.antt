@@ -1,7 +1,7 @@
 -- Flags that are narrowed to what is needed.
 use Rattle.std.proofs.Common.{◌≡◌, refl, sym, ◌∙◌, ap, subst, ℕ, zero, suc, ◌+◌, ◌<◌, ◌≤◌, Bool, true, false, cond, List, [], ◌∷◌, length, slice_get, Some, inl, inr, arith}
 use Rattle.std.specs.Prelude.{◌&&◌, nat_lt, slice_set, slice_index, sum}
-use Rattle.std.proofs.lemmas.Bool.{and_from, lt-ltb, ltb-true, cases_lt, and_parts}
+use Rattle.std.proofs.lemmas.Bool.{and_from, lt-ltb, ltb-true, cases_lt, and_parts, and_right}
 use Rattle.std.proofs.lemmas.Option.{slice_get_cases}
 use Rattle.std.proofs.lemmas.List.{get_or-map, get_or_past, length-map}
 use Rattle.std.proofs.Math.Nat.{eq-or-lt_of_le}
@@ -110,14 +110,10 @@ module _ (old needed now : List Bool) (changed : Bool) (i : ℕ) (h : Narrowed o
     fewer = h.fewer;
   }
 
-  both_off : (b c : Bool) → c ≡ false → (b && c) ≡ false
-  both_off true c e = e
-  both_off false c e = refl
-
   pub narrowed_clear : stays now i ≡ true → stays needed i ≡ false → Narrowed old needed (slice_set now i false) true (i + 1)
   narrowed_clear on off = record {
     done = λ n lt. elim (eq-or-lt_of_le (at_most n lt)) [
-      | inl e ↦ subst (λ k. stays (slice_set now i false) k ≡ (stays old k && stays needed k)) (sym e) (cleared_here now i ∙ sym (both_off (stays old i) (stays needed i) off))
+      | inl e ↦ subst (λ k. stays (slice_set now i false) k ≡ (stays old k && stays needed k)) (sym e) (cleared_here now i ∙ sym (and_right (stays old i) (stays needed i) off))
       | inr less ↦ cleared_elsewhere now i n (λ e. absurd (omega (arith, e, less))) ∙ h.done n less
     ];
     ahead = λ n le. cleared_elsewhere now i n (λ e. absurd (omega (arith, e, le))) ∙ h.ahead n (omega (arith, le));

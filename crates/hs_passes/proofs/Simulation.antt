@@ -1,6 +1,6 @@
 -- Rules under new names make the same steps, but for nonterminals that another one stands for.
 use Rattle.std.proofs.Common.{◌≡◌, refl, sym, ◌∙◌, ap, subst, ℕ, zero, suc, List, [], ◌++◌, slice_get, option_map, Option, Some, None, ◌⊎◌, inl, inr}
-use Rattle.std.proofs.lemmas.Option.{slice_get-map}
+use Rattle.std.proofs.lemmas.Option.{slice_get-map, same_Some}
 use Rattle.hs_scheme.specs.declared.term.Head.{Head}
 use Rattle.hs_scheme.specs.declared.term.Head.TheVariants.{Var, Nt, Tm}
 use Rattle.hs_scheme.specs.declared.term.Rule.{Rule}
@@ -8,7 +8,7 @@ use Rattle.hs_scheme.specs.Transition.{TransitionData}
 use Rattle.hs_scheme.specs.Tree.{Tree, Trees, node, children}
 use Rattle.hs_scheme.specs.Cut.{body_with, unfolded}
 use Rattle.hs_scheme.specs.Steps.{Path, IsChild, HasNoTransition, Fails}
-use Rattle.hs_steps.proofs.Terms.{same_some, unfolding_of}
+use Rattle.hs_steps.proofs.Terms.{unfolding_of}
 use Rattle.hs_passes.specs.Selection.{renamed, renamed_all, renamed_rule}
 use Rattle.hs_passes.proofs.Renaming.{NamesIn, NamesAllIn, names-body, names-children, names-at, children-renamed, renamed-body_with}
 
@@ -20,7 +20,7 @@ pub record Before {A B : Type 0} (f : A → B) (o : Option A) (y : B) : Type 0 w
 
 pub before : {A B : Type 0} (f : A → B) (o : Option A) (y : B) → option_map f o ≡ Some y → Before f o y
 before f None y e = absurd (cc)
-before f (Some x) y e = record { item = x; at = refl; is = same_some (f x) y e }
+before f (Some x) y e = record { item = x; at = refl; is = same_Some (f x) y e }
 
 module _ (rules others : List Rule) (to : ℕ → ℕ) where
   abbrev pub Alike : ℕ → Type 0

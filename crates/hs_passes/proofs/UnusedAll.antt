@@ -1,10 +1,11 @@
 -- Dropping one unused parameter after another comes to the greatest set of needed ones.
 use Rattle.std.proofs.Common.{◌≡◌, refl, sym, ◌∙◌, ap, subst, ℕ, zero, suc, ◌<◌, ◌≤◌, Bool, true, false, cond, List, [], ◌∷◌, slice_get, Option, Some, None, option_map, arith}
 use Rattle.std.specs.Prelude.{◌&&◌, not, nat_eq, sum_by}
-use Rattle.std.proofs.lemmas.Bool.{and_from, eq-eqb, eqb-true, and_parts}
+use Rattle.std.proofs.lemmas.Bool.{and_from, eq-eqb, eqb-true, and_parts, not-false}
+use Rattle.std.proofs.lemmas.Option.{same_Some}
+use Rattle.std.specs.Cmp.{both_ways}
 use Rattle.hs_scheme.specs.declared.term.Rule.{Rule}
 use Rattle.hs_scheme.specs.Sorted.{SortedData}
-use Rattle.hs_steps.proofs.Terms.{same_some}
 use Rattle.hs_passes.specs.Selection.{place}
 use Rattle.hs_passes.specs.Weight.{params_of}
 use Rattle.hs_passes.specs.Leaving.{Keep, rule_left, with_parameters}
@@ -16,7 +17,7 @@ use Rattle.hs_passes.proofs.Remaining.{all, left-all, then, left-twice, at_numbe
 use Rattle.hs_passes.proofs.Fitting.{Fits}
 use Rattle.hs_passes.proofs.LeftSorted.{left_fewer}
 use Rattle.hs_passes.proofs.Simulation.{before}
-use Rattle.hs_passes.proofs.Needs.{same_bool, of_one, of_some-by_number, of_some-same, live-mono, is_live-mono, fits_of, needs-left}
+use Rattle.hs_passes.proofs.Needs.{of_one, of_some-by_number, of_some-same, live-mono, is_live-mono, fits_of, needs-left}
 
 -- what the search for a number finds
 record Below (test : ℕ → Bool) (n k : ℕ) : Type 0 where
@@ -31,11 +32,11 @@ found_below test (suc n) k e = by (found_below (λ i. test (suc i)) n) (test 0) 
     later rest None d e = absurd (cc)
     later rest (Some j) d e =
         let h = rest j d in
-        let is : suc j ≡ k = same_some (suc j) k e in
+        let is : suc j ≡ k = same_Some (suc j) k e in
         subst (Below test (suc n)) is (record { within = omega (arith, h.within); holds = h.holds })
 
     by : ((j : ℕ) → first_below (λ i. test (suc i)) n ≡ Some j → Below (λ i. test (suc i)) n j) → (b : Bool) → test 0 ≡ b → cond b (Some 0) (option_map (λ j. suc j) (first_below (λ j. test (suc j)) n)) ≡ Some k → Below test (suc n) k
-    by rest true d e = let is : 0 ≡ k = same_some 0 k e in subst (Below test (suc n)) is (record { within = omega arith; holds = d })
+    by rest true d e = let is : 0 ≡ k = same_Some 0 k e in subst (Below test (suc n)) is (record { within = omega arith; holds = d })
     by rest false d e = later rest (first_below (λ j. test (suc j)) n) refl e
 
 none_below : (test : ℕ → Bool) (n : ℕ) → first_below test n ≡ None → (k : ℕ) → k < n → test k ≡ false
@@ -67,14 +68,14 @@ found_parameter test (r ∷ rules) p e = by (found_parameter (λ f. test (suc f)
     later rest None d e = absurd (cc)
     later rest (Some q) d e =
         let h = rest q d in
-        let is : (suc q.0, q.1) ≡ p = same_some (suc q.0, q.1) p e in
+        let is : (suc q.0, q.1) ≡ p = same_Some (suc q.0, q.1) p e in
         subst (PassesTest test (r ∷ rules)) is (record { rule = h.rule; at = h.at; within = h.within; holds = h.holds })
 
     by : ((q : ℕ × ℕ) → first_parameter (λ f. test (suc f)) rules ≡ Some q → PassesTest (λ f. test (suc f)) rules q) → (o : Option ℕ) → first_below (test 0) r.params ≡ o → here_or_later o (first_parameter (λ f. test (suc f)) rules) ≡ Some p → PassesTest test (r ∷ rules) p
     by rest None d e = later rest (first_parameter (λ f. test (suc f)) rules) refl e
     by rest (Some k) d e =
         let h = found_below (test 0) r.params k d in
-        let is : (0, k) ≡ p = same_some (0, k) p e in
+        let is : (0, k) ≡ p = same_Some (0, k) p e in
         subst (PassesTest test (r ∷ rules)) is (record { rule = r; at = refl; within = h.within; holds = h.holds })
 
 pub no_parameter : (test : ℕ → ℕ → Bool) (rules : List Rule) → first_parameter test rules ≡ None → (f j : ℕ) (r : Rule) → slice_get rules f ≡ Some r → j < r.params → test f j ≡ false
@@ -89,17 +90,13 @@ no_parameter test (q ∷ rules) e f j r at lt = by (λ d h there. no_parameter (
         → (o : Option ℕ) → first_below (test 0) q.params ≡ o → here_or_later o (first_parameter (λ f. test (suc f)) rules) ≡ None → (f : ℕ) → slice_get (q ∷ rules) f ≡ Some r → test f j ≡ false
     by rest (Some k) d e f at = absurd (cc)
     by rest None d e zero at =
-        let is : q ≡ r = same_some q r at in
+        let is : q ≡ r = same_Some q r at in
         none_below (test 0) q.params d j (subst (λ (x : Rule). j < x.params) (sym is) lt)
     by rest None d e (suc f) at = rest (later (first_parameter (λ f. test (suc f)) rules) refl e) f at
 
 not_true : (b : Bool) → not b ≡ true → b ≡ true → ⊥
 not_true true e d = absurd (cc)
 not_true false e d = absurd (cc)
-
-not_false : (b : Bool) → not b ≡ false → b ≡ true
-not_false true e = refl
-not_false false e = absurd (cc)
 
 module _ (s : SortedData) where
   abbrev rules : List Rule
@@ -205,7 +202,7 @@ module _ (s : SortedData) where
   at_end keep h e f j r at lt on =
       let there : slice_get (new keep) f ≡ Some (rule_left keep (keep f) r) = at_number (λ g. rule_left keep (keep g)) rules f ∙ ap (option_map (rule_left keep (keep f))) at in
       sym (needed-left keep h f j on)
-      ∙ not_false (is_needed (new keep) f (place (keep f) j))
+      ∙ not-false (is_needed (new keep) f (place (keep f) j))
       (no_parameter (λ g k. not (is_needed (new keep) g k)) (new keep) e f (place (keep f) j) (rule_left keep (keep f) r) there (place-lt (keep f) j r.params on lt))
 
   stop : (n : ℕ) (keep : Keep) → Reached keep → first_unused (new keep) ≡ None → End n keep
@@ -253,7 +250,7 @@ module _ (s : SortedData) where
 
   module _ (keep : Keep) (greatest : IsGreatest rules keep) where
     same_last : (f j : ℕ) → end.last f j ≡ keep f j
-    same_last f j = same_bool (end.last f j) (keep f j) (greatest.above end.last end.supported f j) (end.reached.above keep greatest.supported f j)
+    same_last f j = both_ways (end.last f j) (keep f j) (greatest.above end.last end.supported f j) (end.reached.above keep greatest.supported f j)
 
     pub last_is : end.last ≡ keep
     last_is = λ i f j. same_last f j i

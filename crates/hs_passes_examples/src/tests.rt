@@ -2,51 +2,19 @@
 
 ghost use Rattle.std.specs.Prelude.{◌≡◌, All, IfOk};
 
+use hs_fixtures::{name_of, sorted_of};
 use hs_passes::{DropUnreachable, DropUnused, FoldAliases, Pass, add, simplify};
-use hs_reader::read_file;
-use hs_resolve::resolve;
-use hs_scheme::{Head, Name, Names, OutOfMemory, Sorted, Term};
-use hs_sorts::infer;
+use hs_scheme::{Head, Names, OutOfMemory, Sorted, Term};
 use std::alloc::Global;
 use std::mem::forget;
 use std::test::Fail;
-
-/// The scheme of a text.
-fn of_text(alloc: Global, text: &str) -> Result<Sorted, Fail> {
-    if text.len() > 1_000 {
-        return Err("a longer text")?;
-    }
-    let raw = read_file(alloc, text.as_bytes())?;
-    let unsorted = resolve(alloc, &raw);
-    forget(raw);
-    Ok(infer(alloc, unsorted?)?)
-}
-
-/// The scheme of a file with these rules.
-fn sorted_of(alloc: Global, rules: &str) -> Result<Sorted, Fail> {
-    let text = format!(in alloc; "%BEGING\n{rules}\n%ENDG\n%BEGINA\nq0 c -> .\n%ENDA\n")?;
-    let sorted = of_text(alloc, text.as_str());
-    forget(text);
-    sorted
-}
-
-/// Adds the name of this number.
-fn push_name(out: &mut String, names: &[Name], number: usize) -> Result<(), OutOfMemory> {
-    let Some(name) = names.get(number) else {
-        return Ok(());
-    };
-    if let Ok(text) = str::from_utf8(name.bytes()) {
-        out.push_str(text)?;
-    }
-    Ok(())
-}
 
 /// Adds the term, with each argument in parentheses. Recurses as deep as the term.
 fn push_term(out: &mut String, names: &Names, term: &Term) -> Result<(), OutOfMemory> {
     match term.head {
         Head::Var(parameter) => write!(out, "x{parameter}")?,
-        Head::Nt(rule) => push_name(out, names.rules.as_slice(), rule as usize)?,
-        Head::Tm(terminal) => push_name(out, names.terminals.as_slice(), terminal as usize)?,
+        Head::Nt(rule) => out.push_str(name_of(names.rules.as_slice(), rule as usize))?,
+        Head::Tm(terminal) => out.push_str(name_of(names.terminals.as_slice(), terminal as usize))?,
     }
     for arg in &term.args {
         out.push_str("(")?;
@@ -59,7 +27,7 @@ fn push_term(out: &mut String, names: &Names, term: &Term) -> Result<(), OutOfMe
 /// Adds the rules, each on a line with the number of its parameters.
 fn push_rules(out: &mut String, sorted: &Sorted) -> Result<(), OutOfMemory> {
     for (i, rule) in sorted.scheme.rules.iter().enumerate() {
-        push_name(out, sorted.names.rules.as_slice(), i)?;
+        out.push_str(name_of(sorted.names.rules.as_slice(), i))?;
         let params = rule.params;
         write!(out, " {params} -> ")?;
         push_term(out, &sorted.names, &rule.body)?;
@@ -188,7 +156,7 @@ fn applied(
 
 /// The same with these passes on a file with these rules.
 fn simplified(alloc: Global, which: Which, rules: &str) -> Result<String, Fail> {
-    let sorted = sorted_of(alloc, rules)?;
+    let sorted = sorted_of(alloc, rules, "q0 c -> .")?;
     let mut passes = passes_of(alloc, which)?;
     let text = applied(alloc, &mut passes, sorted);
     forget(passes);

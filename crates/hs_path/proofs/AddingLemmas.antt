@@ -2,7 +2,7 @@
 use Rattle.std.proofs.Common.{◌≡◌, refl, sym, ◌∙◌, ap, subst as along, ℕ, suc, ◌+◌, ◌<◌, ◌≤◌, if◌then◌else◌, List, [], ◌∷◌, ◌++◌, length, drop, get_or, map, slice_get, Some, arith, inl, inr}
 use Rattle.std.proofs.lemmas.List.{drop_more, drop_all, length_push}
 use Rattle.std.proofs.lemmas.Bool.{eq-eqb, cases_order}
-use Rattle.hs_table_laws.proofs.Places.{read_from}
+use Rattle.std.proofs.lemmas.Option.{get_or_from_slice_get}
 use Rattle.hs_table.specs.Types.{TypeTree}
 use Rattle.hs_table.specs.Entries.{Env, set_at}
 use Rattle.hs_naming.specs.Evidence.{Evidence, Packs, Pack, evidence, no_packs, put, also, stacked, pack_for, packs_for}
@@ -74,7 +74,7 @@ pub each_chosen : (bound : ℕ) (old new : Store) (g : Grows old new) (first : �
     → (k argument place : ℕ) → k < n + 1 → slice_get chosen k ≡ Some (argument, place) → Stands bound new (first + k) (give place)
 each_chosen bound old new g first give chosen n each last k argument place lt at = elim (cases_order k n) [
   | inl e ↦
-      let choice : get_or chosen n (0, 0) ≡ (argument, place) = ap (λ m. get_or chosen m (0, 0)) (sym e) ∙ read_from chosen k (argument, place) (0, 0) at in
+      let choice : get_or chosen n (0, 0) ≡ (argument, place) = ap (λ m. get_or chosen m (0, 0)) (sym e) ∙ get_or_from_slice_get chosen k (argument, place) (0, 0) at in
       along (λ (m : ℕ). Stands bound new (first + m) (give place)) (sym e) (along (λ (c : ℕ × ℕ). Stands bound new (first + n) (give c.1)) choice last)
   | inr other ↦ elim other [
     | inl less ↦ stands_grow bound old new g (first + k) (give place) (each k argument place less at)

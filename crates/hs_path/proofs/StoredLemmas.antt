@@ -1,11 +1,11 @@
 -- What stands under numbers: it stays as more comes, and what look-ups find of it.
-use Rattle.std.proofs.Common.{◌≡◌, refl, sym, ◌∙◌, ap, subst as along, ℕ, zero, suc, ◌+◌, ◌-◌, ◌<◌, ◌≤◌, if◌then◌else◌, true, false, List, [], ◌∷◌, ◌++◌, length, drop, get_or, map, ltb, eqb, slice_get, Some, None, arith}
+use Rattle.std.proofs.Common.{◌≡◌, refl, sym, ◌∙◌, ap, subst as along, ℕ, zero, suc, ◌+◌, ◌-◌, ◌<◌, ◌≤◌, if◌then◌else◌, true, false, List, [], ◌∷◌, ◌++◌, length, drop, get_or, map, eqb, slice_get, Some, None, arith}
 use Rattle.std.specs.Ordering.{is_eq}
-use Rattle.std.proofs.lemmas.Bool.{ltb-true, ltb-false, eqb-true, eq-eqb}
+use Rattle.std.proofs.lemmas.Bool.{eqb-true, eq-eqb}
 use Rattle.std.proofs.lemmas.List.{drop_more, drop_all}
-use Rattle.std.proofs.lemmas.Option.{slice_get_within, slice_get_read, slice_get_past}
+use Rattle.std.proofs.lemmas.Option.{slice_get_within, same_Some}
+use Rattle.hs_scheme.proofs.Lists.{at_append, slice_get-push, back_at}
 use Rattle.hs_table.specs.Types.{TypeTree, type_cmp}
-use Rattle.hs_table_laws.proofs.Places.{some_same, at_append}
 use Rattle.hs_types.specs.Interned.{InternerData, IsInterner, type_of_id, Begins}
 use Rattle.hs_types.proofs.Numbers.{same_type}
 use Rattle.hs_naming.specs.Evidence.{Evidence, Packs, Pack, evidence, no_packs, put, empty, also, no_evidence, first, pack_at, pick}
@@ -15,19 +15,8 @@ use Rattle.hs_path.specs.declared.evidence.Node.{Node}
 use Rattle.hs_path.specs.declared.evidence.Store.{Store}
 use Rattle.hs_path.specs.Stored.{Stands, Piled, Members, IsNode, IsPack, Grows}
 
--- what `get` reads
-pub got_some : {X : Type 0} (xs : List X) (i : ℕ) (x : X) → true ≡ ltb i (length xs) → x ≡ get_or xs i x → slice_get xs i ≡ Some x
-got_some xs i x there e = slice_get_read xs (length xs) i x refl (ltb-true i (length xs) (sym there)) e
-
-pub got_none : {X : Type 0} (xs : List X) (i : ℕ) → false ≡ ltb i (length xs) → slice_get xs i ≡ None
-got_none xs i past = slice_get_past xs i (ltb-false i (length xs) (sym past))
-
 at_behind : (front numbers : List ℕ) (n at x : ℕ) → length front ≡ n → slice_get numbers at ≡ Some x → slice_get (front ++ numbers) (n + at) ≡ Some x
 at_behind front numbers n at x long e = let same : length front + at ≡ n + at = omega (arith, long) in ap (λ k. slice_get (front ++ numbers) k) (sym same) ∙ (back_at front numbers at ∙ e)
-  where
-    back_at : (xs ys : List ℕ) (i : ℕ) → slice_get (xs ++ ys) (length xs + i) ≡ slice_get ys i
-    back_at [] ys i = let e : 0 + i ≡ i = omega arith in ap (λ k. slice_get ys k) e
-    back_at (x ∷ xs) ys i = let e : length (x ∷ xs) + i ≡ suc (length xs + i) = omega arith in ap (λ k. slice_get (x ∷ (xs ++ ys)) k) e ∙ back_at xs ys i
 
 pub begins_refl : {X : Type 0} (xs : List X) → Begins xs xs
 begins_refl xs = λ i x e. e
@@ -159,13 +148,13 @@ module _ (bound : ℕ) (s : Store) where
   -- what `get` finds
   pub node_got : (number : ℕ) (e : Evidence) (n : Node) → Stands bound s number e → slice_get s.nodes.items number ≡ Some n → IsNode bound s number n e
   node_got number e n h at =
-      let r = stands_node number e h in along (λ (x : Node). IsNode bound s number x e) (some_same r.0 n (sym r.1 ∙ at)) r.2
+      let r = stands_node number e h in along (λ (x : Node). IsNode bound s number x e) (same_Some r.0 n (sym r.1 ∙ at)) r.2
 
   pub node_missed : (number : ℕ) (e : Evidence) → Stands bound s number e → slice_get s.nodes.items number ≡ None → ⊥
   node_missed number e h at = let r = stands_node number e h in absurd (let clash : Some r.0 ≡ None = sym r.1 ∙ at in cc)
 
   pub pack_got : (below number : ℕ) (pack : Pack) (span : Span) → IsPack bound s below number pack → slice_get s.packs.items number ≡ Some span → Members bound s below span.from span.to pack
-  pack_got below number pack span h at = along (λ (x : Span). Members bound s below x.from x.to pack) (some_same h.span span (sym h.at ∙ at)) h.members
+  pack_got below number pack span h at = along (λ (x : Span). Members bound s below x.from x.to pack) (same_Some h.span span (sym h.at ∙ at)) h.members
 
   pub pack_missed : (below number : ℕ) (pack : Pack) → IsPack bound s below number pack → slice_get s.packs.items number ≡ None → ⊥
   pack_missed below number pack h at = absurd (let clash : Some h.span ≡ None = sym h.at ∙ at in cc)
@@ -194,11 +183,7 @@ no_members bound s below p e = along (λ (x : Pack). Members bound s below 0 0 x
 
 -- one more at the end of a list
 pub pushed_at : {X : Type 0} (xs ys : List X) (x : X) (n : ℕ) → ys ≡ xs ++ x ∷ [] → n ≡ length xs → slice_get ys n ≡ Some x
-pushed_at xs ys x n e is = ap (λ l. slice_get l n) e ∙ (ap (λ k. slice_get (xs ++ x ∷ []) k) is ∙ last xs x)
-  where
-    last : {X : Type 0} (xs : List X) (x : X) → slice_get (xs ++ x ∷ []) (length xs) ≡ Some x
-    last [] x = refl
-    last (y ∷ xs) x = last xs x
+pushed_at xs ys x n e is = ap (λ l. slice_get l n) e ∙ (ap (λ k. slice_get (xs ++ x ∷ []) k) is ∙ slice_get-push xs x)
 
 pub begins_pushed : {X : Type 0} (xs ys : List X) (x : X) → ys ≡ xs ++ x ∷ [] → Begins xs ys
 begins_pushed xs ys x e = λ i y h. ap (λ l. slice_get l i) e ∙ at_append xs (x ∷ []) i y h

@@ -1,7 +1,8 @@
 -- A walk goes on with each move of the naming, and what it comes to.
 use Rattle.std.proofs.Common.{◌≡◌, refl, sym, ◌∙◌, ap, subst as along, ℕ, zero, suc, ◌+◌, ◌<◌, ◌≤◌, List, [], ◌∷◌, ◌++◌, append_assoc, append-nil, length, slice_get, Option, Some, None, arith, inl, inr}
 use Rattle.std.proofs.lemmas.Bool.{cases_order}
-use Rattle.std.proofs.lemmas.Option.{slice_get_within}
+use Rattle.std.proofs.lemmas.Option.{slice_get_within, get_or_from_slice_get}
+use Rattle.hs_table_laws.proofs.Least.{starts_same}
 use Rattle.hs_scheme.specs.declared.term.Head.{Head}
 use Rattle.hs_scheme.specs.declared.term.Head.TheVariants.{Var, Nt, Tm}
 use Rattle.hs_scheme.specs.Tree.{Tree, Trees, node}
@@ -13,8 +14,7 @@ use Rattle.hs_table.specs.declared.support.HeadBy.{HeadBy}
 use Rattle.hs_table.specs.declared.support.HeadBy.TheVariants.{Terminal, Rule, Param}
 use Rattle.hs_table.specs.Entries.{EntryData}
 use Rattle.hs_table.specs.Follows.{Support}
-use Rattle.hs_table.specs.Tables.{HasSupports, IsStart}
-use Rattle.hs_table_laws.proofs.Places.{some_same, read_from}
+use Rattle.hs_table.specs.Tables.{HasSupports}
 use Rattle.hs_naming.specs.Evidence.{Evidence, Packs, evidence, no_packs, first, child_pack}
 use Rattle.hs_naming.specs.Naming.{support_at, Move, Named, IsFirstStart, NamesPath}
 use Rattle.hs_naming.specs.Leading.{Turn as Led, Leads, StartLeads}
@@ -239,21 +239,16 @@ module _ (p : ProblemData) (T : List EntryData) (supports : List Support) where
 
   -- the start entry has one place
   module _ (log : HasSupports p T supports) where
-    starts_same : (d e : EntryData) → IsStart p d → IsStart p e → d ≡ e
-    starts_same d e a b =
-        let point : d.point ≡ e.point = some_same d.point e.point (sym a.body ∙ b.body) in
-        λ i. record { point = point i; env = (a.env ∙ sym b.env) i; ty = (a.initial ∙ sym b.initial) i }
-
     apart : (i j : ℕ) (d e : EntryData) → i < j → slice_get T i ≡ Some d → slice_get T j ≡ Some e → d ≡ e → ⊥
     apart i j d e lt at_i at_j same =
-        log.distinct i j e lt (slice_get_within T j e at_j) (read_from T i d e at_i ∙ (same ∙ sym (read_from T j e e at_j)))
+        log.distinct i j e lt (slice_get_within T j e at_j) (get_or_from_slice_get T i d e at_i ∙ (same ∙ sym (get_or_from_slice_get T j e e at_j)))
 
     start_place : (i j : ℕ) → IsFirstStart p T i → StartsAt p T j → i ≡ j
     start_place i j f g = elim (cases_order i j) [
       | inl e ↦ e
       | inr other ↦ elim other [
-        | inl less ↦ absurd (apart i j f.entry g.entry less f.at g.at (starts_same f.entry g.entry f.is_start g.is_start))
-        | inr greater ↦ absurd (apart j i g.entry f.entry greater g.at f.at (starts_same g.entry f.entry g.is_start f.is_start))
+        | inl less ↦ absurd (apart i j f.entry g.entry less f.at g.at (starts_same p f.entry g.entry f.is_start g.is_start))
+        | inr greater ↦ absurd (apart j i g.entry f.entry greater g.at f.at (starts_same p g.entry f.entry g.is_start f.is_start))
       ]
     ]
 

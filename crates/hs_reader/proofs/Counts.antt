@@ -1,5 +1,5 @@
 -- What is read is within the limits that are counted.
-use Rattle.std.proofs.Common.{◌≡◌, ℕ, ◌+◌, ◌<◌, ◌≤◌, Bool, true, false, not, eqb, List, [], ◌∷◌, ◌++◌, length, Option, Some, None, Ok, refl, subst, length-append, arith}
+use Rattle.std.proofs.Common.{◌≡◌, ℕ, ◌<◌, ◌≤◌, Bool, true, false, not, eqb, List, [], ◌∷◌, ◌++◌, length, Option, Some, None, Ok, refl, subst, length-append, arith}
 use Rattle.std.specs.List.{AllByRecursion}
 use Rattle.std.proofs.lemmas.Bool.{eqb-false, ltb-false}
 use Rattle.hs_scheme.specs.Tree.{Tree, Trees, node, none, more, children}
@@ -14,6 +14,7 @@ use Rattle.hs_reader.specs.Faults.{kinds}
 use Rattle.hs_reader.specs.ReadingStages.{Stage, start, in_rules, in_head, in_body, between, in_transitions, in_transition, before_arrow, in_children, closed, finished, leaf, when, any, added, step, which_if, first_of, is_full, is_long, at_word, passed, judged, file_at, ◌>>=◌, run}
 use Rattle.hs_reader.proofs.Stages.{all_push, passes_when}
 use Rattle.hs_reader.proofs.Names.{words}
+use Rattle.hs_reader.proofs.Nodes.{last_count}
 
 -- ---- reading goes on
 
@@ -33,10 +34,6 @@ run_takes s p ps f e = go (step s p.token) (passed s p.token) refl refl e
     go (Some next) None h k e = record { next = next; step_is = h; free = k; rest = e }
 
 -- ---- terms
-
-last_count : (ts : Trees RawName) (u : Tree RawName) → length (children (with_last ts u)) ≡ length (children ts) + 1
-last_count none u = omega arith
-last_count (more t ts) u = omega (arith, last_count ts u)
 
 last_few : (ts : Trees RawName) (u : Tree RawName) → HaveFewArguments ts → HasFewArguments u → HaveFewArguments (with_last ts u)
 last_few none u h k = (k, tt)

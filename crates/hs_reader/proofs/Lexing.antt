@@ -2,11 +2,10 @@
 use Rattle.std.proofs.Common.{◌≡◌, ◌≢◌, ℕ, zero, suc, ◌+◌, ◌<◌, Bool, true, false, cond, eqb, List, [], ◌∷◌, ◌++◌, length, Option, Some, None, refl, sym, ap, subst, ◌∙◌, inl, inr, append_assoc, arith}
 use Rattle.std.specs.Prelude.{codes}
 use Rattle.std.specs.List.{list_all}
-use Rattle.std.proofs.lemmas.Bool.{eqb-true}
+use Rattle.std.proofs.lemmas.Bool.{eqb-true, and_parts}
 use Rattle.std.proofs.lemmas.Bool.Decides.{nat_tests}
 use Rattle.hs_reader.specs.Tokens.{is_blank, is_name_byte, Token, Placed, word, rules_begin, rules_end, automaton_begin, automaton_end, arrow, dot, left, right, end_of_file, bad, Piece, blank, comment, token, token_bytes, piece_bytes, line_ends, IsWholeToken, Begins, IsLast, IsCut, placed, Lexes}
 use Rattle.hs_reader.specs.Reading.{front, line_behind, comment_rest, slash_rest, gap_rest, place, from_token, from_gap, tokens_within, tokens}
-use Rattle.hs_reader.proofs.Runs.{both_true}
 use Rattle.hs_reader.proofs.Cutting.{chosen, gap_shorter, front_shorter, tokens_behind, tokens_front}
 use Rattle.hs_reader.proofs.Pieces.{line_ends-append, line_behind_is, NoEnd, IsComment, comment_is, comment_read, front_is, IsTokenRead, front_read}
 
@@ -72,10 +71,10 @@ no_piece (token t) line bytes rest gap stops begins =
     no_token t line rest (sym same ∙ stops) begins.whole
 
 -- no token has a line's end in it
-name_lines : (w : List ℕ) → list_all is_name_byte w ≡ true → line_ends w ≡ 0
+pub name_lines : (w : List ℕ) → list_all is_name_byte w ≡ true → line_ends w ≡ 0
 name_lines [] h = refl
 name_lines (b ∷ w) h =
-    let both = both_true (is_name_byte b) (list_all is_name_byte w) h in
+    let both = and_parts (is_name_byte b) (list_all is_name_byte w) h in
     let no_end : eqb b 10 ≡ false = no_line b both.0 in
     ap (λ (t : Bool). cond t 1 0 + line_ends w) no_end ∙ omega (arith, name_lines w both.1)
   where

@@ -50,7 +50,7 @@ abbrev pub with_argument : List RawNode → List RawNode
 with_argument [] = []
 with_argument (n ∷ ns) = record { text = n.text; line = n.line; args = n.args + 1 } ∷ ns
 
-last_count : (ts : Trees RawName) (u : Tree RawName) → length (children (with_last ts u)) ≡ length (children ts) + 1
+pub last_count : (ts : Trees RawName) (u : Tree RawName) → length (children (with_last ts u)) ≡ length (children ts) + 1
 last_count none u = omega arith
 last_count (more t ts) u = omega (arith, last_count ts u)
 

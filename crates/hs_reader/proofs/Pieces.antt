@@ -3,13 +3,13 @@ use Rattle.std.proofs.Common.{◌≡◌, ◌≢◌, ℕ, ◌+◌, Bool, true, fa
 use Rattle.std.specs.Prelude.{codes}
 use Rattle.std.specs.Str.{bytes_eq}
 use Rattle.std.specs.List.{list_all, prefix_len}
-use Rattle.std.proofs.lemmas.Bool.{eqb-true}
+use Rattle.std.proofs.lemmas.Bool.{eqb-true, and_parts}
 use Rattle.std.proofs.lemmas.Bool.Decides.{nat_tests}
 use Rattle.std.proofs.lemmas.Slice.Eq.{bytes_eq-Decides}
 use Rattle.std.proofs.lemmas.List.{take-append-drop, take_at, drop_at}
 use Rattle.hs_reader.specs.Tokens.{is_blank, is_name_byte, Token, word, rules_begin, rules_end, automaton_begin, automaton_end, arrow, dot, left, right, end_of_file, bad, token, token_bytes, line_ends, IsWholeToken, Begins}
 use Rattle.hs_reader.specs.Reading.{marker, arrow_front, sign_front, run_front, as_word, front, line_behind, starts_with, comment_rest, slash_rest, gap_rest}
-use Rattle.hs_reader.proofs.Runs.{both_true, prefix_yes, run_passes, run_ends, run_whole}
+use Rattle.hs_reader.proofs.Runs.{prefix_yes, run_passes, run_ends, run_whole}
 use Rattle.hs_reader.proofs.Cutting.{chosen, not_chosen}
 
 -- ---- lines
@@ -61,7 +61,7 @@ comment_is line (b ∷ bytes) x e = go (eqb b 42 && starts_with 47 bytes) refl (
   where
     ends : (eqb b 42 && starts_with 47 bytes) ≡ true → (line, drop 1 bytes) ≡ x → IsComment line (b ∷ bytes) x
     ends h same =
-        let both = both_true (eqb b 42) (starts_with 47 bytes) h in
+        let both = and_parts (eqb b 42) (starts_with 47 bytes) h in
         subst (IsComment line (b ∷ bytes)) same (record {
           text = [];
           bytes_are = ap (λ (k : ℕ). k ∷ bytes) (eqb-true b 42 both.0) ∙ ap (λ (w : List ℕ). 42 ∷ w) (starts_is 47 bytes both.1);
@@ -125,7 +125,7 @@ word_front : (line : ℕ) (w rest : List ℕ) → w ≢ [] → list_all is_name_
 unfolding front
 word_front line [] rest some all none = absurd (some refl)
 word_front line (b ∷ bs) rest some all none =
-    let is_name : is_name_byte b ≡ true = (both_true (is_name_byte b) (list_all is_name_byte bs) all).0 in
+    let is_name : is_name_byte b ≡ true = (and_parts (is_name_byte b) (list_all is_name_byte bs) all).0 in
     let len : prefix_len is_name_byte ((b ∷ bs) ++ rest) ≡ length (b ∷ bs) = run_whole is_name_byte (b ∷ bs) rest all none in (
       chosen (is_name_byte b) (run_front (as_word line) ((b ∷ bs) ++ rest)) (cond (eqb b 37) (run_front marker (bs ++ rest)) (sign_front b (bs ++ rest))) is_name
           ∙ ap (λ (k : ℕ). (as_word line (take k ((b ∷ bs) ++ rest)), drop k ((b ∷ bs) ++ rest))) len

@@ -1,10 +1,7 @@
 -- The longest run of elements that pass a test, at the front of a list.
-use Rattle.std.proofs.Common.{◌≡◌, suc, Bool, true, false, ◌&&◌, List, [], ◌∷◌, ◌++◌, length, take, drop, refl, ap, ◌∙◌, arith}
+use Rattle.std.proofs.Common.{◌≡◌, suc, Bool, true, false, List, [], ◌∷◌, ◌++◌, length, take, drop, refl, ap, ◌∙◌, arith}
 use Rattle.std.specs.List.{list_all, prefix_len}
-
-pub both_true : (b c : Bool) → (b && c) ≡ true → (b ≡ true) × (c ≡ true)
-both_true true c h = (refl, h)
-both_true false c h = absurd cc
+use Rattle.std.proofs.lemmas.Bool.{and_parts}
 
 module _ {A : Type 0} (p : A → Bool) where
   pub prefix_yes : (x : A) (xs : List A) → p x ≡ true → prefix_len p (x ∷ xs) ≡ suc (prefix_len p xs)
@@ -32,5 +29,5 @@ module _ {A : Type 0} (p : A → Bool) where
   pub run_whole : (ws rest : List A) → list_all p ws ≡ true → prefix_len p rest ≡ 0 → prefix_len p (ws ++ rest) ≡ length ws
   run_whole [] rest all none = none
   run_whole (w ∷ ws) rest all none =
-      let b = both_true (p w) (list_all p ws) all in
+      let b = and_parts (p w) (list_all p ws) all in
       prefix_yes w (ws ++ rest) b.0 ∙ ap suc (run_whole ws rest b.1 none)

@@ -4,6 +4,7 @@ use Rattle.std.specs.Prelude.{option_and_then}
 use Rattle.std.specs.List.{AllByRecursion}
 use Rattle.std.proofs.lemmas.List.{map-append, append-nil}
 use Rattle.std.proofs.lemmas.Option.{option_and_then_some}
+use Rattle.std.proofs.lemmas.Bool.{not-true}
 use Rattle.hs_scheme.specs.Tree.{Tree}
 use Rattle.hs_reader.specs.declared.raw.RawName.{RawName}
 use Rattle.hs_reader.specs.Raw.{Rule, Transition}
@@ -106,10 +107,6 @@ any_is : {A : Type 0} (xs : List A) → any xs ≡ true → xs ≢ []
 any_is [] h e = absurd cc
 any_is (x ∷ xs) h e = cc
 
-is_not : (b : Bool) → not b ≡ true → b ≡ false
-is_not true h = absurd cc
-is_not false h = refl
-
 grown : (pre before behind : List Token) (t : Token) → pre ≡ before ++ behind → pre ++ t ∷ [] ≡ before ++ (behind ++ t ∷ [])
 grown pre before behind t e = ap (λ (w : List Token). w ++ t ∷ []) e ∙ append_assoc before behind (t ∷ [])
 
@@ -133,7 +130,7 @@ head_reaches rs n ps (word p) next pre h e =
       before = h.before;
       earlier = h.earlier;
       upper = h.upper;
-      lower = all_push IsLower ps p h.lower (is_not (begins_upper p.text) w.0);
+      lower = all_push IsLower ps p h.lower (not-true (begins_upper p.text) w.0);
       are = grown pre h.before (word n ∷ map word ps) (word p) h.are ∙ ap (λ (w : List Token). h.before ++ (word n ∷ w)) (sym (map-append word ps (p ∷ [])));
     })
 head_reaches rs n ps arrow next pre h e = some_is (in_body rs n ps [] None) next (pre ++ arrow ∷ []) (record { before = pre; head = h; tokens = []; are = refl; begun = refl }) e
@@ -219,7 +216,7 @@ transitions_reaches rs us t next pre h e = absurd cc
 transition_reaches : (rs : List Rule) (us : List Transition) (q : RawName) (t : Token) (next : Stage) (pre : List Token) → TransitionRead pre rs us (word q ∷ []) → from_transition rs us q t ≡ Some next → Reached (pre ++ t ∷ []) next
 transition_reaches rs us q (word a) next pre h e =
     let p = passes_when (not (begins_upper a.text)) (before_arrow rs us q a) next e in
-    subst (Reached (pre ++ word a ∷ [])) p.1 (record { before = h.before; transitions = h.transitions; are = grown pre h.before (word q ∷ []) (word a) h.are }, is_not (begins_upper a.text) p.0)
+    subst (Reached (pre ++ word a ∷ [])) p.1 (record { before = h.before; transitions = h.transitions; are = grown pre h.before (word q ∷ []) (word a) h.are }, not-true (begins_upper a.text) p.0)
 transition_reaches rs us q t next pre h e = absurd cc
 
 arrow_reaches : (rs : List Rule) (us : List Transition) (q a : RawName) (t : Token) (next : Stage) (pre : List Token) → TransitionRead pre rs us (word q ∷ (word a ∷ [])) → IsLower a → from_arrow rs us q a t ≡ Some next → Reached (pre ++ t ∷ []) next

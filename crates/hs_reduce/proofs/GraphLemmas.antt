@@ -1,5 +1,5 @@
 -- The terms of nodes, and how they grow.
-use Rattle.std.proofs.Common.{◌≡◌, refl, sym, ◌∙◌, ap, subst, ℕ, zero, suc, ◌+◌, ◌-◌, ◌<◌, ◌≤◌, List, [], ◌∷◌, ◌++◌, length, take, drop, slice_get, Some, ◌⊎◌, inl, inr, arith, length-append, add-zero}
+use Rattle.std.proofs.Common.{◌≡◌, refl, sym, ◌∙◌, ap, subst, ℕ, zero, suc, ◌+◌, ◌-◌, ◌<◌, ◌≤◌, List, [], ◌∷◌, ◌++◌, length, take, drop, slice_get, Some, inl, inr, arith, length-append, add-zero}
 use Rattle.std.specs.Prelude.{All}
 use Rattle.std.proofs.lemmas.List.{get_or_append_left, get_or_push, length_push, take-append-le, drop-append-le, drop_at, take_all}
 use Rattle.std.proofs.lemmas.List.Elements.{All-head, All-tail}
@@ -8,6 +8,7 @@ use Rattle.std.proofs.lemmas.Option.{slice_get_within}
 use Rattle.hs_scheme.specs.declared.term.Head.{Head}
 use Rattle.hs_scheme.specs.declared.term.Head.TheVariants.{Nt}
 use Rattle.hs_scheme.specs.Tree.{Tree, node, none, forest, children-forest}
+use Rattle.hs_scheme.proofs.Lists.{push_cases}
 use Rattle.hs_reduce.specs.declared.graph.Node.{Node}
 use Rattle.hs_reduce.specs.Graph.{term_at, terms_at, head_of, arguments_of, places_of, tree_of, trees_of, IsNode, AreNodes, NamesTerms, AddsTerm}
 
@@ -16,12 +17,6 @@ pub terms_same : (old new : List (Tree Head)) (n : ℕ) (places : List ℕ) → 
 terms_same old new n [] same within = refl
 terms_same old new n (i ∷ places) same within =
     λ k. same i (All-head (λ j. j < n) i places within) k ∷ terms_same old new n places same (All-tail (λ j. j < n) i places within) k
-
-slice_get-push : {A : Type 0} (xs : List A) (x y : A) (i : ℕ) → slice_get (xs ++ x ∷ []) i ≡ Some y → (slice_get xs i ≡ Some y) ⊎ ((i ≡ length xs) × (x ≡ y))
-slice_get-push [] x y zero e = inr (refl, cc)
-slice_get-push [] x y (suc i) e = absurd (cc)
-slice_get-push (z ∷ xs) x y zero e = inl e
-slice_get-push (z ∷ xs) x y (suc i) e = elim (slice_get-push xs x y i e) [ inl h ↦ inl h | inr (h, k) ↦ inr (ap suc h, k) ]
 
 module _ (links : List ℕ) where
   length-trees_of : (made : List (Tree Head)) (ns : List Node) → length (trees_of links made ns) ≡ length made + length ns
@@ -108,7 +103,7 @@ module _ (links : List ℕ) (ns : List Node) (are : AreNodes links ns) (head : H
   }
 
   pub nodes_more : (n : Node) → Last n → AreNodes (links ++ args) (ns ++ n ∷ [])
-  nodes_more n last i m e = elim (slice_get-push ns n m i e) [
+  nodes_more n last i m e = elim (push_cases ns n m i e) [
     | inl h ↦ nodes_stay links args ns are i m h
     | inr (h, k) ↦ subst (λ j. IsNode (links ++ args) j m) (sym h) (subst (λ (x : Node). IsNode (links ++ args) (length ns) x) k (node_last n last))
   ]

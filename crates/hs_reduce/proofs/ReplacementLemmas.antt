@@ -1,10 +1,9 @@
 -- Replacement in the graph is replacement of terms.
-use Rattle.std.proofs.Common.{◌≡◌, refl, sym, ◌∙◌, ap, subst as along, ℕ, ◌<◌, ◌≤◌, List, [], ◌∷◌, ◌++◌, ◌+◌, ◌-◌, append_assoc, length, map, take, drop, slice_get, get_or, Some, None, unwrap_or, option_map, true, false, ltb, arith}
+use Rattle.std.proofs.Common.{◌≡◌, refl, sym, ◌∙◌, ap, subst as along, ℕ, ◌<◌, ◌≤◌, List, [], ◌∷◌, ◌++◌, ◌+◌, ◌-◌, append_assoc, length, map, take, drop, slice_get, get_or, Some, None, unwrap_or, option_map, arith}
 use Rattle.std.specs.Prelude.{All}
-use Rattle.std.proofs.lemmas.Bool.{ltb-true, ltb-false}
 use Rattle.std.proofs.lemmas.List.{map_push, map_more, take_all, take_rest, take-map, drop-map, length-map}
 use Rattle.std.proofs.lemmas.List.Elements.{All-drop, All-push}
-use Rattle.std.proofs.lemmas.Option.{slice_get_read, slice_get_past, slice_get-map, slice_get_within, get_or_from_slice_get}
+use Rattle.std.proofs.lemmas.Option.{slice_get-map, slice_get_within, get_or_from_slice_get}
 use Rattle.hs_scheme.specs.declared.term.Head.{Head}
 use Rattle.hs_scheme.specs.declared.term.Head.TheVariants.{Var, Nt, Tm}
 use Rattle.hs_scheme.specs.declared.term.Rule.{Rule}
@@ -15,13 +14,6 @@ use Rattle.hs_scheme.proofs.PlainLemmas.{subst-node}
 use Rattle.hs_steps.proofs.Terms.{applied-none, unfolds}
 use Rattle.hs_reduce.specs.Graph.{term_at, terms_at, head_of, arguments_of, Grows, AddsTerm, Unfolds}
 use Rattle.hs_reduce.proofs.GraphLemmas.{terms_same}
-
--- what `get` reads
-pub got_some : {X : Type 0} (xs : List X) (i : ℕ) (x : X) → true ≡ ltb i (length xs) → x ≡ get_or xs i x → slice_get xs i ≡ Some x
-got_some xs i x there e = slice_get_read xs (length xs) i x refl (ltb-true i (length xs) (sym there)) e
-
-pub got_none : {X : Type 0} (xs : List X) (i : ℕ) → false ≡ ltb i (length xs) → slice_get xs i ≡ None
-got_none xs i past = slice_get_past xs i (ltb-false i (length xs) (sym past))
 
 -- a term is its head and its arguments
 pub whole : (t : Tree Head) → node (head_of t) (forest (arguments_of t)) ≡ t

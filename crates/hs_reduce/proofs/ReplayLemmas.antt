@@ -15,10 +15,11 @@ use Rattle.hs_scheme.specs.Tree.{Tree, Trees, node, children, forest, children-f
 use Rattle.hs_scheme.specs.Cut.{unfolded}
 use Rattle.hs_scheme.specs.Run.{start}
 use Rattle.hs_scheme.specs.Scheme.{IsScheme}
-use Rattle.hs_scheme.specs.Sorting.{SortTree, Sorts, o, arrow, ranked, arguments}
+use Rattle.hs_scheme.specs.Sorting.{Sorts}
 use Rattle.hs_scheme.specs.Sorted.{SortedData, IsSorted, known, sorts_of}
 use Rattle.hs_scheme.specs.Steps.{Path, StepsTo, Reaches, ReachesByChildren, child_numbers}
 use Rattle.hs_scheme.specs.TreeTerms.{IsTreeTerm, ground}
+use Rattle.hs_scheme.proofs.Sortings.{length-ranked}
 use Rattle.hs_steps.proofs.Sorted.{count, as_many, start_sorted, step_sorted}
 use Rattle.hs_steps.proofs.PathLemmas.{one_more}
 use Rattle.hs_reduce.specs.declared.answers.Replay.{Replay}
@@ -29,13 +30,6 @@ use Rattle.hs_reduce.specs.Graph.{term_at, head_of, arguments_of, NamesTerms}
 use Rattle.hs_reduce.specs.Advances.{HasKnownSorts, HasNoStep, IsReachedSpot}
 use Rattle.hs_reduce.proofs.ReplacementLemmas.{whole}
 use Rattle.hs_reduce.proofs.Walks.{Config, config, goes, after, walked, last, stops_without_transition, stops_without_child, stops_without_step}
-
-more_arguments : (a b : SortTree) → length (arguments (arrow a b)) ≡ suc (length (arguments b))
-more_arguments a (node u ks) = refl
-
-length-ranked : (n : ℕ) → length (arguments (ranked n)) ≡ n
-length-ranked zero = refl
-length-ranked (suc n) = more_arguments o (ranked n) ∙ ap suc (length-ranked n)
 
 -- what the types of a sorted scheme and of its scheme keep
 pub has_sorting : (s : SortedData) → IsSorted s → IsScheme s.scheme → HasKnownSorts s

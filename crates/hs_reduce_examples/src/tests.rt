@@ -1,39 +1,11 @@
 //! Reduction of small files, along paths and up to a number of steps, each worked out by hand.
 
-use hs_reader::read_file;
+use hs_fixtures::{name_of, sorted_of};
 use hs_reduce::{Bounded, MAX_CUT, MAX_STEPS, Replay, bounded, replay};
-use hs_resolve::resolve_owned;
-use hs_scheme::{Name, OutOfMemory, Sorted};
-use hs_sorts::infer;
+use hs_scheme::{OutOfMemory, Sorted};
 use hs_trace::Path;
 use std::alloc::Global;
-use std::mem::forget;
 use std::test::Fail;
-
-/// The scheme of a text.
-fn of_text(alloc: Global, text: &str) -> Result<Sorted, Fail> {
-    if text.len() > 1_000 {
-        return Err("a longer text")?;
-    }
-    let unsorted = resolve_owned(alloc, read_file(alloc, text.as_bytes())?)?;
-    Ok(infer(alloc, unsorted)?)
-}
-
-/// The scheme of a file with these rules and transitions.
-fn sorted_of(alloc: Global, rules: &str, transitions: &str) -> Result<Sorted, Fail> {
-    let text = format!(in alloc; "%BEGING\n{rules}\n%ENDG\n%BEGINA\n{transitions}\n%ENDA\n")?;
-    let sorted = of_text(alloc, text.as_str());
-    forget(text);
-    sorted
-}
-
-/// The name with this number.
-fn named(names: &[Name], number: u32) -> &str {
-    match names.get(number as usize) {
-        Some(name) => str::from_utf8(name.bytes()).unwrap_or("?"),
-        None => "?",
-    }
-}
 
 /// The answer of `replay` as `stuck b q0 at 1 used 2`.
 fn replay_text(alloc: Global, sorted: &Sorted, answer: Replay) -> Result<String, OutOfMemory> {
@@ -45,8 +17,8 @@ fn replay_text(alloc: Global, sorted: &Sorted, answer: Replay) -> Result<String,
             at,
             used,
         } => {
-            let last = named(sorted.names.terminals.as_slice(), terminal);
-            let state = named(sorted.names.states.as_slice(), state);
+            let last = name_of(sorted.names.terminals.as_slice(), terminal as usize);
+            let state = name_of(sorted.names.states.as_slice(), state as usize);
             write!(out, "stuck {last} {state} at {at} used {used}")?;
         }
         Replay::Ended { used } => write!(out, "ended used {used}")?,
@@ -76,11 +48,11 @@ fn replayed(
 fn path_text(alloc: Global, sorted: &Sorted, path: &Path) -> Result<String, OutOfMemory> {
     let mut out = String::new(alloc);
     for (terminal, number) in &path.steps {
-        let name = named(sorted.names.terminals.as_slice(), *terminal);
+        let name = name_of(sorted.names.terminals.as_slice(), *terminal as usize);
         write!(out, "{name}/{number} ")?;
     }
-    let last = named(sorted.names.terminals.as_slice(), path.last);
-    let state = named(sorted.names.states.as_slice(), path.state);
+    let last = name_of(sorted.names.terminals.as_slice(), path.last as usize);
+    let state = name_of(sorted.names.states.as_slice(), path.state as usize);
     let used = path.used;
     write!(out, "{last} {state} used {used}")?;
     Ok(out)

@@ -1,11 +1,11 @@
 -- A place in the lists of what its entry asks for.
 use Rattle.std.proofs.Common.{◌≡◌, sym, ◌∙◌, ap, ℕ, ◌+◌, ◌<◌, ◌≤◌, List, length, get_or, set, slice_get, Some, arith, Contains}
 use Rattle.std.proofs.lemmas.List.{get_or-set_same, length-set}
-use Rattle.hs_scheme.proofs.DemandLemmas.{some_same}
+use Rattle.std.proofs.lemmas.Option.{same_Some}
+use Rattle.hs_table_laws.proofs.Arrows.{state_no_arrow}
 use Rattle.hs_table.specs.Types.{TypeTree, state, arrow}
 use Rattle.hs_table.specs.Entries.{EntryData}
 use Rattle.hs_types.specs.Interned.{InternerData, RowData, type_of_id, env_of_id, entry_of, IsInterner}
-use Rattle.hs_types.proofs.Numbers.{state-arrow}
 use Rattle.hs_replica.specs.declared.key.Key.{Key}
 use Rattle.hs_replica.specs.declared.key.Key.TheVariants.{At}
 use Rattle.hs_replica.specs.Places.{Question, here, typed, asks, takes, Meets}
@@ -23,7 +23,7 @@ module _ (ids : InternerData) (row : RowData) (place : ℕ) (new : Key → List 
   state_all all q h = all q h.1
 
   pub arrow_all : (s : List TypeTree) (r : TypeTree) → type_of_id ids row.ty ≡ arrow s r → HasAll ids (AsksBy ids row) place new
-  arrow_all s r is q h = absurd (state-arrow h.0.0 s r (sym h.0.1 ∙ is))
+  arrow_all s r is q h = absurd (state_no_arrow h.0.0 s r (sym h.0.1 ∙ is))
 
 -- what the row asks for
 module _ (ids : InternerData) (log : List EntryData) (place : ℕ) (row : RowData) where
@@ -64,7 +64,7 @@ module _ (ids : InternerData) (is : IsInterner ids) (rows : List RowData) (by_ty
   entry = entry_at ids rows place row (omega (arith, there.1.0, within)) at
 
   its_point : row.point ≡ point
-  its_point = let a = was.sound (At point) place there.1.1 in ap (λ (e : EntryData). e.point) (some_same (entry_of ids row) a.entry (sym entry ∙ a.at)) ∙ a.meets
+  its_point = let a = was.sound (At point) place there.1.1 in ap (λ (e : EntryData). e.point) (same_Some (entry_of ids row) a.entry (sym entry ∙ a.at)) ∙ a.meets
 
   its_due : (q : Question) → AsksBy ids row q → reach by_type now n q ≡ place
   its_due = due ids log place row point its_point by_type now n (get_or-set_same asked point place 0 long)

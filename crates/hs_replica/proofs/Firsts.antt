@@ -1,10 +1,10 @@
 -- Each entry has a first with its point and its type.
-use Rattle.std.proofs.Common.{◌≡◌, refl, ◌∙◌, ap, subst, ℕ, zero, suc, Bool, true, false, nat_eq, List, [], ◌∷◌, slice_get, Some, ◌⊎◌, inl, inr, arith}
+use Rattle.std.proofs.Common.{◌≡◌, refl, ◌∙◌, ap, subst, ℕ, zero, suc, List, [], ◌∷◌, slice_get, Some, ◌⊎◌, inl, inr, arith}
 use Rattle.std.specs.declared.cmp.Ordering.{Ordering}
 use Rattle.std.specs.declared.cmp.Ordering.TheVariants.{Less, Equal, Greater}
-use Rattle.std.proofs.lemmas.Bool.{eqb-true, eq-eqb}
+use Rattle.std.proofs.lemmas.Bool.{cases_eq}
 use Rattle.std.proofs.lemmas.Cmp.{tied_itself}
-use Rattle.hs_scheme.proofs.DemandLemmas.{some_same}
+use Rattle.std.proofs.lemmas.Option.{same_Some}
 use Rattle.hs_table.specs.Types.{TypeTree, type_cmp}
 use Rattle.hs_table.specs.Entries.{EntryData}
 use Rattle.hs_table_laws.proofs.Orders.{type_cmp_total, type_same}
@@ -21,15 +21,8 @@ same_type_or_not t u = by (type_cmp t u) refl
     by Less e = inr (λ s. let f = itself s in absurd (cc))
     by Greater e = inr (λ s. let f = itself s in absurd (cc))
 
-same_point_or_not : (p q : ℕ) → (p ≡ q) ⊎ (p ≡ q → ⊥)
-same_point_or_not p q = by (nat_eq p q) refl
-  where
-    by : (b : Bool) → nat_eq p q ≡ b → (p ≡ q) ⊎ (p ≡ q → ⊥)
-    by true e = inl (eqb-true p q e)
-    by false e = inr (λ s. let f = eq-eqb p q s in absurd (cc))
-
 like_or_not : (d e : EntryData) → ((d.point ≡ e.point) × (d.ty ≡ e.ty)) ⊎ ((d.point ≡ e.point) × (d.ty ≡ e.ty) → ⊥)
-like_or_not d e = elim (same_point_or_not d.point e.point) [
+like_or_not d e = elim (cases_eq d.point e.point) [
   | inr other ↦ inr (λ s. other s.0)
   | inl point ↦ elim (same_type_or_not d.ty e.ty) [ inl ty ↦ inl (point, ty) | inr other ↦ inr (λ s. other s.1) ]
 ]
@@ -41,11 +34,11 @@ module _ (x : EntryData) (xs : List EntryData) (e : EntryData) where
 
   later : (Like → ⊥) → (n : ℕ) (c : EntryData) → c.point ≡ e.point → c.ty ≡ e.ty → IsFirst xs n c → IsFirst (x ∷ xs) (suc n) c
   later other n c point ty first zero d lt g p t =
-      let is = some_same x d g in other (ap (λ (y : EntryData). y.point) is ∙ (p ∙ point), ap (λ (y : EntryData). y.ty) is ∙ (t ∙ ty))
+      let is = same_Some x d g in other (ap (λ (y : EntryData). y.point) is ∙ (p ∙ point), ap (λ (y : EntryData). y.ty) is ∙ (t ∙ ty))
   later other n c point ty first (suc j) d lt g p t = first j d (omega arith) g p t
 
   behind : (Like → ⊥) → ((k : ℕ) → slice_get xs k ≡ Some e → IsFirstLike xs k e) → (i : ℕ) → slice_get (x ∷ xs) i ≡ Some e → IsFirstLike (x ∷ xs) i e
-  behind other rest zero at = let is = some_same x e at in absurd (other (ap (λ (d : EntryData). d.point) is, ap (λ (d : EntryData). d.ty) is))
+  behind other rest zero at = let is = same_Some x e at in absurd (other (ap (λ (d : EntryData). d.point) is, ap (λ (d : EntryData). d.ty) is))
   behind other rest (suc k) at =
       let f = rest k at in
       record { place = suc f.place; entry = f.entry; before = omega (arith, f.before); at = f.at; point = f.point; ty = f.ty; first = later other f.place f.entry f.point f.ty f.first }

@@ -4,9 +4,9 @@ use Rattle.std.specs.Bool.{Decides}
 use Rattle.std.specs.Map.{lookup}
 use Rattle.std.specs.Option.{option_map_or}
 use Rattle.std.proofs.lemmas.Bool.{eqb-true, eq-eqb, and_parts}
+use Rattle.hs_scheme.proofs.Lists.{slice_get-read}
 use Rattle.indexmap.specs.IndexMap.{IndexMap, get}
 use Rattle.smallvec.specs.SmallVec.{SmallVec}
-use Rattle.hs_scheme.proofs.DemandLemmas.{slice_get-read}
 use Rattle.hs_replica.specs.declared.lists.Lists.{Lists}
 use Rattle.hs_replica.specs.declared.key.Key.{Key}
 use Rattle.hs_replica.specs.declared.key.Key.TheVariants.{At, Typed, Asking, Taking}

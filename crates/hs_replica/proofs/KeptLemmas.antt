@@ -1,5 +1,5 @@
 -- What a replica keeps, while its interner grows and rows are added.
-use Rattle.std.proofs.Common.{◌≡◌, ◌≢◌, refl, sym, ◌∙◌, ap, subst, ℕ, zero, suc, ◌+◌, ◌<◌, ◌≤◌, ◌^◌, Bool, true, false, true≢false, ◌&&◌, nat_eq, List, [], ◌∷◌, ◌++◌, length, get_or, slice_get, Some, cond, map, arith, Contains, All, AllPairs, length-append, position, ◌↔◌, Result, Ok, Err, OnErr, IfOk}
+use Rattle.std.proofs.Common.{◌≡◌, ◌≢◌, refl, sym, ◌∙◌, ap, subst, ℕ, suc, ◌+◌, ◌<◌, ◌≤◌, ◌^◌, Bool, true, false, true≢false, ◌&&◌, nat_eq, List, [], ◌∷◌, ◌++◌, length, get_or, slice_get, Some, cond, map, arith, Contains, All, AllPairs, length-append, position, ◌↔◌, Result, Ok, Err, OnErr, IfOk}
 use Rattle.std.specs.Bool.{Decides}
 use Rattle.std.specs.List.{list_any}
 use Rattle.std.specs.List.Sorted.{IsStrictlyIncreasing}
@@ -9,8 +9,8 @@ use Rattle.std.proofs.lemmas.List.Elements.{All-push, Contains-get_or}
 use Rattle.std.proofs.lemmas.List.Quantifiers.{all_pairs_push, position-Some}
 use Rattle.std.proofs.lemmas.Map.Made.{is_member-Decides}
 use Rattle.std.proofs.lemmas.Option.{slice_get_within}
+use Rattle.hs_scheme.proofs.Lists.{slice_get-read, slice_get-append}
 use Rattle.indexmap.specs.IndexSet.{insert_key}
-use Rattle.hs_scheme.proofs.DemandLemmas.{slice_get-read}
 use Rattle.hs_table.specs.Types.{state}
 use Rattle.hs_table.specs.Entries.{EntryData}
 use Rattle.hs_types.specs.Interned.{InternerData, RowData, entry_of, IsRow, IsInterner, Grows}
@@ -47,11 +47,6 @@ found_nowhere row rows e h = true≢false (sym ((is_member-Decides row_same rows
 map_same : {X Y : Type 0} (f g : X → Y) (xs : List X) → ((k : ℕ) (d : X) → k < length xs → f (get_or xs k d) ≡ g (get_or xs k d)) → map f xs ≡ map g xs
 map_same f g [] same = refl
 map_same f g (x ∷ xs) same = λ i. same 0 x (omega arith) i ∷ map_same f g xs (λ k d lt. same (suc k) d (omega arith)) i
-
-slice_get-append : {X : Type 0} (xs ys : List X) (i : ℕ) → i < length xs → slice_get (xs ++ ys) i ≡ slice_get xs i
-slice_get-append [] ys i lt = absurd (omega arith)
-slice_get-append (x ∷ xs) ys zero lt = refl
-slice_get-append (x ∷ xs) ys (suc i) lt = slice_get-append xs ys i (omega arith)
 
 -- while the interner grows
 module _ (ids new : InternerData) (g : Grows ids new) where

@@ -4,8 +4,8 @@ use Rattle.std.proofs.lemmas.Bool.{cases_lt}
 use Rattle.std.proofs.lemmas.Option.{slice_get-get_or}
 use Rattle.std.proofs.lemmas.List.{get_or_append_left, get_or_push}
 use Rattle.std.proofs.lemmas.List.Elements.{All-append, All-cons, Contains-append_left, Contains-append_cases}
+use Rattle.hs_scheme.proofs.Lists.{only}
 use Rattle.smallvec.specs.SmallVec.{SmallVec}
-use Rattle.hs_table_laws.proofs.Members.{only}
 use Rattle.hs_replica.specs.Index.{RisesTo, AddsTo, row_at}
 
 last_at : (xs : List ℕ) (k : ℕ) → length xs ≡ k + 1 → slice_get xs (length xs - 1) ≡ Some (get_or xs k 0)

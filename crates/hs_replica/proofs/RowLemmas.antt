@@ -4,8 +4,8 @@ use Rattle.std.specs.List.Sorted.{IsStrictlyIncreasing}
 use Rattle.std.proofs.lemmas.Bool.{cases_lt}
 use Rattle.std.proofs.lemmas.List.Elements.{Contains-get_or}
 use Rattle.std.proofs.lemmas.List.Kept.{AllPairs-from_increasing}
-use Rattle.std.proofs.lemmas.Option.{slice_get-get_or, get_or_from_slice_get, slice_get-map}
-use Rattle.hs_scheme.proofs.DemandLemmas.{some_same, slice_get-read}
+use Rattle.std.proofs.lemmas.Option.{slice_get-get_or, get_or_from_slice_get, slice_get-map, same_Some}
+use Rattle.hs_scheme.proofs.Lists.{slice_get-read}
 use Rattle.hs_table.specs.Types.{TypeTree}
 use Rattle.hs_table.specs.Entries.{EntryData}
 use Rattle.hs_types.specs.Interned.{InternerData, RowData, type_of_id, IsRow, entry_of, IsInterner}
@@ -105,7 +105,7 @@ module _ (ids : InternerData) (log : List EntryData) (place : ℕ) (e : EntryDat
 
   answered : HasAll ids P place new → (i : ℕ) (q : Question) → i ≡ place → (Meets log place e q → P q) → Answers log i q → IsListed ids new i q
   answered all i q same holds a =
-      let is : a.entry ≡ e = some_same a.entry e (sym a.at ∙ (ap (slice_get log) same ∙ at)) in
+      let is : a.entry ≡ e = same_Some a.entry e (sym a.at ∙ (ap (slice_get log) same ∙ at)) in
       subst (λ j. IsListed ids new j q) (sym same)
       (all q (holds (subst (λ j. Meets log j e q) same (subst (λ (d : EntryData). Meets log i d q) is a.meets))))
 
@@ -173,7 +173,7 @@ module _ (log : List EntryData) (place : ℕ) (e : EntryData) (at : slice_get lo
   answers q m = record { entry = e; at = at; meets = m }
 
   pub answered_by : (q : Question) → Answers log place q → Meets log place e q
-  answered_by q a = subst (λ (d : EntryData). Meets log place d q) (some_same a.entry e (sym a.at ∙ at)) a.meets
+  answered_by q a = subst (λ (d : EntryData). Meets log place d q) (same_Some a.entry e (sym a.at ∙ at)) a.meets
 
 -- the keys of a row's type, one after another
 module _ (ids : InternerData) (is : IsInterner ids) (log : List EntryData) (place : ℕ) (row : RowData) (at : slice_get log place ≡ Some (entry_of ids row)) (known : row.ty < length ids.types)

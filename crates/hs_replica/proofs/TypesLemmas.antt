@@ -1,7 +1,7 @@
 -- A place in the lists of its type, and where that is the first at its point, of what it takes.
 use Rattle.std.proofs.Common.{◌≡◌, sym, ◌∙◌, ap, ℕ, ◌+◌, ◌<◌, ◌≤◌, List, length, get_or, set, slice_get, Some, arith, Contains}
 use Rattle.std.proofs.lemmas.List.{get_or-set_same, length-set}
-use Rattle.hs_scheme.proofs.DemandLemmas.{some_same}
+use Rattle.std.proofs.lemmas.Option.{same_Some}
 use Rattle.hs_table.specs.Types.{state}
 use Rattle.hs_table.specs.Entries.{EntryData}
 use Rattle.hs_types.specs.Interned.{InternerData, IsInterner}
@@ -52,7 +52,7 @@ module _ (ids : InternerData) (is : IsInterner ids) (log : List EntryData) (by_t
   types_next = record {
     reached = reach now asked n;
     index = reached;
-    upto = λ e at a. ap (λ k. get_or now k 0) (ap (λ (d : EntryData). d.point) (some_same e stands.entry (sym at ∙ stands.at)) ∙ stands.meets) ∙ written;
+    upto = λ e at a. ap (λ k. get_or now k 0) (ap (λ (d : EntryData). d.point) (same_Some e stands.entry (sym at ∙ stands.at)) ∙ stands.meets) ∙ written;
   }
 
   module _ (new : Key → List ℕ) (gains : Gains ids (OfTypes log place) place list new) where

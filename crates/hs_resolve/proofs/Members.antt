@@ -5,6 +5,7 @@ use Rattle.std.specs.Str.{bytes_eq}
 use Rattle.std.proofs.lemmas.List.{take_all, length-map}
 use Rattle.std.proofs.lemmas.List.Folds.{list_any-append}
 use Rattle.std.proofs.lemmas.Option.{get_or_from_slice_get, slice_get_within, same_Some}
+use Rattle.std.proofs.lemmas.Bool.{or_left, or_right}
 use Rattle.hs_reader.specs.declared.raw.RawName.{RawName}
 use Rattle.hs_resolve.specs.Names.{texts, is_among, number_of, number, distinct, with_name}
 use Rattle.hs_resolve.specs.LineFaults.{Repeats}
@@ -50,23 +51,11 @@ pub map-same : {A B : Type 0} (f g : A → B) (xs : List A) → ((i : ℕ) (x : 
 map-same f g [] h = refl
 map-same f g (x ∷ xs) h = λ i. h 0 x refl i ∷ map-same f g xs (λ j y at. h (suc j) y at) i
 
-pub any-at : {A : Type 0} (p : A → Bool) (xs : List A) (i : ℕ) (x : A) → slice_get xs i ≡ Some x → p x ≡ true → list_any p xs ≡ true
-any-at p [] i x at h = absurd (cc)
-any-at p (y ∷ ys) zero x at h = ap (λ b. b || list_any p ys) (ap p (same_Some y x at) ∙ h)
-any-at p (y ∷ ys) (suc i) x at h = elim (p y) as (λ b. (b || list_any p ys) ≡ true) [ true ↦ refl | false ↦ any-at p ys i x at h ]
-
 pub any-before : {A : Type 0} (p : A → Bool) (xs : List A) (i n : ℕ) (x : A) → slice_get xs i ≡ Some x → i < n → p x ≡ true → list_any p (take n xs) ≡ true
 any-before p [] i n x at lt h = absurd (cc)
 any-before p (y ∷ ys) i zero x at lt h = absurd (omega arith)
 any-before p (y ∷ ys) zero (suc n) x at lt h = ap (λ b. b || list_any p (take n ys)) (ap p (same_Some y x at) ∙ h)
 any-before p (y ∷ ys) (suc i) (suc n) x at lt h = elim (p y) as (λ b. (b || list_any p (take n ys)) ≡ true) [ true ↦ refl | false ↦ any-before p ys i n x at (omega arith) h ]
-
-pub or_left : (a b : Bool) → a ≡ true → (a || b) ≡ true
-or_left a b h = ap (λ c. c || b) h
-
-pub or_right : (a b : Bool) → b ≡ true → (a || b) ≡ true
-or_right true b h = refl
-or_right false b h = h
 
 pub any-filter : {A : Type 0} (p q : A → Bool) (xs : List A) (i : ℕ) (x : A) → slice_get xs i ≡ Some x → q x ≡ true → p x ≡ true → list_any p (filter q xs) ≡ true
 any-filter p q [] i x at keep h = absurd (cc)

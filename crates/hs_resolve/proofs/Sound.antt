@@ -1,12 +1,13 @@
 -- What a file without faults stands for is a scheme with an automaton and names.
-use Rattle.std.proofs.Common.{◌≡◌, refl, sym, ◌∙◌, ap, subst, ℕ, suc, ◌<◌, ◌≤◌, Bool, true, false, not, ◌||◌, ◌&&◌, cond, nat_eq, List, [], ◌∷◌, ◌++◌, length, map, slice_get, Option, Some, None, option_map, find, is_some, All, ◌⊎◌, inl, inr, arith}
+use Rattle.std.proofs.Common.{◌≡◌, refl, sym, ◌∙◌, ap, subst, ℕ, suc, ◌<◌, ◌≤◌, Bool, true, false, not, ◌||◌, ◌&&◌, cond, nat_eq, List, [], ◌∷◌, ◌++◌, length, map, slice_get, Option, Some, None, option_map, find, is_some, All, inl, inr, arith}
 use Rattle.std.specs.List.{list_any, flat_map, AllByRecursion}
 use Rattle.std.specs.Option.{option_map_or}
 use Rattle.std.specs.Str.{bytes_eq}
-use Rattle.std.proofs.lemmas.Bool.{cases_lt, eqb-true, eqb-false}
+use Rattle.std.proofs.lemmas.Bool.{cases_lt, eqb-true, eqb-false, or_left, or_right}
 use Rattle.std.proofs.lemmas.List.Folds.{list_any-append}
 use Rattle.std.proofs.lemmas.Option.{slice_get_within, slice_get-map, same_Some}
 use Rattle.std.proofs.lemmas.List.{length-map}
+use Rattle.std.proofs.lemmas.Map.Keys.{any_passes_from_place}
 use Rattle.hs_scheme.specs.declared.term.Head.{Head}
 use Rattle.hs_scheme.specs.declared.term.Head.TheVariants.{Var, Nt, Tm}
 use Rattle.hs_scheme.specs.declared.term.Rule.{Rule as NumberedRule}
@@ -14,6 +15,7 @@ use Rattle.hs_scheme.specs.Tree.{Tree, Trees, node, none, more, children}
 use Rattle.hs_scheme.specs.Automaton.{IsAutomaton, IsDeterministic}
 use Rattle.hs_scheme.specs.Scheme.{HeadInRange, TermInRange, TermsInRange, AreRules}
 use Rattle.hs_scheme.specs.Unsorted.{UnsortedData, IsUnsorted, HasNames, AgreesWithRanks}
+use Rattle.hs_scheme.proofs.TransitionLemmas.{mapped}
 use Rattle.hs_reader.specs.declared.raw.RawName.{RawName}
 use Rattle.hs_reader.specs.Raw.{Rule, Transition, File}
 use Rattle.hs_reader.specs.Limits.{IsRaw, term_names, terms_names, HasFewArguments, HaveFewArguments}
@@ -27,7 +29,7 @@ use Rattle.hs_resolve.specs.Lengths.{length_of}
 use Rattle.hs_resolve.specs.Tables.{scoped_rule, IsResolved, made_of}
 use Rattle.hs_resolve.proofs.Lists.{at_map, is_some-position, map-map}
 use Rattle.hs_resolve.proofs.Distinct.{same_self, among-distinct, distinct-le}
-use Rattle.hs_resolve.proofs.Members.{some_at, all-map, all-same, all-append, map-same, any-at, any-before, any-filter, any-flat_map, or_left, or_right, position-at, number-name, number-within, apart-distinct, recursion-at, not-empty}
+use Rattle.hs_resolve.proofs.Members.{some_at, all-map, all-same, all-append, map-same, any-before, any-filter, any-flat_map, position-at, number-name, number-within, apart-distinct, recursion-at, not-empty}
 
 len-numbered : (head : RawName → Head) (ts : Trees RawName) → length (children (numbered_each head ts)) ≡ length (children ts)
 len-numbered head none = refl
@@ -46,14 +48,6 @@ module _ (head : RawName → Head) (params rules terminals : ℕ) where
     terms-in_range (more t ts) h few =
         let r = all-append InRange (term_names t) (terms_names ts) h in (term-in_range t r.0 few.0, terms-in_range ts r.1 few.1)
 
-upper-or-lower : (b : Bool) → (b ≡ true) ⊎ (b ≡ false)
-upper-or-lower true = inl refl
-upper-or-lower false = inr refl
-
-same_images : {A B : Type 0} (f : A → B) (o : Option A) (y : B) → option_map f o ≡ Some y → (x : A) × ((o ≡ Some x) × (f x ≡ y))
-same_images f None y h = absurd (cc)
-same_images f (Some x) y h = (x, (refl, same_Some (f x) y h))
-
 find-some : {A : Type 0} (p : A → Bool) (xs : List A) → list_any p xs ≡ true → (x : A) × (find p xs ≡ Some x)
 find-some p [] h = absurd (cc)
 find-some p (y ∷ ys) h =
@@ -61,10 +55,6 @@ find-some p (y ∷ ys) h =
       | true ↦ λ e. (y, refl)
       | false ↦ λ e. find-some p ys e
     ] h
-
-not-true : (b : Bool) → (b ≡ true → ⊥) → b ≡ false
-not-true true h = absurd (h refl)
-not-true false h = refl
 
 none_of : {A : Type 0} (xs : List A) → (0 < length xs → ⊥) → length xs ≡ 0
 none_of [] h = refl
@@ -95,7 +85,7 @@ module _ (raw : File) (inside : IsRaw raw) (clean : IsFaultless raw) where
       among-distinct (bodies ++ ends) t.terminal.text
       ∙ (list_any-append (bytes_eq t.terminal.text) bodies ends
       ∙ or_right (is_among bodies t.terminal.text) (is_among ends t.terminal.text)
-      (any-at (bytes_eq t.terminal.text) ends i t.terminal.text (at_map (λ (u : Transition). u.terminal.text) raw.transitions i t at) (same_self t.terminal.text)))
+      (any_passes_from_place (bytes_eq t.terminal.text) ends i t.terminal.text (at_map (λ (u : Transition). u.terminal.text) raw.transitions i t at) (same_self t.terminal.text)))
 
   pub body-terminal : (i k : ℕ) (r : Rule) (n : RawName) → slice_get raw.rules i ≡ Some r → slice_get (term_names r.body) k ≡ Some n → is_terminal (texts r.params) n.text ≡ true
       → is_among (terminal_names raw) n.text ≡ true
@@ -170,7 +160,7 @@ module _ (raw : File) (inside : IsRaw raw) (clean : IsFaultless raw) where
   rank-known : (i : ℕ) (t : Transition) → slice_get raw.transitions i ≡ Some t → rank_of raw.transitions t.terminal.text ≡ Some (length t.to)
   rank-known i t at =
       let test = λ (u : Transition). bytes_eq t.terminal.text u.terminal.text in
-      let first = find-some test raw.transitions (any-at test raw.transitions i t at (same_self t.terminal.text)) in
+      let first = find-some test raw.transitions (any_passes_from_place test raw.transitions i t at (same_self t.terminal.text)) in
       ap (option_map (λ u. length u.to)) first.1
       ∙ ap (λ m. Some m) (elim (nat_eq (length first.0.to) (length t.to)) as (λ b. nat_eq (length first.0.to) (length t.to) ≡ b → length first.0.to ≡ length t.to) [
         | true ↦ λ e. eqb-true _ _ e
@@ -210,7 +200,7 @@ module _ (raw : File) (inside : IsRaw raw) (clean : IsFaultless raw) where
   pub to-among : (i k : ℕ) (t : Transition) (q : RawName) → slice_get raw.transitions i ≡ Some t → slice_get t.to k ≡ Some q → is_among (state_names raw) q.text ≡ true
   to-among i k t q at at_state =
       state-among i t q.text at (or_right (bytes_eq q.text t.from.text) (is_among (texts t.to) q.text)
-      (any-at (bytes_eq q.text) (texts t.to) k q.text (at_map (λ m. m.text) t.to k q at_state) (same_self q.text)))
+      (any_passes_from_place (bytes_eq q.text) (texts t.to) k q.text (at_map (λ m. m.text) t.to k q at_state) (same_self q.text)))
 
   -- equal numbers are those of equal names
   one-name : (names : List (List ℕ)) (x y : List ℕ) → is_among names x ≡ true → is_among names y ≡ true → number names x ≡ number names y → x ≡ y
@@ -232,8 +222,8 @@ module _ (raw : File) (inside : IsRaw raw) (clean : IsFaultless raw) where
   deterministic : IsDeterministic (unsorted_of raw).automaton.transitions
   deterministic i j s t at_i at_j from terminal =
       let make = transition_of (state_names raw) (terminal_names raw) in
-      let a = same_images make (slice_get raw.transitions i) s (sym (slice_get-map make raw.transitions i) ∙ at_i) in
-      let b = same_images make (slice_get raw.transitions j) t (sym (slice_get-map make raw.transitions j) ∙ at_j) in
+      let a = mapped make (slice_get raw.transitions i) s (sym (slice_get-map make raw.transitions i) ∙ at_i) in
+      let b = mapped make (slice_get raw.transitions j) t (sym (slice_get-map make raw.transitions j) ∙ at_j) in
       let same_from : a.0.from.text ≡ b.0.from.text =
       one-name (state_names raw) a.0.from.text b.0.from.text (from-among i a.0 a.1.0) (from-among j b.0 b.1.0) (ap (λ u. u.from) a.1.1 ∙ (from ∙ sym (ap (λ u. u.from) b.1.1))) in
       let same_terminal : a.0.terminal.text ≡ b.0.terminal.text =

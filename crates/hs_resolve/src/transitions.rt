@@ -1,6 +1,7 @@
 //! The transitions that stand twice, and the lengths of those of a terminal.
 
 ghost use Rattle.std.specs.Prelude.{◌≡◌, ◌<◌, ◌≤◌, ◌^◌, ℕ, List, map, length, All, IfOk, OnOk};
+ghost use Rattle.indexmap.specs.IndexSet.{IsEmpty};
 ghost use Rattle.hs_resolve.specs.Numbering.{rank_of};
 ghost use Rattle.hs_resolve.specs.Least.{IsLeast};
 ghost use Rattle.hs_resolve.specs.LineFaults.{Somewhere, RepeatsLeft, Clashes};
@@ -12,12 +13,16 @@ use hs_scheme::OutOfMemory;
 use indexmap::{IndexMap, IndexSet};
 use std::alloc::Global;
 
-/// The least line of a transition whose state and terminal an earlier one has.
-fn repeated_of(alloc: Global, transitions: &[RawTransition]) -> Result<Option<u32>, OutOfMemory>
+/// The least line of a transition whose state and terminal an earlier one has. Those that are met are
+/// put into the set, which is empty.
+fn repeated_in<'a>(
+    met: &mut IndexSet<(&'a [u8], &'a [u8])>,
+    transitions: &[RawTransition<'a>],
+) -> Result<Option<u32>, OutOfMemory>
+    requires { IsEmpty met.old }
     ensures { IfOk result (λ least. IsLeast
         (λ line. Somewhere (λ i t. RepeatsLeft transitions.now i t line) transitions.now) least) }
 {
-    let mut met = IndexSet::new(alloc);
     let mut least = None;
     for transition in transitions {
         let left = (
@@ -33,6 +38,17 @@ fn repeated_of(alloc: Global, transitions: &[RawTransition]) -> Result<Option<u3
         least = earliest(least, line);
     }
     Ok(least)
+}
+
+/// The least line of a transition whose state and terminal an earlier one has.
+fn repeated_of(alloc: Global, transitions: &[RawTransition]) -> Result<Option<u32>, OutOfMemory>
+    ensures { IfOk result (λ least. IsLeast
+        (λ line. Somewhere (λ i t. RepeatsLeft transitions.now i t line) transitions.now) least) }
+{
+    let mut met = IndexSet::new(alloc);
+    let least = repeated_in(&mut met, transitions);
+    drop(met);
+    least
 }
 
 /// Notes the length of a transition where it is the first of its terminal, and answers its line

@@ -1,8 +1,8 @@
 -- Types with several arguments.
 use Rattle.std.proofs.Common.{◌≡◌, refl, sym, ap, subst, ℕ, zero, suc, ◌<◌, ◌≤◌, List, [], ◌∷◌, length, take, drop, arith, Contains}
+use Rattle.hs_scheme.proofs.Lists.{none_in}
 use Rattle.hs_table.specs.Types.{TypeTree, state, arrow, arrows}
 use Rattle.hs_table.specs.Entries.{Env, Has}
-use Rattle.hs_table_laws.proofs.Places.{none_in}
 use Rattle.hs_table_laws.proofs.Arrows.{arrow_same, state_no_arrow}
 use Rattle.hs_replica.specs.Places.{Takes}
 

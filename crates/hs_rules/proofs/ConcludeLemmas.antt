@@ -2,14 +2,16 @@
 use Rattle.std.proofs.Common.{◌≡◌, sym, ◌∙◌, ap, subst, ℕ, zero, suc, ◌+◌, ◌<◌, List, [], ◌∷◌, ◌++◌, length, map, take, slice_get, None, Some, arith, Contains, ◌⊎◌, inl, inr}
 use Rattle.std.proofs.lemmas.List.{length-map}
 use Rattle.std.proofs.lemmas.List.Elements.{Contains-append_right}
+use Rattle.std.proofs.lemmas.Option.{same_Some, get_or_from_slice_get}
 use Rattle.hs_scheme.specs.declared.term.Head.TheVariants.{Tm}
 use Rattle.hs_scheme.specs.Points.{PointData, IsArgument}
 use Rattle.hs_scheme.specs.Problem.{ProblemData}
+use Rattle.hs_scheme.proofs.Lists.{here}
 use Rattle.hs_table.specs.declared.support.HeadBy.{HeadBy}
 use Rattle.hs_table.specs.Types.{TypeTree, state, arrows, IsSet}
 use Rattle.hs_table.specs.Entries.{Env, EntryData, Has, InShape, set_at, params_of}
 use Rattle.hs_table.specs.Follows.{IsHeadType, Support, FollowsBy, head_premise, premises}
-use Rattle.hs_table_laws.proofs.Places.{some_same, at_take, read_from, here}
+use Rattle.hs_table_laws.proofs.Places.{at_take}
 use Rattle.hs_table_laws.proofs.Sets.{no_set}
 use Rattle.hs_types.specs.Interned.{InternerData, type_of_id, set_of_id, env_of_id, RowData, entry_of, IsInterner, Grows}
 use Rattle.hs_types.proofs.Numbers.{type_within, type_stays, row_stays, row_within, Grows-trans}
@@ -68,7 +70,7 @@ module _ (p : ProblemData) (log : List EntryData) (s : SearchData) (of : PointDa
         → Picked (λ (x : SlotData). x.arg) (IsCandidate E (fixed_of log s.fixed)) (slots 0 f.of.args f.sets) sup.args f.chosen)
         → HasRowFor K found e
     reached Wanted heads found are all sup e f here_is want to =
-        let same : f.of ≡ of = some_same f.of of (sym f.at ∙ (ap (λ k. slice_get p.points.points k) here_is ∙ at)) in
+        let same : f.of ≡ of = same_Some f.of of (sym f.at ∙ (ap (λ k. slice_get p.points.points k) here_is ∙ at)) in
         let head = subst (λ (o : PointData). IsHeadType p E o.rule o.head sup.head (arrows f.sets e.ty)) same f.head in
         let long : length f.sets ≡ length of.args = sym (chosen_long p E f.are) ∙ ap (λ (o : PointData). length o.args) same in
         let t = are.all sup.head f.sets e.ty long head want in
@@ -124,10 +126,10 @@ module _ (p : ProblemData) (log : List EntryData) (limit point arg place : ℕ) 
   fixed_data = record { arg = arg; ty = (entry_at log place).ty; place = place }
 
   e0_is : entry_at log place ≡ e0
-  e0_is = read_from log place e0 (record { point = 0; env = []; ty = state 0 }) e0_at
+  e0_is = get_or_from_slice_get log place e0 (record { point = 0; env = []; ty = state 0 }) e0_at
 
   pub there : slice_get of.args arg ≡ Some e0.point
-  there = ap (λ (o : PointData). slice_get o.args arg) (sym (read_from p.points.points point of (record { rule = 0; head = Tm 0; args = [] }) at)) ∙ is_place.there
+  there = ap (λ (o : PointData). slice_get o.args arg) (sym (get_or_from_slice_get p.points.points point of (record { rule = 0; head = Tm 0; args = [] }) at)) ∙ is_place.there
 
   -- a support that uses it
   pub uses_fixed : (sets : Env) (args : List (ℕ × ℕ)) (es : List EntryData) → ((j : ℕ) → IsSet (set_at sets j)) → Contains (map (λ a. a.1) args) place
@@ -136,10 +138,10 @@ module _ (p : ProblemData) (log : List EntryData) (limit point arg place : ℕ) 
       used_fixed E0 fixed_data (slots_differ 0 of.args sets ascend)
       (λ x e c cand.
       let t = at_take limit log place e cand.at in
-      let same : e ≡ e0 = some_same e e0 (sym t.1 ∙ e0_at) in
+      let same : e ≡ e0 = same_Some e e0 (sym t.1 ∙ e0_at) in
       let i = slot_of 0 of.args sets x c in
       let point_is : x.point ≡ e0.point = sym cand.point ∙ ap (λ (z : EntryData). z.point) same in
-      let is_arg : IsArgument p.points point i.place e0.point = ap (λ (o : PointData). slice_get o.args i.place) (read_from p.points.points point of (record { rule = 0; head = Tm 0; args = [] }) at) ∙ (i.point ∙ ap (λ (u : ℕ). Some u) point_is) in
+      let is_arg : IsArgument p.points point i.place e0.point = ap (λ (o : PointData). slice_get o.args i.place) (get_or_from_slice_get p.points.points point of (record { rule = 0; head = Tm 0; args = [] }) at) ∙ (i.point ∙ ap (λ (u : ℕ). Some u) point_is) in
       (omega (arith, i.arg, (is_place.only point i.place is_arg).1), sym cand.ty ∙ (ap (λ (z : EntryData). z.ty) same ∙ ap (λ (z : EntryData). z.ty) (sym e0_is))))
       k used
 
@@ -147,17 +149,17 @@ module _ (p : ProblemData) (log : List EntryData) (limit point arg place : ℕ) 
   pub used_asks : (sets : Env) (args : List (ℕ × ℕ)) (es : List EntryData) → Picked (λ (x : SlotData). x.arg) (IsCandidate E0 None) (slots 0 of.args sets) args es → Contains (map (λ a. a.1) args) place → Has sets arg e0.ty
   used_asks sets args es k used =
       let c = filled_by (λ (x : SlotData). x.arg) (IsCandidate E0 None) place k used in
-      let same : c.entry ≡ e0 = some_same c.entry e0 (sym (at_take limit log place c.entry c.fills.at).1 ∙ e0_at) in
+      let same : c.entry ≡ e0 = same_Some c.entry e0 (sym (at_take limit log place c.entry c.fills.at).1 ∙ e0_at) in
       let i = slot_of 0 of.args sets c.slot c.there in
       let point_is : c.slot.point ≡ e0.point = sym c.fills.point ∙ ap (λ (z : EntryData). z.point) same in
-      let is_arg : IsArgument p.points point i.place e0.point = ap (λ (o : PointData). slice_get o.args i.place) (read_from p.points.points point of (record { rule = 0; head = Tm 0; args = [] }) at) ∙ (i.point ∙ ap (λ (u : ℕ). Some u) point_is) in
+      let is_arg : IsArgument p.points point i.place e0.point = ap (λ (o : PointData). slice_get o.args i.place) (get_or_from_slice_get p.points.points point of (record { rule = 0; head = Tm 0; args = [] }) at) ∙ (i.point ∙ ap (λ (u : ℕ). Some u) point_is) in
       subst (λ (j : ℕ). Has sets j e0.ty) (is_place.only point i.place is_arg).1 (subst (λ (t : TypeTree). Has sets i.place t) (sym c.fills.ty ∙ ap (λ (z : EntryData). z.ty) same) i.has)
 
   -- what follows by it
   pub argument_kind : (ids : InternerData) → IsInterner ids → (sup : Support) (e : EntryData) (f : FollowsBy p E0 sup e) → e.point ≡ point → UsesArgument place sup → Has f.sets arg e0.ty × ((xs : List ℕ) → map (set_of_id ids) xs ≡ f.sets
       → Picked (λ (x : SlotData). x.arg) (IsCandidate E0 None) (slots 0 f.of.args f.sets) sup.args f.chosen → Picked (λ (x : SlotData). x.arg) (IsCandidate E0 (Some fixed_data)) (slots 0 f.of.args f.sets) sup.args f.chosen)
   argument_kind ids is sup e f here_is used =
-      let same : f.of ≡ of = some_same f.of of (sym f.at ∙ (ap (λ k. slice_get p.points.points k) here_is ∙ at)) in (
+      let same : f.of ≡ of = same_Some f.of of (sym f.at ∙ (ap (λ k. slice_get p.points.points k) here_is ∙ at)) in (
         used_asks f.sets sup.args f.chosen (subst (λ (o : PointData). Picked (λ (x : SlotData). x.arg) (IsCandidate E0 None) (slots 0 o.args f.sets) sup.args f.chosen) same (chosen_picked p E0 f.are)) used,
         λ xs sets_are k. subst (λ (o : PointData). Picked (λ (x : SlotData). x.arg) (IsCandidate E0 (Some fixed_data)) (slots 0 o.args f.sets) sup.args f.chosen) (sym same)
             (uses_fixed f.sets sup.args f.chosen (λ j. subst (λ (ss : Env). IsSet (set_at ss j)) sets_are (numbered_sets ids is xs j)) used
@@ -177,10 +179,10 @@ pub used_argument : (p : ProblemData) (log : List EntryData) (limit point place 
 used_argument p log limit point place e0 e0_at sup e f here_is used =
     let c = filled_by (λ (x : SlotData). x.arg) (IsCandidate (take limit log) None) place (chosen_picked p (take limit log) f.are) used in
     let i = slot_of 0 f.of.args f.sets c.slot c.there in
-    let same : c.entry ≡ e0 = some_same c.entry e0 (sym (at_take limit log place c.entry c.fills.at).1 ∙ e0_at) in
+    let same : c.entry ≡ e0 = same_Some c.entry e0 (sym (at_take limit log place c.entry c.fills.at).1 ∙ e0_at) in
     let point_is : c.slot.point ≡ e0.point = sym c.fills.point ∙ ap (λ (z : EntryData). z.point) same in
     let of_at : slice_get p.points.points point ≡ Some f.of = ap (λ k. slice_get p.points.points k) (sym here_is) ∙ f.at in
-    (i.place, ap (λ (o : PointData). slice_get o.args i.place) (read_from p.points.points point f.of (record { rule = 0; head = Tm 0; args = [] }) of_at) ∙ (i.point ∙ ap (λ (u : ℕ). Some u) point_is))
+    (i.place, ap (λ (o : PointData). slice_get o.args i.place) (get_or_from_slice_get p.points.points point f.of (record { rule = 0; head = Tm 0; args = [] }) of_at) ∙ (i.point ∙ ap (λ (u : ℕ). Some u) point_is))
 
 -- envs of the head's types are as long as the arguments' environments
 pub heads_envs : (p : ProblemData) (E : List EntryData) (of : PointData) (ids : InternerData) (Wanted : HeadBy → Env → Type 0) (heads : List HeadData) (args : List ℕ) (params : ℕ) → params ≡ params_of p of.rule → AreHeads p E of ids Wanted heads

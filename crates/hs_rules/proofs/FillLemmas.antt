@@ -4,9 +4,11 @@ use Rattle.std.specs.List.Sorted.{IsStrictlyIncreasing, IsPartitionPoint}
 use Rattle.std.proofs.lemmas.List.Kept.{AllPairs-from_increasing}
 use Rattle.std.proofs.lemmas.List.{map-append, append-nil, length-take-le, length-map, get_or-map}
 use Rattle.std.proofs.lemmas.Bool.{cases_lt, cases_order, ltb-true, ltb-false}
+use Rattle.std.proofs.lemmas.Option.{get_or_from_slice_get}
+use Rattle.hs_scheme.proofs.Lists.{none_in, here, later, uncons, Contains-at}
 use Rattle.hs_table.specs.Types.{TypeTree}
 use Rattle.hs_table.specs.Entries.{Env, EntryData, set_at}
-use Rattle.hs_table_laws.proofs.Places.{place_of, member_at, read_from, at_take, to_take, within_from, none_in, uncons, here, later}
+use Rattle.hs_table_laws.proofs.Places.{place_of, at_take, to_take, within_from}
 use Rattle.hs_table_laws.proofs.Members.{taken_next}
 use Rattle.hs_types.specs.Interned.{InternerData, type_of_id, set_of_id}
 use Rattle.hs_replica.specs.Places.{typed, ArePlaces}
@@ -24,16 +26,16 @@ module _ (places : List ℕ) (limit k : ℕ) (point : IsPartitionPoint (λ y. lt
       let p = place_of (take k places) place c in
       let q = at_take k places p.0 place p.1 in
       let low = ltb-true (get_or places p.0 0) limit (point.0 p.0 0 (omega arith) q.0) in
-      (member_at places p.0 place q.1, subst (λ (n : ℕ). n < limit) (read_from places p.0 place 0 q.1) low)
+      (Contains-at places p.0 place q.1, subst (λ (n : ℕ). n < limit) (get_or_from_slice_get places p.0 place 0 q.1) low)
 
   into_begin : (place : ℕ) → Contains places place × (place < limit) → Contains (take k places) place
   into_begin place h =
       let p = place_of places place h.0 in
       let before : p.0 < k = elim (cases_lt p.0 k) [
         | inl less ↦ less
-        | inr more ↦ absurd (let high = ltb-false (get_or places p.0 0) limit (point.1 p.0 0 more (within_from places p.0 place p.1)) in omega (arith, high, read_from places p.0 place 0 p.1, h.1))
+        | inr more ↦ absurd (let high = ltb-false (get_or places p.0 0) limit (point.1 p.0 0 more (within_from places p.0 place p.1)) in omega (arith, high, get_or_from_slice_get places p.0 place 0 p.1, h.1))
       ] in
-      member_at (take k places) p.0 place (to_take k places p.0 place before p.1)
+      Contains-at (take k places) p.0 place (to_take k places p.0 place before p.1)
 
   pub begin_is : (place : ℕ) → Contains (take k places) place ↔ (Contains places place × (place < limit))
   begin_is place = (from_begin place, into_begin place)
@@ -116,7 +118,7 @@ pub next_of_args : (I : InternerData) (k : ℕ) (args ids : List ℕ) (u s : ℕ
     → slots 0 (take (k + 1) args) (map (set_of_id I) (take (k + 1) ids)) ≡ slots 0 (take k args) (map (set_of_id I) (take k ids)) ++ slots_of k u (set_of_id I s)
 next_of_args I k args ids u s long lt at is =
     let small : k < length args = omega (arith, long) in
-    let read : u ≡ get_or args k u = sym (read_from args k u u at) in
+    let read : u ≡ get_or args k u = sym (get_or_from_slice_get args k u u at) in
     let first = taken_next args k u small read in
     let second = ap (map (set_of_id I)) (taken_next ids k s lt is) ∙ map-append (set_of_id I) (take k ids) (s ∷ []) in
     let many : length (take k args) ≡ k = length-take-le k args (omega arith) in

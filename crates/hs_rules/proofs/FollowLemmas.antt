@@ -2,11 +2,11 @@
 use Rattle.std.proofs.Common.{◌≡◌, refl, sym, ap, subst, ℕ, suc, ◌<◌, List, [], ◌∷◌, length, slice_get, Option, Some, None, arith, Contains, inl, inr}
 use Rattle.hs_scheme.specs.Points.{PointData}
 use Rattle.hs_scheme.specs.Problem.{ProblemData}
+use Rattle.hs_scheme.proofs.Lists.{Contains-at}
 use Rattle.hs_table.specs.declared.support.HeadBy.{HeadBy}
 use Rattle.hs_table.specs.Types.{TypeTree, arrows}
 use Rattle.hs_table.specs.Entries.{Env, EntryData, InShape, params_of}
 use Rattle.hs_table.specs.Follows.{IsAt, IsHeadType, Chosen, done, next_argument, choose, Support, FollowsBy}
-use Rattle.hs_table_laws.proofs.Places.{member_at}
 use Rattle.hs_rules.specs.Slots.{SlotData, slots, FixedData, IsCandidate, Picked, none_left, pick, IsOwn, Concludes}
 use Rattle.hs_rules.proofs.SlotLemmas.{freed, first_of, none_of}
 
@@ -33,7 +33,7 @@ module _ (p : ProblemData) (E : List EntryData) where
     picked_chosen i (u ∷ us) ((a ∷ s) ∷ ss) args es long k =
         let f = first_of (λ (x : SlotData). x.arg) (IsCandidate E None) (record { arg = i; point = u; ty = a }) (slots i (u ∷ us) (s ∷ ss)) args es k in
         let rest = picked_chosen i (u ∷ us) (s ∷ ss) f.rest f.others long f.picked in
-        let at : IsAt p E f.place f.entry = record { at = f.fills.at; shape = shapes f.entry (member_at E f.place f.entry f.fills.at) } in
+        let at : IsAt p E f.place f.entry = record { at = f.fills.at; shape = shapes f.entry (Contains-at E f.place f.entry f.fills.at) } in
         subst (λ (xs : List EntryData). Chosen p E i (u ∷ us) ((a ∷ s) ∷ ss) args xs) (sym f.entries_are)
         (subst (λ (bs : List (ℕ × ℕ)). Chosen p E i (u ∷ us) ((a ∷ s) ∷ ss) bs (f.entry ∷ f.others)) (sym f.args_are) (choose at f.fills.point f.fills.ty rest))
 

@@ -1,16 +1,16 @@
 -- What the types of a head lead to.
-use Rattle.std.proofs.Common.{◌≡◌, ◌≢◌, refl, sym, ◌∙◌, ap, subst, ℕ, zero, suc, ◌<◌, Bool, true, false, ◌&&◌, nat_eq, List, [], ◌∷◌, ◌++◌, length, map, take, drop, get_or, Option, arith, All, AllPairs, Contains, ◌≤◌, ◌||◌, ◌⊎◌, ◌↔◌, inl, inr}
-use Rattle.std.specs.Bool.{Decides}
-use Rattle.std.proofs.lemmas.Bool.{eqb-true, eq-eqb, cases_order, and_parts}
+use Rattle.std.proofs.Common.{◌≡◌, ◌≢◌, refl, sym, ◌∙◌, ap, subst, ℕ, zero, suc, ◌<◌, Bool, true, false, List, [], ◌∷◌, ◌++◌, length, map, take, drop, get_or, Option, arith, All, AllPairs, Contains, ◌≤◌, ◌||◌, ◌⊎◌, ◌↔◌, inl, inr}
+use Rattle.std.proofs.lemmas.Bool.{cases_order}
 use Rattle.std.proofs.lemmas.List.{map-append, take-map, take-append-drop, drop_all, drop-append-le, length-map, length-append}
 use Rattle.std.proofs.lemmas.List.Elements.{Contains-push, Contains-append_left, Contains-append_right, Contains-append_cases, All-contains}
 use Rattle.std.proofs.lemmas.List.Quantifiers.{all_pairs_push}
+use Rattle.std.proofs.lemmas.Option.{same_Some}
+use Rattle.hs_scheme.proofs.Lists.{none_in, here, later, uncons, Contains-at}
 use Rattle.hs_table.specs.Entries.{Env, EntryData, IsEnv}
-use Rattle.hs_table_laws.proofs.Places.{some_same, at_take, member_at, here, later, uncons, none_in}
+use Rattle.hs_table_laws.proofs.Places.{at_take}
 use Rattle.hs_table_laws.proofs.Sets.{envs_same}
 use Rattle.hs_table_laws.proofs.Members.{from_map}
 use Rattle.hs_types.specs.Interned.{InternerData, set_of_id, env_of_id, RowData, Grows}
-use Rattle.hs_types.specs.contracts.ids.RowPartialEq.TheImpl.{eq-value}
 use Rattle.hs_types.proofs.Numbers.{env_within, env_stays, set_within, set_stays, type_within}
 use Rattle.hs_rules.specs.Conclusions.{DeducedData}
 use Rattle.hs_rules.specs.Slots.{SlotData, slots, FixedData, FilledData, IsCandidate, Picked, none_left, pick, Concludes}
@@ -19,18 +19,6 @@ use Rattle.hs_rules.specs.Joins.{PartialData, FillsBy, ArePlaced, AreJoined}
 use Rattle.hs_rules.specs.Found.{SearchData, HeadData, HasKnownNumbers, HaveEnvs, RowsAre, IsRowOf, HasRow, HeadLeadsTo, IsConclusion, HasEnvFound}
 use Rattle.hs_rules.specs.declared.joining.TheConstants.{FEW}
 use Rattle.hs_rules.proofs.SlotLemmas.{slot_of}
-
-row_true : (a b : RowData) → eq-value.it a b ≡ true → a ≡ b
-row_true a b h =
-    let p = and_parts (nat_eq a.point b.point) (nat_eq a.env b.env && nat_eq a.ty b.ty) h in
-    let q = and_parts (nat_eq a.env b.env) (nat_eq a.ty b.ty) p.1 in
-    λ i. record { point = eqb-true a.point b.point p.0 i; env = eqb-true a.env b.env q.0 i; ty = eqb-true a.ty b.ty q.1 i }
-
-row_own : (a : RowData) → eq-value.it a a ≡ true
-row_own a = rw (eq-eqb a.point a.point refl, eq-eqb a.env a.env refl, eq-eqb a.ty a.ty refl)
-
-pub row_same : (a b : RowData) → Decides (eq-value.it a b) (a ≡ b)
-row_same a b = (row_true a b, λ e. subst (λ (c : RowData). eq-value.it a c ≡ true) e (row_own a))
 
 abbrev rows_of : List DeducedData → List RowData
 rows_of found = map (λ (d : DeducedData). d.row) found
@@ -131,7 +119,7 @@ module _ (log : List EntryData) (limit : ℕ) (fixed : Option FixedData) where
   from_filled (s ∷ ss) [] h k = absurd h
   from_filled (s ∷ ss) (f ∷ fs) h (pick {place = place} {args = args} {e = e} {es = es} c k) =
       let r = (h.0.places place).0 c.among in
-      let same : r.0 ≡ e = some_same r.0 e (sym (at_take limit log place r.0 r.1.at).1 ∙ c.at) in
+      let same : r.0 ≡ e = same_Some r.0 e (sym (at_take limit log place r.0 r.1.at).1 ∙ c.at) in
       subst (λ (a : ℕ). Picked (λ s. s.arg) (IsCandidate E fixed) (s ∷ ss) ((a, place) ∷ args) (e ∷ es)) (sym h.0.arg)
       (pick (subst (λ (x : EntryData). IsCandidate E fixed s place x) same r.1) (from_filled ss fs h.1 k))
 
@@ -159,7 +147,7 @@ module _ (log : List EntryData) (limit : ℕ) (fixed : Option FixedData) where
       record {
         entry = k.0;
         at = at.1;
-        env = have k.0 (member_at E place k.0 k.1.at) (subst (λ (u : ℕ). Contains us u) (sym k.1.point) (member_at us s.place r.slot.point s.point));
+        env = have k.0 (Contains-at E place k.0 k.1.at) (subst (λ (u : ℕ). Contains us u) (sym k.1.point) (Contains-at us s.place r.slot.point s.point));
       }
 
 -- what the slots of a head's type lead to

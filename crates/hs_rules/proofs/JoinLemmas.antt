@@ -4,12 +4,13 @@ use Rattle.std.specs.Bool.{OnTrue}
 use Rattle.std.specs.List.{list_any}
 use Rattle.std.proofs.lemmas.Map.Made.{is_member-Decides}
 use Rattle.std.proofs.lemmas.List.Elements.{Contains-append_left, Contains-push, Contains-get_or}
+use Rattle.std.proofs.lemmas.Option.{same_Some}
+use Rattle.hs_scheme.proofs.Lists.{here, Contains-at, only}
 use Rattle.hs_table.specs.Entries.{Env, EntryData, IsEnv}
-use Rattle.hs_table_laws.proofs.Members.{only}
 use Rattle.hs_types.specs.Interned.{InternerData, env_of_id, RowData, entry_of, Grows, IsUnionEnv}
 use Rattle.hs_types.specs.contracts.ids.EnvIdPartialEq.TheImpl.{eq-value}
 use Rattle.hs_types.proofs.Numbers.{env_within, env_stays}
-use Rattle.hs_table_laws.proofs.Places.{some_same, here, within_from, place_of, member_at, at_take}
+use Rattle.hs_table_laws.proofs.Places.{within_from, place_of, at_take}
 use Rattle.hs_rules.specs.Slots.{FilledData, Picked, none_left, pick, IsJoin}
 use Rattle.hs_rules.specs.Joins.{PartialData, FillsBy, IsPlaced, ArePlaced, SeenAre, IsMade, IsMadeOf, IsCovered, CanFill, AreJoined}
 use Rattle.hs_rules.proofs.Lists.{read_other}
@@ -27,7 +28,7 @@ seen_pushed seen more list pushed x h cases is env c = elim (cases env c) [
 pub among_first : (n : ℕ) (list items : List PartialData) (env : ℕ) (r : Bool) → list ≡ items → OnTrue r ((x : PartialData) × Contains (take n list) x × (x.env ≡ env)) → OnTrue r ((x : PartialData) × Contains items x × (x.env ≡ env))
 among_first n list items env true is (x, there, same) =
     let p = place_of (take n list) x there in
-    (x, subst (λ (ys : List PartialData). Contains ys x) is (member_at list p.0 x (at_take n list p.0 x p.1).1), same)
+    (x, subst (λ (ys : List PartialData). Contains ys x) is (Contains-at list p.0 x (at_take n list p.0 x p.1).1), same)
 among_first n list items env false is h = tt
 
 -- one that was seen is in the list
@@ -82,7 +83,7 @@ module _ (I J K : InternerData) (log : List EntryData) (from : PartialData) (f :
     ]
 
     pub covered_next : (new : List PartialData) → ((x : PartialData) × Contains new x × (x.env ≡ id)) → (e : EntryData) → slice_get log place ≡ Some e → IsCovered I K from e new
-    covered_next new found e is = subst (λ (y : EntryData). IsCovered I K from y new) (some_same (entry_of J row) e (sym at ∙ is)) (record {
+    covered_next new found e is = subst (λ (y : EntryData). IsCovered I K from y new) (same_Some (entry_of J row) e (sym at ∙ is)) (record {
       item = found.0;
       there = found.1;
       within = subst (λ (n : ℕ). n < length K.envs) (sym found.2) within;
@@ -93,7 +94,7 @@ module _ (I J K : InternerData) (log : List EntryData) (from : PartialData) (f :
 pub same_length : (I J : InternerData) (log : List EntryData) (env place : ℕ) (row : RowData) → Grows I J → env < length I.envs → IsPlaced log (length (env_of_id I env)) place
     → slice_get log place ≡ Some (entry_of J row) → length (env_of_id J env) ≡ length (env_of_id J row.env)
 same_length I J log env place row g known placed at =
-    ap (λ (e : Env). length e) (env_stays I J g env known) ∙ (sym placed.env.long ∙ ap (λ (e : EntryData). length e.env) (some_same placed.entry (entry_of J row) (sym placed.at ∙ at)))
+    ap (λ (e : Env). length e) (env_stays I J g env known) ∙ (sym placed.env.long ∙ ap (λ (e : EntryData). length e.env) (same_Some placed.entry (entry_of J row) (sym placed.at ∙ at)))
 
 -- one more slot
 module _ (I K : InternerData) (log : List EntryData) (n : ℕ) (own : Env) (fs : List FilledData) (f : FilledData) (old new : List PartialData) (joined : AreJoined I log n own fs old)
@@ -152,7 +153,7 @@ joined_more I K log n own fs f old new joined place entry is at args within unio
     }))
     (λ from there k e fills.
     let place_is = only place k (subst (λ (ps : List ℕ). Contains ps k) is fills.among) in
-    let same : entry ≡ e = some_same entry e (sym at ∙ (ap (λ (i : ℕ). slice_get log i) (sym place_is) ∙ fills.at)) in
+    let same : entry ≡ e = same_Some entry e (sym at ∙ (ap (λ (i : ℕ). slice_get log i) (sym place_is) ∙ fills.at)) in
     subst (λ (y : PartialData). IsCovered I K y e (new ∷ [])) (sym (only old from there)) (record {
       item = new;
       there = here new [];

@@ -1,17 +1,9 @@
 -- Members of lists.
-use Rattle.std.proofs.Common.{Bool, true, false, cond, filter, ◌≡◌, refl, sym, ◌∙◌, ap, subst, ℕ, ◌+◌, ◌<◌, List, [], ◌∷◌, ◌++◌, length, get_or, take, Option, Some, MatchOption, Result, Ok, Err, IfOk, OnOk, All, AllPairs, Contains, ◌⊎◌, inl, inr}
+use Rattle.std.proofs.Common.{Bool, true, false, cond, filter, ◌≡◌, refl, sym, ◌∙◌, ap, subst, ℕ, ◌+◌, ◌<◌, List, [], ◌∷◌, length, get_or, take, Option, Some, MatchOption, Result, Ok, Err, OnOk, All, Contains, ◌⊎◌, inl, inr}
 use Rattle.std.proofs.lemmas.List.Elements.{Contains-append_cases, Contains-get_or}
 use Rattle.std.proofs.lemmas.List.{get_or_default}
-use Rattle.hs_table_laws.proofs.Places.{none_in, here, later, uncons, pairs_cons, pairs_head, pairs_tail}
+use Rattle.hs_scheme.proofs.Lists.{none_in, here, later, uncons}
 use Rattle.hs_table_laws.proofs.Members.{taken_next}
-
-pub pairs_append : {X : Type 0} (R : X → X → Type 0) (xs ys : List X) → AllPairs R xs → AllPairs R ys → ((x y : X) → Contains xs x → Contains ys y → R x y) → AllPairs R (xs ++ ys)
-pairs_append R [] ys hx hy f = hy
-pairs_append R (x ∷ xs) ys hx hy f =
-    pairs_cons R x (xs ++ ys) (λ y c. elim (Contains-append_cases xs ys y c) [
-      | inl h ↦ pairs_head R x y xs hx h
-      | inr h ↦ f x y (here x xs) h
-    ]) (pairs_append R xs ys (pairs_tail R x xs hx) hy (λ a b ca cb. f a b (later x a xs ca) cb))
 
 pub read_other : {X : Type 0} (xs : List X) (k : ℕ) (x d : X) → k < length xs → get_or xs k x ≡ x → get_or xs k d ≡ x
 read_other xs k x d h e = get_or_default xs k d x h ∙ e
@@ -22,10 +14,6 @@ taken_cases xs k y x lt is c = elim (Contains-append_cases (take k xs) (y ∷ []
   | inl was ↦ inl was
   | inr last ↦ inr (elim (uncons y x [] last) [ inl e ↦ e | inr nowhere ↦ absurd (none_in x nowhere) ])
 ]
-
-pub if_ok_map : {X E : Type 0} (r : Result X E) (P Q : X → Type 0) → ((x : X) → P x → Q x) → IfOk r P → IfOk r Q
-if_ok_map (Ok x) P Q f h = f x h
-if_ok_map (Err e) P Q f h = tt
 
 pub on_ok_map : {X E : Type 0} (r : Result X E) (P Q : Type 0) → (P → Q) → OnOk r P → OnOk r Q
 on_ok_map (Ok x) P Q f h = f h

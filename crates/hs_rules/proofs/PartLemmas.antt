@@ -1,18 +1,19 @@
 -- Conclusions as they are gathered.
 use Rattle.std.proofs.Common.{◌≡◌, ◌≢◌, refl, sym, ◌∙◌, ap, subst, ℕ, zero, suc, ◌<◌, List, [], ◌∷◌, length, map, drop, get_or, slice_get, slice_index, Option, Some, arith, AllPairs, Contains, ◌⊎◌, inl, inr}
-use Rattle.std.proofs.lemmas.Option.{slice_get-get_or}
+use Rattle.std.proofs.lemmas.Option.{slice_get-get_or, same_Some}
 use Rattle.std.proofs.lemmas.List.{length-map}
 use Rattle.std.proofs.lemmas.List.Elements.{Contains-append_cases}
 use Rattle.hs_scheme.specs.declared.term.Head.{Head}
 use Rattle.hs_scheme.specs.declared.term.Head.TheVariants.{Var, Nt, Tm}
 use Rattle.hs_scheme.specs.Points.{PointData, PointsData, NonterminalWithin, ParameterWithin, point_at, points_of}
 use Rattle.hs_scheme.specs.Problem.{ProblemData}
+use Rattle.hs_scheme.proofs.Lists.{none_in, only}
 use Rattle.hs_table.specs.declared.support.HeadBy.{HeadBy}
 use Rattle.hs_table.specs.declared.support.HeadBy.TheVariants.{Terminal, Rule, Param}
 use Rattle.hs_table.specs.Entries.{EntryData, InShape, IsEnv, params_of}
 use Rattle.hs_table.specs.Follows.{Support, head_premise}
-use Rattle.hs_table_laws.proofs.Places.{some_same, place_of, none_in}
-use Rattle.hs_table_laws.proofs.Members.{into_map, only}
+use Rattle.hs_table_laws.proofs.Places.{place_of}
+use Rattle.hs_table_laws.proofs.Members.{into_map}
 use Rattle.hs_types.specs.Interned.{InternerData, RowData, entry_of, Grows}
 use Rattle.hs_types.proofs.Numbers.{row_stays}
 use Rattle.hs_replica.specs.Replica.{ReplicaData, KeepsLog}
@@ -93,7 +94,7 @@ have_envs p E args rule params is shapes in_rule = λ e c among.
     let s = shapes e c in
     let at = place_of args e.point among in
     let r = in_rule at.0 e.point at.1 in
-    let same : s.of ≡ r.of = some_same s.of r.of (sym s.at ∙ r.at) in
+    let same : s.of ≡ r.of = same_Some s.of r.of (sym s.at ∙ r.at) in
     let rule_is : s.of.rule ≡ rule = ap (λ (d : PointData). d.rule) same ∙ r.in_rule in
     let n_is : params_of p s.of.rule ≡ params = ap (params_of p) rule_is ∙ sym is in
     subst (λ (n : ℕ). IsEnv n e.env) n_is s.env

@@ -1,6 +1,6 @@
 -- The arguments of a point stand in its rule, and are fewer than 2^32.
 use Rattle.std.proofs.Common.{◌≡◌, refl, sym, ◌∙◌, ap, subst, ℕ, zero, suc, ◌+◌, ◌^◌, ◌<◌, ◌≤◌, List, [], ◌∷◌, length, get_or, slice_get, slice_index, Some, arith, All, Contains, inl, inr}
-use Rattle.std.proofs.lemmas.Option.{slice_get-get_or}
+use Rattle.std.proofs.lemmas.Option.{slice_get-get_or, same_Some}
 use Rattle.std.proofs.lemmas.Bool.{cases_order}
 use Rattle.std.proofs.lemmas.List.Elements.{All-contains}
 use Rattle.std.specs.Option.{option_map_or}
@@ -11,7 +11,8 @@ use Rattle.hs_scheme.specs.Points.{PointData, IsArgument, size, numbers, term_po
 use Rattle.hs_scheme.specs.Parameters.{counts_of}
 use Rattle.hs_scheme.proofs.PointLemmas.{length-term_points}
 use Rattle.hs_scheme.proofs.PlaceLemmas.{once}
-use Rattle.hs_table_laws.proofs.Places.{some_same, fewer, here, later}
+use Rattle.hs_scheme.proofs.Lists.{here, later}
+use Rattle.hs_table_laws.proofs.Places.{fewer}
 use Rattle.hs_table_laws.proofs.Standing.{StandsFrom, place-append, stands_front, stands_back, stands_tail, stands_head}
 
 module _ (points : List PointData) where
@@ -28,7 +29,7 @@ module _ (points : List PointData) where
 
   row_points : (rule n : ℕ) (ts : Trees Head) → StandsFrom points n (terms_points rule n ts) → (j a : ℕ) → slice_get (numbers n ts) j ≡ Some a → InRule rule a
   row_points rule n none s j a e = absurd (cc)
-  row_points rule n (more t ts) s zero a e = subst (InRule rule) (some_same n a e) (front_point rule n t (stands_front points n (term_points rule n t) (terms_points rule (n + size t) ts) s))
+  row_points rule n (more t ts) s zero a e = subst (InRule rule) (same_Some n a e) (front_point rule n t (stands_front points n (term_points rule n t) (terms_points rule (n + size t) ts) s))
   row_points rule n (more t ts) s (suc j) a e =
       row_points rule (n + size t) ts (stands_back points n (size t) (term_points rule n t) (terms_points rule (n + size t) ts) (length-term_points rule n t) s) j a e
 
@@ -36,7 +37,7 @@ module _ (points : List PointData) where
     whole_term : (rule n : ℕ) (t : Tree Head) → StandsFrom points n (term_points rule n t) → (i : ℕ) (d : PointData) → slice_get (term_points rule n t) i ≡ Some d → IsWholeHead rule d
     whole_term rule n (node h ts) s zero d e =
         let own : PointData = record { rule = rule; head = h; args = numbers (n + 1) ts } in
-        subst (λ (q : PointData). IsWholeHead rule q) (some_same own d e) (record { in_rule = refl; arguments = row_points rule (n + 1) ts (stands_tail points n own (terms_points rule (n + 1) ts) s) })
+        subst (λ (q : PointData). IsWholeHead rule q) (same_Some own d e) (record { in_rule = refl; arguments = row_points rule (n + 1) ts (stands_tail points n own (terms_points rule (n + 1) ts) s) })
     whole_term rule n (node h ts) s (suc i) d e =
         let own : PointData = record { rule = rule; head = h; args = numbers (n + 1) ts } in
         whole_row rule (n + 1) ts (stands_tail points n own (terms_points rule (n + 1) ts) s) i d e

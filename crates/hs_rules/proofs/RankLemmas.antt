@@ -2,10 +2,11 @@
 use Rattle.std.proofs.Common.{◌≡◌, refl, sym, ◌∙◌, ap, ℕ, zero, suc, true, false, nat_eq, cond, List, [], ◌∷◌, length, find, slice_get, unwrap_or, Option, Some, option_map, Contains}
 use Rattle.std.proofs.lemmas.Bool.{eqb-true, and_parts}
 use Rattle.std.proofs.lemmas.List.Elements.{All-contains}
+use Rattle.std.proofs.lemmas.Option.{same_Some}
 use Rattle.hs_scheme.specs.Transition.{TransitionData}
 use Rattle.hs_scheme.specs.Automaton.{next, is_of}
 use Rattle.hs_scheme.specs.Sorted.{SortedData, IsSorted, known}
-use Rattle.hs_table_laws.proofs.Places.{some_same, here, later}
+use Rattle.hs_scheme.proofs.Lists.{here, later}
 
 pub record Moved (ts : List TransitionData) (a : ℕ) (to : List ℕ) : Type 0 where
   pub transition : TransitionData
@@ -16,13 +17,13 @@ pub record Moved (ts : List TransitionData) (a : ℕ) (to : List ℕ) : Type 0 w
 moved : (ts : List TransitionData) (q a : ℕ) (to : List ℕ) → next ts q a ≡ Some to → Moved ts a to
 moved [] q a to e = absurd (cc)
 moved (t ∷ ts) q a to e = elim (is_of q a t) as (λ b. is_of q a t ≡ b → option_map (λ (x : TransitionData). x.to) (cond b (Some t) (find (is_of q a) ts)) ≡ Some to → Moved (t ∷ ts) a to) [
-  | true ↦ λ is k. record { transition = t; among = here t ts; terminal = eqb-true t.terminal a (and_parts (nat_eq t.from q) (nat_eq t.terminal a) is).1; leads = some_same t.to to k }
+  | true ↦ λ is k. record { transition = t; among = here t ts; terminal = eqb-true t.terminal a (and_parts (nat_eq t.from q) (nat_eq t.terminal a) is).1; leads = same_Some t.to to k }
   | false ↦ λ is k. let m = moved ts q a to k in record { transition = m.transition; among = later t m.transition ts m.among; terminal = m.terminal; leads = m.leads }
 ] refl e
 
 from_known : (ranks : List ℕ) (a n : ℕ) → slice_get (known ranks) a ≡ Some (Some n) → slice_get ranks a ≡ Some n
 from_known [] a n e = absurd (cc)
-from_known (r ∷ ranks) zero n e = some_same (Some r) (Some n) e
+from_known (r ∷ ranks) zero n e = same_Some (Some r) (Some n) e
 from_known (r ∷ ranks) (suc a) n e = from_known ranks a n e
 
 pub ranks_agree : (s : SortedData) → IsSorted s → (q a : ℕ) (to : List ℕ) → next s.automaton.transitions q a ≡ Some to → length to ≡ unwrap_or (slice_get s.scheme.ranks a) 0

@@ -1,22 +1,22 @@
 -- What follows from no entries: by the types of the head that ask for nothing.
-use Rattle.std.proofs.Common.{◌≡◌, refl, sym, ◌∙◌, ap, subst, slice_get, ◌<◌, ◌≤◌, ◌&&◌, Bool, true, nat_eq, option_map, ℕ, zero, suc, ◌+◌, None, Some, List, [], ◌∷◌, length, replicate, set, arith, Contains, inl, inr}
-use Rattle.std.proofs.lemmas.Bool.{cases_lt, eq-eqb}
+use Rattle.std.proofs.Common.{◌≡◌, refl, sym, ◌∙◌, ap, subst, slice_get, ◌<◌, ℕ, zero, suc, ◌+◌, None, Some, List, [], ◌∷◌, length, replicate, set, arith, Contains, inl, inr}
+use Rattle.std.proofs.lemmas.Bool.{cases_lt}
+use Rattle.std.proofs.lemmas.Option.{same_Some}
 use Rattle.hs_scheme.specs.declared.term.Head.TheVariants.{Var, Nt, Tm}
-use Rattle.hs_scheme.specs.Transition.{TransitionData}
-use Rattle.hs_scheme.specs.Automaton.{next, is_of, IsDeterministic}
-use Rattle.hs_scheme.proofs.TransitionIndex.{find-only, is_of-true}
+use Rattle.hs_scheme.specs.Automaton.{next}
 use Rattle.hs_scheme.specs.Points.{PointData}
 use Rattle.hs_scheme.specs.Problem.{ProblemData}
+use Rattle.hs_scheme.proofs.Lists.{none_in}
 use Rattle.hs_table.specs.declared.support.HeadBy.{HeadBy}
 use Rattle.hs_table.specs.declared.support.HeadBy.TheVariants.{Terminal, Rule, Param}
 use Rattle.hs_table.specs.Types.{TypeTree, state, arrows}
 use Rattle.hs_table.specs.Entries.{Env, EntryData, Has, InShape, params_of}
-use Rattle.hs_table.specs.Follows.{rank_of, IsHeadType, Support, FollowsBy, Chosen, done, next_argument, choose}
-use Rattle.hs_table_laws.proofs.Places.{none_in, some_same, within_from}
+use Rattle.hs_table.specs.Follows.{rank_of, IsHeadType, Support, FollowsBy, Chosen, done, next_argument, choose, HasMove}
+use Rattle.hs_table_laws.proofs.Places.{within_from}
 use Rattle.hs_table_laws.proofs.Arrows.{empties_has, one_long, one_has, has_within}
 use Rattle.hs_types.specs.Interned.{InternerData}
 use Rattle.hs_rules.specs.Found.{HeadData}
-use Rattle.hs_rules.specs.Heads.{HasType, GainsHeads, AtRange, InState, Moves, AreHeads, AsksNothing}
+use Rattle.hs_rules.specs.Heads.{HasType, GainsHeads, AtRange, InState, AreHeads, AsksNothing}
 use Rattle.hs_rules.specs.Conclusions.{DeducedData, AnySupport, AreConclusions}
 use Rattle.hs_rules.specs.Parts.{HasRowFor}
 use Rattle.hs_rules.proofs.ArrowLemmas.{arrows_long, takes_has}
@@ -117,7 +117,7 @@ module _ (p : ProblemData) (log : List EntryData) (rule : ℕ) (args : List ℕ)
         into (Param y k) sets rest long h want = absurd h
 
     -- none of a terminal that has a transition in each state, with no more children than there are arguments
-    pub moving_nothing : heads ≡ [] → ((q : ℕ) → q < p.sorted.automaton.states → Moves p.sorted.automaton.transitions a (length args) q)
+    pub moving_nothing : heads ≡ [] → ((q : ℕ) → q < p.sorted.automaton.states → HasMove p.sorted.automaton.transitions a (length args) q)
         → ((q : ℕ) (to : List ℕ) → next p.sorted.automaton.transitions q a ≡ Some to → length to ≡ rank_of p a)
         → AreHeads p [] (record { rule = rule; head = Tm a; args = args }) ids AsksNothing heads
     moving_nothing none moves ranks = terminals_nothing gains ranks
@@ -128,7 +128,7 @@ module _ (p : ProblemData) (log : List EntryData) (rule : ℕ) (args : List ℕ)
             elim s.source [
               | inl l ↦ let e = sym l.moves ∙ m.1.0 in absurd (cc)
               | inr c ↦
-                  let same : m.0 ≡ c.source.to = some_same m.0 c.source.to (sym m.1.0 ∙ c.source.moves) in
+                  let same : m.0 ≡ c.source.to = same_Some m.0 c.source.to (sym m.1.0 ∙ c.source.moves) in
                   let long : length m.0 ≡ length c.source.to = ap (λ (qs : List ℕ). length qs) same in
                   absurd (omega (arith, long, m.1.1, c.least, within_from c.source.to c.place c.source.child.r c.source.child.at))
             ]
@@ -140,21 +140,6 @@ module _ (p : ProblemData) (log : List EntryData) (rule : ℕ) (args : List ℕ)
           all = λ by o t s sets rest long is. absurd (no_seeds by o t s);
         }
 
-both_true : (a b : Bool) → a ≡ true → b ≡ true → (a && b) ≡ true
-both_true a b e f = rw (e, f) refl
-
--- the transition at a place is the only one of its state and terminal
-pub moves_at : (ts : List TransitionData) (a n i q : ℕ) (t : TransitionData) → IsDeterministic ts → slice_get ts i ≡ Some t → t.terminal ≡ a → t.from ≡ q → length t.to ≤ n → Moves ts a n q
-moves_at ts a n i q t det at terminal from le = (
-  t.to,
-  (
-    ap (λ o. option_map (λ (u : TransitionData). u.to) o)
-        (find-only (is_of q a) ts i t at (both_true (nat_eq t.from q) (nat_eq t.terminal a) (eq-eqb t.from q from) (eq-eqb t.terminal a terminal)) (λ j u at_j h.
-        let p = is_of-true q a u h in det j i u t at_j at (p.0 ∙ sym from) (p.1 ∙ sym terminal))),
-    le,
-  ),
-)
-
 -- without such a head nothing follows at a point
 pub nothing_follows : (p : ProblemData) (ids : InternerData) (point : ℕ) (of : PointData) (found : List DeducedData) → found ≡ [] → slice_get p.points.points point ≡ Some of
     → AreHeads p [] of ids AsksNothing [] → AreConclusions p ids [] point AnySupport found
@@ -162,7 +147,7 @@ nothing_follows p ids point of found none at are = part_conclusions p ids [] poi
   where
     all : (s : Support) (e : EntryData) → e.point ≡ point → FollowsBy p [] s e → AnySupport s → HasRowFor ids found e
     all s e here_is f counts =
-        let same : f.of ≡ of = some_same f.of of (sym f.at ∙ (ap (λ k. slice_get p.points.points k) here_is ∙ at)) in
+        let same : f.of ≡ of = same_Some f.of of (sym f.at ∙ (ap (λ k. slice_get p.points.points k) here_is ∙ at)) in
         let long : length f.sets ≡ length of.args = sym (chosen_long p [] f.are) ∙ ap (λ (o : PointData). length o.args) same in
         let head = subst (λ (o : PointData). IsHeadType p [] o.rule o.head s.head (arrows f.sets e.ty)) same f.head in
         let has = are.all s.head f.sets e.ty long head (λ j t h. chosen_nothing p f.are j t h) in

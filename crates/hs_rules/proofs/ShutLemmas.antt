@@ -1,5 +1,6 @@
 -- Where an entry at a nonterminal's body leads to nothing.
 use Rattle.std.proofs.Common.{◌≡◌, sym, ◌∙◌, ap, subst, ℕ, List, [], ◌∷◌, length, slice_get, None, Some}
+use Rattle.std.proofs.lemmas.Option.{same_Some}
 use Rattle.hs_scheme.specs.declared.term.Head.TheVariants.{Nt}
 use Rattle.hs_scheme.specs.Points.{PointData}
 use Rattle.hs_scheme.specs.Problem.{ProblemData}
@@ -8,7 +9,6 @@ use Rattle.hs_table.specs.declared.support.HeadBy.TheVariants.{Terminal, Rule, P
 use Rattle.hs_table.specs.Types.{TypeTree, arrows}
 use Rattle.hs_table.specs.Entries.{EntryData}
 use Rattle.hs_table.specs.Follows.{FromBody, IsHeadType, Support, FollowsBy, head_premise}
-use Rattle.hs_table_laws.proofs.Places.{some_same}
 use Rattle.hs_rules.specs.Slots.{SlotData, slots, IsCandidate, Picked}
 use Rattle.hs_rules.specs.Shut.{IsBodyShut}
 use Rattle.hs_rules.proofs.FollowLemmas.{chosen_picked, chosen_long}
@@ -26,7 +26,7 @@ module _ (p : ProblemData) (E : List EntryData) (rule f place : ℕ) (us : List 
       → (s : Support) (e : EntryData) → e.point ≡ point → FollowsBy p E s e → head_premise s.head ≡ place ∷ [] → ⊥
   nothing_by point at shut s e here_is k by =
       let of : PointData = record { rule = rule; head = Nt f; args = us } in
-      let same : k.of ≡ of = some_same k.of of (sym k.at ∙ (ap (λ (n : ℕ). slice_get p.points.points n) here_is ∙ at)) in
+      let same : k.of ≡ of = same_Some k.of of (sym k.at ∙ (ap (λ (n : ℕ). slice_get p.points.points n) here_is ∙ at)) in
       let head = subst (λ (o : PointData). IsHeadType p E o.rule o.head s.head (arrows k.sets e.ty)) same k.head in
       let long : length k.sets ≡ length us = sym (chosen_long p E k.are) ∙ ap (λ (o : PointData). length o.args) same in
       let picked = subst (λ (o : PointData). Picked (λ (x : SlotData). x.arg) (IsCandidate E None) (slots 0 o.args k.sets) s.args k.chosen) same (chosen_picked p E k.are) in

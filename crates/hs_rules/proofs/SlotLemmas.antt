@@ -3,13 +3,13 @@ use Rattle.std.proofs.Common.{◌≡◌, refl, sym, ◌∙◌, ap, subst, ℕ, z
 use Rattle.std.specs.declared.cmp.Ordering.TheVariants.{Less, Equal}
 use Rattle.std.proofs.lemmas.Cmp.{tied_itself}
 use Rattle.std.proofs.lemmas.List.Elements.{Contains-append_left, Contains-append_right, Contains-append_cases}
+use Rattle.hs_scheme.proofs.Lists.{none_in, here, later, uncons, pairs_append}
 use Rattle.hs_table.specs.Types.{TypeTree, IsSet, type_cmp}
 use Rattle.hs_table.specs.Entries.{Env, EntryData, Has, set_at, IsEnv}
 use Rattle.hs_table.specs.Follows.{AnyHas}
-use Rattle.hs_table_laws.proofs.Places.{none_in, here, later, uncons, pairs_cons, pairs_head, pairs_tail}
+use Rattle.hs_table_laws.proofs.Places.{pairs_cons, pairs_head, pairs_tail}
 use Rattle.hs_table_laws.proofs.Orders.{type_cmp_total}
 use Rattle.hs_rules.specs.Slots.{SlotData, slots_of, slots, FixedData, IsCandidate, Picked, none_left, pick, IsJoin}
-use Rattle.hs_rules.proofs.Lists.{pairs_append}
 
 -- one more slot at the end
 module _ {X : Type 0} (arg : X → ℕ) (Fills : X → ℕ → EntryData → Type 0) where

@@ -2,18 +2,20 @@
 use Rattle.std.proofs.Common.{◌≡◌, refl, sym, ◌∙◌, ap, subst, ℕ, ◌+◌, ◌<◌, ◌&&◌, nat_eq, None, Some, List, [], ◌∷◌, length, map, take, filter, replicate, set, slice_get, arith, Contains, inl, inr, ◌↔◌}
 use Rattle.std.proofs.lemmas.Bool.{eqb-true, eq-eqb, and_parts, and_from}
 use Rattle.std.proofs.lemmas.List.{length-map}
+use Rattle.std.proofs.lemmas.Option.{same_Some}
 use Rattle.hs_scheme.specs.declared.term.Head.TheVariants.{Var, Nt, Tm}
 use Rattle.hs_scheme.specs.declared.flow.FlowPair.{FlowPair}
 use Rattle.hs_scheme.specs.Points.{PointData}
 use Rattle.hs_scheme.specs.Automaton.{next}
 use Rattle.hs_scheme.specs.Transitions.{Reads}
 use Rattle.hs_scheme.specs.Problem.{ProblemData}
+use Rattle.hs_scheme.proofs.Lists.{none_in, Contains-at}
 use Rattle.hs_table.specs.declared.support.HeadBy.{HeadBy}
 use Rattle.hs_table.specs.declared.support.HeadBy.TheVariants.{Terminal, Rule, Param}
 use Rattle.hs_table.specs.Types.{TypeTree, state, arrows}
 use Rattle.hs_table.specs.Entries.{Env, EntryData, Has, InShape, params_of}
 use Rattle.hs_table.specs.Follows.{rank_of, LacksTransition, RejectsChild, IsAt, FromBody, FromFlow, IsHeadType, head_premise}
-use Rattle.hs_table_laws.proofs.Places.{some_same, member_at, at_take, to_take, within_from, none_in}
+use Rattle.hs_table_laws.proofs.Places.{at_take, to_take, within_from}
 use Rattle.hs_table_laws.proofs.Arrows.{empties_has, one_long, one_has, label_of}
 use Rattle.hs_types.specs.Interned.{InternerData, type_of_id, set_of_id, env_of_id}
 use Rattle.hs_replica.specs.Places.{here as entries_at, takes, asks, Takes, ArePlaces}
@@ -55,7 +57,7 @@ module _ (p : ProblemData) (log : List EntryData) (limit rule : ℕ) (args : Lis
   n = params_of p rule
 
   at_place : (place : ℕ) (e : EntryData) → place < limit → slice_get log place ≡ Some e → IsAt p E place e
-  at_place place e lt at = let t = to_take limit log place e lt at in record { at = t; shape = shapes e (member_at E place e t) }
+  at_place place e lt at = let t = to_take limit log place e lt at in record { at = t; shape = shapes e (Contains-at E place e t) }
 
   -- a nonterminal at the head
   module _ (f body : ℕ) (body_at : slice_get p.points.bodies f ≡ Some body) (ids : InternerData) (places : List ℕ) (heads : List HeadData) where
@@ -92,7 +94,7 @@ module _ (p : ProblemData) (log : List EntryData) (limit rule : ℕ) (args : Lis
       bodies_into (Terminal q child) sets rest long x want = absurd x
       bodies_into (Rule place) sets rest long x want =
           let t = at_take limit log place x.entry x.holds.at in
-          let point : x.entry.point ≡ body = some_same x.entry.point body (sym x.body ∙ body_at) in (
+          let point : x.entry.point ≡ body = same_Some x.entry.point body (sym x.body ∙ body_at) in (
             Rule place,
             replicate n [],
             record {
@@ -114,10 +116,10 @@ module _ (p : ProblemData) (log : List EntryData) (limit rule : ℕ) (args : Lis
         (λ place e c at.
         let b = (below place).0 c in
         let x = ((are.exact place).0 b.0).1 in
-        (b.1, ap (λ (z : EntryData). z.point) (some_same e x.entry (sym at ∙ x.at)) ∙ x.meets.0))
+        (b.1, ap (λ (z : EntryData). z.point) (same_Some e x.entry (sym at ∙ x.at)) ∙ x.meets.0))
         (λ place e sets rest c at is long.
         let x = ((are.exact place).0 ((below place).0 c).0).1 in
-        let same = some_same x.entry e (sym x.at ∙ at) in
+        let same = same_Some x.entry e (sym x.at ∙ at) in
         takes_has sets rest arg a (record { sets = e.env; rest = e.ty; is = is; has = subst (λ (z : EntryData). Has z.env arg a) same x.meets.1.1 }) (omega (arith, lt, long)))
         (λ place q e sets rest le at point is_state is long want.
         let more = arrows_long e.env sets q rest (sym is) in
@@ -141,7 +143,7 @@ module _ (p : ProblemData) (log : List EntryData) (limit rule : ℕ) (args : Lis
         (λ place e c at.
         let b = (below place).0 c in
         let x = ((are.exact place).0 b.0).1 in
-        (b.1, ap (λ (z : EntryData). z.point) (some_same e x.entry (sym at ∙ x.at)) ∙ x.meets))
+        (b.1, ap (λ (z : EntryData). z.point) (same_Some e x.entry (sym at ∙ x.at)) ∙ x.meets))
         (λ place e sets rest c at is long. tt)
         (λ place q e sets rest le at point is_state is long want.
         let w = within_from log place e at in
@@ -178,11 +180,11 @@ module _ (p : ProblemData) (log : List EntryData) (limit rule : ℕ) (args : Lis
     params_taking arg a lt =
         gained_are p E at_parameter ids (Asks arg a) (AtFlow log n x limit (λ u. takes u arg a) pairs) heads
         (λ by o t s.
-        let same = some_same s.source.entry s.answers.entry (sym s.source.at ∙ s.answers.at) in
+        let same = same_Some s.source.entry s.answers.entry (sym s.source.at ∙ s.answers.at) in
         let point : s.source.entry.point ≡ s.pair.point = ap (λ (z : EntryData). z.point) same ∙ s.answers.meets.0 in
         param_type s.place by o t s.source s.within (subst (λ (u : ℕ). Contains p.flow.pairs (record { rule = rule; param = x; point = u })) (sym point) (flow_in s.pair s.among)))
         (λ by o sets rest s long.
-        let same = some_same s.answers.entry s.source.entry (sym s.answers.at ∙ s.source.at) in
+        let same = same_Some s.answers.entry s.source.entry (sym s.answers.at ∙ s.source.at) in
         let ty = ap (λ (z : EntryData). z.ty) same ∙ sym s.source.just.2 in
         takes_has sets rest arg a (subst (λ (t : TypeTree). Takes t arg a) ty s.answers.meets.1.0) (omega (arith, lt, long)))
         into
@@ -211,7 +213,7 @@ module _ (p : ProblemData) (log : List EntryData) (limit rule : ℕ) (args : Lis
     params_all =
         gained_are p E at_parameter ids AnyHead (AtFlow log n x limit entries_at pairs) heads
         (λ by o t s.
-        let same = some_same s.source.entry s.answers.entry (sym s.source.at ∙ s.answers.at) in
+        let same = same_Some s.source.entry s.answers.entry (sym s.source.at ∙ s.answers.at) in
         let point : s.source.entry.point ≡ s.pair.point = ap (λ (z : EntryData). z.point) same ∙ s.answers.meets in
         param_type s.place by o t s.source s.within (subst (λ (u : ℕ). Contains p.flow.pairs (record { rule = rule; param = x; point = u })) (sym point) (flow_in s.pair s.among)))
         (λ by o sets rest s long. tt) into
@@ -307,8 +309,8 @@ module _ (p : ProblemData) (log : List EntryData) (limit rule : ℕ) (args : Lis
           (λ by o sets rest s long.
           let c = s.from.1 in
           let k = (reading s.place).0 s.among in
-          let same : k.0 ≡ c.to = some_same k.0 c.to (sym k.1.0 ∙ c.moves) in
-          let r_is : c.child.r ≡ r = some_same c.child.r r (sym c.child.at ∙ (ap (λ (xs : List ℕ). slice_get xs arg) (sym same) ∙ k.1.1)) in
+          let same : k.0 ≡ c.to = same_Some k.0 c.to (sym k.1.0 ∙ c.moves) in
+          let r_is : c.child.r ≡ r = same_Some c.child.r r (sym c.child.at ∙ (ap (λ (xs : List ℕ). slice_get xs arg) (sym same) ∙ k.1.1)) in
           let full = set (replicate (length c.to) []) arg (state c.child.r ∷ []) in
           let below : arg < length c.to = within_from c.to arg c.child.r c.child.at in
           let has = (one_has (length c.to) arg arg (state c.child.r) (state r) below).1 (refl, ap state (sym r_is)) in
@@ -322,7 +324,7 @@ module _ (p : ProblemData) (log : List EntryData) (limit rule : ℕ) (args : Lis
           into (Terminal q (Some child)) sets rest long h want =
               let k = h.1 in
               let asked = child_asks k.qs q k.place k.r (state r) sets rest k.is long want in
-              let r_is : r ≡ k.r = some_same r k.r (ap label_of asked.1) in
+              let r_is : r ≡ k.r = same_Some r k.r (ap label_of asked.1) in
               let at : slice_get k.qs arg ≡ Some k.r = ap (λ m. slice_get k.qs m) asked.0 ∙ k.at in (
                 Terminal q (Some (arg + 1)),
                 own,

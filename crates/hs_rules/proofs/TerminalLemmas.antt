@@ -1,12 +1,14 @@
 -- The types of a terminal, in numbers.
 use Rattle.std.proofs.Common.{◌≡◌, refl, sym, ◌∙◌, ap, subst, ℕ, zero, suc, ◌+◌, ◌<◌, ◌≤◌, List, [], ◌∷◌, length, map, replicate, set, None, Some, arith, inl, inr}
 use Rattle.std.proofs.lemmas.Bool.{cases_order}
+use Rattle.std.proofs.lemmas.Option.{same_Some}
 use Rattle.hs_scheme.specs.Transition.{TransitionData}
 use Rattle.hs_scheme.specs.Automaton.{next}
+use Rattle.hs_scheme.proofs.Lists.{none_in, here}
 use Rattle.hs_table.specs.declared.support.HeadBy.{HeadBy}
 use Rattle.hs_table.specs.Types.{TypeTree}
 use Rattle.hs_table.specs.Entries.{Env}
-use Rattle.hs_table_laws.proofs.Places.{some_same, within_from, none_in, here}
+use Rattle.hs_table_laws.proofs.Places.{within_from}
 use Rattle.hs_table_laws.proofs.Sets.{sets_same, one_set}
 use Rattle.hs_types.specs.Interned.{InternerData, IsSetOf, Grows}
 use Rattle.hs_rules.specs.Found.{HeadData}
@@ -63,14 +65,14 @@ module _ (ids : InternerData) (count : ℕ) (ts : List TransitionData) (a rank f
       (λ by o t s. elim s [
         | inl l ↦ absurd (let e : Some to ≡ None = sym moves ∙ l.moves in cc)
         | inr r ↦
-            let same = some_same r.source.to to (sym r.source.moves ∙ moves) in
+            let same = same_Some r.source.to to (sym r.source.moves ∙ moves) in
             record { place = r.place; least = r.least; most = omega (arith, r.most, long); source = subst (λ (xs : List ℕ). ChildAt own q xs r.place by o t) same r.source.child }
       ])
 
   pub heads_child : (to : List ℕ) (place : ℕ) → next ts q a ≡ Some to → GainsHeads ids count (ChildAt own q to place) old new → GainsHeads ids count (ChildIn ts a own place q) old new
   heads_child to place moves =
       heads_same ids count (ChildAt own q to place) (ChildIn ts a own place q) old new (λ by o t c. record { to = to; moves = moves; child = c })
-      (λ by o t c. subst (λ (xs : List ℕ). ChildAt own q xs place by o t) (some_same c.to to (sym c.moves ∙ moves)) c.child)
+      (λ by o t c. subst (λ (xs : List ℕ). ChildAt own q xs place by o t) (same_Some c.to to (sym c.moves ∙ moves)) c.child)
 
   pub heads_read : (states place : ℕ) → q < states → GainsHeads ids count (ChildIn ts a own place q) old new → GainsHeads ids count (ReadIn states ts a own place q) old new
   heads_read states place lt = heads_same ids count (ChildIn ts a own place q) (ReadIn states ts a own place q) old new (λ by o t c. (lt, c)) (λ by o t c. c.1)

@@ -1,11 +1,12 @@
 -- Conclusions: entries that follow from a log, as rows, each with a support.
 --     DeducedData        a row and a support
 --     IsDeduced          the row's entry follows from the log by the support
+--     IsShaped           the row's entry is in shape, so it may be added to a log
 --     AnySupport, Uses   the supports that count: all; those with a premise at the place
 --     AreConclusions     just the entries at a point that follow by a support that counts, each once
 use Rattle.std.specs.Prelude.{◌≡◌, ◌≢◌, ℕ, List, map, All, AllPairs, Contains}
 use Rattle.hs_scheme.specs.Problem.{ProblemData}
-use Rattle.hs_table.specs.Entries.{EntryData}
+use Rattle.hs_table.specs.Entries.{EntryData, InShape}
 use Rattle.hs_table.specs.Follows.{Support, FollowsBy, premises}
 use Rattle.hs_types.specs.Interned.{InternerData, RowData, IsRow, entry_of}
 
@@ -16,6 +17,10 @@ pub record DeducedData : Type 0 where
 pub record IsDeduced (p : ProblemData) (ids : InternerData) (log : List EntryData) (d : DeducedData) : Type 0 where
   pub row : IsRow ids d.row
   pub follows : FollowsBy p log d.support (entry_of ids d.row)
+
+pub record IsShaped (p : ProblemData) (ids : InternerData) (d : DeducedData) : Type 0 where
+  pub row : IsRow ids d.row
+  pub shape : InShape p (entry_of ids d.row)
 
 abbrev pub AnySupport : Support → Type 0
 AnySupport s = Unit {0}

@@ -7,7 +7,6 @@
 --     BodyAt, ParamAt                           the sources at a place of the log: an entry at a nonterminal's body, and one at a point that may stand for a parameter
 --     AtSome, AtRange                           a source at one of these places; at one in a range
 --     ChildAt, ChildIn, ReadIn, Lacks, InState  the sources of a terminal: a child that is rejected, or no transition
---     Moves                                     a transition of a terminal with no more than so many children
 --     AtFlow                                    a source at a point that may stand for a parameter
 --     IsSplit                                   a type is that with these sets
 --     IsHead, AreHeads                          a type of the point's head; just those that are wanted
@@ -99,11 +98,7 @@ pub record Lacks (ts : List TransitionData) (a rank : ℕ) (own : Env) (q : ℕ)
   pub moves : next ts q a ≡ None
   pub just : Just (Terminal q None) own (arrows (replicate rank []) (state q)) b o t
 
--- in state q the terminal has a transition, with at most n children
-abbrev pub Moves : List TransitionData → ℕ → ℕ → ℕ → Type 0
-Moves ts a n q = (to : List ℕ) × ((next ts q a ≡ Some to) × (length to ≤ n))
-
--- it has none, or one of its children from a place on is rejected
+-- in state q the terminal has no transition, or one, and one of its children from a place on is rejected
 abbrev pub InState : List TransitionData → ℕ → ℕ → ℕ → Env → ℕ → HeadBy → Env → TypeTree → Type 0
 InState ts a rank from own q b o t = Lacks ts a rank own q b o t ⊎ AtRange (λ place. ChildIn ts a own place q) from rank b o t
 

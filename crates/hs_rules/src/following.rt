@@ -2,7 +2,7 @@
 
 ghost use Rattle.std.specs.Prelude.{◌≡◌, ◌+◌, ◌^◌, ◌<◌, ◌≤◌, [], ℕ, length, slice_get, take, Some, All, IfOk};
 ghost use Rattle.hs_scheme.specs.Points.{point_at};
-ghost use Rattle.hs_table.specs.Entries.{InShape, params_of};
+ghost use Rattle.hs_table.specs.Entries.{InShape};
 ghost use Rattle.hs_types.specs.Interned.{Grows};
 ghost use Rattle.hs_replica.specs.Replica.{KeepsLog};
 ghost use Rattle.hs_rules.specs.Conclusions.{AnySupport, Uses, AreConclusions};
@@ -16,6 +16,7 @@ use crate::seeds::starts_nothing;
 use crate::spot::Spot;
 use hs_replica::Replica;
 use hs_scheme::{OutOfMemory, Problem};
+use hs_table::parameters;
 use indexmap::IndexSet;
 use std::alloc::Global;
 
@@ -30,16 +31,6 @@ fn arguments(problem: &Problem, point: u32) -> &[u32]
     let points = &problem.points;
     let _ = points.count();
     points.args_of(point)
-}
-
-/// The number of parameters of the rule.
-fn parameters(problem: &Problem, rule: u32) -> u32
-    ensures { result ≡ params_of problem.now rule }
-{
-    match problem.sorted.scheme.rules.get(rule as usize) {
-        None => 0,
-        Some(rule) => rule.params,
-    }
 }
 
 /// Nothing found.

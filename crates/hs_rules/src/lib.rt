@@ -16,6 +16,6 @@ mod sources;
 mod spot;
 mod terminals;
 
-pub use deduced::Deduced;
+pub use deduced::{Deduced, deduced_entries_are_in_shape};
 pub use following::{conclusions, conclusions_with, seed_conclusions};
 pub use hs_replica::Replica;

@@ -3,14 +3,15 @@
 ghost use Rattle.std.specs.Prelude.{◌≡◌, ◌<◌, [], ℕ, IsTrue};
 ghost use Rattle.hs_scheme.specs.Transitions.{IsPlaceOf};
 ghost use Rattle.hs_types.specs.Interned.{InternerData};
-ghost use Rattle.hs_rules.specs.Heads.{Moves, AreHeads, AsksNothing};
+ghost use Rattle.hs_table.specs.Follows.{HasMove};
+ghost use Rattle.hs_rules.specs.Heads.{AreHeads, AsksNothing};
 
 use hs_scheme::{Automaton, Head, Problem};
 
 /// Whether the transition at this place is of the state, with no more than so many children.
 fn moves_by(automaton: &Automaton, terminal: u32, place: usize, q: u32, count: usize) -> bool
     requires { IsPlaceOf automaton.now.transitions terminal place }
-    ensures { IsTrue result → Moves automaton.now.transitions terminal count q }
+    ensures { IsTrue result → HasMove automaton.now.transitions terminal count q }
 {
     automaton.is_automaton();
     match automaton.transitions().get(place) {
@@ -23,7 +24,7 @@ fn moves_by(automaton: &Automaton, terminal: u32, place: usize, q: u32, count: u
 /// found where its transitions are in the order of their states.
 fn moves_everywhere(automaton: &Automaton, terminal: u32, count: usize) -> bool
     ensures { IsTrue result → (q : ℕ) → q < automaton.now.states
-        → Moves automaton.now.transitions terminal count q }
+        → HasMove automaton.now.transitions terminal count q }
 {
     let places = automaton.with_terminal(terminal);
     if places.len() < automaton.states() as usize {

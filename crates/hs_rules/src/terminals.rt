@@ -5,7 +5,6 @@ ghost use Rattle.hs_scheme.specs.declared.term.Head.TheVariants.{Tm};
 ghost use Rattle.hs_scheme.specs.Automaton.{next as next_states};
 ghost use Rattle.hs_table.specs.declared.support.HeadBy.TheVariants.{Terminal};
 ghost use Rattle.hs_table.specs.Types as types;
-ghost use Rattle.hs_table.specs.Follows.{rank_of};
 ghost use Rattle.hs_table.specs.Entries.{params_of};
 ghost use Rattle.hs_types.specs.Interned.{type_of_id, set_of_id, env_of_id};
 ghost use Rattle.hs_replica.specs.Replica.{KeepsLog};
@@ -18,7 +17,7 @@ use crate::search::Search;
 use crate::spot::Spot;
 use hs_replica::Replica;
 use hs_scheme::{Automaton, OutOfMemory, Problem};
-use hs_table::HeadBy;
+use hs_table::{HeadBy, rank};
 use hs_types::{EnvId, SetId, TyId, View};
 use smallvec::SmallVec;
 use std::alloc::Global;
@@ -276,16 +275,6 @@ fn push_reads(
         return Ok(());
     }
     push_child(alloc, replica, q, to, place, own, count, out)
-}
-
-/// The rank of the terminal.
-fn rank(problem: &Problem, terminal: u32) -> u32
-    ensures { result ≡ rank_of problem.now terminal }
-{
-    match problem.sorted.scheme.ranks.get(terminal as usize) {
-        None => 0,
-        Some(rank) => *rank,
-    }
 }
 
 /// The types of a terminal at the head that ask for the type at the argument.

@@ -1,16 +1,15 @@
 //! Logs that grow entry by entry, and what follows from them by the indexed programs.
 
 ghost use Rattle.std.specs.Prelude.{◌≡◌, ◌<◌, length, All, IfOk, OnOk};
-ghost use Rattle.hs_scheme.specs.Automaton.{IsAutomaton};
 ghost use Rattle.hs_table.specs.Entries.{InShape};
 ghost use Rattle.hs_types.specs.Interned.{IsRow};
-ghost use Rattle.hs_rules.specs.Conclusions.{DeducedData, IsDeduced};
-ghost use Rattle.hs_rules_examples.specs.Shaped.{IsShaped};
+ghost use Rattle.hs_rules.specs.Conclusions.{DeducedData, IsShaped};
 
-use hs_rules::{Deduced, Replica, conclusions, conclusions_with, seed_conclusions};
+use hs_rules::{
+    Deduced, Replica, conclusions, conclusions_with, deduced_entries_are_in_shape, seed_conclusions,
+};
 use hs_scheme::{OutOfMemory, Problem};
 use hs_table::Entry;
-use hs_table_laws::what_follows_is_in_shape;
 use std::alloc::Global;
 
 /// The entries of the log.
@@ -77,23 +76,6 @@ pub(crate) fn by_places(
     Ok(out)
 }
 
-/// What holds of the automaton of each problem.
-fn know(problem: &Problem)
-    ensures { IsAutomaton problem.now.sorted.automaton }
-{
-    let sorted = &problem.sorted;
-    sorted.automaton.is_automaton();
-}
-
-/// What was deduced from a log is in shape.
-fn are_shaped(problem: &Problem, replica: &Replica, found: &[Deduced])
-    requires { All (IsDeduced problem.now replica.now.ids replica.now.log) found.now }
-    ensures { All (IsShaped problem.now replica.now.ids) found.now }
-{
-    know(problem);
-    what_follows_is_in_shape();
-}
-
 /// Adds the first of the entries that the log lacks. Answers whether there was one.
 fn add_first(
     problem: &Problem,
@@ -125,7 +107,7 @@ pub(crate) fn grow(
 {
     for point in 0..problem.points.count() {
         let found = conclusions(alloc, problem, replica, point)?;
-        are_shaped(problem, replica, found.as_slice());
+        deduced_entries_are_in_shape(problem, replica, found.as_slice());
         if add_first(problem, replica, found.as_slice())? {
             return Ok(true);
         }

@@ -8,8 +8,6 @@ mod comparing;
 #[cfg(test)]
 mod growing;
 #[cfg(test)]
-mod making;
-#[cfg(test)]
 mod numbers;
 #[cfg(test)]
 mod ordering;

@@ -6,23 +6,17 @@ use std::alloc::Global;
 use std::cmp::Ordering;
 use std::test::Fail;
 
-fn state(q: u32) -> Ty {
-    Ty {
-        shape: Shape::State(q),
-    }
-}
-
 fn set(alloc: Global, states: &[u32]) -> Result<TypeSet, OutOfMemory> {
     let mut types = Vec::new(alloc);
     for q in states {
-        types.push(state(*q))?;
+        types.push(Ty::state(*q))?;
     }
     Ok(TypeSet { types })
 }
 
 /// The type whose set has these states, and whose result is a state.
 fn arrow(alloc: Global, states: &[u32], result_state: u32) -> Result<Ty, OutOfMemory> {
-    let rest = Box::new(alloc, state(result_state))?;
+    let rest = Box::new(alloc, Ty::state(result_state))?;
     Ok(Ty {
         shape: Shape::Arrow(set(alloc, states)?.types, rest),
     })
@@ -40,7 +34,7 @@ fn entry(alloc: Global, point: u32, sets: (&[u32], &[u32]), ty: Ty) -> Result<En
 fn ascending_types(alloc: Global) -> Result<Vec<Ty>, OutOfMemory> {
     let mut types = Vec::new(alloc);
     for q in [0, 1, 7] {
-        types.push(state(q))?;
+        types.push(Ty::state(q))?;
     }
     let rows: [(&[u32], u32); 6] = [
         (&[], 0),
@@ -80,7 +74,7 @@ fn ascending_entries(alloc: Global) -> Result<Vec<Entry>, OutOfMemory> {
     ];
     let mut entries = Vec::new(alloc);
     for (point, first, second, q) in rows {
-        entries.push(entry(alloc, point, (first, second), state(q))?)?;
+        entries.push(entry(alloc, point, (first, second), Ty::state(q))?)?;
     }
     Ok(entries)
 }

@@ -1,6 +1,6 @@
 //! The plain program at the edge of its budget, and from an empty log.
 
-use crate::making::problem_of;
+use hs_fixtures::problem_of;
 use hs_scheme::{OutOfMemory, Problem};
 use hs_table::{Entry, Shape};
 use hs_table_plain::{conclusions, leads_within, least_table};

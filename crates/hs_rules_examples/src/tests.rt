@@ -8,7 +8,7 @@ ghost use Rattle.hs_rules.specs.Conclusions.{DeducedData};
 
 use crate::comparing::{are_same, entries_of};
 use crate::growing::{grow, trees};
-use crate::making::problem_of;
+use hs_fixtures::problem_of;
 use hs_rules::{Deduced, Replica, conclusions, conclusions_with};
 use hs_scheme::{OutOfMemory, Problem};
 use hs_table::HeadBy;

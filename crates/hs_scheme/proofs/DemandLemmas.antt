@@ -1,9 +1,9 @@
--- Membership by place, and what is demanded.
-use Rattle.std.proofs.Common.{◌≡◌, ◌≢◌, refl, sym, ◌∙◌, ap, subst, ℕ, zero, suc, ◌<◌, ◌≤◌, Bool, true, false, ◌&&◌, nat_eq, List, [], ◌∷◌, length, get_or, take, slice_get, Some, arith, Contains, AllPairs}
+-- What is demanded, and the pairs of both kinds.
+use Rattle.std.proofs.Common.{◌≡◌, ◌≢◌, refl, sym, ◌∙◌, ap, subst, ℕ, zero, suc, ◌<◌, ◌≤◌, Bool, true, false, ◌&&◌, nat_eq, List, length, get_or, take, slice_get, Some, arith, Contains, AllPairs}
 use Rattle.std.specs.Bool.{Decides}
-use Rattle.std.specs.Cmp.{IsEquivalence}
+use Rattle.std.specs.Cmp.{IsEquivalence, both_ways}
 use Rattle.std.specs.List.{IsDistinct}
-use Rattle.std.proofs.lemmas.Bool.{eqb-true, eq-eqb}
+use Rattle.std.proofs.lemmas.Bool.{eqb-true, eq-eqb, and_parts}
 use Rattle.std.proofs.lemmas.Map.Keys.{IsDistinct-from_apart}
 use Rattle.std.proofs.lemmas.Map.Made.{length-le_from_is_member, is_member-Decides}
 use Rattle.std.proofs.lemmas.List.{get_or-take, length-take}
@@ -16,22 +16,18 @@ use Rattle.hs_scheme.specs.declared.flow.Pair.{Pair}
 use Rattle.hs_scheme.specs.declared.flow.Pair.TheVariants.{OfFlow, OfHead}
 use Rattle.hs_scheme.specs.contracts.flow.PairPartialEq.TheImpl.{eq-value}
 use Rattle.hs_scheme.specs.Flow.{IsBase, Demands, IsClosed, IsSupported, IsFlow, pairs_of}
+use Rattle.hs_scheme.proofs.Lists.{slice_get-read}
 
-pub some_same : {A : Type 0} (x y : A) → Some x ≡ Some y → x ≡ y
-some_same x y h = (cc)
+-- ---- flow pairs and head pairs in one list
 
-pub slice_get-read : {X : Type 0} (xs : List X) (k : ℕ) (x : X) → k < length xs → get_or xs k x ≡ x → slice_get xs k ≡ Some x
-slice_get-read [] k x h e = absurd (omega arith)
-slice_get-read (y ∷ ys) zero x h e = ap (λ z. Some z) e
-slice_get-read (y ∷ ys) (suc k) x h e = slice_get-read ys k x (omega arith) e
+pub same_flow : (f g : FlowPair) → OfFlow f ≡ OfFlow g → f ≡ g
+same_flow f g e = (cc)
 
-pub read-slice_get : {X : Type 0} (xs : List X) (k : ℕ) (x : X) → slice_get xs k ≡ Some x → (k < length xs) × (get_or xs k x ≡ x)
-read-slice_get [] k x e = absurd (cc)
-read-slice_get (y ∷ ys) zero x e = (omega arith, some_same y x e)
-read-slice_get (y ∷ ys) (suc k) x e = let r = read-slice_get ys k x e in (omega (arith, r.0), r.1)
+pub same_head : (h k : HeadPair) → OfHead h ≡ OfHead k → h ≡ k
+same_head h k e = (cc)
 
-pub Contains-at : {X : Type 0} (xs : List X) (k : ℕ) (x : X) → slice_get xs k ≡ Some x → Contains xs x
-Contains-at xs k x e = let r = read-slice_get xs k x e in (k, r.0, r.1)
+pub no_head : (f : FlowPair) (h : HeadPair) → OfFlow f ≡ OfHead h → ⊥
+no_head f h e = (cc)
 
 module _ (rules : List Rule) (found more : List Pair) (also : (q : Pair) → Contains found q → Contains more q) where
   pub IsBase-more : (rule : ℕ) (h : Head) (base given : ℕ) → IsBase found rule h base given → IsBase more rule h base given
@@ -60,14 +56,9 @@ flow_unique rules flows others heads rest a b pair h = supported_within rules a.
 abbrev pub triple_eq : ℕ → ℕ → ℕ → ℕ → ℕ → ℕ → Bool
 triple_eq a b c x y z = nat_eq a x && (nat_eq b y && nat_eq c z)
 
-and_true : (b c : Bool) → b && c ≡ true → (b ≡ true) × (c ≡ true)
-and_true true true h = (refl, refl)
-and_true true false h = absurd (cc)
-and_true false c h = absurd (cc)
-
 pub triple_true : (a b c x y z : ℕ) → triple_eq a b c x y z ≡ true → (a ≡ x) × ((b ≡ y) × (c ≡ z))
 triple_true a b c x y z h =
-    let p = and_true (nat_eq a x) (nat_eq b y && nat_eq c z) h in let q = and_true (nat_eq b y) (nat_eq c z) p.1 in
+    let p = and_parts (nat_eq a x) (nat_eq b y && nat_eq c z) h in let q = and_parts (nat_eq b y) (nat_eq c z) p.1 in
     (eqb-true a x p.0, (eqb-true b y q.0, eqb-true c z q.1))
 
 pub triple_own : (a b c : ℕ) → triple_eq a b c a b c ≡ true
@@ -90,11 +81,6 @@ pair_same a b = (pair_true a b, λ e. subst (λ (c : Pair). eq-value.it a c ≡ 
 
 -- a test that decides equality is an equivalence
 module _ {X : Type 0} (eq : X → X → Bool) (same : (a b : X) → Decides (eq a b) (a ≡ b)) where
-  both_ways : (s t : Bool) → (s ≡ true → t ≡ true) → (t ≡ true → s ≡ true) → s ≡ t
-  both_ways true t f g = sym (f refl)
-  both_ways false true f g = g refl
-  both_ways false false f g = refl
-
   pub deciding : IsEquivalence eq
   deciding = record {
     refl = λ x. (same x x).1 refl;

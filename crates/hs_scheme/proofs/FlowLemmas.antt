@@ -7,13 +7,14 @@ use Rattle.std.specs.Ordering.{nat_cmp, ordering_then, ordering_reverse, is_lt, 
 use Rattle.std.specs.declared.cmp.Ordering.{Ordering}
 use Rattle.std.specs.declared.cmp.Ordering.TheVariants.{Less, Equal, Greater}
 use Rattle.std.specs.List.Sorted.{IsPartitionedBy, IsPartitionPoint, IsSearchInRange, IsBinarySearchResult, IsNonDecreasingBy}
-use Rattle.std.proofs.lemmas.Cmp.{then_total, on_total, nat_cmp_total}
+use Rattle.std.proofs.lemmas.Cmp.{then_total, on_total, nat_cmp_total, tied_itself}
 use Rattle.std.proofs.lemmas.Bool.Decides.{nat_tests}
 use Rattle.std.proofs.lemmas.List.{get_or-drop, length-drop}
 use Rattle.std.proofs.lemmas.List.Sorted.{searchable_from_sorted}
 use Rattle.hs_scheme.specs.declared.flow.FlowPair.{FlowPair}
 use Rattle.hs_scheme.specs.declared.flow.HeadPair.{HeadPair}
 use Rattle.hs_scheme.specs.Flow.{flow_cmp, head_cmp, IsAscending}
+use Rattle.hs_scheme.proofs.Orderings.{nat_equal, then_equal}
 
 -- the elements from the a-th to the b-th, where these pass and no others
 pub filter-middle : {X : Type 0} (m : X → Bool) (xs : List X) (a b : ℕ)
@@ -35,14 +36,6 @@ filter-middle m (x ∷ xs) zero zero before within after =
     filter-middle m xs zero zero (λ i d h l. absurd (omega arith)) (λ i d h k l. absurd (omega arith)) (λ i d h l. after (suc i) d (omega arith) (omega arith))
     ∙ ap (λ t. cond t (x ∷ filter m xs) (filter m xs)) (sym (after 0 x (omega arith) (omega arith)))
 
-nat_equal : (x y : ℕ) → nat_cmp x y ≡ Equal → x ≡ y
-nat_equal x y h = grind (arith, nat_tests)
-
-then_equal : (a b : Ordering) → ordering_then a b ≡ Equal → (a ≡ Equal) × (b ≡ Equal)
-then_equal Less b h = absurd (cc)
-then_equal Equal b h = (refl, h)
-then_equal Greater b h = absurd (cc)
-
 pub flow_cmp-equal : (a b : FlowPair) → flow_cmp a b ≡ Equal → a ≡ b
 flow_cmp-equal a b h =
     let p = then_equal (nat_cmp a.rule b.rule) (ordering_then (nat_cmp a.param b.param) (nat_cmp a.point b.point)) h in
@@ -62,13 +55,8 @@ pub head_cmp_total : IsTotalOrder head_cmp
 head_cmp_total = then_total (on_total (λ (p : HeadPair). p.point) nat_cmp_total) (then_total (on_total (λ (p : HeadPair). p.rule) nat_cmp_total) (on_total (λ (p : HeadPair). p.given) nat_cmp_total))
 
 module _ {X : Type 0} (cmp : X → X → Ordering) (total : IsTotalOrder cmp) (equal : (a b : X) → cmp a b ≡ Equal → a ≡ b) (xs : List X) (up : IsAscending cmp xs) where
-  self_equal : (o : Ordering) → o ≡ ordering_reverse o → o ≡ Equal
-  self_equal Less h = absurd (cc)
-  self_equal Equal h = refl
-  self_equal Greater h = absurd (cc)
-
   itself : (x : X) → cmp x x ≡ Equal
-  itself x = self_equal (cmp x x) (total.antisymm x x)
+  itself x = tied_itself total x
 
   rises : (x : X) → IsNonDecreasingBy (λ y. ordering_index (cmp y x)) xs
   rises x = searchable_from_sorted total (λ y. y) xs x

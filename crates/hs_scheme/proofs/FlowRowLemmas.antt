@@ -1,7 +1,7 @@
 -- The pairs of one parameter in a flow stand together, between two starts.
-use Rattle.std.proofs.Common.{◌≡◌, refl, sym, ◌∙◌, ap, subst, ℕ, zero, suc, ◌+◌, ◌-◌, ◌<◌, ◌≤◌, ◌⊎◌, inl, inr, max, Bool, true, false, ◌&&◌, nat_eq, List, [], ◌∷◌, length, get_or, take, drop, filter, cond, sum, slice_index, Contains, arith}
+use Rattle.std.proofs.Common.{◌≡◌, refl, sym, ◌∙◌, ap, subst, ℕ, zero, suc, ◌+◌, ◌-◌, ◌<◌, ◌≤◌, ◌⊎◌, inl, inr, max, Bool, true, false, nat_eq, List, [], ◌∷◌, length, get_or, take, drop, filter, cond, sum, slice_index, Contains, arith}
 use Rattle.std.proofs.Math.Nat.{eq-or-lt_of_le}
-use Rattle.std.proofs.lemmas.Bool.{cases_lt, eqb-true, eq-eqb}
+use Rattle.std.proofs.lemmas.Bool.{cases_lt, eqb-true, eq-eqb, and_parts}
 use Rattle.std.proofs.lemmas.Bool.Decides.{nat_tests}
 use Rattle.std.proofs.lemmas.List.{get_or_default}
 use Rattle.std.proofs.lemmas.List.Elements.{All-filter, Contains-get_or}
@@ -14,7 +14,7 @@ use Rattle.hs_scheme.proofs.ParameterLemmas.{number_less, number_once}
 use Rattle.hs_scheme.proofs.FlowLemmas.{filter-middle, is_of}
 
 -- an earlier pair's parameter comes no later
-parts : (a b : FlowPair) → flow_cmp a b ≡ Less → (a.rule < b.rule) ⊎ ((a.rule ≡ b.rule) × (a.param ≤ b.param))
+pub parts : (a b : FlowPair) → flow_cmp a b ≡ Less → (a.rule < b.rule) ⊎ ((a.rule ≡ b.rule) × (a.param ≤ b.param))
 parts a b less = elim (cases_lt a.rule b.rule) [
   | inl lt ↦ inl lt
   | inr ge ↦ inr (same a b less ge, up a b less ge)
@@ -92,17 +92,12 @@ module _ (counts : List ℕ) (rule param : ℕ) (here : IsParameter counts rule 
   pub of_number : number_of counts p ≡ parameter_of counts rule param → is_of rule param p ≡ true
   of_number e = let s = number_once counts p.rule p.param rule param of here e in rw (eq-eqb p.rule rule s.0, eq-eqb p.param param s.1)
 
-  both : (b c : Bool) → b && c ≡ true → (b ≡ true) × (c ≡ true)
-  both true true h = (refl, refl)
-  both true false h = absurd (cc)
-  both false c h = absurd (cc)
-
   pub not_of : (number_of counts p ≡ parameter_of counts rule param → ⊥) → is_of rule param p ≡ false
   not_of apart = go (is_of rule param p) refl
     where
       go : (b : Bool) → is_of rule param p ≡ b → b ≡ false
       go false e = refl
-      go true e = let s = both (nat_eq p.rule rule) (nat_eq p.param param) e in
+      go true e = let s = and_parts (nat_eq p.rule rule) (nat_eq p.param param) e in
           absurd (apart (λ i. parameter_of counts (eqb-true p.rule rule s.0 i) (eqb-true p.param param s.1 i)))
 
 module _ (counts : List ℕ) (pairs : List FlowPair) (starts : List ℕ) (are : AreStarts counts pairs starts) (rule param : ℕ) (here : IsParameter counts rule param) (n : ℕ) (is : n ≡ parameter_of counts rule param) (within : n < sum counts) where
@@ -135,17 +130,12 @@ pub none_of : (counts : List ℕ) (pairs : List FlowPair) (rule param : ℕ) →
 none_of counts pairs rule param of nowhere = filter-middle (is_of rule param) pairs 0 0 (λ i d h l. absurd (omega arith)) (λ i d h k l. absurd (omega arith))
     (λ i d h l. apart (get_or pairs i d) (of i d l))
   where
-    both : (b c : Bool) → b && c ≡ true → (b ≡ true) × (c ≡ true)
-    both true true h = (refl, refl)
-    both true false h = absurd (cc)
-    both false c h = absurd (cc)
-
     apart : (p : FlowPair) → IsParameter counts p.rule p.param → is_of rule param p ≡ false
     apart p at = go (is_of rule param p) refl
       where
         go : (b : Bool) → is_of rule param p ≡ b → b ≡ false
         go false e = refl
-        go true e = let s = both (nat_eq p.rule rule) (nat_eq p.param param) e in
+        go true e = let s = and_parts (nat_eq p.rule rule) (nat_eq p.param param) e in
             absurd (nowhere (subst (λ (x : ℕ). IsParameter counts rule x) (eqb-true p.param param s.1) (subst (λ (r : ℕ). IsParameter counts r p.param) (eqb-true p.rule rule s.0) at)))
 
 kept : {X : Type 0} (b : Bool) (y : X) (ys : List X) (x : X) → Contains ys x → Contains (cond b (y ∷ ys) ys) x

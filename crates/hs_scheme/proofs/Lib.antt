@@ -1,3 +1,5 @@
+pub mod Lists
+pub mod Orderings
 pub mod TransitionIndex
 pub mod TransitionLemmas
 pub mod PlainLemmas

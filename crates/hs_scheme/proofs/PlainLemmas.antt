@@ -1,6 +1,7 @@
 -- What the plain programs make, in the words of the definitions.
-use Rattle.std.proofs.Common.{◌≡◌, ◌≢◌, refl, sym, ◌∙◌, ap, ℕ, zero, suc, ◌-◌, Bool, true, false, ◌&&◌, List, [], ◌∷◌, ◌++◌, length, map, Option, Some, None, ◌<◌, arith}
+use Rattle.std.proofs.Common.{◌≡◌, ◌≢◌, refl, sym, ◌∙◌, ap, ℕ, zero, suc, ◌-◌, false, ◌&&◌, List, [], ◌∷◌, ◌++◌, length, map, Option, Some, None, ◌<◌, arith}
 use Rattle.std.specs.Option.{option_map_or}
+use Rattle.std.proofs.Math.Bool.{and-false}
 use Rattle.hs_scheme.specs.declared.term.Head.TheVariants.{Var, Nt, Tm}
 use Rattle.hs_scheme.specs.declared.term.Head.{Head}
 use Rattle.hs_scheme.specs.declared.term.Rule.{Rule}
@@ -63,11 +64,7 @@ pub runs-length : (ts : List TransitionData) (trees : List CutTree) (qs : List �
 runs-length ts [] [] h = absurd (h refl)
 runs-length ts [] (q ∷ qs) h = refl
 runs-length ts (t ∷ trees) [] h = refl
-runs-length ts (t ∷ trees) (q ∷ qs) h = ap (λ b. run ts q t && b) (runs-length ts trees qs (λ e. h (ap suc e))) ∙ and_false (run ts q t)
-  where
-    and_false : (b : Bool) → b && false ≡ false
-    and_false true = refl
-    and_false false = refl
+runs-length ts (t ∷ trees) (q ∷ qs) h = ap (λ b. run ts q t && b) (runs-length ts trees qs (λ e. h (ap suc e))) ∙ and-false (run ts q t)
 
 -- a node is refused where the transition has another number of children
 pub run-length : (ts : List TransitionData) (q a : ℕ) (tree : CutTree) (label : Option ℕ) (trees : List CutTree) (qs : List ℕ) → node label (forest trees) ≡ tree → label ≡ Some a

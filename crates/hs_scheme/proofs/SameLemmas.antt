@@ -1,5 +1,5 @@
 -- Lists that are compared item by item.
-use Rattle.std.proofs.Common.{◌≡◌, sym, ◌∙◌, ap, subst, ℕ, zero, suc, ◌+◌, ◌<◌, ◌≤◌, true, map, List, ◌∷◌, [], ◌++◌, length, get_or, take, arith}
+use Rattle.std.proofs.Common.{◌≡◌, sym, ◌∙◌, ap, subst, ℕ, zero, suc, ◌+◌, ◌<◌, true, map, List, ◌∷◌, [], ◌++◌, length, get_or, take, arith}
 use Rattle.std.proofs.lemmas.List.{take_more, get_or_default}
 use Rattle.std.specs.Bool.{Decides}
 use Rattle.hs_scheme.specs.declared.flow.FlowPair.{FlowPair}

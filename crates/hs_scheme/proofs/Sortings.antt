@@ -5,7 +5,14 @@ use Rattle.hs_scheme.specs.declared.term.Head.{Head}
 use Rattle.hs_scheme.specs.declared.term.Head.TheVariants.{Var, Nt, Tm}
 use Rattle.hs_scheme.specs.declared.term.Rule.{Rule}
 use Rattle.hs_scheme.specs.Tree.{Tree, Trees, node, none, more, children}
-use Rattle.hs_scheme.specs.Sorting.{SortTree, o, arrow, arrows, without, behind, size, sizes, Sorts, heads, HasSort, Applied, IsSorting, IsLeastSorting, AreEqual, IsFirstOrder, AreFirstOrder, IsWellSorted}
+use Rattle.hs_scheme.specs.Sorting.{SortTree, o, arrow, arrows, arguments, ranked, without, behind, size, sizes, Sorts, heads, HasSort, Applied, IsSorting, IsLeastSorting, AreEqual, IsFirstOrder, AreFirstOrder, IsWellSorted}
+
+pub length-arrow : (a b : SortTree) → length (arguments (arrow a b)) ≡ suc (length (arguments b))
+length-arrow a (node u ks) = refl
+
+pub length-ranked : (n : ℕ) → length (arguments (ranked n)) ≡ n
+length-ranked zero = refl
+length-ranked (suc n) = length-arrow o (ranked n) ∙ ap suc (length-ranked n)
 
 -- the arguments that both sorts have, from the front, each cut down in the same way
 abbrev mutual

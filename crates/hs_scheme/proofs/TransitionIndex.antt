@@ -1,29 +1,21 @@
 -- The index of an automaton's transitions, one transition after another, and what a look-up in it finds.
-use Rattle.std.proofs.Common.{◌≡◌, refl, sym, ◌∙◌, ap, subst, ℕ, zero, suc, ◌+◌, ◌<◌, Bool, true, false, ◌&&◌, nat_eq, List, [], ◌∷◌, length, slice_get, Option, Some, None, option_map, find, cond, arith}
+use Rattle.std.proofs.Common.{◌≡◌, refl, sym, ◌∙◌, ap, subst, ℕ, zero, suc, ◌+◌, ◌<◌, Bool, true, false, nat_eq, List, [], ◌∷◌, length, slice_get, Option, Some, None, option_map, find, cond, arith}
 use Rattle.std.proofs.Common.{◌⊎◌, inl, inr}
 use Rattle.std.proofs.Math.Nat.{eq-or-lt_of_le}
-use Rattle.std.proofs.lemmas.Bool.{eqb-true, eq-eqb}
-use Rattle.std.proofs.lemmas.Option.{slice_get_within}
+use Rattle.std.proofs.lemmas.Bool.{eqb-true, eq-eqb, and_parts}
+use Rattle.std.proofs.lemmas.Option.{slice_get_within, same_Some}
 use Rattle.hs_scheme.specs.Transition.{TransitionData}
 use Rattle.hs_scheme.specs.Automaton.{is_of, next, IsDeterministic, IsTransitionIndex}
-
-same_some : {A : Type 0} (x y : A) → Some x ≡ Some y → x ≡ y
-same_some x y h = (cc)
 
 true-ne-false : true ≡ false → ⊥
 true-ne-false h = (cc)
 
-le_last : (i n : ℕ) → i < n + 1 → (i ≡ n) ⊎ (i < n)
+pub le_last : (i n : ℕ) → i < n + 1 → (i ≡ n) ⊎ (i < n)
 le_last i n h = eq-or-lt_of_le (omega arith)
-
-both : (b c : Bool) → b && c ≡ true → (b ≡ true) × (c ≡ true)
-both true true h = (refl, refl)
-both true false h = absurd (cc)
-both false c h = absurd (cc)
 
 pub is_of-true : (q a : ℕ) (t : TransitionData) → is_of q a t ≡ true → (t.from ≡ q) × (t.terminal ≡ a)
 is_of-true q a t h =
-    let p = both (nat_eq t.from q) (nat_eq t.terminal a) h in (eqb-true _ _ p.0, eqb-true _ _ p.1)
+    let p = and_parts (nat_eq t.from q) (nat_eq t.terminal a) h in (eqb-true _ _ p.0, eqb-true _ _ p.1)
 
 pub is_of-own : (t : TransitionData) → is_of t.from t.terminal t ≡ true
 is_of-own t = rw (eq-eqb t.from t.from refl, eq-eqb t.terminal t.terminal refl)
@@ -84,7 +76,7 @@ next-there index ts q a i det ix there =
     let s = ix.sound q a i there in (
       s.0,
       λ t at.
-          let same : s.1.0 ≡ t = same_some _ _ (sym s.1.1 ∙ at) in
+          let same : s.1.0 ≡ t = same_Some _ _ (sym s.1.1 ∙ at) in
           let own = is_of-true q a s.1.0 s.1.2 in
           ap (option_map (λ u. u.to)) (find-only (is_of q a) ts i s.1.0 s.1.1 s.1.2 (λ j u at_j h.
           let p = is_of-true q a u h in det j i u s.1.0 at_j s.1.1 (p.0 ∙ sym own.0) (p.1 ∙ sym own.1)))

@@ -1,15 +1,14 @@
 -- The rows of an automaton's transitions, one transition after another.
-use Rattle.std.proofs.Common.{◌≡◌, refl, sym, ◌∙◌, ap, subst, ℕ, suc, ◌+◌, ◌<◌, ◌⊎◌, inl, inr, Bool, true, false, ◌&&◌, nat_eq, List, [], ◌∷◌, ◌++◌, length, slice_get, Option, Some, None, option_map, unwrap_or, find, cond, Vec, Contains, ◌↔◌, arith}
+use Rattle.std.proofs.Common.{◌≡◌, refl, sym, ◌∙◌, ap, subst, ℕ, suc, ◌+◌, ◌⊎◌, inl, inr, Bool, true, false, ◌&&◌, nat_eq, List, [], ◌∷◌, ◌++◌, length, slice_get, Option, Some, None, option_map, unwrap_or, find, cond, Vec, Contains, ◌↔◌, arith}
 use Rattle.std.specs.declared.alloc.Global.{Global}
-use Rattle.std.proofs.Math.Nat.{eq-or-lt_of_le}
 use Rattle.std.proofs.lemmas.Bool.{eqb-true, eq-eqb}
-use Rattle.std.proofs.lemmas.Option.{slice_get_within}
+use Rattle.std.proofs.lemmas.Option.{slice_get_within, same_Some}
 use Rattle.std.proofs.lemmas.List.Elements.{Contains-append_left, Contains-push, Contains-push_cases}
 use Rattle.hs_scheme.specs.Key.{triple_eq}
 use Rattle.hs_scheme.specs.Transition.{TransitionData}
 use Rattle.hs_scheme.specs.Automaton.{is_of, IsDeterministic}
 use Rattle.hs_scheme.specs.Transitions.{items_of, IsPlaceOf, Reads, IsByTerminal, IsRead, IsByChild, GainsReads}
-use Rattle.hs_scheme.proofs.TransitionIndex.{is_of-true, find-only}
+use Rattle.hs_scheme.proofs.TransitionIndex.{is_of-true, find-only, le_last}
 
 items_or : (o : Option (Vec ℕ Global)) (fresh : Vec ℕ Global) → fresh.items ≡ [] → (unwrap_or o fresh).items ≡ items_of o
 items_or None fresh e = e
@@ -35,14 +34,8 @@ now_there : (here : Bool) (xs ys : List ℕ) (x : ℕ) → ys ≡ cond here (xs 
 now_there true xs ys x e h = subst (λ (zs : List ℕ). Contains zs x) (sym e) (Contains-push xs x)
 now_there false xs ys x e h = absurd (cc)
 
-last_or : (i n : ℕ) → i < n + 1 → (i ≡ n) ⊎ (i < n)
-last_or i n h = eq-or-lt_of_le (omega arith)
-
-same_some : {A : Type 0} (x y : A) → Some x ≡ Some y → x ≡ y
-same_some x y h = (cc)
-
 same_at : (ts : List TransitionData) (i n : ℕ) (t u : TransitionData) → slice_get ts n ≡ Some t → slice_get ts i ≡ Some u → i ≡ n → t ≡ u
-same_at ts i n t u at h e = same_some t u (sym at ∙ (ap (λ k. slice_get ts k) (sym e) ∙ h))
+same_at ts i n t u at h e = same_Some t u (sym at ∙ (ap (λ k. slice_get ts k) (sym e) ∙ h))
 
 pub terminal_more : (ts : List TransitionData) (n : ℕ) (t : TransitionData) (was now : ℕ → List ℕ) → slice_get ts n ≡ Some t
     → ((a : ℕ) → now a ≡ cond (nat_eq t.terminal a) (was a ++ n ∷ []) (was a)) → IsByTerminal ts n was → IsByTerminal ts (n + 1) now
@@ -51,7 +44,7 @@ terminal_more ts n t was now at grown so_far a i = (
     | inl old ↦ let p = (so_far a i).0 old in (omega (arith, p.0), p.1)
     | inr (here, same) ↦ (omega arith, (t, (subst (λ (k : ℕ). slice_get ts k ≡ Some t) same at, eqb-true t.terminal a here)))
   ],
-  λ p. elim (last_or i n p.0) [
+  λ p. elim (le_last i n p.0) [
     | inl last ↦
         let e : t ≡ p.1.0 = same_at ts i n t p.1.0 at p.1.1.0 last in
         let own : nat_eq t.terminal a ≡ true = eq-eqb t.terminal a (ap (λ (u : TransitionData). u.terminal) e ∙ p.1.1.1) in
@@ -84,9 +77,9 @@ child_more t m state first was now at grown so_far a child s q = (
   ],
   λ h. elim h [
     | inl before ↦ still (triple_eq (t.terminal, m, state) (a, child, s)) (was a child s) (now a child s) t.from q (grown a child s) ((so_far a child s q).1 (inl before))
-    | inr (lt, read) ↦ elim (last_or child m lt) [
+    | inr (lt, read) ↦ elim (le_last child m lt) [
       | inl last ↦
-          let value : state ≡ s = same_some state s (sym at ∙ (ap (λ k. slice_get t.to k) (sym last) ∙ read.to)) in
+          let value : state ≡ s = same_Some state s (sym at ∙ (ap (λ k. slice_get t.to k) (sym last) ∙ read.to)) in
           subst (Contains (now a child s)) read.from
           (now_there (triple_eq (t.terminal, m, state) (a, child, s)) (was a child s) (now a child s) t.from (grown a child s) (same_triple t.terminal m state a child s read.terminal (sym last) value))
       | inr less ↦ still (triple_eq (t.terminal, m, state) (a, child, s)) (was a child s) (now a child s) t.from q (grown a child s) ((so_far a child s q).1 (inr (less, read)))
@@ -100,7 +93,7 @@ children_more ts n t was now at gains so_far a child s q = (
     | inl before ↦ let r = (so_far a child s q).0 before in record { place = r.place; within = omega (arith, r.within); transition = r.transition; at = r.at; read = r.read }
     | inr (lt, read) ↦ record { place = n; within = omega arith; transition = t; at = at; read = read }
   ],
-  λ r. elim (last_or r.place n r.within) [
+  λ r. elim (le_last r.place n r.within) [
     | inl last ↦
         let e : r.transition ≡ t = sym (same_at ts r.place n t r.transition at r.at last) in
         let read : IsRead t a child s q = subst (λ (u : TransitionData). IsRead u a child s q) e r.read in
@@ -114,12 +107,12 @@ find-there p [] x h = absurd (cc)
 find-there {A} p (y ∷ ys) x h = go (p y) refl h (λ k. find-there p ys x k)
   where
     go : (b : Bool) → p y ≡ b → cond b (Some y) (find p ys) ≡ Some x → (find p ys ≡ Some x → (i : ℕ) × ((slice_get ys i ≡ Some x) × (p x ≡ true))) → (i : ℕ) × ((slice_get (y ∷ ys) i ≡ Some x) × (p x ≡ true))
-    go true e h later = let same : y ≡ x = same_some y x h in (0, (h, subst (λ (z : A). p z ≡ true) same e))
+    go true e h later = let same : y ≡ x = same_Some y x h in (0, (h, subst (λ (z : A). p z ≡ true) same e))
     go false e h later = let l = later h in (suc l.0, l.1)
 
-mapped : {A B : Type 0} (f : A → B) (o : Option A) (y : B) → option_map f o ≡ Some y → (x : A) × ((o ≡ Some x) × (f x ≡ y))
+pub mapped : {A B : Type 0} (f : A → B) (o : Option A) (y : B) → option_map f o ≡ Some y → (x : A) × ((o ≡ Some x) × (f x ≡ y))
 mapped f None y h = absurd (cc)
-mapped f (Some x) y h = (x, (refl, same_some (f x) y h))
+mapped f (Some x) y h = (x, (refl, same_Some (f x) y h))
 
 -- the rows of all transitions tell what `next` tells
 pub reads_exactly : (ts : List TransitionData) (rows : ℕ → ℕ → ℕ → List ℕ) → IsDeterministic ts → IsByChild ts (length ts) rows → (a child s q : ℕ) → Contains (rows a child s) q ↔ Reads ts a child s q

@@ -1,6 +1,6 @@
 //! Replacement, cuts and what an automaton reads of them, by the plain programs.
 
-use crate::making::{push_name, unsorted_of};
+use hs_fixtures::{name_of, unsorted_of};
 use hs_scheme::{
     Automaton, Head, Name, OutOfMemory, Term, Unsorted, ValueTree, accepts_cut, cut, run,
     substitute,
@@ -15,7 +15,7 @@ use std::test::Fail;
 fn push_tree(out: &mut String, names: &[Name], tree: &ValueTree) -> Result<(), OutOfMemory> {
     match tree.terminal {
         None => out.push_str("_")?,
-        Some(terminal) => push_name(out, names, terminal as usize)?,
+        Some(terminal) => out.push_str(name_of(names, terminal as usize))?,
     }
     out.push_str("(")?;
     for child in &tree.children {

@@ -1,12 +1,15 @@
 //! The flow of small schemes, and the dependents of their points.
 
-use crate::making::{problem_of, sorted_of};
+use hs_fixtures::{problem_of, sorted_of};
 use hs_flow::{Dependents, FlowFault, analyse};
 use hs_scheme::{FlowPair, FlowTable, OutOfMemory, Points, Problem, Scheme};
 use std::alloc::Global;
 use std::mem::forget;
 use std::process::Abort;
 use std::test::Fail;
+
+/// The transitions of the files, which say nothing of a flow.
+const TRANSITIONS: &str = "q0 c -> .";
 
 /// The flow as text: `rule.parameter point` for each flow pair, and for each head pair, behind a
 /// bar, `point rule/given`.
@@ -37,7 +40,7 @@ fn flow_text(alloc: Global, scheme: &Scheme, max: u32) -> Result<String, Fail> {
 
 /// That of a file with these rules.
 fn analysed(alloc: Global, rules: &str, max: u32) -> Result<String, Fail> {
-    let sorted = sorted_of(alloc, rules, "q0 c -> .")?;
+    let sorted = sorted_of(alloc, rules, TRANSITIONS)?;
     let text = flow_text(alloc, &sorted.scheme, max);
     forget(sorted);
     text
@@ -81,10 +84,10 @@ fn see_pairs(rt: &impl Abort, flow: &FlowTable) {
 
 #[test]
 fn pairs_of_a_parameter(rt: HostRuntime) -> Result<(), Fail> {
-    let problem = problem_of(rt.alloc(), PARTIAL)?;
+    let problem = problem_of(rt.alloc(), PARTIAL, TRANSITIONS)?;
     see_pairs(&rt, &problem.flow);
     forget(problem);
-    let none = problem_of(rt.alloc(), "S -> c.")?;
+    let none = problem_of(rt.alloc(), "S -> c.", TRANSITIONS)?;
     assert_eq!(rt; none.points.params().count(), 0);
     assert_eq!(rt; none.flow.flow_of(0, 0).len(), 0);
     assert!(rt; !none.flow.holds(0, 0, 0));
@@ -104,7 +107,8 @@ fn see_dependents(rt: &impl Abort, alloc: Global, problem: &Problem) -> Result<(
 
 #[test]
 fn dependents_of_a_branching_scheme(rt: HostRuntime) -> Result<(), Fail> {
-    let problem = problem_of(rt.alloc(), "S -> F c. F x -> br x (a (F (b x))).")?;
+    let rules = "S -> F c. F x -> br x (a (F (b x))).";
+    let problem = problem_of(rt.alloc(), rules, TRANSITIONS)?;
     let seen = see_dependents(&rt, rt.alloc(), &problem);
     forget(problem);
     seen?;

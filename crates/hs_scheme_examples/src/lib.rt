@@ -6,8 +6,6 @@ mod cutting;
 #[cfg(test)]
 mod flowing;
 #[cfg(test)]
-mod making;
-#[cfg(test)]
 mod pointing;
 #[cfg(test)]
 mod sorting;

@@ -1,6 +1,6 @@
 //! The points of a scheme in preorder, and its parameters.
 
-use crate::making::{problem_of, unsorted_of};
+use hs_fixtures::{problem_of, unsorted_of};
 use hs_scheme::{Argument, Head, OutOfMemory, Points, PointsFault, Unsorted, scheme_of};
 use std::alloc::Global;
 use std::mem::forget;
@@ -37,7 +37,8 @@ fn see_heads(rt: &impl Abort, points: &Points) {
 
 #[test]
 fn points_in_preorder(rt: HostRuntime) -> Result<(), Fail> {
-    let problem = problem_of(rt.alloc(), "S -> F c. F x -> br x (a (F (b x))).")?;
+    let rules = "S -> F c. F x -> br x (a (F (b x))).";
+    let problem = problem_of(rt.alloc(), rules, "q0 c -> .")?;
     see_points(&rt, &problem.points);
     see_heads(&rt, &problem.points);
     forget(problem);

@@ -1,6 +1,6 @@
 //! What inference answers: sizes of sorts, lengthened rules, and the first fault.
 
-use crate::making::{push_name, sorted_of, unsorted_of};
+use hs_fixtures::{name_of, sorted_of, unsorted_of};
 use hs_scheme::{OutOfMemory, Sort, Sorted};
 use hs_sorts::{SortFault, infer};
 use std::alloc::Global;
@@ -104,7 +104,7 @@ fn names_text(alloc: Global, sorted: &Sorted) -> Result<String, OutOfMemory> {
     for names in &sorted.names.params {
         for number in 0..names.len() {
             out.push_str(" ")?;
-            push_name(&mut out, names.as_slice(), number)?;
+            out.push_str(name_of(names.as_slice(), number))?;
         }
         out.push_str(".")?;
     }

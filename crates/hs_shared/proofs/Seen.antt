@@ -1,5 +1,5 @@
 -- What a seat has seen is still so in the core that it finds.
-use Rattle.std.proofs.Common.{◌≡◌, ◌≢◌, refl, sym, ◌∙◌, ap, subst, ℕ, eqb, eq-eqb, Bool, true, false, cond, List, [], ◌∷◌, ◌++◌, All, append_assoc, inl, inr}
+use Rattle.std.proofs.Common.{◌≡◌, ◌≢◌, refl, sym, ◌∙◌, ap, subst, ℕ, eqb, eq-eqb, Bool, true, false, cond, List, Option, Some, [], ◌∷◌, ◌++◌, All, append_assoc, inl, inr}
 use Rattle.std.proofs.lemmas.Bool.{false≢true}
 use Rattle.std.specs.Option.{IfSome}
 use Rattle.std.proofs.lemmas.List.{append-nil, append_cancel_left}
@@ -22,8 +22,18 @@ not_first : (b : Bool) (x : CoreStep) (xs : Story) → cond b (x ∷ xs) xs ≡ 
 not_first true x xs none = absurd (cc none)
 not_first false x xs none = (refl, none)
 
+-- what a seat sees, upon its base
+pub see : (s : SeatData) (base : Base) (P : Base → State → Type 0) → s.known.base ≡ Some base → P base (state_after base s.known.seen) → Sees s P
+see s base P knows h = let Q : Option Base → Type 0 = λ o. IfSome o (λ b. P b (state_after b s.known.seen)) in subst Q (sym knows) h
+
+pub seen : (s : SeatData) (base : Base) (P : Base → State → Type 0) → s.known.base ≡ Some base → Sees s P → P base (state_after base s.known.seen)
+seen s base P knows h = let Q : Option Base → Type 0 = λ o. IfSome o (λ b. P b (state_after b s.known.seen)) in subst Q knows h
+
+pub prefix_trans : (a b c : List EntryData) → IsPrefix a b → IsPrefix b c → IsPrefix a c
+prefix_trans a b c p q = (p.0 ++ q.0, sym (append_assoc a p.0 q.0) ∙ ap (λ xs. xs ++ q.0) p.1 ∙ q.1)
+
 -- no step under the number is among these
-none_by : (n : ℕ) (more : Story) → told_by worker_of n more ≡ [] → All (λ (x : CoreStep). x.worker ≢ n) more
+pub none_by : (n : ℕ) (more : Story) → told_by worker_of n more ≡ [] → All (λ (x : CoreStep). x.worker ≢ n) more
 none_by n [] none = All-nil (λ (x : CoreStep). x.worker ≢ n)
 none_by n (x ∷ more) none =
     let front = not_first (eqb x.worker n) x (told_by worker_of n more) none in

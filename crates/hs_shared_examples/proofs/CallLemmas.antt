@@ -1,8 +1,8 @@
 -- A worker after each call of its seat.
 use Rattle.std.proofs.Common.{◌≡◌, refl, sym, ◌∙◌, ap, subst, ℕ, List, ◌++◌, take, Some, All, Contains}
 use Rattle.std.specs.Prelude.{slice_index_or}
-use Rattle.std.specs.Option.{IfSome}
 use Rattle.std.proofs.lemmas.List.Elements.{All-contains_itself, Contains-append_left}
+use Rattle.std.proofs.lemmas.Option.{same_Some}
 use mathlib.Core.List.{IsPrefix}
 use Rattle.atomic_table.specs.Seated.{TableId}
 use Rattle.hs_scheme.specs.Automaton.{IsAutomaton}
@@ -10,26 +10,19 @@ use Rattle.hs_scheme.specs.Problem.{ProblemData}
 use Rattle.hs_table.specs.Entries.{EntryData, InShape}
 use Rattle.hs_table.specs.Tables.{IsSupportedTable}
 use Rattle.hs_table_laws.proofs.Least.{supports_support}
-use Rattle.hs_table_laws.proofs.Places.{some_same, place_of}
+use Rattle.hs_table_laws.proofs.Places.{place_of}
 use Rattle.hs_table_laws.proofs.Shapes.{follows_shape}
 use Rattle.hs_history.specs.declared.step.Work.{Work}
 use Rattle.hs_history.specs.Story.{Base, CoreStep, Story}
-use Rattle.hs_history.specs.CoreStep.{State, Holds, CanFinish, IsClosedWork}
+use Rattle.hs_history.specs.CoreStep.{Holds, CanFinish, IsClosedWork}
 use Rattle.hs_history.specs.History.{state_after, IsLegal}
 use Rattle.hs_history.proofs.Histories.{holds_after, tickets_after}
 use Rattle.hs_core.specs.Core.{CoreData, IsCore, state_of, log_of}
 use Rattle.hs_shared.specs.Seats.{SeatData, Sees, HasSeenOwn}
 use Rattle.hs_shared.specs.Calls.{Finds, Does, Looks, seat_after}
-use Rattle.hs_shared.proofs.Seen.{log_begins, others}
+use Rattle.hs_shared.proofs.Seen.{log_begins, others, see, seen}
 use Rattle.hs_shared_examples.specs.Working.{WorkHeld, IsAtWork, IsWorker}
 use Rattle.hs_shared_examples.proofs.StepLemmas.{Knows, Goes, moved}
-
--- what a seat sees, upon its base
-pub see : (s : SeatData) (base : Base) (P : Base → State → Type 0) → s.known.base ≡ Some base → P base (state_after base s.known.seen) → Sees s P
-see s base P knows h = let Q : _ = λ o. IfSome o (λ b. P b (state_after b s.known.seen)) in subst Q (sym knows) h
-
-pub seen : (s : SeatData) (base : Base) (P : Base → State → Type 0) → s.known.base ≡ Some base → Sees s P → P base (state_after base s.known.seen)
-seen s base P knows h = let Q : _ = λ o. IfSome o (λ b. P b (state_after b s.known.seen)) in subst Q knows h
 
 -- a log that begins that of a core is in shape
 pub begins_shape : (p : ProblemData) (core : CoreData) (log : List EntryData) → IsAutomaton p.sorted.automaton → IsCore core → core.base.problem ≡ p → IsPrefix log (log_of core) → All (InShape p) log
@@ -47,7 +40,7 @@ begins_shape p core log automaton is same begins = λ k d below.
 module _ (table : TableId) (p : ProblemData) (old : SeatData) (log : List EntryData) (held : WorkHeld) (w : IsWorker table p old log held) where
   -- in the core that its call finds
   found_base : (core : CoreData) → Finds old core → core.base ≡ w.base
-  found_base core finds = some_same core.base w.base (sym finds.base ∙ w.knows)
+  found_base core finds = same_Some core.base w.base (sym finds.base ∙ w.knows)
 
   pub found_works : (core : CoreData) → Finds old core → Knows p old.known.number log core held
   found_works core finds =

@@ -19,8 +19,9 @@ use Rattle.hs_core.proofs.Moving.{longer}
 use Rattle.hs_shared.specs.Seats.{SeatData}
 use Rattle.hs_shared.specs.Calls.{Finds}
 use Rattle.hs_shared.specs.Holding.{HoldData, holding, having_left, HasTold, IsHolding}
+use Rattle.hs_shared.proofs.Seen.{prefix_trans}
 use Rattle.hs_shared_examples.specs.Working.{WorkHeld, IsAtWork, IsWorker, IsHolder}
-use Rattle.hs_shared_examples.proofs.StepLemmas.{Knows, prefix_trans, none_flies}
+use Rattle.hs_shared_examples.proofs.StepLemmas.{Knows, none_flies}
 use Rattle.hs_shared_examples.proofs.CallLemmas.{found_works, begins_shape}
 
 -- it enters

@@ -1,6 +1,7 @@
 -- What a worker knows after each answer of the core.
-use Rattle.std.proofs.Common.{◌≡◌, refl, sym, ◌∙◌, ap, subst, ℕ, ◌-◌, List, [], ◌∷◌, ◌++◌, Option, Some, None, Result, Ok, IfOk, append_assoc}
+use Rattle.std.proofs.Common.{◌≡◌, refl, sym, ◌∙◌, ap, subst, ℕ, ◌-◌, List, [], ◌∷◌, Option, Some, None, Result, Ok, IfOk}
 use Rattle.std.proofs.lemmas.List.{append-nil}
+use Rattle.hs_shared.proofs.Seen.{prefix_trans}
 use mathlib.Core.List.{IsPrefix}
 use Rattle.hs_scheme.specs.Problem.{ProblemData}
 use Rattle.hs_table.specs.Entries.{EntryData}
@@ -22,9 +23,6 @@ use Rattle.hs_shared_examples.specs.Working.{WorkHeld, IsAtWork, held_after}
 module _ {A E : Type 0} where
   pub expected : (P : A → Type 0) (r : Result A E) (x : A) → r ≡ Ok x → IfOk r P → P x
   expected P r x is h = subst (λ o. IfOk o P) is h
-
-pub prefix_trans : (a b c : List EntryData) → IsPrefix a b → IsPrefix b c → IsPrefix a c
-prefix_trans a b c p q = (p.0 ++ q.0, sym (append_assoc a p.0 q.0) ∙ ap (λ xs. xs ++ q.0) p.1 ∙ q.1)
 
 acted_grows : (s : State) (worker : ℕ) (action : Action) → IsPrefix s.log (acted s worker action).log
 acted_grows s worker (takes work ticket) = ([], append-nil s.log)

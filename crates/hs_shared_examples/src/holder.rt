@@ -7,8 +7,8 @@ ghost use Rattle.hs_core.specs.Core.{log_of};
 ghost use Rattle.hs_shared_examples.specs.Working.{IsHolder};
 
 use crate::forming::{following, is_closed, only};
-use crate::making::know;
 use crate::worker::{Worker, held_after};
+use hs_fixtures::know;
 use hs_flow::Dependents;
 use hs_scheme::Problem;
 use hs_shared::{Deduced, Hold, Published, SharedTable, Taken, Work};

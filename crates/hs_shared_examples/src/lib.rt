@@ -2,12 +2,16 @@
 #![tactic(auto)]
 
 #[cfg(test)]
+mod calls;
+#[cfg(test)]
 mod forming;
 #[cfg(test)]
 mod holder;
 #[cfg(test)]
-mod making;
+mod opening;
 #[cfg(test)]
 mod scripts;
 #[cfg(test)]
 mod worker;
+#[cfg(test)]
+mod works;

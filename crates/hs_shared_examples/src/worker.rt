@@ -7,7 +7,7 @@ ghost use Rattle.hs_shared.specs.Seats.{Sees};
 ghost use Rattle.hs_shared_examples.specs.Working.{IsWorker, IsSameSeat, held_after};
 
 use crate::forming::{following, is_closed, only};
-use crate::making::know;
+use hs_fixtures::know;
 use hs_scheme::Problem;
 use hs_shared::{Deduced, Held, Published, Replica, Seat, SharedTable, Taken, Work};
 use std::alloc::Global;

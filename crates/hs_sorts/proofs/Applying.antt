@@ -3,12 +3,13 @@ use Rattle.std.proofs.Common.{◌≡◌, refl, sym, ◌∙◌, ap, subst, ℕ, �
 use Rattle.std.proofs.lemmas.Option.{same_Some, slice_get_within}
 use Rattle.hs_scheme.specs.Tree.{node}
 use Rattle.hs_scheme.specs.Sorting.{SortTree, o, arrow}
+use Rattle.hs_scheme.proofs.Lists.{at_append}
 use Rattle.hs_sorts.specs.declared.store.Shape.TheVariants.{Open, Base, Arrow}
 use Rattle.hs_sorts.specs.declared.store.Node.{Node}
 use Rattle.hs_sorts.specs.declared.store.Node.TheVariants.{Root}
 use Rattle.hs_sorts.specs.Nodes.{Valuation, Respects, FitsNode, IsStore, IsRootOf, Equates, with_arrow}
 use Rattle.hs_sorts.specs.Constraints.{Agree, AddsNode, Refutes, TakesArgument}
-use Rattle.hs_sorts.proofs.Lists.{get_left, get_set_same}
+use Rattle.hs_sorts.proofs.Lists.{get_set_same}
 use Rattle.hs_sorts.proofs.Joining.{arrow_parts}
 use Rattle.hs_sorts.proofs.NodeLemmas.{over, over_agrees, over_later, respects_more, respects_fewer, respects_set, respects_unset, one_place}
 
@@ -35,7 +36,7 @@ module _ (old mid : List Node) (function argument root : ℕ) (found : IsRootOf 
   in_wide = omega (arith, in_mid, one_more)
 
   was_open : slice_get with_rest root ≡ Some (Root Open)
-  was_open = get_left mid (Root Open ∷ []) root (Root Open) found.at
+  was_open = at_append mid (Root Open ∷ []) root (Root Open) found.at
 
   module _ (v : Valuation) (k : SortTree) (was : Respects v old) (takes : TakesArgument function argument v k) where
     abbrev later : Valuation

@@ -2,13 +2,14 @@
 use Rattle.std.proofs.Common.{◌≡◌, sym, ◌∙◌, ap, subst, ℕ, suc, ◌+◌, ◌^◌, ◌<◌, ◌≤◌, List, [], ◌∷◌, ◌++◌, length, slice_get, replicate, length-append, Some, Bool, true, false, arith}
 use Rattle.std.proofs.lemmas.List.{length-replicate}
 use Rattle.hs_scheme.specs.Sorting.{SortTree, o, arrow, arrows}
+use Rattle.hs_scheme.proofs.Lists.{back_at}
 use Rattle.hs_sorts.specs.declared.store.Shape.TheVariants.{Base}
 use Rattle.hs_sorts.specs.declared.store.Node.{Node}
 use Rattle.hs_sorts.specs.declared.store.Node.TheVariants.{Root}
 use Rattle.hs_sorts.specs.Nodes.{Valuation, Respects, FitsNode, IsStore, Equates, IsEquation}
 use Rattle.hs_sorts.specs.Constraints.{Agree, Extension, AddsNode, Refutes, Claims, IsClaim, IsBaseSort, Leaves, IsRanked, TakesArgument}
 use Rattle.hs_sorts.proofs.Arrows.{arrows_more, arrows_split, arrows_same}
-use Rattle.hs_sorts.proofs.Lists.{get_right, get_replicate, get_of_replicate}
+use Rattle.hs_sorts.proofs.Lists.{get_replicate, get_of_replicate}
 use Rattle.hs_sorts.proofs.NodeLemmas.{agree_trans, over, over_agrees, over_later, respects_more, respects_fewer, one_place}
 
 -- a node is made o by a new node that is
@@ -39,7 +40,7 @@ module _ (old : List Node) (i : ℕ) (is : IsStore old) (few : length old < 2 ^ 
     few = omega (arith, e.as_long, one_more);
     sound = λ v r.
         let b = e.back v r in
-        let fit : v (length old) ≡ o = b.0.fits (length old) (Root Base) (subst (λ (j : ℕ). slice_get with_base j ≡ Some (Root Base)) (omega arith) (get_right old (Root Base ∷ []) 0)) in
+        let fit : v (length old) ≡ o = b.0.fits (length old) (Root Base) (subst (λ (j : ℕ). slice_get with_base j ≡ Some (Root Base)) (omega arith) (back_at old (Root Base ∷ []) 0)) in
         (respects_fewer old (Root Base ∷ []) v b.0, b.1 ∙ fit);
     complete = λ v r b. record { valuation = later v r b; agrees = over_agrees (length old) v (λ _. o); respects = e.onward (later v r b) (respects_base v r b) (equal v r b) };
   }
@@ -142,7 +143,7 @@ module _ (old : List Node) (i n : ℕ) (is : IsStore old) (below : i < length ol
   row_long = length-append old (replicate n (Root Base)) ∙ ap (λ m. length old + m) (length-replicate n (Root Base))
 
   row_is_base : (v : Valuation) (j : ℕ) → Respects v with_row → j < n → v (length old + j) ≡ o
-  row_is_base v j r l = r.fits (length old + j) (Root Base) (get_right old (replicate n (Root Base)) j ∙ get_of_replicate n j (Root Base) l)
+  row_is_base v j r l = r.fits (length old + j) (Root Base) (back_at old (replicate n (Root Base)) j ∙ get_of_replicate n j (Root Base) l)
 
   row_respects : (v : Valuation) → Respects v old → Respects (over (length old) v (λ _. o)) with_row
   row_respects v r = respects_more old (replicate n (Root Base)) v (over (length old) v (λ _. o)) is (over_agrees (length old) v (λ _. o)) r (λ j m h.

@@ -11,6 +11,7 @@ use Rattle.hs_scheme.specs.Scheme.{HeadInRange, TermInRange, TermsInRange, AreRu
 use Rattle.hs_scheme.specs.Sorting.{SortTree, arrow, arrows, without, behind, arguments, heads, HasSort, Applied, IsSorting}
 use Rattle.hs_scheme.specs.Sorted.{sort_at, sorts_of, known, AreFull}
 use Rattle.hs_scheme.specs.Lengthening.{missing, parameters, lengthened, lengthening}
+use Rattle.hs_scheme.proofs.Sortings.{length-arrow}
 use Rattle.hs_sorts.specs.Naming.{added_name, added_names, lengthened_params}
 use Rattle.hs_sorts.specs.Inference.{head_arguments, IsTooLong}
 use Rattle.hs_sorts.specs.Least.{IsLeast}
@@ -63,12 +64,9 @@ whole_sort n (node u ks) h = whole n u ks h
 rest_sort : (n d : ℕ) (k : SortTree) → n + d ≤ length (arguments k) → behind n k ≡ arrows d (λ j. sort_at (arguments k) (n + j)) (behind (n + d) k)
 rest_sort n d (node u ks) h = rest_whole n d u ks h
 
-many-arrow : (a b : SortTree) → length (arguments (arrow a b)) ≡ suc (length (arguments b))
-many-arrow a (node u ks) = refl
-
 many : (n : ℕ) (args : ℕ → SortTree) (k : SortTree) → n ≤ length (arguments (arrows n args k))
 many zero args k = omega arith
-many (suc n) args k = omega (arith, many n (λ j. args (suc j)) k, many-arrow (args 0) (arrows n (λ j. args (suc j)) k))
+many (suc n) args k = omega (arith, many n (λ j. args (suc j)) k, length-arrow (args 0) (arrows n (λ j. args (suc j)) k))
 
 -- a term takes parameters of the sorts that it asks for
 module _ (e : Head → SortTree) where

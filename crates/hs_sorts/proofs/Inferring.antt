@@ -1,5 +1,5 @@
 -- The least sorting that was found, and the faults.
-use Rattle.std.proofs.Common.{◌≡◌, refl, sym, ◌∙◌, ap, subst, ℕ, zero, suc, ◌+◌, ◌<◌, ◌≤◌, List, length, slice_get, get_or, Option, Some, None, true, false, arith}
+use Rattle.std.proofs.Common.{◌≡◌, refl, sym, ◌∙◌, ap, subst, ℕ, ◌+◌, ◌<◌, ◌≤◌, List, length, slice_get, get_or, Option, Some, None, true, false, arith}
 use Rattle.std.specs.Prelude.{unwrap_or}
 use Rattle.std.specs.Option.{option_map, is_some}
 use Rattle.std.proofs.lemmas.List.Elements.{All-head, All-tail}
@@ -11,6 +11,7 @@ use Rattle.hs_scheme.specs.Tree.{Trees, node, none, more, children}
 use Rattle.hs_scheme.specs.Scheme.{HeadInRange, TermInRange, AreRules}
 use Rattle.hs_scheme.specs.Sorting.{SortTree, o, arrow, arrows, behind, ranked, size, arguments, IsFirstOrder, Sorts, heads, HasSort, IsSorting, HasSorting, AreFirstOrder, IsLeastSorting}
 use Rattle.hs_scheme.specs.Sorted.{sort_at, sorts_of, known}
+use Rattle.hs_scheme.proofs.Sortings.{length-ranked}
 use Rattle.hs_sorts.specs.declared.finding.WeighedNodes.{WeighedNodes}
 use Rattle.hs_sorts.specs.declared.store.Node.{Node}
 use Rattle.hs_sorts.specs.declared.weights.Weight.{Weight}
@@ -21,7 +22,7 @@ use Rattle.hs_sorts.specs.Solving.{sorts_at}
 use Rattle.hs_sorts.specs.Finding.{Finds, IsFinding, IsFirstHigherOrder, IsFirstLarge, IsFirstLong, AreSorts, AreArities}
 use Rattle.hs_sorts.specs.Inference.{IsFirstHigherTerminal, IsFirstTooLarge, IsTooLong, IsFirstTooLong}
 use Rattle.hs_sorts.specs.Least.{IsLeast}
-use Rattle.hs_sorts.proofs.Arrows.{arrows_same, left_behind, arguments-arrow}
+use Rattle.hs_sorts.proofs.Arrows.{arrows_same, left_behind}
 use Rattle.hs_sorts.proofs.Ranges.{has_in_range}
 use Rattle.hs_sorts.proofs.Solutions.{All_at}
 use Rattle.hs_sorts.proofs.Readings.{reading_respects, reading_least, least_argument, counted}
@@ -55,10 +56,6 @@ found_sorting rules ranks k found f = (
   sorts_at (length rules) f.weighing.valuation,
   f.solves.sound f.weighing.valuation (reading_respects f.weighing.valuation found.store f.weighing.reading),
 )
-
-arity-ranked : (n : ℕ) → length (arguments (ranked n)) ≡ n
-arity-ranked zero = refl
-arity-ranked (suc n) = ap length (arguments-arrow o (ranked n)) ∙ ap suc (arity-ranked n)
 
 ranked_row : (ks : Trees (Unit {0})) → IsFirstOrder (node tt ks) → node tt ks ≡ ranked (length (children ks))
 ranked_row none h = refl
@@ -256,7 +253,7 @@ module _ (rules : List Rule) (ranks : List (Option ℕ)) (are : AreRules rules (
         each_terminal = are_arities.as_long;
         agrees = λ a n at.
             let below = slice_get_within ranks a (Some n) at in
-            arity_of a below ∙ ap (λ m. Some m) (ap (λ k. length (arguments k)) (least_found.sorting.terminals a n at) ∙ arity-ranked n);
+            arity_of a below ∙ ap (λ m. Some m) (ap (λ k. length (arguments k)) (least_found.sorting.terminals a n at) ∙ length-ranked n);
         sorting = same_sorting rules ranks are least_sorts (sorts_of sorts arities) same_nonterminals same_parameters same_terminals (known arities) least_found.sorting known_rank;
         least = same_least rules ranks are least_sorts (sorts_of sorts arities) same_nonterminals same_parameters same_terminals least_found;
         small = λ g below. omega (arith, ap size (same_nonterminals g below), small_at g (omega (arith, below)));

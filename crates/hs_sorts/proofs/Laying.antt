@@ -1,8 +1,8 @@
 -- The nodes of nonterminals and terminals, and claims on each of a list's elements.
-use Rattle.std.proofs.Common.{◌≡◌, refl, sym, ◌∙◌, ap, subst, ℕ, ◌+◌, ◌^◌, ◌<◌, ◌≤◌, List, [], ◌++◌, length, slice_get, replicate, length-append, Option, Some, None, ◌⊎◌, inl, inr, arith}
-use Rattle.std.proofs.Math.Nat.{eq-or-lt_of_le}
+use Rattle.std.proofs.Common.{◌≡◌, refl, sym, ◌∙◌, ap, subst, ℕ, ◌+◌, ◌^◌, ◌<◌, ◌≤◌, List, [], ◌++◌, length, slice_get, replicate, length-append, Option, Some, None, inl, inr, arith}
 use Rattle.std.proofs.lemmas.List.{length-replicate}
 use Rattle.std.proofs.lemmas.Option.{same_Some}
+use Rattle.hs_scheme.proofs.TransitionIndex.{le_last}
 use Rattle.hs_sorts.specs.declared.store.Shape.TheVariants.{Open}
 use Rattle.hs_sorts.specs.declared.store.Node.{Node}
 use Rattle.hs_sorts.specs.declared.store.Node.TheVariants.{Root}
@@ -11,9 +11,6 @@ use Rattle.hs_sorts.specs.Constraints.{Agree, Claims, IsRankedIf}
 use Rattle.hs_sorts.specs.Solving.{LaysOut, EachBefore}
 use Rattle.hs_sorts.proofs.Lists.{get_replicate, get_append}
 use Rattle.hs_sorts.proofs.NodeLemmas.{agree_trans, over, over_agrees, over_later, respects_more}
-
-le_last : (i n : ℕ) → i < n + 1 → (i ≡ n) ⊎ (i < n)
-le_last i n h = eq-or-lt_of_le (omega arith)
 
 -- no claim yet
 pub claims_none : (nodes : List Node) (P : Valuation → Type 0) → length nodes ≤ 2 ^ 32 → ((v : Valuation) → P v) → Claims nodes nodes P

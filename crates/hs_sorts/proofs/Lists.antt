@@ -1,20 +1,11 @@
 -- What stands where in a list that was lengthened or changed at a place.
-use Rattle.std.proofs.Common.{◌≡◌, ◌≢◌, refl, ◌∙◌, ap, ℕ, zero, suc, ◌+◌, ◌<◌, List, [], ◌∷◌, ◌++◌, length, set, slice_get, replicate, Some, ◌⊎◌, inl, inr, arith}
+use Rattle.std.proofs.Common.{◌≡◌, ◌≢◌, refl, ap, ℕ, zero, suc, ◌+◌, ◌<◌, List, [], ◌∷◌, ◌++◌, length, set, slice_get, replicate, Some, ◌⊎◌, inl, inr, arith}
 
 -- where it stands in xs ++ ys
 pub record Later {A : Type 0} (xs ys : List A) (i : ℕ) (x : A) : Type 0 where
   pub place : ℕ
   pub is : i ≡ length xs + place
   pub at : slice_get ys place ≡ Some x
-
-pub get_left : {A : Type 0} (xs ys : List A) (i : ℕ) (x : A) → slice_get xs i ≡ Some x → slice_get (xs ++ ys) i ≡ Some x
-get_left [] ys i x h = absurd (cc)
-get_left (z ∷ xs) ys zero x h = h
-get_left (z ∷ xs) ys (suc i) x h = get_left xs ys i x h
-
-pub get_right : {A : Type 0} (xs ys : List A) (j : ℕ) → slice_get (xs ++ ys) (length xs + j) ≡ slice_get ys j
-get_right [] ys j = ap (slice_get ys) (omega arith)
-get_right (z ∷ xs) ys j = let e : length (z ∷ xs) + j ≡ suc (length xs + j) = omega arith in ap (slice_get (z ∷ (xs ++ ys))) e ∙ get_right xs ys j
 
 pub get_append : {A : Type 0} (xs ys : List A) (i : ℕ) (x : A) → slice_get (xs ++ ys) i ≡ Some x → (slice_get xs i ≡ Some x) ⊎ Later xs ys i x
 get_append [] ys i x h = inr (record { place = i; is = omega arith; at = h })

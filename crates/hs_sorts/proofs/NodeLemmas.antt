@@ -4,13 +4,14 @@ use Rattle.std.proofs.lemmas.Option.{same_Some, slice_get_within, get_or_from_sl
 use Rattle.std.proofs.lemmas.Bool.{eqb-true, eqb-false, lt-ltb, le-ltb}
 use Rattle.std.proofs.lemmas.List.Sums.{sum_by-set}
 use Rattle.hs_scheme.specs.Sorting.{SortTree, arrow}
+use Rattle.hs_scheme.proofs.Lists.{at_append}
 use Rattle.hs_sorts.specs.declared.store.Shape.{Shape}
 use Rattle.hs_sorts.specs.declared.store.Shape.TheVariants.{Open, Base, Arrow}
 use Rattle.hs_sorts.specs.declared.store.Node.{Node}
 use Rattle.hs_sorts.specs.declared.store.Node.TheVariants.{Root, Link}
 use Rattle.hs_sorts.specs.Nodes.{Valuation, FitsShape, FitsNode, Respects, ShapeInRange, NodeInRange, IsStore, IsSameStore, unlinked, root_count}
 use Rattle.hs_sorts.specs.Constraints.{Agree}
-use Rattle.hs_sorts.proofs.Lists.{get_append, get_left, get_set_same, get_set_other}
+use Rattle.hs_sorts.proofs.Lists.{get_append, get_set_same, get_set_other}
 
 pub shape_wider : (n m : ℕ) (s : Shape) → n ≤ m → ShapeInRange n s → ShapeInRange m s
 shape_wider n m Open h r = tt
@@ -74,7 +75,7 @@ respects_more nodes added v w is same was fit = record {
 }
 
 pub respects_fewer : (nodes added : List Node) (v : Valuation) → Respects v (nodes ++ added) → Respects v nodes
-respects_fewer nodes added v r = record { fits = λ i n h. r.fits i n (get_left nodes added i n h) }
+respects_fewer nodes added v r = record { fits = λ i n h. r.fits i n (at_append nodes added i n h) }
 
 pub same_trans : (xs ys zs : List Node) → IsSameStore xs ys → IsSameStore ys zs → IsSameStore xs zs
 same_trans xs ys zs p q = record {

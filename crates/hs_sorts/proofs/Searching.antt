@@ -7,6 +7,7 @@ use Rattle.std.proofs.lemmas.List.Sums.{sum_by-set}
 use Rattle.std.specs.Option.{option_map}
 use Rattle.std.proofs.lemmas.Option.{same_Some, slice_get_within, slice_get-map, get_or_from_slice_get, slice_get-get_or}
 use Rattle.hs_scheme.specs.Sorting.{SortTree, o, arrow, size}
+use Rattle.hs_scheme.proofs.Lists.{at_append, back_at}
 use Rattle.hs_sorts.specs.declared.store.Shape.TheVariants.{Open, Base, Arrow}
 use Rattle.hs_sorts.specs.declared.store.Node.{Node}
 use Rattle.hs_sorts.specs.declared.store.Node.TheVariants.{Root, Link}
@@ -17,7 +18,7 @@ use Rattle.hs_sorts.specs.declared.weights.Step.TheVariants.{Done, Child}
 use Rattle.hs_sorts.specs.Nodes.{Valuation, Respects, IsStore}
 use Rattle.hs_sorts.specs.Weights.{ReadsNode, Describes, weighed, weight_in, weights_in, IsWeighed, IsReadBy, ChildrenBelow, IsWeighingStep}
 use Rattle.hs_sorts.specs.Search.{rank, newness, new_count, PartReading, IsSearch, IsStarted, IsLastOnPath, Advances, IsAdvance, IsEntry, Weighing}
-use Rattle.hs_sorts.proofs.Lists.{get_set_same, get_set_other, get_left, get_right, get_append, get_replicate}
+use Rattle.hs_sorts.proofs.Lists.{get_set_same, get_set_other, get_append, get_replicate}
 use Rattle.hs_sorts.proofs.NodeLemmas.{here_or_not, written, one_place}
 use Rattle.hs_sorts.proofs.Weighing.{size-arrow}
 
@@ -95,8 +96,8 @@ module _ (nodes : List Node) (marks : List Mark) (path : List ℕ) (s : IsSearch
         | inr e ↦ subst (λ (j : ℕ). slice_get (set marks c Entered) j ≡ Some Entered) (sym e.1) (get_set_same marks c Entered in_marks)
       ];
       on_path = λ i h. elim (here_or_not c i) [
-        | inl same ↦ (length path + 0, get_right path (c ∷ []) 0 ∙ ap (λ j. Some j) (sym same))
-        | inr other ↦ let x = s.on_path i ((written marks c i Entered Entered in_marks h).elsewhere other) in (x.0, get_left path (c ∷ []) x.0 i x.1)
+        | inl same ↦ (length path + 0, back_at path (c ∷ []) 0 ∙ ap (λ j. Some j) (sym same))
+        | inr other ↦ let x = s.on_path i ((written marks c i Entered Entered in_marks h).elsewhere other) in (x.0, at_append path (c ∷ []) x.0 i x.1)
       ];
       distinct = λ p q i h k. elim (entry_place p i h) [
         | inl e ↦ elim (entry_place q i k) [
@@ -190,13 +191,13 @@ module _ (nodes : List Node) (marks : List Mark) (path rest : List ℕ) (top : �
   at_top : slice_get path (length rest) ≡ Some top
   at_top =
       let e : length rest + 0 ≡ length rest = omega arith in
-      ap (λ (xs : List ℕ). slice_get xs (length rest)) last ∙ (ap (slice_get (rest ++ top ∷ [])) (sym e) ∙ get_right rest (top ∷ []) 0)
+      ap (λ (xs : List ℕ). slice_get xs (length rest)) last ∙ (ap (slice_get (rest ++ top ∷ [])) (sym e) ∙ back_at rest (top ∷ []) 0)
 
   top_entered : slice_get marks top ≡ Some Entered
   top_entered = s.entered (length rest) top at_top
 
   in_front : (p i : ℕ) → slice_get rest p ≡ Some i → slice_get path p ≡ Some i
-  in_front p i h = ap (λ (xs : List ℕ). slice_get xs p) last ∙ get_left rest (top ∷ []) p i h
+  in_front p i h = ap (λ (xs : List ℕ). slice_get xs p) last ∙ at_append rest (top ∷ []) p i h
 
   pub top_below : top < length marks
   top_below = slice_get_within marks top Entered top_entered
@@ -336,7 +337,7 @@ pub last_below : (nodes : List Node) (marks : List Mark) (path : List ℕ) (top 
 last_below nodes marks path top s (rest, last) =
     let e : length rest + 0 ≡ length rest = omega arith in
     slice_get_within marks top Entered (s.entered (length rest) top
-    (ap (λ (xs : List ℕ). slice_get xs (length rest)) last ∙ (ap (slice_get (rest ++ top ∷ [])) (sym e) ∙ get_right rest (top ∷ []) 0)))
+    (ap (λ (xs : List ℕ). slice_get xs (length rest)) last ∙ (ap (slice_get (rest ++ top ∷ [])) (sym e) ∙ back_at rest (top ∷ []) 0)))
 
 pub popped : (path now rest : List ℕ) (top m : ℕ) → path ≡ rest ++ top ∷ [] → now ≡ take (m - 1) path → m ≡ length path → now ≡ rest
 popped path now rest top m last is long =

@@ -1,6 +1,6 @@
 -- A lengthened rule makes of a term of sort o what the rule itself makes of it.
 use Rattle.std.proofs.Common.{◌≡◌, sym, ◌∙◌, ap, ℕ, zero, suc, ◌+◌, ◌≤◌, List, [], ◌∷◌, length, slice_get, Option, Some, None, inl, inr, arith}
-use Rattle.std.proofs.lemmas.Option.{slice_get_cases}
+use Rattle.std.proofs.lemmas.Option.{slice_get_cases, same_Some}
 use Rattle.std.proofs.lemmas.List.{take_all, drop_all}
 use Rattle.hs_scheme.specs.declared.term.Head.{Head}
 use Rattle.hs_scheme.specs.declared.term.Head.TheVariants.{Nt}
@@ -13,7 +13,7 @@ use Rattle.hs_scheme.specs.Scheme.{TermInRange}
 use Rattle.hs_scheme.specs.Sorting.{SortTree, arguments, Sorts}
 use Rattle.hs_scheme.specs.Lengthening.{missing, parameters, lengthened, lengthening, AreSortsOf}
 use Rattle.hs_scheme.specs.TreeTerms.{ground, IsTreeTerm, AreSortedBy}
-use Rattle.hs_steps.proofs.Terms.{same_some, applied-none, subst-applied, subst_first, substs-parameters, unfolds}
+use Rattle.hs_steps.proofs.Terms.{applied-none, subst-applied, subst_first, substs-parameters, unfolds}
 use Rattle.hs_steps.proofs.Sorted.{body_in_range, has_enough, count}
 
 -- with just as many terms as the lengthened rule has parameters both bodies are equal
@@ -30,7 +30,7 @@ lengthening_at : (rules : List Rule) (ks : List SortTree) (f : ℕ) (r : Rule) (
 lengthening_at [] ks f r k at at_k = absurd (cc)
 lengthening_at (q ∷ rules) [] f r k at at_k = absurd (cc)
 lengthening_at (q ∷ rules) (l ∷ ks) zero r k at at_k =
-    let e : q ≡ r = same_some q r at in let g : l ≡ k = same_some l k at_k in λ i. Some (lengthened (missing (e i).params (g i)) (e i))
+    let e : q ≡ r = same_Some q r at in let g : l ≡ k = same_Some l k at_k in λ i. Some (lengthened (missing (e i).params (g i)) (e i))
 lengthening_at (q ∷ rules) (l ∷ ks) (suc f) r k at at_k = lengthening_at rules ks f r k at at_k
 
 lengthening_past : (rules : List Rule) (ks : List SortTree) (f : ℕ) → slice_get rules f ≡ None → slice_get (lengthening rules ks) f ≡ None

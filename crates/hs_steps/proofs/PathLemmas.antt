@@ -1,6 +1,7 @@
 -- Steps along a path: they are determined by its child numbers, and can be put at its end.
 use Rattle.std.proofs.Common.{◌≡◌, refl, sym, ◌∙◌, ap, add-one, ℕ, zero, suc, ◌+◌, List, [], ◌∷◌, ◌++◌, append-nil, append_assoc, slice_get, Some, arith}
 use Rattle.std.proofs.Common.{subst as along}
+use Rattle.std.proofs.lemmas.Option.{same_Some}
 use Rattle.hs_scheme.specs.declared.term.Head.{Head}
 use Rattle.hs_scheme.specs.declared.term.Head.TheVariants.{Var, Nt, Tm}
 use Rattle.hs_scheme.specs.declared.term.Rule.{Rule}
@@ -9,7 +10,6 @@ use Rattle.hs_scheme.specs.Tree.{Tree, Trees, node, children}
 use Rattle.hs_scheme.specs.Automaton.{next}
 use Rattle.hs_scheme.specs.Cut.{unfolded}
 use Rattle.hs_scheme.specs.Steps.{Path, StepsTo, IsChild, LeadsTo, Along, Reaches, HasNoTransition, Fails, child_numbers}
-use Rattle.hs_steps.proofs.Terms.{same_some}
 
 same_cons : (a b : ℕ) (as_ bs : List ℕ) → a ∷ as_ ≡ b ∷ bs → (a ≡ b) × (as_ ≡ bs)
 same_cons a b as_ bs e = (cc, cc)
@@ -35,8 +35,8 @@ module _ (rules : List Rule) (ts : List TransitionData) where
       let place : c.place ≡ d.place = same_number c.place d.place split.0 in
       record {
         labels = c.labelled ∙ (ap (λ i. (a, i + 1) ∷ []) place ∙ sym d.labelled);
-        states = same_some p r (sym c.state ∙ ((λ i. slice_get (e i) (place i)) ∙ d.state));
-        terms = same_some u v (sym c.term ∙ (ap (λ i. slice_get us i) place ∙ d.term));
+        states = same_Some p r (sym c.state ∙ ((λ i. slice_get (e i) (place i)) ∙ d.state));
+        terms = same_Some u v (sym c.term ∙ (ap (λ i. slice_get us i) place ∙ d.term));
         numbers = split.1;
       }
 
@@ -46,11 +46,11 @@ module _ (rules : List Rule) (ts : List TransitionData) where
   same_step q (node (Nt f) us) label other p r u v rest remaining (silent, is, goes) (silent', is', goes') numbers = record {
     labels = silent ∙ sym silent';
     states = is ∙ sym is';
-    terms = same_some u v (sym goes ∙ goes');
+    terms = same_Some u v (sym goes ∙ goes');
     numbers = sym (ap (λ l. child_numbers (l ++ rest)) silent) ∙ (numbers ∙ ap (λ l. child_numbers (l ++ remaining)) silent');
   }
   same_step q (node (Tm a) us) label other p r u v rest remaining (qs, e, c) (ss, f, d) numbers =
-      same_child a qs ss (children us) label other p r u v rest remaining (same_some qs ss (sym e ∙ f)) c d numbers
+      same_child a qs ss (children us) label other p r u v rest remaining (same_Some qs ss (sym e ∙ f)) c d numbers
 
   -- two first steps of paths with equal child numbers
   same_front : (P Q : ℕ → Tree Head → Path → Type 0) (q : ℕ) (t : Tree Head) (path other : Path) → child_numbers path ≡ child_numbers other

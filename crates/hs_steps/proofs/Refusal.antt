@@ -1,7 +1,9 @@
 -- How a cut comes to be refused, step by step.
-use Rattle.std.proofs.Common.{◌≡◌, ◌≢◌, refl, sym, ◌∙◌, ap, ℕ, zero, suc, ◌+◌, Bool, true, false, ◌&&◌, nat_eq, List, [], ◌∷◌, length, slice_get, Option, Some, None, ◌⊎◌, inl, inr, add-one, arith}
+use Rattle.std.proofs.Common.{◌≡◌, ◌≢◌, refl, sym, ◌∙◌, ap, ℕ, zero, suc, ◌+◌, true, false, ◌&&◌, nat_eq, List, [], ◌∷◌, length, slice_get, Option, Some, None, ◌⊎◌, inl, inr, add-one, arith}
 use Rattle.std.specs.Option.{option_map_or}
 use Rattle.std.proofs.lemmas.Bool.{eqb-true, eqb-false}
+use Rattle.std.proofs.lemmas.Option.{same_Some}
+use Rattle.std.proofs.Math.Bool.{and-false}
 use Rattle.hs_scheme.specs.declared.term.Head.{Head}
 use Rattle.hs_scheme.specs.declared.term.Head.TheVariants.{Var, Nt, Tm}
 use Rattle.hs_scheme.specs.declared.term.Rule.{Rule}
@@ -12,13 +14,6 @@ use Rattle.hs_scheme.specs.Cut.{CutTree, undefined, cut, unfolded}
 use Rattle.hs_scheme.specs.Run.{run, runs}
 use Rattle.hs_scheme.specs.Steps.{Path, StepsTo, IsStuck, LeadsTo}
 
-and_false : (b : Bool) → b && false ≡ false
-and_false true = refl
-and_false false = refl
-
-same_some : {A : Type 0} (x y : A) → Some x ≡ Some y → x ≡ y
-same_some x y h = (cc)
-
 module _ (ts : List TransitionData) (go : Tree Head → CutTree) where
   -- one refused child refuses the row
   refused_at : (us : Trees Head) (qs : List ℕ) (i q : ℕ) (u : Tree Head) → slice_get qs i ≡ Some q → slice_get (children us) i ≡ Some u → run ts q (go u) ≡ false
@@ -26,17 +21,17 @@ module _ (ts : List TransitionData) (go : Tree Head → CutTree) where
   refused_at none qs i q u s t h = absurd (cc)
   refused_at (more v us) [] i q u s t h = refl
   refused_at (more v us) (p ∷ qs) zero q u s t h =
-      let e : p ≡ q = same_some p q s in let f : v ≡ u = same_some v u t in
+      let e : p ≡ q = same_Some p q s in let f : v ≡ u = same_Some v u t in
       ap (λ b. b && runs ts (each go us) qs) (ap (λ r. run ts r (go v)) e ∙ (ap (λ w. run ts q (go w)) f ∙ h))
   refused_at (more v us) (p ∷ qs) (suc i) q u s t h =
-      ap (λ b. run ts p (go v) && b) (refused_at us qs i q u s t h) ∙ and_false (run ts p (go v))
+      ap (λ b. run ts p (go v) && b) (refused_at us qs i q u s t h) ∙ and-false (run ts p (go v))
 
   -- so does another number of children
   refused_length : (us : Trees Head) (qs : List ℕ) → length qs ≢ length (children us) → runs ts (each go us) qs ≡ false
   refused_length none [] h = absurd (h refl)
   refused_length none (q ∷ qs) h = refl
   refused_length (more u us) [] h = refl
-  refused_length (more u us) (q ∷ qs) h = ap (λ b. run ts q (go u) && b) (refused_length us qs (λ e. h (ap suc e))) ∙ and_false (run ts q (go u))
+  refused_length (more u us) (q ∷ qs) h = ap (λ b. run ts q (go u) && b) (refused_length us qs (λ e. h (ap suc e))) ∙ and-false (run ts q (go u))
 
   -- a row of the right length is refused only by a child
   pub record Child (us : Trees Head) (qs : List ℕ) : Type 0 where

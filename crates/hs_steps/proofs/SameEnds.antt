@@ -6,7 +6,7 @@ use Rattle.std.proofs.lemmas.Bool.{eq-eqb, ne_eqb}
 use Rattle.std.proofs.lemmas.Bool.Decides.{eqb_tells}
 use Rattle.std.proofs.lemmas.List.{length-replicate, get_or-replicate}
 use Rattle.std.proofs.lemmas.List.Elements.{All-cons, All-nil}
-use Rattle.std.proofs.lemmas.Option.{slice_get_within, slice_get-get_or, slice_get-map, get_or_from_slice_get}
+use Rattle.std.proofs.lemmas.Option.{slice_get_within, slice_get-get_or, slice_get-map, get_or_from_slice_get, same_Some}
 use Rattle.hs_scheme.specs.declared.term.Head.{Head}
 use Rattle.hs_scheme.specs.declared.term.Head.TheVariants.{Var, Nt, Tm}
 use Rattle.hs_scheme.specs.declared.term.Rule.{Rule}
@@ -20,7 +20,7 @@ use Rattle.hs_scheme.specs.Sorted.{known}
 use Rattle.hs_scheme.specs.Unsorted.{AgreesWithRanks}
 use Rattle.hs_scheme.specs.Steps.{Path, StepsTo, Reaches, HasNoTransition}
 use Rattle.hs_scheme.specs.SameTree.{FailsFromStart, HaveSameTree}
-use Rattle.hs_steps.proofs.Terms.{same_some, Unfolding, unfolding_of}
+use Rattle.hs_steps.proofs.Terms.{Unfolding, unfolding_of}
 use Rattle.hs_steps.proofs.Sorted.{next_rank}
 use Rattle.hs_steps.proofs.Trees.{known_at}
 use Rattle.hs_steps.proofs.PathLemmas.{same_end, same_failure, fails_ends, ends_fails}
@@ -58,7 +58,7 @@ module _ (terminals : ℕ) where
   one_below : (us : List (Tree Head)) (j : ℕ) (u : Tree Head) → ListBelow us → slice_get us j ≡ Some u → Below u
   unfolding ListBelow
   one_below [] j u h at = absurd (cc)
-  one_below (x ∷ us) zero u h at = along Below (same_some x u at) h.0
+  one_below (x ∷ us) zero u h at = along Below (same_Some x u at) h.0
   one_below (x ∷ us) (suc j) u h at = one_below us j u h.1 at
 
   take_below : (n : ℕ) (us : List (Tree Head)) → ListBelow us → ListBelow (take n us)
@@ -287,9 +287,9 @@ module _ (ts : List TransitionData) where
   unfolding Turns
   one_turn q p r [] h k = sym h ∙ k
   one_turn q p r ((a, i) ∷ path) (qs, j, s, e, is, at, more_turns) (qs', j', s', e', is', at', others) =
-      let rows : qs ≡ qs' = same_some qs qs' (sym e ∙ e') in
+      let rows : qs ≡ qs' = same_Some qs qs' (sym e ∙ e') in
       let places : j ≡ j' = omega (arith, is, is') in
-      let states : s ≡ s' = same_some s s' (sym at ∙ ((λ x. slice_get (rows x) (places x)) ∙ at')) in
+      let states : s ≡ s' = same_Some s s' (sym at ∙ ((λ x. slice_get (rows x) (places x)) ∙ at')) in
       one_turn s' p r path (along (λ x. Turns x path p) states more_turns) others
 
 -- ---- the law

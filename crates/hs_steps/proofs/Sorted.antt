@@ -1,7 +1,7 @@
 -- A term of sort o keeps it under a step.
 use Rattle.std.proofs.Common.{◌≡◌, refl, sym, ◌∙◌, ap, ℕ, zero, suc, ◌≤◌, List, [], ◌∷◌, length, take, drop, get_or, slice_get, find, option_map, Option, Some, unwrap_or, true, false, cond, arith}
 use Rattle.std.proofs.Common.{subst as along}
-use Rattle.std.proofs.lemmas.Option.{slice_get_within, slice_get-get_or, get_or_from_slice_get}
+use Rattle.std.proofs.lemmas.Option.{slice_get_within, slice_get-get_or, get_or_from_slice_get, same_Some}
 use Rattle.std.proofs.lemmas.List.{length-take-le, take_all}
 use Rattle.std.proofs.lemmas.List.Elements.{All-head, All-tail}
 use Rattle.hs_scheme.specs.declared.term.Head.{Head}
@@ -18,7 +18,8 @@ use Rattle.hs_scheme.specs.Steps.{Path, StepsTo}
 use Rattle.hs_scheme.specs.TreeTerms.{ground, IsTreeTerm, AreSortedBy}
 use Rattle.hs_scheme.specs.Unsorted.{AgreesWithRanks}
 use Rattle.hs_scheme.proofs.TransitionIndex.{is_of-true}
-use Rattle.hs_steps.proofs.Terms.{same_some, Unfolding, unfolding_of}
+use Rattle.hs_scheme.proofs.Sortings.{length-arrow, length-ranked}
+use Rattle.hs_steps.proofs.Terms.{Unfolding, unfolding_of}
 
 first : SortTree → SortTree
 first (node u none) = o
@@ -44,9 +45,6 @@ arrow_rest a b c d e = sym (rest-arrow a b) ∙ (ap rest e ∙ rest-arrow c d)
 
 arrow_not_o : (a b : SortTree) → arrow a b ≡ o → ⊥
 arrow_not_o a (node u ks) e = (cc)
-
-arguments-arrow : (a b : SortTree) → length (arguments (arrow a b)) ≡ suc (length (arguments b))
-arguments-arrow a (node u ks) = refl
 
 -- the first arguments of a term of sort o, and those behind them
 record Split (e : Head → SortTree) (n : ℕ) (p : ℕ → SortTree) (us : List (Tree Head)) (k : SortTree) : Type 0 where
@@ -76,13 +74,13 @@ module _ (e : Head → SortTree) where
       typed_more : ((j : ℕ) (u : Tree Head) → slice_get (take n (children ts)) j ≡ Some u → HasSort e u (p (suc j)))
           → (j : ℕ) (u : Tree Head) → slice_get (t ∷ take n (children ts)) j ≡ Some u → HasSort e u (p j)
       typed_more below zero u at =
-          along (λ (v : Tree Head). HasSort e v (p 0)) (same_some t u at) (along (λ (x : SortTree). HasSort e t x) (sym (arrow_first (p 0) (arrows n (λ i. p (suc i)) k) a b is)) of)
+          along (λ (v : Tree Head). HasSort e v (p 0)) (same_Some t u at) (along (λ (x : SortTree). HasSort e t x) (sym (arrow_first (p 0) (arrows n (λ i. p (suc i)) k) a b is)) of)
       typed_more below (suc j) u at = below j u at
 
   -- a term of sort o has as many arguments as its head's sort
   pub count : (us : Trees Head) (f : SortTree) → Applied e us f o → length (children us) ≡ length (arguments f)
   count none f a = sym (ap (λ k. length (arguments k)) a)
-  count (more t ts) f (a, b, is, of, others) = ap suc (count ts b others) ∙ (sym (arguments-arrow a b) ∙ sym (ap (λ k. length (arguments k)) is))
+  count (more t ts) f (a, b, is, of, others) = ap suc (count ts b others) ∙ (sym (length-arrow a b) ∙ sym (ap (λ k. length (arguments k)) is))
 
 module _ (s : Sorts) (f params rules terminals : ℕ) (ws : List (Tree Head)) (long : length ws ≡ params)
     (typed : (j : ℕ) (u : Tree Head) → slice_get ws j ≡ Some u → HasSort (ground s) u (s.parameter f j)) where
@@ -109,13 +107,9 @@ next_rank ranks (t ∷ ts) q a qs all e =
       | true ↦ λ is f.
           let own = is_of-true q a t is in
           along (λ (k : ℕ). slice_get ranks k ≡ Some (Some (length qs))) own.1
-          (along (λ (k : List ℕ). slice_get ranks t.terminal ≡ Some (Some (length k))) (same_some t.to qs f) (All-head (λ (u : TransitionData). slice_get ranks u.terminal ≡ Some (Some (length u.to))) t ts all))
+          (along (λ (k : List ℕ). slice_get ranks t.terminal ≡ Some (Some (length k))) (same_Some t.to qs f) (All-head (λ (u : TransitionData). slice_get ranks u.terminal ≡ Some (Some (length u.to))) t ts all))
       | false ↦ λ is f. next_rank ranks ts q a qs (All-tail (λ (u : TransitionData). slice_get ranks u.terminal ≡ Some (Some (length u.to))) t ts all) f
     ] refl e
-
-length-ranked : (n : ℕ) → length (arguments (ranked n)) ≡ n
-length-ranked zero = refl
-length-ranked (suc n) = arguments-arrow o (ranked n) ∙ ap suc (length-ranked n)
 
 module _ (rules : List Rule) (terminals : ℕ) (ranks : List (Option ℕ)) (ts : List TransitionData) (s : Sorts) (sorted : AreSortedBy rules terminals ranks ts s) where
   pub body_in_range : (f : ℕ) (r : Rule) → slice_get rules f ≡ Some r → TermInRange r.params (length rules) terminals r.body

@@ -1,6 +1,6 @@
 -- Rows of arguments, and replacements in applied terms.
 use Rattle.std.proofs.Common.{◌≡◌, refl, sym, ◌∙◌, ap, ℕ, zero, suc, ◌+◌, ◌<◌, ◌≤◌, List, [], ◌∷◌, length, take, drop, get_or, slice_get, Option, Some, None, unwrap_or, true, false, cond, nat_le, arith}
-use Rattle.std.proofs.lemmas.Option.{slice_get-get_or}
+use Rattle.std.proofs.lemmas.Option.{slice_get-get_or, same_Some}
 use Rattle.std.proofs.lemmas.Bool.{leb-true, le-leb}
 use Rattle.std.proofs.Math.Seq.{drop-cons}
 use Rattle.std.proofs.lemmas.List.{take_all, drop_all}
@@ -12,9 +12,6 @@ use Rattle.hs_scheme.specs.Replacement.{subst, substs, replaced, applied}
 use Rattle.hs_scheme.specs.Cut.{body_of, body_with, unfolded}
 use Rattle.hs_scheme.specs.Scheme.{HeadInRange, TermInRange, TermsInRange}
 use Rattle.hs_scheme.specs.Lengthening.{parameters}
-
-pub same_some : {A : Type 0} (x y : A) → Some x ≡ Some y → x ≡ y
-same_some x y h = (cc)
 
 pub join-none : {A : Type 0} (us : Trees A) → join us none ≡ us
 join-none none = refl
@@ -86,7 +83,7 @@ unfolding_of rules f ts u e = by_rule (slice_get rules f) refl e
     by_rule : (o : Option Rule) → slice_get rules f ≡ o → body_with o ts ≡ Some u → Unfolding rules f ts u
     by_rule None at h = absurd (cc)
     by_rule (Some r) at h = elim (nat_le r.params (length ts)) as (λ b. nat_le r.params (length ts) ≡ b → cond b (Some (body_of r ts)) None ≡ Some u → Unfolding rules f ts u) [
-      | true ↦ λ le g. record { rule = r; at = at; enough = leb-true r.params (length ts) le; is = same_some (body_of r ts) u g }
+      | true ↦ λ le g. record { rule = r; at = at; enough = leb-true r.params (length ts) le; is = same_Some (body_of r ts) u g }
       | false ↦ λ le g. absurd (cc)
     ] refl h
 

@@ -61,7 +61,7 @@ same_tree rules terminals ranks s ks are_rules sorting are ts agree q path =
       λ f. (f.0, (same_failures rules terminals (known ranks) ts s sorted ks are f.0 q start path is).1 f.1),
     )
 
-length-lengthening : (rules : List Rule) (ks : List SortTree) → length (lengthening rules ks) ≡ length rules
+pub length-lengthening : (rules : List Rule) (ks : List SortTree) → length (lengthening rules ks) ≡ length rules
 length-lengthening [] ks = refl
 length-lengthening (r ∷ rules) [] = refl
 length-lengthening (r ∷ rules) (k ∷ ks) = ap suc (length-lengthening rules ks)

@@ -1,1 +1,3 @@
 pub mod OrderLemmas
+mod MakingLemmas
+pub mod MoveLemmas

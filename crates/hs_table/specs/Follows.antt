@@ -5,11 +5,13 @@
 --     Chosen               the entries for the types of the sets
 --     FollowsBy, Follows   an entry follows from a list by this support; by some support
 --     premises             the places of the entries that a support names
-use Rattle.std.specs.Prelude.{◌≡◌, ℕ, suc, ◌+◌, ◌<◌, List, [], ◌∷◌, ◌++◌, length, map, slice_get, unwrap_or, replicate, set, Option, Some, None, Contains, ◌⊎◌, ◌↔◌}
+--     HasMove              a state has a transition for a terminal, with no more children than so many
+use Rattle.std.specs.Prelude.{◌≡◌, ℕ, suc, ◌+◌, ◌<◌, ◌≤◌, List, [], ◌∷◌, ◌++◌, length, map, slice_get, unwrap_or, replicate, set, Option, Some, None, Contains, ◌⊎◌, ◌↔◌}
 use Rattle.hs_scheme.specs.declared.term.Head.{Head}
 use Rattle.hs_scheme.specs.declared.term.Head.TheVariants.{Var, Nt, Tm}
 use Rattle.hs_scheme.specs.Points.{PointData}
 use Rattle.hs_scheme.specs.Problem.{ProblemData}
+use Rattle.hs_scheme.specs.Transition.{TransitionData}
 use Rattle.hs_scheme.specs.Automaton.{next}
 use Rattle.hs_table.specs.declared.support.HeadBy.{HeadBy}
 use Rattle.hs_table.specs.declared.support.HeadBy.TheVariants.{Terminal, Rule, Param}
@@ -37,6 +39,10 @@ pub record RejectsChild (p : ProblemData) (a q child : ℕ) (ty : TypeTree) : Ty
 abbrev pub IsTerminalType : ProblemData → ℕ → ℕ → Option ℕ → TypeTree → Type 0
 IsTerminalType p a q None ty = LacksTransition p a q ty
 IsTerminalType p a q (Some child) ty = RejectsChild p a q child ty
+
+-- in state q the terminal a has a transition, with at most n children: with n arguments it is then rejected only by a child
+abbrev pub HasMove : List TransitionData → ℕ → ℕ → ℕ → Type 0
+HasMove ts a n q = (to : List ℕ) × ((next ts q a ≡ Some to) × (length to ≤ n))
 
 -- the list has the entry at this place, and it counts
 pub record IsAt (p : ProblemData) (E : List EntryData) (place : ℕ) (e : EntryData) : Type 0 where

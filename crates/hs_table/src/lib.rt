@@ -8,10 +8,14 @@
 //! Kobayashi, "Saturation-based model checking of higher-order recursion schemes" (CSL 2013).
 #![tactic(auto)]
 
+mod counts;
 mod entry;
+mod making;
 mod support;
 mod ty;
 
+pub use counts::{parameters, rank};
 pub use entry::{Entry, TypeSet};
+pub use making::empty_sets;
 pub use support::HeadBy;
 pub use ty::{Shape, Ty};

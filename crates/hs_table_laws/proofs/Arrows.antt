@@ -1,11 +1,10 @@
 -- Types with several arguments, and rows of sets that are empty but for one.
 use Rattle.std.proofs.Common.{◌≡◌, refl, sym, ◌∙◌, ap, subst, ℕ, zero, suc, ◌<◌, List, [], ◌∷◌, ◌++◌, length, Option, Some, None, replicate, set, arith, Contains, ◌↔◌}
 use Rattle.hs_scheme.specs.Tree.{Trees, node, none, more, children, children-forest}
+use Rattle.hs_scheme.proofs.Lists.{none_in, here, only}
 use Rattle.hs_table.specs.Types.{TypeTree, state, arrow, arrows, IsSet}
 use Rattle.hs_table.specs.Entries.{Env, Has, set_at}
-use Rattle.hs_table_laws.proofs.Places.{none_in, here}
 use Rattle.hs_table_laws.proofs.Sets.{no_set}
-use Rattle.hs_table_laws.proofs.Members.{only}
 
 abbrev row_of : TypeTree → Trees (Option ℕ)
 row_of (node x ts) = ts

@@ -3,12 +3,13 @@ use Rattle.std.proofs.Common.{◌≡◌, ℕ, ◌≤◌, List, [], ◌∷◌, �
 use Rattle.hs_scheme.specs.declared.term.Head.{Head}
 use Rattle.hs_scheme.specs.declared.term.Head.TheVariants.{Var, Nt, Tm}
 use Rattle.hs_scheme.specs.Problem.{ProblemData}
+use Rattle.hs_scheme.proofs.Lists.{at_append, Contains-at}
 use Rattle.hs_table.specs.declared.support.HeadBy.{HeadBy}
 use Rattle.hs_table.specs.declared.support.HeadBy.TheVariants.{Terminal, Rule, Param}
 use Rattle.hs_table.specs.Types.{TypeTree, arrows}
 use Rattle.hs_table.specs.Entries.{Env, EntryData}
 use Rattle.hs_table.specs.Follows.{IsAt, IsHeadType, Chosen, done, next_argument, choose, Support, FollowsBy, Follows}
-use Rattle.hs_table_laws.proofs.Places.{member_at, place_of, at_take, to_take, at_append}
+use Rattle.hs_table_laws.proofs.Places.{place_of, at_take, to_take}
 
 -- places keep their meaning
 module _ (p : ProblemData) (E F : List EntryData) (keeps : (i : ℕ) (e : EntryData) → slice_get E i ≡ Some e → slice_get F i ≡ Some e) where
@@ -56,7 +57,7 @@ module _ (p : ProblemData) (E F : List EntryData) (all : (e : EntryData) → Con
     pub at : IsAt p F place e
 
   found : (place : ℕ) (e : EntryData) → IsAt p E place e → Elsewhere e
-  found place e h = let r = place_of F e (all e (member_at E place e h.at)) in record { place = r.0; at = record { at = r.1; shape = h.shape } }
+  found place e h = let r = place_of F e (all e (Contains-at E place e h.at)) in record { place = r.0; at = record { at = r.1; shape = h.shape } }
 
   head_found : (rule : ℕ) (h : Head) (by : HeadBy) (ty : TypeTree) → IsHeadType p E rule h by ty → (b : HeadBy) × IsHeadType p F rule h b ty
   head_found rule (Tm a) (Terminal q child) ty x = (Terminal q child, x)

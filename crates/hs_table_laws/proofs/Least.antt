@@ -1,9 +1,10 @@
 -- Supported, closed and least tables.
-use Rattle.std.proofs.Common.{◌≡◌, refl, ℕ, zero, suc, ◌<◌, ◌≤◌, List, [], ◌∷◌, length, take, slice_get, Some, arith, Contains, ◌↔◌}
+use Rattle.std.proofs.Common.{◌≡◌, refl, sym, ◌∙◌, ℕ, zero, suc, ◌<◌, ◌≤◌, List, [], ◌∷◌, length, take, slice_get, Some, arith, Contains, ◌↔◌}
+use Rattle.std.proofs.lemmas.Option.{same_Some}
 use Rattle.hs_scheme.specs.Problem.{ProblemData}
 use Rattle.hs_table.specs.Entries.{EntryData}
 use Rattle.hs_table.specs.Follows.{Support}
-use Rattle.hs_table.specs.Tables.{IsSupportedTable, IsClosedTable, IsLeastTable, Exceeds, HasSupports}
+use Rattle.hs_table.specs.Tables.{IsSupportedTable, IsClosedTable, IsLeastTable, Exceeds, HasSupports, IsStart}
 use Rattle.hs_table_laws.proofs.Places.{within_from, place_of, at_take, fewer}
 use Rattle.hs_table_laws.proofs.Growing.{follows_found}
 
@@ -39,3 +40,9 @@ supports_support p T supports h = record {
     some_at [] i lt = absurd (omega arith)
     some_at (x ∷ xs) zero lt = (x, refl)
     some_at (x ∷ xs) (suc i) lt = some_at xs i (omega arith)
+
+-- two start entries are the same
+pub starts_same : (p : ProblemData) (d e : EntryData) → IsStart p d → IsStart p e → d ≡ e
+starts_same p d e a b =
+    let point : d.point ≡ e.point = same_Some d.point e.point (sym a.body ∙ b.body) in
+    λ i. record { point = point i; env = (a.env ∙ sym b.env) i; ty = (a.initial ∙ sym b.initial) i }

@@ -1,7 +1,7 @@
 -- Members of lists that are made of lists.
 use Rattle.std.proofs.Common.{◌≡◌, sym, ◌∙◌, ap, subst, ℕ, zero, suc, ◌+◌, ◌<◌, List, [], ◌∷◌, ◌++◌, length, get_or, take, map, arith, Contains, ◌⊎◌, inl, inr}
 use Rattle.std.proofs.lemmas.List.Elements.{Contains-append_cases}
-use Rattle.hs_table_laws.proofs.Places.{none_in, here, later, uncons}
+use Rattle.hs_scheme.proofs.Lists.{none_in, here, later, uncons, only}
 
 -- a member from which y comes
 pub record Preimage {X Y : Type 0} (f : X → Y) (xs : List X) (y : Y) : Type 0 where
@@ -21,12 +21,6 @@ into_map f [] x c = absurd (none_in x c)
 into_map f (z ∷ xs) x c = elim (uncons z x xs c) [
   | inl e ↦ subst (λ w. Contains (f z ∷ map f xs) (f w)) (sym e) (here (f z) (map f xs))
   | inr there ↦ later (f z) (f x) (map f xs) (into_map f xs x there)
-]
-
-pub only : {X : Type 0} (x y : X) → Contains (x ∷ []) y → y ≡ x
-only x y c = elim (uncons x y [] c) [
-  | inl e ↦ e
-  | inr nowhere ↦ absurd (none_in y nowhere)
 ]
 
 -- one more element

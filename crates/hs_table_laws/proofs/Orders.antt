@@ -3,18 +3,13 @@ use Rattle.std.proofs.Common.{◌≡◌, refl, sym, ◌∙◌, ap, ℕ, List, []
 use Rattle.std.specs.Ordering.{nat_cmp, ordering_then, ordering_reverse}
 use Rattle.std.specs.declared.cmp.Ordering.{Ordering}
 use Rattle.std.specs.declared.cmp.Ordering.TheVariants.{Less, Equal, Greater}
-use Rattle.std.specs.Cmp.{IsTotalOrder, nat_cmp_is}
+use Rattle.std.specs.Cmp.{IsTotalOrder}
 use Rattle.std.specs.Cmp.Lexicographic.{slice_cmp}
-use Rattle.std.proofs.lemmas.Bool.{cases_order}
 use Rattle.std.proofs.lemmas.Cmp.{nat_cmp_total, lists_total, on_total, then_total}
 use Rattle.hs_scheme.specs.Tree.{Trees, node, none, more, forest}
+use Rattle.hs_scheme.proofs.Orderings.{then_equal, nat_equal}
 use Rattle.hs_table.specs.Types.{TypeTree, arrow, label_cmp, type_cmp, types_cmp}
 use Rattle.hs_table.specs.Entries.{EntryData, env_cmp, entry_cmp}
-
-then_equal : (o p : Ordering) → ordering_then o p ≡ Equal → (o ≡ Equal) × (p ≡ Equal)
-then_equal Less p e = absurd (cc)
-then_equal Equal p e = (refl, e)
-then_equal Greater p e = absurd (cc)
 
 then_less : (o p : Ordering) → ordering_then o p ≡ Less → (o ≡ Less) ⊎ ((o ≡ Equal) × (p ≡ Less))
 then_less Less p e = inl refl
@@ -26,17 +21,8 @@ reverse_then Less p = refl
 reverse_then Equal p = refl
 reverse_then Greater p = refl
 
-nat_same : (m n : ℕ) → nat_cmp m n ≡ Equal → m ≡ n
-nat_same m n e = elim (cases_order m n) [
-  | inl same ↦ same
-  | inr other ↦ elim other [
-    | inl less ↦ let f : Less ≡ Equal = nat_cmp_is m n Less less ∙ e in absurd (cc)
-    | inr more_than ↦ let f : Greater ≡ Equal = nat_cmp_is m n Greater more_than ∙ e in absurd (cc)
-  ]
-]
-
 label_same : (x y : Option ℕ) → label_cmp x y ≡ Equal → x ≡ y
-label_same (Some q) (Some p) e = ap (λ n. Some n) (nat_same q p e)
+label_same (Some q) (Some p) e = ap (λ n. Some n) (nat_equal q p e)
 label_same (Some q) None e = absurd (cc)
 label_same None (Some p) e = absurd (cc)
 label_same None None e = refl
@@ -129,7 +115,7 @@ entry_same a b e =
     let p = then_equal (nat_cmp a.point b.point) (ordering_then (env_cmp a.env b.env) (type_cmp a.ty b.ty)) e in
     let q = then_equal (env_cmp a.env b.env) (type_cmp a.ty b.ty) p.1 in
     λ i. record {
-      point = nat_same a.point b.point p.0 i;
+      point = nat_equal a.point b.point p.0 i;
       env = slices_same (slice_cmp type_cmp) (slices_same type_cmp type_same) a.env b.env q.0 i;
       ty = type_same a.ty b.ty q.1 i;
     }

@@ -1,42 +1,15 @@
 -- Members of lists by their places.
-use Rattle.std.proofs.Common.{◌≡◌, ◌≢◌, refl, sym, ◌∙◌, ap, subst, ℕ, zero, suc, ◌<◌, ◌≤◌, List, [], ◌∷◌, ◌++◌, length, get_or, take, slice_get, Some, arith, Contains, AllPairs, ◌⊎◌, inl, inr}
-
-pub some_same : {A : Type 0} (x y : A) → Some x ≡ Some y → x ≡ y
-some_same x y h = (cc)
-
-pub at_from : {X : Type 0} (xs : List X) (k : ℕ) (x : X) → k < length xs → get_or xs k x ≡ x → slice_get xs k ≡ Some x
-at_from [] k x h e = absurd (omega arith)
-at_from (y ∷ ys) zero x h e = ap (λ z. Some z) e
-at_from (y ∷ ys) (suc k) x h e = at_from ys k x (omega arith) e
+use Rattle.std.proofs.Common.{◌≡◌, ◌≢◌, refl, sym, ◌∙◌, ap, subst, ℕ, zero, suc, ◌<◌, ◌≤◌, List, [], ◌∷◌, length, get_or, take, slice_get, Some, arith, Contains, AllPairs, inl, inr}
+use Rattle.std.proofs.lemmas.Option.{same_Some}
+use Rattle.hs_scheme.proofs.Lists.{here, later, uncons, slice_get-read}
 
 pub within_from : {X : Type 0} (xs : List X) (k : ℕ) (x : X) → slice_get xs k ≡ Some x → k < length xs
 within_from [] k x e = absurd (cc)
 within_from (y ∷ ys) zero x e = omega arith
 within_from (y ∷ ys) (suc k) x e = let r = within_from ys k x e in omega (arith, r)
 
-pub read_from : {X : Type 0} (xs : List X) (k : ℕ) (x d : X) → slice_get xs k ≡ Some x → get_or xs k d ≡ x
-read_from [] k x d e = absurd (cc)
-read_from (y ∷ ys) zero x d e = some_same y x e
-read_from (y ∷ ys) (suc k) x d e = read_from ys k x d e
-
-pub member_at : {X : Type 0} (xs : List X) (k : ℕ) (x : X) → slice_get xs k ≡ Some x → Contains xs x
-member_at xs k x e = (k, within_from xs k x e, read_from xs k x x e)
-
 pub place_of : {X : Type 0} (xs : List X) (x : X) → Contains xs x → (k : ℕ) × (slice_get xs k ≡ Some x)
-place_of xs x (k, h, e) = (k, at_from xs k x h e)
-
-pub none_in : {X : Type 0} (x : X) → Contains [] x → ⊥
-none_in x (k, h, e) = omega arith
-
-pub here : {X : Type 0} (x : X) (xs : List X) → Contains (x ∷ xs) x
-here x xs = (0, omega arith, refl)
-
-pub later : {X : Type 0} (x y : X) (xs : List X) → Contains xs y → Contains (x ∷ xs) y
-later x y xs (k, h, e) = (suc k, omega arith, e)
-
-pub uncons : {X : Type 0} (a x : X) (s : List X) → Contains (a ∷ s) x → (x ≡ a) ⊎ Contains s x
-uncons a x s (zero, h, is) = inl (sym is)
-uncons a x s (suc k, h, is) = inr (k, omega arith, is)
+place_of xs x (k, h, e) = (k, slice_get-read xs k x h e)
 
 pub at_take : {X : Type 0} (n : ℕ) (xs : List X) (k : ℕ) (x : X) → slice_get (take n xs) k ≡ Some x → (k < n) × (slice_get xs k ≡ Some x)
 at_take zero xs k x e = absurd (let e : slice_get [] k ≡ Some x = e in cc)
@@ -49,11 +22,6 @@ to_take zero xs k x h e = absurd (omega arith)
 to_take (suc n) [] k x h e = absurd (cc)
 to_take (suc n) (y ∷ ys) zero x h e = e
 to_take (suc n) (y ∷ ys) (suc k) x h e = to_take n ys k x (omega arith) e
-
-pub at_append : {X : Type 0} (xs ys : List X) (k : ℕ) (x : X) → slice_get xs k ≡ Some x → slice_get (xs ++ ys) k ≡ Some x
-at_append [] ys k x e = absurd (cc)
-at_append (z ∷ xs) ys zero x e = e
-at_append (z ∷ xs) ys (suc k) x e = at_append xs ys k x e
 
 -- of a list without repeats whose members are in another: it isn't longer
 abbrev without : {X : Type 0} → List X → ℕ → List X
@@ -69,7 +37,7 @@ length-without (y ∷ ys) (suc k) h = ap suc (length-without ys k (omega arith))
 in_without : {X : Type 0} (ys : List X) (k : ℕ) (x q : X) → slice_get ys k ≡ Some x → (q ≡ x → ⊥) → Contains ys q → Contains (without ys k) q
 in_without [] k x q e ne h = h
 in_without (y ∷ ys) zero x q e ne h = elim (uncons y q ys h) [
-  | inl is ↦ absurd (ne (is ∙ some_same y x e))
+  | inl is ↦ absurd (ne (is ∙ same_Some y x e))
   | inr there ↦ there
 ]
 in_without (y ∷ ys) (suc k) x q e ne h = elim (uncons y q ys h) [

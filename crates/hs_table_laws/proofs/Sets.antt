@@ -6,9 +6,10 @@ use Rattle.std.specs.declared.cmp.Ordering.TheVariants.{Less, Equal, Greater}
 use Rattle.std.specs.Cmp.{IsTotalOrder}
 use Rattle.std.proofs.lemmas.Cmp.{tied_itself}
 use Rattle.hs_scheme.specs.Flow.{IsAscending}
+use Rattle.hs_scheme.proofs.Lists.{none_in, here, later, uncons}
 use Rattle.hs_table.specs.Types.{TypeTree, type_cmp, IsSet}
 use Rattle.hs_table.specs.Entries.{Env, IsEnv, Has, set_at}
-use Rattle.hs_table_laws.proofs.Places.{none_in, here, later, uncons, pairs_tail, pairs_head, pairs_cons}
+use Rattle.hs_table_laws.proofs.Places.{pairs_tail, pairs_head, pairs_cons}
 use Rattle.hs_table_laws.proofs.Orders.{type_cmp_total, type_same}
 
 module _ {X : Type 0} (R : X → X → Ordering) (total : IsTotalOrder R) (same : (a b : X) → R a b ≡ Equal → a ≡ b) where

@@ -1,19 +1,20 @@
 -- What follows is in shape.
 use Rattle.std.proofs.Common.{◌≡◌, refl, sym, subst, ℕ, zero, suc, ◌<◌, List, [], ◌∷◌, length, slice_get, Option, Some, None, option_map, Bool, true, false, cond, replicate, set, find, arith, All, Contains, ◌⊎◌, inl, inr}
 use Rattle.std.proofs.lemmas.List.Elements.{All-contains}
+use Rattle.std.proofs.lemmas.Option.{same_Some}
 use Rattle.hs_scheme.specs.declared.term.Head.{Head}
 use Rattle.hs_scheme.specs.declared.term.Head.TheVariants.{Var, Nt, Tm}
 use Rattle.hs_scheme.specs.Tree.{forest, children-forest}
 use Rattle.hs_scheme.specs.Transition.{TransitionData}
-use Rattle.hs_scheme.specs.Automaton.{AutomatonData, IsAutomaton, next, is_of}
+use Rattle.hs_scheme.specs.Automaton.{AutomatonData, next, is_of}
 use Rattle.hs_scheme.specs.Problem.{ProblemData}
+use Rattle.hs_scheme.proofs.Lists.{none_in, here, later, uncons, Contains-at}
 use Rattle.hs_table.specs.declared.support.HeadBy.{HeadBy}
 use Rattle.hs_table.specs.declared.support.HeadBy.TheVariants.{Terminal, Rule, Param}
 use Rattle.hs_table.specs.Types.{TypeTree, state, arrow, arrows, IsSet, IsType, AreTypes}
 use Rattle.hs_table.specs.Entries.{Env, EntryData, Has, set_at, InShape}
 use Rattle.hs_table.specs.Follows.{IsHeadType, IsTerminalType, rank_of, HeadHas, Chosen, done, next_argument, choose, AnyHas, Follows}
 use Rattle.hs_table_laws.proofs.Arrows.{empties}
-use Rattle.hs_table_laws.proofs.Places.{some_same, none_in, here, later, uncons, member_at}
 use Rattle.hs_table_laws.proofs.Sets.{no_set, one_set}
 
 pub are_types : (n : ℕ) (xs : List TypeTree) → ((a : TypeTree) → Contains xs a → IsType n a) → AreTypes n (forest xs)
@@ -74,14 +75,14 @@ one_full_are_sets n k i r h = are_sets n (set (replicate k []) i (state r ∷ []
 found_in : {X : Type 0} (test : X → Bool) (xs : List X) (x : X) → find test xs ≡ Some x → Contains xs x
 found_in test [] x e = absurd (cc)
 found_in test (y ∷ ys) x e = elim (test y) as (λ b. cond b (Some y) (find test ys) ≡ Some x → Contains (y ∷ ys) x) [
-  | true ↦ λ f. subst (λ z. Contains (y ∷ ys) z) (some_same y x f) (here y ys)
+  | true ↦ λ f. subst (λ z. Contains (y ∷ ys) z) (same_Some y x f) (here y ys)
   | false ↦ λ f. later y x ys (found_in test ys x f)
 ] e
 
 moved : (ts : List TransitionData) (o : Option TransitionData) (qs : List ℕ) → ((t : TransitionData) → o ≡ Some t → Contains ts t) → option_map (λ (t : TransitionData). t.to) o ≡ Some qs
     → (t : TransitionData) × (Contains ts t × (t.to ≡ qs))
 moved ts None qs f e = absurd (cc)
-moved ts (Some t) qs f e = (t, (f t refl, some_same t.to qs e))
+moved ts (Some t) qs f e = (t, (f t refl, same_Some t.to qs e))
 
 -- the states that transitions lead to are in range
 abbrev pub LeadsWithin : AutomatonData → Type 0
@@ -91,7 +92,7 @@ pub next_within : (a : AutomatonData) (q s : ℕ) (qs : List ℕ) (i r : ℕ) �
 next_within a q s qs i r h e at =
     let m = moved a.transitions (find (is_of q s) a.transitions) qs (λ t f. found_in (is_of q s) a.transitions t f) e in
     let all = All-contains (λ t. All (λ z. z < a.states) t.to) a.transitions m.0 h m.1.0 in
-    All-contains (λ z. z < a.states) qs r (subst (λ (zs : List ℕ). All (λ z. z < a.states) zs) m.1.1 all) (member_at qs i r at)
+    All-contains (λ z. z < a.states) qs r (subst (λ (zs : List ℕ). All (λ z. z < a.states) zs) m.1.1 all) (Contains-at qs i r at)
 
 module _ (p : ProblemData) (E : List EntryData) (h : LeadsWithin p.sorted.automaton) where
   terminal_shape : (a q : ℕ) (child : Option ℕ) (ty : TypeTree) → q < p.sorted.automaton.states → IsTerminalType p a q child ty → IsType p.sorted.automaton.states ty

@@ -1,14 +1,10 @@
 -- A list that stands in another from a place on.
 use Rattle.std.proofs.Common.{◌≡◌, refl, sym, ◌∙◌, ap, ℕ, zero, suc, ◌+◌, List, [], ◌∷◌, ◌++◌, length, slice_get, Some, arith, ◌⊎◌, inl, inr}
-use Rattle.hs_table_laws.proofs.Places.{at_append}
+use Rattle.hs_scheme.proofs.Lists.{at_append, back_at}
 
 -- ys stands in xs from n on
 pub record StandsFrom {A : Type 0} (xs : List A) (n : ℕ) (ys : List A) : Type 0 where
   pub at : (i : ℕ) (y : A) → slice_get ys i ≡ Some y → slice_get xs (n + i) ≡ Some y
-
-pub back_at : {A : Type 0} (xs ys : List A) (i : ℕ) → slice_get (xs ++ ys) (length xs + i) ≡ slice_get ys i
-back_at [] ys i = let e : 0 + i ≡ i = omega arith in ap (λ k. slice_get ys k) e
-back_at (x ∷ xs) ys i = let e : length (x ∷ xs) + i ≡ suc (length xs + i) = omega arith in ap (λ k. slice_get (x ∷ (xs ++ ys)) k) e ∙ back_at xs ys i
 
 -- x stands behind xs, at place i of the two together
 pub record Behind {A : Type 0} (xs ys : List A) (i : ℕ) (x : A) : Type 0 where

@@ -2,26 +2,20 @@
 use Rattle.std.proofs.Common.{◌≡◌, refl, sym, ◌∙◌, ap, subst, ℕ, suc, Bool, true, false, ◌&&◌, nat_eq, cond, Some, None, List, [], ◌∷◌, ◌++◌, length, map, arith, Contains}
 use Rattle.std.specs.List.{flat_map}
 use Rattle.std.specs.Ordering.{is_eq}
-use Rattle.std.specs.declared.cmp.Ordering.{Ordering}
-use Rattle.std.specs.declared.cmp.Ordering.TheVariants.{Less, Equal, Greater}
 use Rattle.std.proofs.lemmas.Bool.{eqb-true, eq-eqb, and_parts, and_from}
 use Rattle.std.proofs.lemmas.Cmp.{tied_itself}
 use Rattle.hs_scheme.specs.Problem.{ProblemData}
 use Rattle.hs_scheme.specs.Tree.{node, none, more, children, children-forest, forest-children}
+use Rattle.hs_scheme.proofs.Orderings.{equal_of}
+use Rattle.hs_scheme.proofs.Lists.{none_in, here, Contains-at, only}
 use Rattle.hs_table.specs.Types.{TypeTree, arrows, type_cmp}
 use Rattle.hs_table.specs.Entries.{Env, EntryData, InShape}
 use Rattle.hs_table.specs.Follows.{IsAt, Chosen, done, next_argument, choose}
-use Rattle.hs_table_laws.proofs.Places.{none_in, here, member_at, place_of}
+use Rattle.hs_table_laws.proofs.Places.{place_of}
 use Rattle.hs_table_laws.proofs.Orders.{type_cmp_total, type_same}
-use Rattle.hs_table_laws.proofs.Members.{only}
 use Rattle.hs_table_plain.specs.Enumeration.{joined, extended, picks, retyped, through}
 use Rattle.hs_table_plain.proofs.Members.{from_flat_map, into_flat_map}
 use Rattle.hs_table_plain.proofs.UnionLemmas.{joins, joins-append}
-
-equal_of : (o : Ordering) → is_eq o ≡ true → o ≡ Equal
-equal_of Less e = absurd (cc)
-equal_of Equal e = refl
-equal_of Greater e = absurd (cc)
 
 pub from_cond : {X : Type 0} (b : Bool) (x y : X) → Contains (cond b (x ∷ []) []) y → (b ≡ true) × (y ≡ x)
 from_cond true x y c = (refl, only x y c)
@@ -72,7 +66,7 @@ module _ (p : ProblemData) (E : List EntryData) (shapes : (e : EntryData) → Co
   into_all done es e c = c
   into_all (next_argument h) es e c = into_all h es e c
   into_all (choose {u = u} {place = place} {a = a} {e = x} at point ty h) es e c =
-      into_all h (flat_map (λ e. flat_map (extended u a e) E) es) (joined e x) (into_extended es e x u a c (member_at E place x at.at) point ty)
+      into_all h (flat_map (λ e. flat_map (extended u a e) E) es) (joined e x) (into_extended es e x u a c (Contains-at E place x at.at) point ty)
 
   pub long : {i : ℕ} {us : List ℕ} {ss : Env} {args : List (ℕ × ℕ)} {xs : List EntryData} → Chosen p E i us ss args xs → length ss ≡ length us
   long done = refl

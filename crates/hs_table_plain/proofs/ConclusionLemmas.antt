@@ -1,14 +1,15 @@
 -- All that follow at a point.
-use Rattle.std.proofs.Common.{◌≡◌, refl, sym, ◌∙◌, ap, subst, ℕ, zero, suc, ◌<◌, List, [], ◌∷◌, length, slice_get, Option, Some, option_map, Result, Ok, Err, IfOk, arith, Contains, ◌⊎◌, inl, inr, ◌↔◌}
+use Rattle.std.proofs.Common.{◌≡◌, refl, sym, ◌∙◌, ap, subst, ℕ, zero, suc, ◌<◌, List, [], ◌∷◌, length, slice_get, Option, Some, option_map, arith, Contains, ◌⊎◌, inl, inr, ◌↔◌}
+use Rattle.std.proofs.lemmas.Option.{same_Some}
 use Rattle.hs_scheme.specs.declared.term.Head.{Head}
 use Rattle.hs_scheme.specs.Points.{PointData, NonterminalWithin}
 use Rattle.hs_scheme.specs.Problem.{ProblemData}
+use Rattle.hs_scheme.proofs.Lists.{here, only}
 use Rattle.hs_table.specs.Types.{TypeTree, arrows}
 use Rattle.hs_table.specs.Entries.{Env, EntryData, Has, IsEnv, InShape, params_of}
 use Rattle.hs_table.specs.Follows.{IsHeadType, HeadHas, AnyHas, Chosen, Support, FollowsBy, Follows}
-use Rattle.hs_table_laws.proofs.Places.{some_same, here}
 use Rattle.hs_table_laws.proofs.Sets.{envs_same}
-use Rattle.hs_table_laws.proofs.Members.{from_map, into_map, only}
+use Rattle.hs_table_laws.proofs.Members.{from_map, into_map}
 use Rattle.hs_table_plain.specs.Enumeration.{retyped, through, own_env, opening, head_types, all_at}
 use Rattle.hs_table_plain.proofs.Members.{from_flat_map, into_flat_map}
 use Rattle.hs_table_plain.proofs.UnionLemmas.{joins, joins_point, joins_env, joins_has, own_is_env, own_has}
@@ -88,7 +89,7 @@ module _ (p : ProblemData) (E : List EntryData) (shapes : (e : EntryData) → Co
       (into_map (retyped e.ty) (choose_all E of.args f.sets (start ∷ [])) (joins start f.chosen) (into_all p E shapes are (start ∷ []) start (here start [])))))
 
   pub into_all_at : (e : EntryData) → e.point ≡ point → Follows p E e → Contains all e
-  into_all_at e here_is (s, f) = into_by s e f here_is (some_same f.of of (sym f.at ∙ (ap (λ z. slice_get p.points.points z) here_is ∙ at)))
+  into_all_at e here_is (s, f) = into_by s e f here_is (same_Some f.of of (sym f.at ∙ (ap (λ z. slice_get p.points.points z) here_is ∙ at)))
 
 some_item : {X : Type 0} (xs : List X) (k : ℕ) → k < length xs → (x : X) × (slice_get xs k ≡ Some x)
 some_item [] k h = absurd (omega arith)
@@ -96,7 +97,7 @@ some_item (x ∷ xs) zero h = (x, refl)
 some_item (x ∷ xs) (suc k) h = some_item xs k (omega arith)
 
 field_is : {X Y : Type 0} (f : X → Y) (o : Option X) (x : X) (y : Y) → o ≡ Some x → option_map f o ≡ Some y → f x ≡ y
-field_is f o x y e h = some_same (f x) y (sym (ap (option_map f) e) ∙ h)
+field_is f o x y e h = same_Some (f x) y (sym (ap (option_map f) e) ∙ h)
 
 pub all_at_exact : (p : ProblemData) (E : List EntryData) (point rule : ℕ) (head : Head) (args : List ℕ) → ((e : EntryData) → Contains E e → InShape p e) → point < length p.points.points
     → option_map (λ (d : PointData). d.rule) (slice_get p.points.points point) ≡ Some rule → option_map (λ (d : PointData). d.head) (slice_get p.points.points point) ≡ Some head
@@ -113,7 +114,3 @@ all_at_exact p E point rule head args shapes lt r h a within e =
       λ c. from_all_at p E shapes point of item.1 e inside (subst (λ xs. Contains xs e) (sym same) c),
       λ both. subst (λ xs. Contains xs e) same (into_all_at p E shapes point of item.1 e both.0 both.1),
     )
-
-pub if_ok_map : {X E : Type 0} (r : Result X E) (P Q : X → Type 0) → ((x : X) → P x → Q x) → IfOk r P → IfOk r Q
-if_ok_map (Ok x) P Q f h = f x h
-if_ok_map (Err e) P Q f h = tt

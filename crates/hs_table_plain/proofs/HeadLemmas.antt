@@ -4,26 +4,27 @@ use Rattle.std.specs.List.{flat_map, list_any}
 use Rattle.std.proofs.lemmas.Bool.{eqb-true, eq-eqb, cases_order, and_parts, and_from}
 use Rattle.std.proofs.lemmas.List.Elements.{Contains-append_left, Contains-append_right, Contains-append_cases}
 use Rattle.std.proofs.lemmas.List.{get_or_default}
+use Rattle.std.proofs.lemmas.Option.{get_or_from_slice_get}
 use Rattle.hs_scheme.specs.declared.term.Head.{Head}
 use Rattle.hs_scheme.specs.declared.term.Head.TheVariants.{Var, Nt, Tm}
 use Rattle.hs_scheme.specs.Tree.{node}
 use Rattle.hs_scheme.specs.Automaton.{next}
 use Rattle.hs_scheme.specs.Points.{NonterminalWithin}
 use Rattle.hs_scheme.specs.Problem.{ProblemData}
+use Rattle.hs_scheme.proofs.Lists.{none_in, here, slice_get-read, Contains-at, only}
 use Rattle.hs_table.specs.declared.support.HeadBy.{HeadBy}
 use Rattle.hs_table.specs.declared.support.HeadBy.TheVariants.{Terminal, Rule, Param}
 use Rattle.hs_table.specs.Types.{TypeTree, state, arrows, IsType}
 use Rattle.hs_table.specs.Entries.{EntryData, InShape}
 use Rattle.hs_table.specs.Follows.{rank_of, IsTerminalType, FromBody, FromFlow, IsHeadType}
-use Rattle.hs_table_laws.proofs.Places.{none_in, here, at_from, within_from, read_from, member_at}
-use Rattle.hs_table_laws.proofs.Members.{only}
+use Rattle.hs_table_laws.proofs.Places.{within_from}
 use Rattle.hs_table_plain.specs.Enumeration.{child_type, child_types, types_in, terminal_types, is_state, body_type, body_at, is_pair, flow_type, head_types}
 use Rattle.hs_table_plain.proofs.Loops.{pair_there, pair_found}
 use Rattle.hs_table_plain.proofs.Members.{from_flat_map, into_flat_map}
 use Rattle.hs_table_plain.proofs.ChoiceLemmas.{from_cond, into_cond, at_place}
 
 read_at : (xs : List ℕ) (k : ℕ) → k < length xs → slice_get xs k ≡ Some (get_or xs k 0)
-read_at xs k h = at_from xs k (get_or xs k 0) h (get_or_default xs k (get_or xs k 0) 0 h)
+read_at xs k h = slice_get-read xs k (get_or xs k 0) h (get_or_default xs k (get_or xs k 0) 0 h)
 
 less : (q n : ℕ) → q < suc n → nat_eq q n ≡ false → q < n
 less q n h e = elim (cases_order q n) [
@@ -34,7 +35,7 @@ less q n h e = elim (cases_order q n) [
   ]
 ]
 
-from_children : (qs : List ℕ) (q n : ℕ) (ty : TypeTree) → Contains (child_types qs q n) ty → (place : ℕ) × ((place < n) × (ty ≡ child_type qs q place))
+pub from_children : (qs : List ℕ) (q n : ℕ) (ty : TypeTree) → Contains (child_types qs q n) ty → (place : ℕ) × ((place < n) × (ty ≡ child_type qs q place))
 from_children qs q zero ty c = absurd (none_in ty c)
 from_children qs q (suc n) ty c = elim (Contains-append_cases (child_types qs q n) (child_type qs q n ∷ []) ty c) [
   | inl h ↦ let r = from_children qs q n ty h in (r.0, (omega (arith, r.1.0), r.1.1))
@@ -80,7 +81,7 @@ module _ (p : ProblemData) (a : ℕ) where
       subst (λ o. Contains (types_in p a q o) ty) (sym h.moves)
       (subst (λ t. Contains (arrows (replicate (rank_of p a) []) (state q) ∷ []) t) (sym h.is) (here (arrows (replicate (rank_of p a) []) (state q)) []))
   into_types q (Some child) ty h =
-      let e : get_or h.qs h.place 0 ≡ h.r = read_from h.qs h.place h.r 0 h.at in
+      let e : get_or h.qs h.place 0 ≡ h.r = get_or_from_slice_get h.qs h.place h.r 0 h.at in
       subst (λ o. Contains (types_in p a q o) ty) (sym h.moves)
       (subst (λ t. Contains (child_types h.qs q (length h.qs)) t) (ap (λ r. arrows (set (replicate (length h.qs) []) h.place (state r ∷ [])) (state q)) e ∙ sym h.is)
       (into_children h.qs q (length h.qs) h.place (within_from h.qs h.place h.r h.at)))
@@ -112,8 +113,8 @@ module _ (p : ProblemData) (E : List EntryData) (shapes : (e : EntryData) → Co
   into_body : (f place : ℕ) (ty : TypeTree) → FromBody p E f place ty → Contains (flat_map (body_type (body_at p f)) E) ty
   into_body f place ty h =
       let x = h.entry in
-      let point : x.point ≡ body_at p f = sym (read_from p.points.bodies f x.point 0 h.body) in
-      into_flat_map (body_type (body_at p f)) E x ty (member_at E place x h.holds.at)
+      let point : x.point ≡ body_at p f = sym (get_or_from_slice_get p.points.bodies f x.point 0 h.body) in
+      into_flat_map (body_type (body_at p f)) E x ty (Contains-at E place x h.holds.at)
       (subst (λ t. Contains (body_type (body_at p f) x) t) (ap (arrows x.env) h.is_state ∙ sym h.is)
       (into_cond (nat_eq x.point (body_at p f) && is_state x.ty) (arrows x.env x.ty)
       (and_from (nat_eq x.point (body_at p f)) (is_state x.ty) (eq-eqb x.point (body_at p f) point) (ap is_state h.is_state))))
@@ -129,7 +130,7 @@ module _ (p : ProblemData) (E : List EntryData) (shapes : (e : EntryData) → Co
   into_flow : (rule x place : ℕ) (ty : TypeTree) → FromFlow p E rule x place ty → Contains (flat_map (flow_type p.flow.pairs rule x) E) ty
   into_flow rule x place ty h =
       let e = h.entry in
-      into_flat_map (flow_type p.flow.pairs rule x) E e ty (member_at E place e h.holds.at)
+      into_flat_map (flow_type p.flow.pairs rule x) E e ty (Contains-at E place e h.holds.at)
       (subst (λ t. Contains (flow_type p.flow.pairs rule x e) t) (sym h.is) (into_cond (list_any (is_pair rule x e.point) p.flow.pairs) e.ty (pair_there p.flow.pairs rule x e.point h.flows)))
 
   pub from_heads : (rule : ℕ) (h : Head) (ty : TypeTree) → NonterminalWithin (length p.points.bodies) h → Contains (head_types p E rule h) ty → (by : HeadBy) × IsHeadType p E rule h by ty

@@ -1,5 +1,5 @@
 -- What a step of each loop adds.
-use Rattle.std.proofs.Common.{◌≡◌, refl, sym, ◌∙◌, ap, subst, ℕ, zero, suc, ◌+◌, ◌-◌, ◌<◌, ◌≤◌, Bool, true, false, ◌&&◌, nat_eq, cond, List, [], ◌∷◌, ◌++◌, length, get_or, take, drop, slice_get, Some, arith, Contains, ◌⊎◌, inl, inr, ◌↔◌, IsTrue, add-one, append-nil}
+use Rattle.std.proofs.Common.{◌≡◌, refl, sym, ◌∙◌, ap, subst, ℕ, zero, suc, ◌+◌, ◌<◌, Bool, true, false, ◌&&◌, nat_eq, cond, List, [], ◌∷◌, ◌++◌, length, get_or, take, drop, slice_get, Some, arith, Contains, ◌⊎◌, inl, inr, ◌↔◌, IsTrue, add-one, append-nil}
 use Rattle.std.specs.Bool.{◌==◌}
 use Rattle.std.specs.List.{list_any}
 use Rattle.std.specs.Ordering.{ordering_index}
@@ -7,11 +7,12 @@ use Rattle.std.specs.declared.cmp.Ordering.{Ordering}
 use Rattle.std.specs.declared.cmp.Ordering.TheVariants.{Less, Equal, Greater}
 use Rattle.std.proofs.lemmas.Bool.{eqb-true, eq-eqb, and_parts, and_from, or_left, or_right, or_cases}
 use Rattle.std.proofs.lemmas.Cmp.{tied_itself}
+use Rattle.std.proofs.lemmas.Option.{same_Some}
 use Rattle.hs_scheme.specs.declared.flow.FlowPair.{FlowPair}
 use Rattle.hs_scheme.specs.Tree.{children-forest}
-use Rattle.hs_table.specs.Types.{TypeTree, arrow, arrows}
+use Rattle.hs_scheme.proofs.Lists.{none_in, here, later, uncons}
+use Rattle.hs_table.specs.Types.{TypeTree, arrow}
 use Rattle.hs_table.specs.Entries.{Env, EntryData, set_at, entry_cmp}
-use Rattle.hs_table_laws.proofs.Places.{some_same, here, later, uncons, none_in}
 use Rattle.hs_table_laws.proofs.Orders.{entry_cmp_total}
 use Rattle.hs_table_plain.specs.Enumeration.{union, union_from, is_pair, flow_type, picks, through}
 
@@ -39,18 +40,6 @@ in_next (y ∷ ys) (suc k) x d h c = elim (uncons y x (take (suc k) ys) c) [
     | inr e ↦ inr e
   ]
 ]
-
-pub arrows_step : (k : ℕ) (ss : Env) (s : List TypeTree) (t : TypeTree) → 0 < k → k ≤ length ss → s ≡ get_or ss (k - 1) s → arrows (take (k - 1) ss) (arrow s t) ≡ arrows (take k ss) t
-arrows_step zero ss s t pos le e = absurd (omega arith)
-arrows_step (suc k) ss s t pos le e = rw (minus k) (go k ss (omega arith) (rw (minus k) at e))
-  where
-    minus : (k : ℕ) → suc k - 1 ≡ k
-    minus k = omega arith
-
-    go : (k : ℕ) (ss : Env) → k < length ss → s ≡ get_or ss k s → arrows (take k ss) (arrow s t) ≡ arrows (take (suc k) ss) t
-    go k [] lt e = absurd (omega arith)
-    go zero (r ∷ ss) lt e = ap (λ x. arrow x t) e
-    go (suc k) (r ∷ ss) lt e = ap (arrow r) (go k ss (omega arith) e)
 
 union_step : (n k : ℕ) (e r : Env) (s : List TypeTree) → k < length e → s ≡ get_or e k s → union_from n (take (suc k) e) r ≡ union_from n (take k e) r ++ union s (set_at r (n + k)) ∷ []
 union_step n k [] r s lt is = absurd (omega arith)
@@ -100,7 +89,7 @@ pub through_step : (E : List EntryData) (us : List ℕ) (u : ℕ) (set : List Ty
     → through E (drop 1 us) t chosen ≡ through E us ty es
 through_step E [] u set t ty es chosen at is e = absurd (cc)
 through_step E (v ∷ us) u set t ty es chosen at is e =
-    let same : u ≡ v = sym (some_same v u at) in
+    let same : u ≡ v = sym (same_Some v u at) in
     let kids = sym (children-forest set) in
     (λ i. through E us t (e i)) ∙ ((λ i. through E us t (picks E (same i) (kids i) es)) ∙ ap (λ x. through E (v ∷ us) x es) (sym is))
 

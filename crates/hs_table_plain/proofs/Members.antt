@@ -2,8 +2,9 @@
 use Rattle.std.proofs.Common.{◌≡◌, ◌≢◌, refl, sym, ◌∙◌, subst, ℕ, ◌+◌, ◌<◌, List, [], ◌∷◌, ◌++◌, length, get_or, take, arith, AllPairs, Contains, ◌⊎◌, inl, inr, ◌↔◌}
 use Rattle.std.specs.List.{flat_map}
 use Rattle.std.proofs.lemmas.List.Elements.{Contains-append_left, Contains-append_right, Contains-append_cases}
-use Rattle.hs_table_laws.proofs.Places.{none_in, here, later, uncons, pairs_cons, pairs_head, pairs_tail}
-use Rattle.hs_table_laws.proofs.Members.{only, taken_next}
+use Rattle.hs_scheme.proofs.Lists.{none_in, here, later, uncons, only}
+use Rattle.hs_table_laws.proofs.Places.{pairs_cons, pairs_head, pairs_tail}
+use Rattle.hs_table_laws.proofs.Members.{taken_next}
 
 pub record Source {X Y : Type 0} (f : X → List Y) (xs : List X) (y : Y) : Type 0 where
   pub item : X

@@ -3,12 +3,13 @@ use Rattle.std.proofs.Common.{◌≡◌, refl, sym, ◌∙◌, ap, subst, ℕ, z
 use Rattle.std.proofs.lemmas.Bool.{cases_order}
 use Rattle.std.proofs.lemmas.List.{take_all}
 use Rattle.std.proofs.lemmas.List.Elements.{All-push}
+use Rattle.std.proofs.lemmas.Option.{same_Some}
 use Rattle.hs_scheme.specs.Transition.{TransitionData}
 use Rattle.hs_scheme.specs.Problem.{ProblemData}
 use Rattle.hs_table.specs.Entries.{EntryData, InShape}
 use Rattle.hs_table.specs.Follows.{Follows}
 use Rattle.hs_table.specs.Tables.{IsSupportedTable, IsClosedTable}
-use Rattle.hs_table_laws.proofs.Places.{some_same, within_from}
+use Rattle.hs_table_laws.proofs.Places.{within_from}
 use Rattle.hs_table_laws.proofs.Shapes.{LeadsWithin, follows_shape}
 use Rattle.hs_table_plain.proofs.Members.{pairs_push}
 
@@ -22,7 +23,7 @@ below_or_last n k h = elim (cases_order n k) [
 ]
 
 at_pushed : {X : Type 0} (xs : List X) (y : X) (i : ℕ) (x : X) → slice_get (xs ++ y ∷ []) i ≡ Some x → (slice_get xs i ≡ Some x) ⊎ ((i ≡ length xs) × (x ≡ y))
-at_pushed [] y zero x e = inr (refl, sym (some_same y x e))
+at_pushed [] y zero x e = inr (refl, sym (same_Some y x e))
 at_pushed [] y (suc i) x e = absurd (cc)
 at_pushed (z ∷ xs) y zero x e = inl e
 at_pushed (z ∷ xs) y (suc i) x e = elim (at_pushed xs y i x e) [
@@ -49,10 +50,6 @@ supported_push p T e s f new = record {
 
 pub shapes_push : (p : ProblemData) (T : List EntryData) (e : EntryData) → LeadsWithin p.sorted.automaton → All (InShape p) T → Follows p T e → All (InShape p) (T ++ e ∷ [])
 shapes_push p T e h all f = All-push (InShape p) T e all (follows_shape p T h e f)
-
-pub one_more : {X : Type 0} (xs : List X) (y : X) → length (xs ++ y ∷ []) ≡ length xs + 1
-one_more [] y = refl
-one_more (x ∷ xs) y = ap suc (one_more xs y) ∙ omega arith
 
 module _ (p : ProblemData) (E F : List EntryData) (o : Option EntryData) where
   pub found_one : (e : EntryData) → E ≡ F → o ≡ Some e → MatchOption o (IsClosedTable p E) (λ e. Follows p E e × (Contains E e → ⊥)) → Follows p F e × (Contains F e → ⊥)

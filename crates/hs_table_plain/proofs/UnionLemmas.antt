@@ -2,10 +2,10 @@
 use Rattle.std.proofs.Common.{◌≡◌, refl, sym, ◌∙◌, ap, subst, ℕ, zero, suc, ◌+◌, ◌<◌, List, [], ◌∷◌, ◌++◌, length, arith, Contains, ◌⊎◌, inl, inr, ◌↔◌}
 use Rattle.hs_scheme.specs.declared.term.Head.{Head}
 use Rattle.hs_scheme.specs.declared.term.Head.TheVariants.{Var, Nt, Tm}
+use Rattle.hs_scheme.proofs.Lists.{none_in, here, later, uncons}
 use Rattle.hs_table.specs.Types.{TypeTree, IsSet}
 use Rattle.hs_table.specs.Entries.{Env, EntryData, Has, set_at, IsEnv}
 use Rattle.hs_table.specs.Follows.{HeadHas, AnyHas}
-use Rattle.hs_table_laws.proofs.Places.{none_in, here, later, uncons}
 use Rattle.hs_table_laws.proofs.Sets.{insert, insert_set, insert_only, insert_old, insert_own, one_set}
 use Rattle.hs_table_laws.proofs.Arrows.{length-empties, empties_set, empties_has, one_long, one_sets, one_has}
 use Rattle.hs_table_plain.specs.Enumeration.{union, union_from, joined, own_env}

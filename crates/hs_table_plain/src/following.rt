@@ -7,21 +7,11 @@ ghost use Rattle.hs_table.specs.Follows.{Follows};
 ghost use Rattle.hs_table_plain.specs.Enumeration as plain;
 
 use crate::choices::through;
-use crate::heads::{empty_sets, head_types, singleton};
+use crate::heads::head_types;
 use crate::union::contains;
 use hs_scheme::{Head, OutOfMemory, Problem};
-use hs_table::{Entry, Ty};
+use hs_table::{Entry, Ty, TypeSet, empty_sets, parameters};
 use std::alloc::Global;
-
-/// The number of parameters of the rule.
-fn parameters(problem: &Problem, rule: u32) -> u32
-    ensures { result ≡ params_of problem.now rule }
-{
-    match problem.sorted.scheme.rules.get(rule as usize) {
-        None => 0,
-        Some(rule) => rule.params,
-    }
-}
 
 /// The entry with the head's type, and with what the head asks of the parameters.
 fn opening(
@@ -36,7 +26,7 @@ fn opening(
     let mut env = empty_sets(alloc, params as usize)?;
     if let Head::Var(parameter) = head {
         if (parameter as usize) < env.len() {
-            env[parameter as usize] = singleton(alloc, ty.copy(alloc)?)?;
+            env[parameter as usize] = TypeSet::single(alloc, ty.copy(alloc)?)?;
         }
     }
     Ok(Entry {

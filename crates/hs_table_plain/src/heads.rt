@@ -1,70 +1,23 @@
 //! The types of a point's head.
 
-ghost use Rattle.std.specs.Prelude.{◌≡◌, ◌<◌, [], ◌∷◌, ◌++◌, length, replicate, IfOk, OnOk};
+ghost use Rattle.std.specs.Prelude.{◌≡◌, ◌<◌, ◌++◌, length, IfOk, OnOk};
 ghost use Rattle.std.specs.List.{flat_map};
 ghost use Rattle.hs_scheme.specs.Points.{NonterminalWithin};
 ghost use Rattle.hs_scheme.specs.Automaton as automaton;
-ghost use Rattle.hs_table.specs.Types as types;
-ghost use Rattle.hs_table.specs.Follows.{rank_of};
 ghost use Rattle.hs_table_plain.specs.Enumeration as plain;
 
 use hs_scheme::{Head, OutOfMemory, Problem};
-use hs_table::{Entry, Shape, Ty, TypeSet};
+use hs_table::{Entry, Shape, Ty, TypeSet, empty_sets, rank};
 use std::alloc::Global;
 
-pub fn state(q: u32) -> Ty
-    ensures { result ≡ types.state q }
-{
-    Ty {
-        shape: Shape::State(q),
-    }
-}
-
-/// The set with one type.
-pub fn singleton(alloc: Global, ty: Ty) -> Result<TypeSet, OutOfMemory>
-    ensures { IfOk result (λ set. set ≡ ty ∷ []) }
-{
-    let mut types = Vec::new(alloc);
-    types.push(ty)?;
-    Ok(TypeSet { types })
-}
-
-pub fn empty_sets(alloc: Global, count: usize) -> Result<Vec<TypeSet>, OutOfMemory>
-    ensures { IfOk result (λ sets. sets.items ≡ replicate count []) }
-{
-    let mut sets = Vec::with_capacity(alloc, count)?;
-    for _ in 0..count {
-        sets.push(TypeSet {
-            types: Vec::new(alloc),
-        })?;
-    }
-    Ok(sets)
-}
-
-/// `s1 -> .. -> sk -> t`.
-fn arrows(alloc: Global, sets: &[TypeSet], result_type: Ty) -> Result<Ty, OutOfMemory>
-    ensures { IfOk result (λ ty. ty ≡ types.arrows sets.now result_type) }
-{
-    let mut ty = result_type;
-    let mut left = sets.len();
-    while left > 0 {
-        left -= 1;
-        let set = sets[left].copy(alloc)?.types;
-        ty = Ty {
-            shape: Shape::Arrow(set, Box::new(alloc, ty)?),
-        };
-    }
-    Ok(ty)
-}
-
 /// The type of a terminal whose child at this place, counted from 0, is rejected.
-fn child_type(alloc: Global, to: &[u32], q: u32, place: usize) -> Result<Ty, OutOfMemory>
+pub fn child_type(alloc: Global, to: &[u32], q: u32, place: usize) -> Result<Ty, OutOfMemory>
     requires { place < length to.now }
     ensures { IfOk result (λ ty. ty ≡ plain.child_type to.now q place) }
 {
     let mut sets = empty_sets(alloc, to.len())?;
-    sets[place] = singleton(alloc, state(to[place]))?;
-    arrows(alloc, sets.as_slice(), state(q))
+    sets[place] = TypeSet::single(alloc, Ty::state(to[place]))?;
+    Ty::arrows(alloc, sets.as_slice(), Ty::state(q))
 }
 
 fn child_types(alloc: Global, to: &[u32], q: u32, out: &mut Vec<Ty>) -> Result<(), OutOfMemory>
@@ -74,16 +27,6 @@ fn child_types(alloc: Global, to: &[u32], q: u32, out: &mut Vec<Ty>) -> Result<(
         out.push(child_type(alloc, to, q, place)?)?;
     }
     Ok(())
-}
-
-/// The rank of the terminal.
-fn rank(problem: &Problem, terminal: u32) -> u32
-    ensures { result ≡ rank_of problem.now terminal }
-{
-    match problem.sorted.scheme.ranks.get(terminal as usize) {
-        None => 0,
-        Some(rank) => *rank,
-    }
 }
 
 /// The types of the terminal in one state: without a transition the type with empty sets, with one
@@ -101,7 +44,7 @@ fn types_in(
     match problem.sorted.automaton.next(q, terminal) {
         None => {
             let sets = empty_sets(alloc, rank(problem, terminal) as usize)?;
-            out.push(arrows(alloc, sets.as_slice(), state(q))?)?;
+            out.push(Ty::arrows(alloc, sets.as_slice(), Ty::state(q))?)?;
             Ok(())
         }
         Some(to) => child_types(alloc, to, q, out),
@@ -130,7 +73,7 @@ fn add_body_type(
 {
     if entry.point == body {
         if let Shape::State(q) = &entry.ty.shape {
-            out.push(arrows(alloc, entry.env.as_slice(), state(*q))?)?;
+            out.push(Ty::arrows(alloc, entry.env.as_slice(), Ty::state(*q))?)?;
         }
     }
     Ok(())

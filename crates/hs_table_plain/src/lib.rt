@@ -11,4 +11,6 @@ mod table;
 mod union;
 
 pub use following::conclusions;
+pub use heads::child_type;
 pub use table::{leads_within, least_table};
+pub use union::insert_type;

@@ -27,12 +27,12 @@ fn place_of(set: &[Ty], ty: &Ty) -> Result<usize, usize>
     Err(set.len())
 }
 
-/// Adds the type to an ascending set, where it isn't there.
-fn insert(set: &mut Vec<Ty>, ty: Ty) -> Result<(), OutOfMemory>
-    ensures { OnOk result (set.new.items ≡ with_type ty set.old.items) }
+/// Adds an equal type to an ascending set, where it isn't there. It looks at the members one by one.
+pub fn insert_type(alloc: Global, set: &mut Vec<Ty>, ty: &Ty) -> Result<(), OutOfMemory>
+    ensures { OnOk result (set.new.items ≡ with_type ty.now set.old.items) }
 {
-    if let Err(place) = place_of(set.as_slice(), &ty) {
-        set.insert(place, ty)?;
+    if let Err(place) = place_of(set.as_slice(), ty) {
+        set.insert(place, ty.copy(alloc)?)?;
     }
     Ok(())
 }
@@ -43,7 +43,7 @@ fn union(alloc: Global, set: &TypeSet, other: &[Ty]) -> Result<TypeSet, OutOfMem
 {
     let mut types = set.copy(alloc)?.types;
     for member in other {
-        insert(&mut types, member.copy(alloc)?)?;
+        insert_type(alloc, &mut types, member)?;
     }
     Ok(TypeSet { types })
 }

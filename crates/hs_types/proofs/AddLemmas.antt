@@ -10,6 +10,7 @@ use Rattle.std.proofs.lemmas.Bool.Decides.{Decides-eqb}
 use Rattle.std.proofs.lemmas.Map.Made.{is_member-Decides}
 use Rattle.std.proofs.lemmas.Option.{slice_get-map, slice_get-get_or}
 use Rattle.std.proofs.lemmas.Slice.Eq.{slice_eq-Decides}
+use Rattle.std.proofs.lemmas.Bool.{not-false}
 use Rattle.indexmap.specs.IndexSet.{insert_key}
 use Rattle.hs_types.specs.Nodes.{Adds, lists_of}
 use Rattle.hs_types.proofs.ListLemmas.{map-push}
@@ -65,9 +66,5 @@ items_read vs slice s n v items h e f is i =
 pub guessed : {X : Type 0} (f : ℕ → X) (lists : List (List X)) (g : ℕ) (xs ys : List ℕ) (differ : Bool) → g < length lists → map f xs ≡ get_or lists g [] → differ ≡ not (pointwise nat_eq xs ys) → differ ≡ false
     → slice_get lists g ≡ Some (map f ys)
 guessed f lists g xs ys differ lt is decides false_is =
-    let same : xs ≡ ys = (slice_eq-Decides Decides-eqb xs ys (pointwise nat_eq xs ys) refl).0 (from_not (pointwise nat_eq xs ys) (sym decides ∙ false_is)) in
+    let same : xs ≡ ys = (slice_eq-Decides Decides-eqb xs ys (pointwise nat_eq xs ys) refl).0 (not-false (pointwise nat_eq xs ys) (sym decides ∙ false_is)) in
     slice_get-get_or lists g [] lt ∙ ap (λ zs. Some zs) (sym is ∙ ap (map f) same)
-  where
-    from_not : (b : Bool) → not b ≡ false → b ≡ true
-    from_not true e = refl
-    from_not false e = absurd (cc)

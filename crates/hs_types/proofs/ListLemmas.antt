@@ -1,28 +1,16 @@
 -- Lists that grow at their end, and what is read from them.
-use Rattle.std.proofs.Common.{◌≡◌, refl, sym, ◌∙◌, ap, subst, ℕ, zero, suc, ◌+◌, ◌<◌, ◌≤◌, List, [], ◌∷◌, ◌++◌, length, map, get_or, slice_get, Some, arith, Contains, All, ◌⊎◌, inl, inr, take, set, replicate, length-append}
+use Rattle.std.proofs.Common.{◌≡◌, refl, sym, ◌∙◌, ap, subst, ℕ, zero, suc, ◌+◌, ◌<◌, ◌≤◌, List, [], ◌∷◌, ◌++◌, length, map, get_or, slice_get, Some, arith, Contains, All, inl, inr, take, set, replicate}
 use Rattle.std.proofs.lemmas.List.{get_or_append_left, map_more}
-use Rattle.std.proofs.lemmas.Option.{get_or_from_slice_get}
+use Rattle.std.proofs.lemmas.Option.{get_or_from_slice_get, same_Some}
 use Rattle.std.proofs.lemmas.List.Elements.{All-head, All-tail, All-weaker, All-push}
-use Rattle.hs_table_laws.proofs.Places.{at_append, within_from, some_same}
+use Rattle.hs_scheme.proofs.Lists.{at_append, push_cases}
+use Rattle.hs_table_laws.proofs.Places.{within_from}
 use Rattle.hs_types.proofs.Numbers.{within_begun, same_begun}
 use Rattle.hs_types.specs.Interned.{Begins, IsWithoutRepeats}
 use Rattle.hs_types.specs.Nodes.{items_at, AllBelow}
 
 pub Begins-push : {X : Type 0} (xs : List X) (y : X) → Begins xs (xs ++ y ∷ [])
 Begins-push xs y = λ i x h. at_append xs (y ∷ []) i x h
-
-pub slice_get-push : {X : Type 0} (xs : List X) (y : X) → slice_get (xs ++ y ∷ []) (length xs) ≡ Some y
-slice_get-push [] y = refl
-slice_get-push (x ∷ xs) y = slice_get-push xs y
-
-pub push_cases : {X : Type 0} (xs : List X) (y x : X) (k : ℕ) → slice_get (xs ++ y ∷ []) k ≡ Some x → (slice_get xs k ≡ Some x) ⊎ ((k ≡ length xs) × (y ≡ x))
-push_cases [] y x zero h = inr (refl, some_same y x h)
-push_cases [] y x (suc k) h = absurd (cc)
-push_cases (z ∷ xs) y x zero h = inl h
-push_cases (z ∷ xs) y x (suc k) h = elim (push_cases xs y x k h) [ inl was ↦ inl was | inr (e, is) ↦ inr (ap suc e, is) ]
-
-pub length-push : {X : Type 0} (xs : List X) (y : X) → length (xs ++ y ∷ []) ≡ length xs + 1
-length-push xs y = length-append xs (y ∷ [])
 
 pub map-push : {X Y : Type 0} (f : X → Y) (xs : List X) (x : X) → map f (xs ++ x ∷ []) ≡ map f xs ++ f x ∷ []
 map-push f [] x = refl
@@ -43,7 +31,7 @@ IsWithoutRepeats-push xs y n fresh i j x h k = elim (push_cases xs y x i h) [
   where
     read : {X : Type 0} (xs : List X) (k : ℕ) (x : X) → slice_get xs k ≡ Some x → get_or xs k x ≡ x
     read [] k x e = absurd (cc)
-    read (y ∷ ys) zero x e = some_same y x e
+    read (y ∷ ys) zero x e = same_Some y x e
     read (y ∷ ys) (suc k) x e = read ys k x e
 
 -- what is read from a list stays where the list grows

@@ -6,11 +6,11 @@ use Rattle.std.specs.declared.cmp.Ordering.TheVariants.{Less, Equal, Greater}
 use Rattle.std.proofs.lemmas.List.Elements.{All-push, All-append, All-drop, Contains-append_left, Contains-append_right, Contains-append_cases}
 use Rattle.std.proofs.lemmas.List.{take-append-drop, take_more, take_all, drop_all, length-drop, drop-map, map-append, length-map, get_or-map}
 use Rattle.std.proofs.Math.Seq.{drop-cons}
+use Rattle.hs_scheme.proofs.Lists.{here, later, uncons, only}
 use Rattle.hs_table.specs.Types.{TypeTree, type_cmp, IsSet}
 use Rattle.hs_table_laws.proofs.Orders.{type_cmp_total, type_same}
-use Rattle.hs_table_laws.proofs.Places.{here, uncons, later, pairs_head, pairs_tail, pairs_cons}
+use Rattle.hs_table_laws.proofs.Places.{pairs_head, pairs_tail, pairs_cons}
 use Rattle.hs_table_laws.proofs.Sets.{one_set}
-use Rattle.hs_table_laws.proofs.Members.{only}
 use Rattle.hs_types.specs.Interned.{IsSetOf, IsUnion}
 use Rattle.hs_types.proofs.ListLemmas.{map-push}
 use Rattle.hs_types.proofs.OrderLemmas.{member_within}

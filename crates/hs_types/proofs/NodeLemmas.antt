@@ -1,20 +1,22 @@
 -- What the stored lists stand for, when one more node, set or environment is stored.
 use Rattle.std.proofs.Common.{◌≡◌, refl, sym, ◌∙◌, ap, subst, ℕ, zero, suc, ◌<◌, List, [], ◌∷◌, ◌++◌, length, map, get_or, slice_get, Option, option_map, Some, arith, Contains, All, ◌⊎◌, inl, inr}
-use Rattle.std.proofs.lemmas.List.{length-map, get_or_append_left, get_or_push}
+use Rattle.std.proofs.lemmas.List.{length-map, get_or_append_left, get_or_push, length_push}
 use Rattle.std.proofs.lemmas.List.Elements.{All-get_or, Contains-get_or}
 use Rattle.std.proofs.lemmas.Option.{slice_get-get_or, slice_get-map, get_or_from_slice_get}
 use Rattle.std.proofs.Math.ListN.{get_or-map}
-use Rattle.hs_scheme.specs.Tree.{node, none, more, children, children-forest}
+use Rattle.hs_scheme.specs.Tree.{node, none, more, children}
+use Rattle.hs_scheme.proofs.Lists.{push_cases}
 use Rattle.hs_table.specs.Types.{TypeTree, state, arrow, IsSet}
 use Rattle.hs_table.specs.Entries.{Env, set_at}
 use Rattle.hs_table_laws.proofs.Sets.{no_set}
 use Rattle.hs_table_laws.proofs.Places.{within_from, place_of}
+use Rattle.hs_table_laws.proofs.Arrows.{arrow_same, state_no_arrow}
 use Rattle.hs_types.specs.declared.ids.View.{View}
 use Rattle.hs_types.specs.declared.ids.View.TheVariants.{State, Arrow}
 use Rattle.hs_types.specs.Interned.{InternerData, type_of_id, set_of_id, env_of_id, IsView, IsInterner, Grows}
 use Rattle.hs_types.specs.Nodes.{node_type, IsInRange, items_at, types_behind, sets_over, data_of, AreNodes, Adds}
-use Rattle.hs_types.proofs.Numbers.{Grows-refl, same_type, same_set, state-arrow, type_stays, type_within, set_stays, set_within}
-use Rattle.hs_types.proofs.ListLemmas.{Begins-push, push_cases, length-push, map-push, IsWithoutRepeats-push, items_at-begun, all_at-append, AllBelow-more, AllBelow-push, same_places}
+use Rattle.hs_types.proofs.Numbers.{Grows-refl, same_type, same_set, type_stays, type_within, set_stays, set_within}
+use Rattle.hs_types.proofs.ListLemmas.{Begins-push, map-push, IsWithoutRepeats-push, items_at-begun, all_at-append, AllBelow-more, AllBelow-push, same_places}
 
 abbrev pub with_type : InternerData → TypeTree → InternerData
 with_type I t = record { types = I.types ++ t ∷ []; sets = I.sets; envs = I.envs }
@@ -38,9 +40,6 @@ Grows-with_env I e = record { types = λ i x h. h; sets = λ i x h. h; envs = Be
 abbrev arrow_parts : TypeTree → List TypeTree × TypeTree
 arrow_parts (node q none) = ([], state 0)
 arrow_parts (node q (more t us)) = (children us, t)
-
-pub arrow_same : (s r : List TypeTree) (t u : TypeTree) → arrow s t ≡ arrow r u → (s ≡ r) × (t ≡ u)
-arrow_same s r t u e = (sym (children-forest s) ∙ (ap (λ x. (arrow_parts x).0) e ∙ children-forest r), ap (λ x. (arrow_parts x).1) e)
 
 arrow_eq : {s r : List TypeTree} {t u : TypeTree} → s ≡ r → t ≡ u → arrow s t ≡ arrow r u
 arrow_eq p q = λ i. arrow (p i) (q i)
@@ -76,8 +75,8 @@ node_type-view I t (Arrow s r) v = v.2
 -- what two nodes stand for is one thing only where they are one
 pub node_same : (I : InternerData) (n m : View) → IsInterner I → IsInRange I n → (t : ℕ) → IsView I t m → node_type I n ≡ type_of_id I t → m ≡ n
 node_same I (State q) (State p) is h t v e = ap State (sym (state_same q p (e ∙ v)))
-node_same I (State q) (Arrow s r) is h t v e = absurd (state-arrow q (set_of_id I s) (type_of_id I r) (e ∙ v.2))
-node_same I (Arrow s r) (State p) is h t v e = absurd (state-arrow p (set_of_id I s) (type_of_id I r) (sym (e ∙ v)))
+node_same I (State q) (Arrow s r) is h t v e = absurd (state_no_arrow q (set_of_id I s) (type_of_id I r) (e ∙ v.2))
+node_same I (Arrow s r) (State p) is h t v e = absurd (state_no_arrow p (set_of_id I s) (type_of_id I r) (sym (e ∙ v)))
 node_same I (Arrow s r) (Arrow s' r') is h t v e =
     let p = arrow_same (set_of_id I s) (set_of_id I s') (type_of_id I r) (type_of_id I r') (e ∙ v.2) in
     let a = same_set I is s' s v.0 h.0 (sym p.0) in
@@ -128,7 +127,7 @@ module _ (nodes : List View) (sets envs : List (List ℕ)) (I : InternerData) (a
     ]
       where
         new_ascends : (n : View) → node_type I n ≡ arrow s r → IsSet s
-        new_ascends (State q) e = absurd (state-arrow q s r e)
+        new_ascends (State q) e = absurd (state_no_arrow q s r e)
         new_ascends (Arrow a b) e = subst IsSet (arrow_same (set_of_id I a) s (type_of_id I b) r e).0 (are.exact.set_ascends a)
 
     pub AreNodes-type : AreNodes (nodes ++ n ∷ []) sets envs (with_type I (node_type I n))
@@ -141,7 +140,7 @@ module _ (nodes : List View) (sets envs : List (List ℕ)) (I : InternerData) (a
         env_ascends = are.exact.env_ascends;
         type_ascends = type_ascends;
       };
-      long = omega (arith, length-push I.types (node_type I n), length-push nodes n, are.long);
+      long = omega (arith, length_push I.types (node_type I n), length_push nodes n, are.long);
       of_sets = are.of_sets ∙ sym (all_at-append I.types (node_type I n ∷ []) (state 0) sets are.set_range);
       of_envs = are.of_envs;
       reads = λ t m h. elim (push_cases nodes n m t h) [
@@ -149,7 +148,7 @@ module _ (nodes : List View) (sets envs : List (List ℕ)) (I : InternerData) (a
         | inr (e, is) ↦ subst (IsView (with_type I (node_type I n)) t) is
             (IsView-node I (with_type I (node_type I n)) t n (Grows-with_type I (node_type I n)) range (get_or_push I.types (node_type I n) (state 0) t (are.long ∙ sym e)))
       ];
-      set_range = AllBelow-more (length I.types) (length (I.types ++ node_type I n ∷ [])) sets (omega (arith, length-push I.types (node_type I n))) are.set_range;
+      set_range = AllBelow-more (length I.types) (length (I.types ++ node_type I n ∷ [])) sets (omega (arith, length_push I.types (node_type I n))) are.set_range;
       env_range = are.env_range;
     }
 
@@ -189,7 +188,7 @@ module _ (nodes : List View) (sets envs : List (List ℕ)) (I : InternerData) (a
       of_envs = are.of_envs ∙ sym (all_at-append I.sets (the_set ∷ []) [] envs are.env_range);
       reads = λ t m h. IsView-grows I (with_set I the_set) t m (Grows-with_set I the_set) (omega (arith, within_from nodes t m h, are.long)) (are.reads t m h);
       set_range = AllBelow-push (length I.types) sets ids are.set_range range;
-      env_range = AllBelow-more (length I.sets) (length (I.sets ++ the_set ∷ [])) envs (omega (arith, length-push I.sets the_set)) are.env_range;
+      env_range = AllBelow-more (length I.sets) (length (I.sets ++ the_set ∷ [])) envs (omega (arith, length_push I.sets the_set)) are.env_range;
     }
 
   -- an environment for one more list

@@ -1,10 +1,11 @@
 -- What callers of an interner need: numbers keep what they stand for while it grows, and two numbers are equal where that is.
-use Rattle.std.proofs.Common.{◌≡◌, ◌∙◌, ap, ℕ, ◌<◌, List, [], length, get_or, Option, None, Some}
+use Rattle.std.proofs.Common.{◌≡◌, ◌∙◌, ap, ℕ, ◌<◌, List, [], length, get_or, Option, Some}
 use Rattle.std.proofs.lemmas.Option.{slice_get_within, slice_get-get_or, get_or_from_slice_get}
 use Rattle.hs_scheme.specs.Tree.{node}
-use Rattle.hs_table.specs.Types.{TypeTree, state, arrow}
+use Rattle.hs_table.specs.Types.{TypeTree, state}
 use Rattle.hs_table.specs.Entries.{EntryData}
 use Rattle.hs_table_laws.proofs.Sets.{no_set}
+use Rattle.hs_table_laws.proofs.Arrows.{state_no_arrow}
 use Rattle.hs_types.specs.Interned.{InternerData, type_of_id, set_of_id, env_of_id, RowData, IsRow, entry_of, IsWithoutRepeats, IsInterner, Begins, Grows}
 
 pub Grows-refl : (I : InternerData) → Grows I I
@@ -77,10 +78,6 @@ module _ (I : InternerData) (is : IsInterner I) where
 abbrev state_in : TypeTree → Option ℕ
 state_in (node q ts) = q
 
--- a state is no arrow
-pub state-arrow : (q : ℕ) (s : List TypeTree) (r : TypeTree) → state q ≡ arrow s r → ⊥
-state-arrow q s r e = let l : Some q ≡ None = ap state_in e in cc
-
 -- an interner in which nothing has a number
 pub IsInterner-empty : IsInterner (record { types = []; sets = []; envs = [] })
 IsInterner-empty = record {
@@ -89,5 +86,5 @@ IsInterner-empty = record {
   envs = λ i j x h k. absurd (cc);
   set_ascends = λ s. no_set;
   env_ascends = λ e j. no_set;
-  type_ascends = λ t s r e. absurd (state-arrow 0 s r e);
+  type_ascends = λ t s r e. absurd (state_no_arrow 0 s r e);
 }

@@ -1,11 +1,12 @@
 -- Unions that are known.
-use Rattle.std.proofs.Common.{◌≡◌, refl, sym, ◌∙◌, ap, subst, ℕ, ◌<◌, Bool, true, false, cond, nat_eq, List, [], ◌∷◌, length, map, Some, arith, Contains, ◌⊎◌, inl, inr, ◌≤◌, replicate, slice_get}
+use Rattle.std.proofs.Common.{◌≡◌, refl, sym, ◌∙◌, ap, subst, ℕ, ◌<◌, Bool, true, false, cond, nat_eq, List, [], ◌∷◌, length, map, Some, Contains, ◌⊎◌, inl, inr, replicate, slice_get}
 use Rattle.std.specs.Map.{lookup}
-use Rattle.std.proofs.lemmas.Bool.{eqb-true, cases_lt, and_parts}
-use Rattle.std.proofs.lemmas.List.{length-map, length-replicate, get_or-replicate, get_or_past}
+use Rattle.std.proofs.lemmas.Bool.{eqb-true, and_parts}
+use Rattle.std.proofs.lemmas.List.{length-map, length-replicate}
 use Rattle.std.proofs.lemmas.Option.{get_or_from_slice_get}
+use Rattle.hs_table_laws.proofs.Arrows.{empties}
+use Rattle.hs_scheme.proofs.Lists.{none_in, here, later, uncons}
 use Rattle.indexmap.specs.IndexMap.{insert_entry}
-use Rattle.hs_table_laws.proofs.Places.{here, later, uncons, none_in}
 use Rattle.hs_table.specs.Types.{TypeTree, IsSet}
 use Rattle.hs_table.specs.Entries.{Env, set_at}
 use Rattle.hs_types.specs.declared.unions.Operands.{Operands}
@@ -192,13 +193,6 @@ kept_env I J K sets envs new are is g a b u m n r e f q h k long ok more =
     } in
     keep_env J sets envs are new a b u (more_at envs new a b u m n r e f q more) (subst (λ (L : InternerData). IsEnvUnion L a b u) (sym is) made)
 
--- the union of an environment without types and another one
-set_of_empty : (n j : ℕ) → set_at (replicate n []) j ≡ []
-set_of_empty n j = elim (cases_lt j n) [
-  | inl lt ↦ get_or-replicate n j [] [] lt
-  | inr past ↦ get_or_past (replicate n []) j [] (omega (arith, past, length-replicate {A = List TypeTree} n []))
-]
-
 pub union_of_empty : (I K : InternerData) (n a b : ℕ) (sets : List ℕ) → I ≡ K → IsInterner I → slice_get I.envs a ≡ Some (replicate n []) → map (set_of_id I) sets ≡ env_of_id I b → n ≡ length sets
     → a < length K.envs → b < length K.envs → IsEnvUnion K a b b
 union_of_empty I K n a b sets same exact at is long first second =
@@ -214,6 +208,6 @@ union_of_empty I K n a b sets same exact at is long first second =
       long = one;
       is = record {
         long = sym one;
-        sets = λ j. union_second (set_at (env_of_id I a) j) (set_at (env_of_id I b) j) (ap (λ (z : Env). set_at z j) e ∙ set_of_empty n j) (exact.env_ascends b j);
+        sets = λ j. union_second (set_at (env_of_id I a) j) (set_at (env_of_id I b) j) (ap (λ (z : Env). set_at z j) e ∙ empties n j) (exact.env_ascends b j);
       };
     })

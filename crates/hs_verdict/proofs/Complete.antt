@@ -2,6 +2,7 @@
 use Rattle.std.proofs.Common.{◌≡◌, refl, sym, ◌∙◌, ap, subst, ℕ, zero, suc, ◌+◌, ◌<◌, List, [], ◌∷◌, ◌++◌, length, map, slice_get, replicate, set, Option, Some, None, unwrap_or, arith, Contains, inl, inr}
 use Rattle.std.specs.Option.{option_map_or}
 use Rattle.std.proofs.lemmas.List.{length-replicate, length-set}
+use Rattle.std.proofs.lemmas.Option.{same_Some}
 use Rattle.hs_scheme.specs.declared.term.Head.{Head}
 use Rattle.hs_scheme.specs.declared.term.Head.TheVariants.{Var, Nt, Tm}
 use Rattle.hs_scheme.specs.declared.term.Rule.{Rule}
@@ -17,7 +18,7 @@ use Rattle.hs_scheme.specs.TreeTerms.{IsTreeTerm}
 use Rattle.hs_scheme.specs.Points.{PointData, PointsData, points_of}
 use Rattle.hs_scheme.specs.Flow.{pairs_of}
 use Rattle.hs_scheme.specs.Problem.{ProblemData}
-use Rattle.hs_steps.proofs.Terms.{same_some}
+use Rattle.hs_scheme.proofs.Lists.{none_in, Contains-at, only}
 use Rattle.hs_steps.proofs.Sorted.{start_sorted}
 use Rattle.hs_table.specs.declared.support.HeadBy.{HeadBy}
 use Rattle.hs_table.specs.declared.support.HeadBy.TheVariants.{Terminal, Rule as FromRule, Param}
@@ -25,9 +26,8 @@ use Rattle.hs_table.specs.Types.{TypeTree, state, arrows}
 use Rattle.hs_table.specs.Entries.{Env, EntryData, Has, params_of}
 use Rattle.hs_table.specs.Follows.{rank_of, IsAt, FromBody, FromFlow, IsHeadType, HeadHas, Follows}
 use Rattle.hs_table.specs.Tables.{IsClosedTable, HasStart}
-use Rattle.hs_table_laws.proofs.Places.{none_in, member_at, place_of}
+use Rattle.hs_table_laws.proofs.Places.{place_of}
 use Rattle.hs_table_laws.proofs.Shapes.{follows_shape, next_within}
-use Rattle.hs_table_laws.proofs.Members.{only}
 use Rattle.hs_table_laws.proofs.Arrows.{arrows-append, has_within, empties_has}
 use Rattle.hs_verdict.specs.Premises.{IsSortedProblem, HasClosedFlow}
 use Rattle.hs_verdict.specs.Closures.{Closure, root, argument_closures, read, reads, stands_for}
@@ -169,7 +169,7 @@ module _ (p : ProblemData) (given : IsSortedProblem p) (closed : HasClosedFlow p
           let pair = (param_pair rules found term closed are point cs d at good.front j c e).0 in
           settle point cs rule (Var j) args ds q at (Param j it.1) r.sets (refl, from_flow rule j (root c) it.1 it.0 (arrows r.sets (state q)) pair it.2)
           (λ i a b at_i o.
-          let same : b ≡ c = same_some b c (sym at_i ∙ (ap (λ k. slice_get (children cs) k) o.0 ∙ e)) in
+          let same : b ≡ c = same_Some b c (sym at_i ∙ (ap (λ k. slice_get (children cs) k) o.0 ∙ e)) in
           subst (λ (x : Closure). Typed x a) (sym same) (subst (λ (t : TypeTree). Typed c t) (sym o.1) r.typed))
           r.row
 
@@ -193,7 +193,7 @@ module _ (p : ProblemData) (given : IsSortedProblem p) (closed : HasClosedFlow p
   body_sets : (body : ℕ) (zs : List Closure) (of : PointData) (r : Rule) → slice_get (points_of rules).points body ≡ Some of → slice_get rules of.rule ≡ Some r → length zs ≡ r.params
       → (t : TypeTree) → Typed (node body (forest zs)) t → BodySets body zs t
   body_sets body zs of r at is_rule long t (has env place holds typed) =
-      let same : holds.shape.of ≡ of = same_some holds.shape.of of (sym holds.shape.at ∙ at_point body of at) in
+      let same : holds.shape.of ≡ of = same_Some holds.shape.of of (sym holds.shape.at ∙ at_point body of at) in
       let many : params_of p of.rule ≡ r.params = ap (λ (o : Option Rule). option_map_or (λ (k : Rule). k.params) o 0) is_rule in
       let fits : length env ≡ length zs = holds.shape.env.long ∙ (ap (λ (d : PointData). params_of p d.rule) same ∙ (many ∙ sym long)) in
       record {
@@ -247,7 +247,7 @@ module _ (p : ProblemData) (given : IsSortedProblem p) (closed : HasClosedFlow p
       (λ j a c at_j o. absurd o)
       (have_by_place p T zs all long (λ j a c at_j h.
       let one = one_has count to.place j (state to.state) a h in
-      let same : c ≡ to.closure = same_some c to.closure (sym at_j ∙ (ap (λ k. slice_get zs k) one.0 ∙ to.has_closure)) in
+      let same : c ≡ to.closure = same_Some c to.closure (sym at_j ∙ (ap (λ k. slice_get zs k) one.0 ∙ to.has_closure)) in
       subst (λ (y : Closure). Typed y a) (sym same) (subst (λ (t : TypeTree). Typed to.closure t) (sym one.1) typed)))
 
   any_case : (point : ℕ) (cs : Trees ℕ) (rule : ℕ) (h : Head) (args : List ℕ) → IsPoint rules point rule h args
@@ -268,7 +268,7 @@ module _ (p : ProblemData) (given : IsSortedProblem p) (closed : HasClosedFlow p
 
       at_row : (cs : Trees ℕ) (j : ℕ) (c : Closure) → slice_get (children cs) j ≡ Some c → Reduces n c
       at_row none j c e = absurd (cc)
-      at_row (more b cs) zero c e = subst (λ (x : Closure). Reduces n x) (same_some b c e) (at_closure b)
+      at_row (more b cs) zero c e = subst (λ (x : Closure). Reduces n x) (same_Some b c e) (at_closure b)
       at_row (more b cs) (suc j) c e = at_row cs j c e
 
   no_less : (m : ℕ) → 0 ≡ suc m → ⊥
@@ -293,4 +293,4 @@ module _ (p : ProblemData) (given : IsSortedProblem p) (closed : HasClosedFlow p
       let r = reduces n c [] 0 given.automaton.initial good to.failing in
       let sets = body_sets to.body [] to.of to.rule to.at_body (rule_at to.of 0 to.rule to.in_rule to.at) to.long (state 0) (plain_typed c 0 r) in
       let e : EntryData = record { point = to.body; env = sets.env; ty = state 0 } in
-      (e, (record { body = at_body 0 to.body to.is_body; env = no_row sets.env sets.row; initial = refl }, member_at T sets.place e sets.holds.at))
+      (e, (record { body = at_body 0 to.body to.is_body; env = no_row sets.env sets.row; initial = refl }, Contains-at T sets.place e sets.holds.at))

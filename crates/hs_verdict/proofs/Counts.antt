@@ -1,5 +1,5 @@
 -- How many arguments a term of sort o has, and what a full rule makes of as many terms as it has parameters.
-use Rattle.std.proofs.Common.{◌≡◌, refl, ◌∙◌, ap, ℕ, zero, suc, List, length, slice_get, Some, arith}
+use Rattle.std.proofs.Common.{◌≡◌, ◌∙◌, ℕ, List, length, slice_get, Some, arith}
 use Rattle.std.proofs.lemmas.List.{take_all, drop_all}
 use Rattle.hs_scheme.specs.declared.term.Head.{Head}
 use Rattle.hs_scheme.specs.declared.term.Head.TheVariants.{Nt, Tm}
@@ -7,10 +7,11 @@ use Rattle.hs_scheme.specs.declared.term.Rule.{Rule}
 use Rattle.hs_scheme.specs.Tree.{Tree, Trees, node, children, forest}
 use Rattle.hs_scheme.specs.Replacement.{subst, applied}
 use Rattle.hs_scheme.specs.Cut.{body_of}
-use Rattle.hs_scheme.specs.Sorting.{SortTree, o, arrow, ranked, arguments, Sorts}
+use Rattle.hs_scheme.specs.Sorting.{ranked, Sorts}
 use Rattle.hs_scheme.specs.Sorted.{sorts_of, sort_at, known}
 use Rattle.hs_scheme.specs.TreeTerms.{ground, IsTreeTerm, AreSortedBy}
 use Rattle.hs_scheme.specs.Problem.{ProblemData}
+use Rattle.hs_scheme.proofs.Sortings.{length-ranked}
 use Rattle.hs_steps.proofs.Terms.{applied-none}
 use Rattle.hs_steps.proofs.Sorted.{count}
 use Rattle.hs_table.specs.Follows.{rank_of}
@@ -22,13 +23,6 @@ problem_sorts p = sorts_of p.sorted.sorts p.sorted.scheme.ranks
 pub sorted_by : (p : ProblemData) → IsSortedProblem p
     → AreSortedBy p.sorted.scheme.rules (length p.sorted.scheme.ranks) (known p.sorted.scheme.ranks) p.sorted.automaton.transitions (problem_sorts p)
 sorted_by p given = record { are_rules = given.scheme; sorting = given.sorted.sorting; agree = given.sorted.ranks }
-
-arguments-arrow : (a b : SortTree) → length (arguments (arrow a b)) ≡ suc (length (arguments b))
-arguments-arrow a (node u ks) = refl
-
-length-ranked : (n : ℕ) → length (arguments (ranked n)) ≡ n
-length-ranked zero = refl
-length-ranked (suc n) = arguments-arrow o (ranked n) ∙ ap suc (length-ranked n)
 
 pub terminal_count : (p : ProblemData) (a : ℕ) (us : Trees Head) → IsTreeTerm (problem_sorts p) (node (Tm a) us) → length (children us) ≡ rank_of p a
 terminal_count p a us h = count (ground (problem_sorts p)) us (ranked (rank_of p a)) h ∙ length-ranked (rank_of p a)

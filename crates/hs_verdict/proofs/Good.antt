@@ -1,6 +1,7 @@
 -- Good configurations stay good under the three moves.
 use Rattle.std.proofs.Common.{◌≡◌, refl, sym, ◌∙◌, ap, subst, ℕ, ◌+◌, ◌<◌, List, [], ◌++◌, length, slice_get, Some, arith, Contains, inl, inr}
 use Rattle.std.proofs.lemmas.List.{length-map}
+use Rattle.std.proofs.lemmas.Option.{same_Some}
 use Rattle.hs_scheme.specs.declared.term.Head.{Head}
 use Rattle.hs_scheme.specs.declared.term.Head.TheVariants.{Var, Nt}
 use Rattle.hs_scheme.specs.declared.term.Rule.{Rule}
@@ -12,7 +13,6 @@ use Rattle.hs_scheme.specs.Flow.{HasParameter, IsBase, IsClosed}
 use Rattle.hs_table_laws.proofs.Standing.{place-append}
 use Rattle.hs_verdict.specs.Closures.{Closure, root, argument_closures}
 use Rattle.hs_verdict.specs.Typed.{Flows, flows, Fits, IsGood}
-use Rattle.hs_steps.proofs.Terms.{same_some}
 use Rattle.hs_table_laws.proofs.Places.{within_from}
 use Rattle.hs_verdict.proofs.TermLemmas.{AreTerms, IsPoint}
 use Rattle.hs_verdict.proofs.Lists.{place-map}
@@ -58,7 +58,7 @@ module _ (rules : List Rule) (found : List Pair) (term : ℕ → Tree Head) (clo
   own_flows : (point : ℕ) (cs : Trees ℕ) (d : PointData) → slice_get (points_of rules).points point ≡ Some d → Flows rules found (node point cs) → (i a : ℕ) → slice_get d.args i ≡ Some a → Flows rules found (node a cs)
   own_flows point cs d at (flows d' at' pairs subs) i a e =
       let r = are.arguments point d i a at e in
-      let same : d' ≡ d = same_some d' d (sym at' ∙ at) in
+      let same : d' ≡ d = same_Some d' d (sym at' ∙ at) in
       flows r.0 r.1 (λ j c h. subst (λ (k : ℕ). Param k j (root c)) (ap (λ (q : PointData). q.rule) same ∙ sym r.2) (pairs j c h)) subs
 
   pub all_flow : (point : ℕ) (cs : Trees ℕ) (d : PointData) (ds : List Closure) → slice_get (points_of rules).points point ≡ Some d → IsGood rules found (node point cs) ds
@@ -72,7 +72,7 @@ module _ (rules : List Rule) (found : List Pair) (term : ℕ → Tree Head) (clo
   pub param_pair : (point : ℕ) (cs : Trees ℕ) (d : PointData) → slice_get (points_of rules).points point ≡ Some d → Flows rules found (node point cs)
       → (j : ℕ) (c : Closure) → slice_get (children cs) j ≡ Some c → Param d.rule j (root c) × Flows rules found c
   param_pair point cs d at (flows d' at' pairs subs) j c e =
-      (subst (λ (q : PointData). Param q.rule j (root c)) (same_some d' d (sym at' ∙ at)) (pairs j c e), subs j c e)
+      (subst (λ (q : PointData). Param q.rule j (root c)) (same_Some d' d (sym at' ∙ at)) (pairs j c e), subs j c e)
 
   pub good_parameter : (point : ℕ) (cs : Trees ℕ) (rule j : ℕ) (args : List ℕ) (ds : List Closure) → IsPoint rules point rule (Var j) args → IsGood rules found (node point cs) ds
       → (c : Closure) → slice_get (children cs) j ≡ Some c → IsGood rules found c (argument_closures args cs ++ ds)

@@ -1,13 +1,13 @@
 -- Places of images, and members of lists of pairs.
-use Rattle.std.proofs.Common.{◌≡◌, refl, subst, ap, ℕ, zero, suc, List, [], ◌∷◌, map, slice_get, Some, Contains, inl, inr}
+use Rattle.std.proofs.Common.{◌≡◌, refl, subst, ℕ, zero, suc, List, [], ◌∷◌, map, slice_get, Some, Contains, inl, inr}
 use Rattle.std.proofs.lemmas.List.Elements.{Contains-append_cases}
+use Rattle.std.proofs.lemmas.Option.{same_Some}
 use Rattle.hs_scheme.specs.declared.flow.FlowPair.{FlowPair}
 use Rattle.hs_scheme.specs.declared.flow.HeadPair.{HeadPair}
-use Rattle.hs_scheme.specs.declared.flow.Pair.{Pair}
 use Rattle.hs_scheme.specs.declared.flow.Pair.TheVariants.{OfFlow, OfHead}
 use Rattle.hs_scheme.specs.Flow.{pairs_of}
-use Rattle.hs_steps.proofs.Terms.{same_some}
-use Rattle.hs_table_laws.proofs.Places.{none_in, here, later, uncons}
+use Rattle.hs_scheme.proofs.Lists.{none_in, here, later, uncons}
+use Rattle.hs_scheme.proofs.DemandLemmas.{same_flow, no_head}
 
 pub record PreimageAt {A B : Type 0} (f : A → B) (xs : List A) (i : ℕ) (y : B) : Type 0 where
   pub item : A
@@ -16,20 +16,8 @@ pub record PreimageAt {A B : Type 0} (f : A → B) (xs : List A) (i : ℕ) (y : 
 
 pub place-map : {A B : Type 0} (f : A → B) (xs : List A) (i : ℕ) (y : B) → slice_get (map f xs) i ≡ Some y → PreimageAt f xs i y
 place-map f [] i y e = absurd (cc)
-place-map f (x ∷ xs) zero y e = record { item = x; at = refl; is = same_some (f x) y e }
+place-map f (x ∷ xs) zero y e = record { item = x; at = refl; is = same_Some (f x) y e }
 place-map f (x ∷ xs) (suc i) y e = let r = place-map f xs i y e in record { item = r.item; at = r.at; is = r.is }
-
--- a flow pair of the two lists in one is in the first
-flow_of : Pair → FlowPair → FlowPair
-flow_of (OfFlow f) g = f
-flow_of (OfHead h) g = g
-
-same_flow : (f g : FlowPair) → OfFlow f ≡ OfFlow g → f ≡ g
-unfolding flow_of
-same_flow f g e = ap (λ pair. flow_of pair f) e
-
-no_head : (h : HeadPair) (f : FlowPair) → OfFlow f ≡ OfHead h → ⊥
-no_head h f e = (cc)
 
 in_flows : (flows : List FlowPair) (f : FlowPair) → Contains (map (λ f. OfFlow f) flows) (OfFlow f) → Contains flows f
 in_flows [] f h = absurd (none_in (OfFlow f) h)
@@ -41,7 +29,7 @@ in_flows (g ∷ flows) f h = elim (uncons (OfFlow g) (OfFlow f) (map (λ f. OfFl
 not_in_heads : (heads : List HeadPair) (f : FlowPair) → Contains (map (λ h. OfHead h) heads) (OfFlow f) → ⊥
 not_in_heads [] f h = none_in (OfFlow f) h
 not_in_heads (g ∷ heads) f h = elim (uncons (OfHead g) (OfFlow f) (map (λ h. OfHead h) heads) h) [
-  | inl e ↦ no_head g f e
+  | inl e ↦ no_head f g e
   | inr there ↦ not_in_heads heads f there
 ]
 

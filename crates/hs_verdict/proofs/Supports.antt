@@ -1,7 +1,7 @@
 -- The supports of a supported table, as a list.
 use Rattle.std.proofs.Common.{◌≡◌, refl, subst, ap, ℕ, zero, suc, ◌+◌, List, [], ◌∷◌, length, take, slice_get, Some, arith}
+use Rattle.std.proofs.lemmas.Option.{same_Some}
 use Rattle.hs_scheme.specs.Problem.{ProblemData}
-use Rattle.hs_steps.proofs.Terms.{same_some}
 use Rattle.hs_table.specs.Entries.{EntryData}
 use Rattle.hs_table.specs.Follows.{Support, FollowsBy, Follows}
 use Rattle.hs_table.specs.Tables.{IsSupportedTable, HasSupports}
@@ -28,8 +28,8 @@ module _ (p : ProblemData) (T : List EntryData) where
       → slice_get (supports_of n es f) i ≡ Some s → slice_get es i ≡ Some e → FollowsBy p (take (n + i) T) s e
   each_follows n [] f i s e at_s at = absurd (cc)
   each_follows n (d ∷ es) f zero s e at_s at =
-      subst (λ (x : EntryData). FollowsBy p (take (n + 0) T) s x) (same_some d e at)
-      (subst (λ (x : Support). FollowsBy p (take (n + 0) T) x d) (same_some (f 0 d refl).0 s at_s) (f 0 d refl).1)
+      subst (λ (x : EntryData). FollowsBy p (take (n + 0) T) s x) (same_Some d e at)
+      (subst (λ (x : Support). FollowsBy p (take (n + 0) T) x d) (same_Some (f 0 d refl).0 s at_s) (f 0 d refl).1)
   each_follows n (d ∷ es) f (suc i) s e at_s at =
       let same : suc n + i ≡ n + suc i = omega arith in
       subst (λ k. FollowsBy p (take k T) s e) same (each_follows (suc n) es (behind_first n d es f) i s e at_s at)

@@ -1,6 +1,6 @@
 -- The terms at the points are as the points say.
 use Rattle.std.proofs.Common.{◌≡◌, refl, sym, ◌∙◌, ap, subst, ℕ, zero, suc, ◌+◌, List, [], ◌∷◌, length, map, get_or, slice_get, Some, arith, inl, inr, length-append}
-use Rattle.std.proofs.lemmas.Option.{get_or_from_slice_get}
+use Rattle.std.proofs.lemmas.Option.{get_or_from_slice_get, same_Some}
 use Rattle.hs_scheme.specs.declared.term.Head.{Head}
 use Rattle.hs_scheme.specs.declared.term.Head.TheVariants.{Nt}
 use Rattle.hs_scheme.specs.declared.term.Rule.{Rule}
@@ -9,7 +9,6 @@ use Rattle.hs_scheme.specs.Points.{PointData, size, sizes, numbers, term_points,
 use Rattle.hs_scheme.proofs.PointLemmas.{length-term_points}
 use Rattle.hs_table_laws.proofs.Standing.{place-append, StandsFrom, stands_front, stands_back, stands_tail, stands_head}
 use Rattle.hs_verdict.specs.Terms.{subterms, subterms_row, terms_of, term_at}
-use Rattle.hs_steps.proofs.Terms.{same_some}
 
 -- a term for each point: what the point is made of; its arguments stand in its own rule; and bodies
 pub record AreTerms (rules : List Rule) (term : ℕ → Tree Head) : Type 0 where
@@ -63,7 +62,7 @@ module _ (points : List PointData) (terms : List (Tree Head)) where
   row_points : (rule n : ℕ) (ts : Trees Head) → StandsFrom points n (terms_points rule n ts) → (j a : ℕ) → slice_get (numbers n ts) j ≡ Some a → (of : PointData) × (slice_get points a ≡ Some of) × (of.rule ≡ rule)
   row_points rule n none s j a e = absurd (cc)
   row_points rule n (more t ts) s zero a e =
-      let same : n ≡ a = same_some n a e in
+      let same : n ≡ a = same_Some n a e in
       subst (λ (k : ℕ). (of : PointData) × (slice_get points k ≡ Some of) × (of.rule ≡ rule)) same
       (front_point rule n t (stands_front points n (term_points rule n t) (terms_points rule (n + size t) ts) s))
   row_points rule n (more t ts) s (suc j) a e =
@@ -74,7 +73,7 @@ module _ (points : List PointData) (terms : List (Tree Head)) where
         → (i : ℕ) (d : PointData) → slice_get (term_points rule n t) i ≡ Some d → IsWhole rule (n + i) d
     whole_term rule n (node h ts) s r zero d e =
         let own : PointData = record { rule = rule; head = h; args = numbers (n + 1) ts } in
-        let same : own ≡ d = same_some own d e in
+        let same : own ≡ d = same_Some own d e in
         let sp = stands_tail points n own (terms_points rule (n + 1) ts) s in
         let st = stands_tail terms n (node h ts) (subterms_row ts) r in
         let here : n ≡ n + 0 = omega arith in
@@ -147,7 +146,7 @@ module _ (points : List PointData) (terms : List (Tree Head)) where
         at = refl;
         point = point.1;
         in_rule = point.2 ∙ zero_more;
-        is = front_term n k.body (stands_front terms n (subterms k.body) (terms_of rest) t) ∙ ap (λ (q : Rule). q.body) (same_some k r e);
+        is = front_term n k.body (stands_front terms n (subterms k.body) (terms_of rest) t) ∙ ap (λ (q : Rule). q.body) (same_Some k r e);
       }
   whole_bodies rule n (k ∷ rest) s t (suc f) r e =
       let b = whole_bodies (rule + 1) (n + size k.body) rest (stands_back points n (size k.body) (term_points rule n k.body) (rules_points (rule + 1) (n + size k.body) rest) (length-term_points rule n k.body) s)

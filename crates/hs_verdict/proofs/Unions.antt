@@ -6,12 +6,11 @@ use Rattle.hs_scheme.specs.declared.term.Head.{Head}
 use Rattle.hs_scheme.specs.declared.term.Head.TheVariants.{Var, Nt, Tm}
 use Rattle.hs_scheme.specs.Tree.{Trees, node, children}
 use Rattle.hs_scheme.specs.Problem.{ProblemData}
+use Rattle.hs_scheme.proofs.Lists.{none_in, here, later, only}
 use Rattle.hs_table.specs.Types.{TypeTree, IsSet}
 use Rattle.hs_table.specs.Entries.{Env, EntryData, Has, set_at, IsEnv}
 use Rattle.hs_table.specs.Follows.{HeadHas, AnyHas, Chosen, done, next_argument, choose}
-use Rattle.hs_table_laws.proofs.Places.{none_in, here, later}
 use Rattle.hs_table_laws.proofs.Sets.{no_set, set_of, set_of-IsSet, set_of-Contains}
-use Rattle.hs_table_laws.proofs.Members.{only}
 use Rattle.hs_verdict.specs.Closures.{Closure, argument_closures}
 use Rattle.hs_verdict.specs.Typed.{HasType, has, Have}
 

@@ -5,7 +5,7 @@ use Rattle.std.proofs.lemmas.List.Elements.{All-contains, Contains-append_right,
 use mathlib.Core.List.{IsPrefix}
 use Rattle.atomic_table.specs.Seated.{TableId}
 use Rattle.hs_scheme.specs.Problem.{ProblemData}
-use Rattle.hs_table_laws.proofs.Places.{here}
+use Rattle.hs_scheme.proofs.Lists.{here}
 use Rattle.hs_history.specs.Story.{Base, CoreStep, Story}
 use Rattle.hs_history.specs.CoreStep.{State}
 use Rattle.hs_history.specs.History.{IsLegal}
@@ -14,9 +14,9 @@ use Rattle.hs_turn.specs.Story.{told_by}
 use Rattle.hs_turn.specs.Seats.{RestsIn}
 use Rattle.hs_turn.specs.Views.{first_seat, having_split, split_off, having_joined}
 use Rattle.hs_shared.specs.Seats.{SeatData, worker_of, HasSeenOwn}
+use Rattle.hs_shared.proofs.Seen.{see, none_by}
 use Rattle.hs_workers.specs.Working.{IsFree, IsFirstSeat, IsBased, HasSeenNothing, RestsSeated}
 use Rattle.hs_workers.specs.Answers.{IsOfWorkers}
-use Rattle.hs_workers.proofs.SeatLemmas.{see, none_by}
 
 abbrev with_known : SeatData → Known Base CoreStep → SeatData
 with_known s known = record { turn = s.turn; known = known }

@@ -1,5 +1,5 @@
 -- What is formed point by point.
-use Rattle.std.proofs.Common.{◌≡◌, refl, sym, ◌∙◌, ap, subst, ℕ, ◌+◌, ◌<◌, ◌≤◌, List, [], ◌∷◌, ◌++◌, length, take, slice_get, get_or, unwrap_or, Some, None, Option, All, Result, Ok, Err, arith, Contains, inl, inr, append_assoc}
+use Rattle.std.proofs.Common.{◌≡◌, refl, sym, ◌∙◌, ap, subst, ℕ, ◌+◌, ◌<◌, ◌≤◌, List, [], ◌∷◌, ◌++◌, length, take, slice_get, get_or, unwrap_or, Some, None, Option, All, Result, Ok, Err, arith, Contains, inl, inr, append_assoc, append-nil}
 use Rattle.std.specs.Result.{IfOk}
 use Rattle.std.specs.Option.{IfSome}
 use Rattle.std.proofs.lemmas.Bool.{cases_lt}
@@ -8,10 +8,11 @@ use Rattle.std.proofs.lemmas.List.Elements.{All-nil, All-head, All-tail, All-app
 use Rattle.hs_scheme.specs.declared.flow.FlowPair.{FlowPair}
 use Rattle.hs_scheme.specs.Points.{PointsData}
 use Rattle.hs_scheme.specs.Problem.{ProblemData}
+use Rattle.hs_scheme.proofs.Lists.{here}
 use Rattle.hs_flow.specs.Dependents.{HasDependents, list_of}
 use Rattle.hs_table.specs.Entries.{EntryData}
 use Rattle.hs_table.specs.Follows.{FollowsBy}
-use Rattle.hs_table_laws.proofs.Places.{here, within_from}
+use Rattle.hs_table_laws.proofs.Places.{within_from}
 use Rattle.hs_table_laws.proofs.Growing.{by_append, by_take}
 use Rattle.hs_types.specs.Interned.{InternerData, IsRow, entry_of, Grows}
 use Rattle.hs_types.proofs.Numbers.{row_within, row_stays}
@@ -83,11 +84,7 @@ module _ (ids : InternerData) (log : List EntryData) where
 
 -- a list is gone through
 pub all_through : {X : Type 0} (ys rest whole : List X) → length rest ≡ 0 → ys ++ rest ≡ whole → ys ≡ whole
-all_through ys [] whole none is = sym (append_none ys) ∙ is
-  where
-    append_none : {X : Type 0} (xs : List X) → xs ++ [] ≡ xs
-    append_none [] = refl
-    append_none (x ∷ xs) = ap (λ zs. x ∷ zs) (append_none xs)
+all_through ys [] whole none is = sym (append-nil ys) ∙ is
 all_through ys (x ∷ rest) whole none is = absurd (omega arith)
 
 -- what was formed is found or in the log

@@ -1,49 +1,49 @@
 -- What a worker does while it holds the table, step by step.
-use Rattle.std.proofs.Common.{◌≡◌, refl, sym, ◌∙◌, ap, subst, ℕ, ◌-◌, List, [], ◌++◌, Option, Some, None, All, Contains, append_assoc, inl, inr}
+use Rattle.std.proofs.Common.{◌≡◌, refl, sym, ◌∙◌, ap, subst, ℕ, ◌-◌, List, [], ◌++◌, Option, Some, None, All, Contains}
 use Rattle.std.proofs.lemmas.List.{append-nil}
 use Rattle.std.proofs.lemmas.List.Elements.{All-nil, Contains-push}
+use Rattle.std.proofs.lemmas.Option.{same_Some}
 use mathlib.Core.List.{IsPrefix}
 use Rattle.atomic_table.specs.Seated.{TableId}
 use Rattle.hs_scheme.specs.Automaton.{IsAutomaton}
 use Rattle.hs_scheme.specs.Problem.{ProblemData}
+use Rattle.hs_scheme.proofs.Lists.{Contains-at}
 use Rattle.hs_table.specs.Entries.{EntryData, InShape}
 use Rattle.hs_table.specs.Follows.{FollowsBy}
 use Rattle.hs_table_laws.proofs.Growing.{by_append}
-use Rattle.hs_table_laws.proofs.Places.{some_same, member_at}
 use Rattle.hs_types.specs.Interned.{InternerData, RowData, entry_of}
 use Rattle.hs_replica.specs.Replica.{ReplicaData}
 use Rattle.hs_replica.specs.Extending.{extended}
 use Rattle.hs_rules.specs.Conclusions.{DeducedData, IsDeduced}
 use Rattle.hs_history.specs.declared.step.Work.{Work}
-use Rattle.hs_history.specs.Story.{Base, Deduction, takes, adds, passes, finishes, gives_back, Story}
+use Rattle.hs_history.specs.Story.{Base, Deduction, takes, adds, passes, Story}
 use Rattle.hs_history.specs.CoreStep.{State, put, Holds}
-use Rattle.hs_history.specs.History.{state_after, IsLegal, IsWork}
-use Rattle.hs_history.proofs.Histories.{grown, holds_after, tickets_after}
+use Rattle.hs_history.specs.History.{state_after, IsLegal}
+use Rattle.hs_history.proofs.Histories.{grown, tickets_after}
 use Rattle.hs_core.specs.declared.answers.Taken.{Taken}
 use Rattle.hs_core.specs.declared.answers.Taken.TheVariants.{Item, Quiet, Idle, Over, Found}
 use Rattle.hs_core.specs.declared.answers.Published.{Published}
 use Rattle.hs_core.specs.declared.answers.Published.TheVariants.{Known, Added, Over as NoRoom}
-use Rattle.hs_core.specs.Core.{CoreData, IsCore, state_of, log_of, stepped}
+use Rattle.hs_core.specs.Core.{CoreData, state_of, log_of}
 use Rattle.hs_core.specs.Answers.{Takes, Publishes, AddsOrPasses}
 use Rattle.hs_core.specs.Draining.{SameFlight}
 use Rattle.hs_core.proofs.Moving.{state_same, state_stepped}
 use Rattle.hs_shared.specs.Seats.{SeatData, Sees}
 use Rattle.hs_shared.specs.Calls.{Finds}
 use Rattle.hs_shared.specs.Holding.{HoldData, having_left, HasTold, IsHolding}
-use Rattle.hs_shared.proofs.Seen.{sees, replica_begins, others}
+use Rattle.hs_shared.proofs.Seen.{sees, replica_begins, others, see, seen, prefix_trans}
 use Rattle.hs_workers.specs.declared.job.Job.{Job}
 use Rattle.hs_workers.specs.Jobs.{keys, Carries, IsFormed}
 use Rattle.hs_workers.specs.declared.handing.Next.{Next}
 use Rattle.hs_workers.specs.declared.handing.Next.TheVariants.{Serve, Pass, Rest, Wait, End}
 use Rattle.hs_workers.specs.Working.{IsSeated, StepsInHold, IfServes, IsFree, IsLoaded}
-use Rattle.hs_workers.proofs.SeatLemmas.{see, seen}
 use Rattle.hs_workers.proofs.JobLemmas.{carries_kept}
 use Rattle.hs_workers.proofs.WorkingLemmas.{shapes}
 
 -- what one call tells
 pub goes_by : (old new : SeatData) (before after : HoldData) → IsHolding old before → after.turn ≡ before.turn → HasTold old after.core.story new → IsHolding new after → StepsInHold old new before after
 goes_by old new before after h turn t h' =
-    let base : after.core.base ≡ before.core.base = some_same after.core.base before.core.base (sym h'.base ∙ ap (λ (s : SeatData). s.known.base) t.2 ∙ h.base) in
+    let base : after.core.base ≡ before.core.base = same_Some after.core.base before.core.base (sym h'.base ∙ ap (λ (s : SeatData). s.known.base) t.2 ∙ h.base) in
     let story : after.core.story ≡ before.core.story ++ t.0 = t.1 ∙ ap (λ (xs : Story). xs ++ t.0) h.seen in
     let g = grown before.core.base before.core.story t.0 in
     let log : log_of after.core ≡ log_of before.core ++ g.entries = (λ i. (state_after (base i) (story i)).log) ∙ g.log in
@@ -51,9 +51,6 @@ goes_by old new before after h turn t h' =
 
 pub goes_none : (s : SeatData) (h : HoldData) → IsHolding s h → StepsInHold s s h h
 goes_none s h is = record { holds = is; number = refl; turn = refl; base = refl; log = ([], append-nil (log_of h.core)) }
-
-pub prefix_trans : (a b c : List EntryData) → IsPrefix a b → IsPrefix b c → IsPrefix a c
-prefix_trans a b c p q = (p.0 ++ q.0, sym (append_assoc a p.0 q.0) ∙ ap (λ xs. xs ++ q.0) p.1 ∙ q.1)
 
 pub goes_trans : (s1 s2 s3 : SeatData) (h1 h2 h3 : HoldData) → StepsInHold s1 s2 h1 h2 → StepsInHold s2 s3 h2 h3 → StepsInHold s1 s3 h1 h3
 goes_trans s1 s2 s3 h1 h2 h3 f g = record {
@@ -87,7 +84,7 @@ module _ (core found new : CoreData) (base : found.base ≡ core.base) (story : 
   published_flight answer h t = found_flight answer h t ∙ same_flight core found base story t
 
   pub published_there : (answer : Published) → (answer ≡ NoRoom → ⊥) → Publishes found worker ticket d answer new → Contains (log_of new) d.entry
-  published_there (Known place) room h = subst (λ (c : CoreData). Contains (log_of c) d.entry) (sym h.1) (member_at (log_of found) place d.entry h.0)
+  published_there (Known place) room h = subst (λ (c : CoreData). Contains (log_of c) d.entry) (sym h.1) (Contains-at (log_of found) place d.entry h.0)
   published_there (Added place) room h = subst (λ (x : State). Contains x.log d.entry) (sym (state_stepped found new worker (adds ticket d) (found.spare - 1) h.3)) (Contains-push (log_of found) d.entry)
   published_there NoRoom room h = absurd (room refl)
 
@@ -117,7 +114,7 @@ deduced_still p q ids log whole d same begins h =
 module _ (table : TableId) (p : ProblemData) (old : SeatData) (core : CoreData) (finds : Finds old core) where
   pub found_problem : (log : List EntryData) → IsFree table p old log → core.base.problem ≡ p
   found_problem log f =
-      let same : core.base ≡ f.seated.base = some_same core.base f.seated.base (sym finds.base ∙ f.seated.knows) in
+      let same : core.base ≡ f.seated.base = same_Some core.base f.seated.base (sym finds.base ∙ f.seated.knows) in
       ap (λ (b : Base). b.problem) same ∙ seen old f.seated.base (λ base state. base.problem ≡ p) f.seated.knows f.upon
 
   pub found_begins : (log : List EntryData) → IsFree table p old log → IsPrefix log (log_of core)

@@ -1,6 +1,5 @@
 pub mod FormingLemmas
 pub mod WorkingLemmas
-pub mod SeatLemmas
 pub mod JobLemmas
 pub mod HoldLemmas
 pub mod FirstLemmas

@@ -3,8 +3,6 @@
 #![tactic(auto)]
 
 #[cfg(test)]
-mod making;
-#[cfg(test)]
 mod meeting;
 #[cfg(test)]
 mod random;

@@ -2,8 +2,8 @@
 
 ghost use Rattle.hs_flow.specs.Dependents.{HasDependents};
 
-use crate::making::cycle;
 use hs_core::{Core, Done, Event};
+use hs_fixtures::cycle;
 use hs_flow::Dependents;
 use hs_scheme::Problem;
 use hs_workers::{Gate, Work, saturate};

@@ -3,8 +3,8 @@
 ghost use Rattle.std.specs.Prelude.{◌≤◌};
 ghost use Rattle.hs_flow.specs.Dependents.{HasDependents};
 
-use crate::making::know;
 use hs_core::{Core, Done};
+use hs_fixtures::know;
 use hs_flow::Dependents;
 use hs_scheme::{OutOfMemory, Problem};
 use hs_text::table_text;

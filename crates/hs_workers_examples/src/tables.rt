@@ -1,8 +1,8 @@
 //! Tables formed by any number of workers.
 
-use crate::making::{problem, problem_of};
 use crate::random::random_file;
 use crate::saturating::{Asked, Summary, saturated};
+use hs_fixtures::{problem_of, problem_of_text};
 use std::alloc::Global;
 use std::mem::forget;
 use std::sync::Wait;
@@ -113,7 +113,7 @@ fn told<R: Threads + Wait + Sync>(
     transitions: &str,
     asked: Asked,
 ) -> Result<Summary, Fail> {
-    let problem = problem(alloc, rules, transitions)?;
+    let problem = problem_of(alloc, rules, transitions)?;
     let summary = saturated(rt, alloc, &problem, asked);
     forget(problem);
     summary
@@ -126,7 +126,7 @@ fn told_of_random<R: Threads + Wait + Sync>(
     file: &str,
     workers: u32,
 ) -> Result<Summary, Fail> {
-    let problem = problem_of(alloc, file.as_bytes())?;
+    let problem = problem_of_text(alloc, file.as_bytes())?;
     let asked = Asked {
         workers,
         budget: 100_000,

@@ -2,10 +2,10 @@
 
 ghost use Rattle.hs_flow.specs.Dependents.{HasDependents};
 
-use crate::making::{problem, problem_of};
 use crate::random::random_file;
 use crate::saturating::{Asked, saturated};
 use hs_core::{Done, saturate_alone};
+use hs_fixtures::{problem_of, problem_of_text};
 use hs_flow::Dependents;
 use hs_reduce::{Bounded, bounded};
 use hs_scheme::{OutOfMemory, Problem, Sorted};
@@ -101,7 +101,7 @@ fn compare_worked<R: Threads + Wait + Sync>(
     rules: &str,
     transitions: &str,
 ) -> Result<Verdicts, Fail> {
-    let problem = problem(alloc, rules, transitions)?;
+    let problem = problem_of(alloc, rules, transitions)?;
     let verdicts = compare(rt, alloc, &problem);
     forget(problem);
     verdicts
@@ -113,7 +113,7 @@ fn compare_random<R: Threads + Wait + Sync>(
     alloc: Global,
     file: &str,
 ) -> Result<Verdicts, Fail> {
-    let problem = problem_of(alloc, file.as_bytes())?;
+    let problem = problem_of_text(alloc, file.as_bytes())?;
     let verdicts = compare(rt, alloc, &problem);
     forget(problem);
     verdicts

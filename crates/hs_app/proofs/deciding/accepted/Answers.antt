@@ -1,11 +1,11 @@
-use Rattle.std.proofs.Common.{sym, ◌∙◌, subst, ℕ, ◌≤◌, List, length, Some}
+use Rattle.std.proofs.Common.{sym, ◌∙◌, subst, ℕ, ◌≤◌, List, length}
 use Rattle.hs_table.specs.Entries.{EntryData}
 use Rattle.hs_table.specs.Tables.{IsClosedTable}
 use Rattle.hs_checker.specs.Checked.{IsCount}
 use Rattle.hs_text.specs.declared.verdict.Verdict.TheVariants.{Accepted}
 use Rattle.hs_core.specs.Core.{log_of}
+use Rattle.hs_core.proofs.Tables.{core_within}
 use Rattle.hs_app.specs.Verdict.{IsShown}
-use Rattle.hs_app.proofs.CoreLemmas.{core_within}
 use Rattle.hs_app.proofs.deciding.accepted.Goals as goal
 
 pub instances_of-requires-clause-closed : goal.instances_of-requires-clause-closed

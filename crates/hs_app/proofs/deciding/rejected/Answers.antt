@@ -7,10 +7,10 @@ use Rattle.hs_scheme.specs.Run.{start}
 use Rattle.hs_scheme.specs.Steps.{Reaches}
 use Rattle.hs_text.specs.declared.verdict.Verdict.TheVariants.{Rejected, Long}
 use Rattle.hs_core.specs.Core.{state_of, log_of}
+use Rattle.hs_core.proofs.Tables.{core_within, core_supports}
 use Rattle.hs_path.specs.declared.answer.Walk.{Walk}
 use Rattle.hs_path.specs.Walked.{IsWalk}
 use Rattle.hs_app.specs.Verdict.{IsShown}
-use Rattle.hs_app.proofs.CoreLemmas.{core_within, core_supports}
 use Rattle.hs_app.proofs.DecidingLemmas.{either_way}
 use Rattle.hs_app.proofs.deciding.rejected.Goals as goal
 

@@ -4,7 +4,7 @@ use Rattle.hs_scheme.specs.Automaton.{IsAutomaton}
 use Rattle.hs_scheme.specs.Problem.{ProblemData}
 use Rattle.hs_table.specs.Entries.{EntryData, InShape}
 use Rattle.hs_core.specs.Core.{log_of}
-use Rattle.hs_app.proofs.CoreLemmas.{core_supports, core_shape}
+use Rattle.hs_core.proofs.Tables.{core_supports, core_shape}
 use Rattle.hs_app.proofs.deciding.report_with.Goals as goal
 
 -- what holds of the log holds of the entries that are shown

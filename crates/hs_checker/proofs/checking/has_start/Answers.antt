@@ -1,9 +1,9 @@
 use Rattle.std.proofs.Common.{◌≡◌, sym, ◌∙◌, ap, subst, true, false, List, [], slice_index, Contains, inl, inr}
 use Rattle.std.proofs.lemmas.List.{take_all}
+use Rattle.std.proofs.lemmas.Option.{get_or_from_slice_get}
 use Rattle.hs_scheme.specs.Problem.{ProblemData}
 use Rattle.hs_table.specs.Types.{state}
 use Rattle.hs_table.specs.Entries.{EntryData}
-use Rattle.hs_table_laws.proofs.Places.{read_from}
 use Rattle.hs_table_plain.proofs.Members.{next_member}
 use Rattle.hs_checker.proofs.checking.has_start.Goals as goal
 
@@ -23,7 +23,7 @@ returns c = (
       let e = start.0 in
       let is = start.1.0 in
       let body = c.body_of-body.ensures.body ∙ ap (λ (q : ProblemData). slice_index q.points.bodies 0) c.problem.view_is in
-      let point = sym (read_from c.args.problem.now.points.bodies 0 e.point 0 is.body) ∙ sym body in
+      let point = sym (get_or_from_slice_get c.args.problem.now.points.bodies 0 e.point 0 is.body) ∙ sym body in
       let there = subst (λ (es : List EntryData). Contains es e) (sym (take_all c.loop-entry.entry-index c.args.table.now c.loop-entry-test.false)) start.1.1 in
       absurd (c.loop-entry.invariant e there (point, (is.env, is.initial))),
 )

@@ -2,7 +2,7 @@ use Rattle.std.proofs.Common.{◌≡◌, sym, subst, ℕ, List, [], ◌∷◌, �
 use Rattle.std.proofs.lemmas.List.Elements.{Contains-append_left, Contains-append_cases, Contains-get_or}
 use Rattle.hs_scheme.specs.declared.flow.FlowPair.{FlowPair}
 use Rattle.hs_scheme.specs.declared.flow.HeadPair.{HeadPair}
-use Rattle.hs_table_laws.proofs.Members.{only}
+use Rattle.hs_scheme.proofs.Lists.{only}
 use Rattle.hs_checker.specs.PassedOn.{HasPassed}
 use Rattle.hs_checker.proofs.distances.left_of.Goals as goal
 

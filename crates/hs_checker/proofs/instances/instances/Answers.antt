@@ -1,9 +1,9 @@
 use Rattle.std.proofs.Common.{◌≡◌, ap, subst, length, Contains, ◌↔◌}
+use Rattle.std.proofs.lemmas.Result.{IfOk-weaker}
 use Rattle.hs_scheme.specs.Points.{PointsData, point_at, NonterminalWithin}
 use Rattle.hs_scheme.specs.Problem.{ProblemData}
 use Rattle.hs_table.specs.Types.{TypeTree}
 use Rattle.hs_table.specs.Tables.{IsInstance}
-use Rattle.hs_table_plain.proofs.ConclusionLemmas.{if_ok_map}
 use Rattle.hs_checker.proofs.InstanceLemmas.{instance_exact}
 use Rattle.hs_checker.proofs.instances.instances.Goals as goal
 
@@ -17,5 +17,5 @@ returns-clause-each c =
     (subst (λ (x : PointsData). c.head_of-head.result ≡ (point_at x c.args.point).head) points c.head_of-head.ensures.head)
     (subst (λ (x : PointsData). c.args_of-args.result.now ≡ (point_at x c.args.point).args) points c.args_of-args.ensures.args)
     (subst (λ (x : PointsData). NonterminalWithin (length x.bodies) c.head_of-head.result) points c.head_of-head.ensures.within) in
-    if_ok_map c.instances_of.result _ (λ found. (t : TypeTree) → Contains found.items t ↔ IsInstance p E c.args.point t)
+    IfOk-weaker c.instances_of.result _ (λ found. (t : TypeTree) → Contains found.items t ↔ IsInstance p E c.args.point t)
     (λ found each t. (λ k. (exact t).0 ((each t).0 k), λ h. (each t).1 ((exact t).1 h))) c.instances_of.ensures.each

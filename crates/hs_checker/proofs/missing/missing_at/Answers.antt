@@ -1,9 +1,9 @@
 use Rattle.std.proofs.Common.{◌≡◌, ap, subst, length, Contains, MatchOption}
+use Rattle.std.proofs.lemmas.Result.{IfOk-weaker}
 use Rattle.hs_scheme.specs.Points.{PointsData, point_at, NonterminalWithin}
 use Rattle.hs_scheme.specs.Problem.{ProblemData}
 use Rattle.hs_table.specs.Entries.{EntryData}
 use Rattle.hs_table.specs.Follows.{Follows}
-use Rattle.hs_table_plain.proofs.ConclusionLemmas.{if_ok_map}
 use Rattle.hs_checker.specs.Slots.{IsConclusion}
 use Rattle.hs_checker.proofs.InstanceLemmas.{conclusion_exact, match_map}
 use Rattle.hs_checker.proofs.missing.missing_at.Goals as goal
@@ -20,6 +20,6 @@ returns c =
     (subst (λ (x : PointsData). NonterminalWithin (length x.bodies) c.head_of-head.result) points c.head_of-head.ensures.within)
     c.parameters-params.result c.args.types.now c.parameters-params.ensures c.requires.types in
     let Is = λ (e : EntryData). IsConclusion E c.args.point c.parameters-params.result c.head_of-head.result c.args_of-args.result.now c.args.types.now e in
-    if_ok_map c.missing_among.result _ (λ found. MatchOption found ((e : EntryData) → e.point ≡ c.args.point → Follows p E e → Contains E e) (λ e. Follows p E e × (Contains E e → ⊥)))
+    IfOk-weaker c.missing_among.result _ (λ found. MatchOption found ((e : EntryData) → e.point ≡ c.args.point → Follows p E e → Contains E e) (λ e. Follows p E e × (Contains E e → ⊥)))
     (λ found m. match_map found ((e : EntryData) → Is e → Contains E e) ((e : EntryData) → e.point ≡ c.args.point → Follows p E e → Contains E e) (λ e. Is e × (Contains E e → ⊥)) (λ e. Follows p E e × (Contains E e → ⊥))
     (λ all e at f. all e ((exact e).1 (at, f))) (λ e both. (((exact e).0 both.0).1, both.1)) m) c.missing_among.ensures

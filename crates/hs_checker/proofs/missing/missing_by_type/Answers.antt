@@ -1,8 +1,8 @@
 use Rattle.std.proofs.Common.{◌≡◌, ◌∙◌, ap, subst, List, [], ◌∷◌, Option, MatchOption, Contains}
+use Rattle.std.proofs.lemmas.Result.{IfOk-weaker}
 use Rattle.hs_table.specs.Types.{state}
 use Rattle.hs_table.specs.Entries.{EntryData}
 use Rattle.hs_table_plain.specs.Enumeration as plain
-use Rattle.hs_table_plain.proofs.ConclusionLemmas.{if_ok_map}
 use Rattle.hs_checker.proofs.EnvLemmas.{through_retyped}
 use Rattle.hs_checker.proofs.missing.missing_by_type.Goals as goal
 
@@ -20,4 +20,4 @@ returns c =
     let same : plain.through E us ty (c.in_ok-start.start ∷ []) ≡ plain.through E us ty (first ∷ []) =
     ap (λ (s : EntryData). plain.through E us ty (s ∷ [])) c.in_ok-start.ensures ∙ through_retyped E us ty (state 0) (first ∷ []) in
     let Tells = λ (es : List EntryData) (found : Option EntryData). MatchOption found ((e : EntryData) → Contains es e → Contains E e) (λ e. Contains es e × (Contains E e → ⊥)) in
-    if_ok_map c.missing_by.result _ (Tells (plain.through E us ty (first ∷ []))) (λ found m. subst (λ (es : List EntryData). Tells es found) same m) c.missing_by.ensures
+    IfOk-weaker c.missing_by.result _ (Tells (plain.through E us ty (first ∷ []))) (λ found m. subst (λ (es : List EntryData). Tells es found) same m) c.missing_by.ensures

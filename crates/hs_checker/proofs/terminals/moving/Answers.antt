@@ -1,10 +1,9 @@
 use Rattle.std.proofs.Common.{◌≡◌, sym, ◌∙◌, ap, subst, length, Bool, true, Vec, Global, List, get_or, slice_get, Some, inl, inr}
 use Rattle.std.proofs.lemmas.Bool.{ltb-true}
-use Rattle.std.proofs.lemmas.Option.{slice_get-get_or}
+use Rattle.std.proofs.lemmas.Option.{slice_get-get_or, same_Some}
 use Rattle.std.proofs.lemmas.List.Elements.{Contains-get_or}
 use Rattle.hs_scheme.specs.Transition.{TransitionData}
-use Rattle.hs_table_laws.proofs.Places.{some_same}
-use Rattle.hs_checker.proofs.TerminalLemmas.{moves_at}
+use Rattle.hs_table.proofs.MoveLemmas.{moves_at}
 use Rattle.hs_checker.proofs.terminals.moving.Goals as goal
 use Rattle.hs_checker.proofs.terminals.moving.Goals.{in-Some, in-None}
 
@@ -19,7 +18,7 @@ loop-place-preserved c = elim c.match-get.branch [
       let there = (c.with_terminal-place-items.ensures i).0 (Contains-get_or items c.loop-place.place-index 0 c.loop-place-test.true) in
       let read = slice_get-get_or all i t (ltb-true i (length all) (sym w.in-Some.ensures.lookup.0)) ∙ ap (λ (u : TransitionData). Some u) (sym w.in-Some.ensures.lookup.1) in
       let at = subst (λ (us : List TransitionData). slice_get us i ≡ Some t) c.transitions-transitions.ensures read in
-      let same : there.0 ≡ t = some_same there.0 t (sym there.1.0 ∙ at) in
+      let same : there.0 ≡ t = same_Some there.0 t (sym there.1.0 ∙ at) in
       let terminal = sym (ap (λ (u : TransitionData). u.terminal) same) ∙ there.1.1 in
       record {
         long = ap (λ (v : Vec Bool Global). length v.items) w.marks-is ∙ (w.mark.ensures.long ∙ c.loop-place.invariant.long);

@@ -1,6 +1,6 @@
 -- the states marked so far have transitions
 use Rattle.std.proofs.Common.{◌≡◌, ℕ, length, slice_get, Some, true}
-use Rattle.hs_checker.specs.Slots.{HasMove}
+use Rattle.hs_table.specs.Follows.{HasMove}
 use Rattle.hs_checker.proofs.terminals.moving.Given as goal
 
 abbrev pub invariant-loop-place : goal.invariant-loop-place

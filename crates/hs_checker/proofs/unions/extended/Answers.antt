@@ -1,8 +1,8 @@
 use Rattle.std.proofs.Common.{◌≡◌, subst, List, Contains, ◌↔◌, Bor}
 use Rattle.std.specs.List.{flat_map}
+use Rattle.std.proofs.lemmas.Result.{IfOk-weaker}
 use Rattle.hs_table.specs.Entries.{EntryData}
 use Rattle.hs_table_plain.specs.Enumeration as plain
-use Rattle.hs_table_plain.proofs.ConclusionLemmas.{if_ok_map}
 use Rattle.hs_checker.specs.Any.{AnyOf}
 use Rattle.hs_checker.proofs.EnvLemmas.{extended_by, any_of_one}
 use Rattle.hs_checker.proofs.unions.extended.Goals as goal
@@ -13,7 +13,7 @@ returns-then-candidates-eq1-clause-each c =
     let es = c.args.entries.items in
     let rows = c.at-candidates.result.now in
     let r = c.index-candidates-0.result in
-    if_ok_map c.joined_with_one.result (λ found. (e : EntryData) → Contains found.items e ↔ AnyOf (λ (x y : EntryData). y ≡ plain.joined x r.now) es e)
+    IfOk-weaker c.joined_with_one.result (λ found. (e : EntryData) → Contains found.items e ↔ AnyOf (λ (x y : EntryData). y ≡ plain.joined x r.now) es e)
     (λ found. (e : EntryData) → Contains found.items e ↔ Contains (flat_map (λ x. flat_map (plain.extended c.args.arg c.args.ty.now x) E) es) e)
     (λ found each e.
     let exact = extended_by E rows c.args.arg c.args.ty.now es c.at-candidates.ensures e in
@@ -25,7 +25,7 @@ returns-clause-each c =
     let E = c.args.index.now in
     let es = c.args.entries.items in
     let rows = c.at-candidates.result.now in
-    if_ok_map c.joined_with_all.result (λ found. (e : EntryData) → Contains found.items e ↔ AnyOf (λ (r : Bor EntryData) (y : EntryData). AnyOf (λ (x y : EntryData). y ≡ plain.joined x r.now) c.as_slice.result.now y) rows e)
+    IfOk-weaker c.joined_with_all.result (λ found. (e : EntryData) → Contains found.items e ↔ AnyOf (λ (r : Bor EntryData) (y : EntryData). AnyOf (λ (x y : EntryData). y ≡ plain.joined x r.now) c.as_slice.result.now y) rows e)
     (λ found. (e : EntryData) → Contains found.items e ↔ Contains (flat_map (λ x. flat_map (plain.extended c.args.arg c.args.ty.now x) E) es) e)
     (λ found each e.
     let exact = extended_by E rows c.args.arg c.args.ty.now es c.at-candidates.ensures e in

@@ -1,9 +1,9 @@
 use Rattle.std.proofs.Common.{◌≡◌, sym, ◌∙◌, ap, subst, ◌-◌, ◌<◌, List, length, length-drop, take, drop, get_or, Contains, ◌↔◌, arith}
 use Rattle.std.proofs.lemmas.List.{take_all, get_or_default}
+use Rattle.std.proofs.lemmas.Result.{IfOk-weaker}
 use Rattle.hs_table.specs.Types.{arrows}
 use Rattle.hs_table.specs.Entries.{EntryData}
 use Rattle.hs_table_plain.specs.Enumeration as plain
-use Rattle.hs_table_plain.proofs.ConclusionLemmas.{if_ok_map}
 use Rattle.hs_checker.proofs.EnvLemmas.{sets_step, sets_done}
 use Rattle.hs_checker.proofs.unions.through_sets.Goals as goal
 
@@ -28,6 +28,6 @@ returns c =
     let end : k ≡ length us = omega (arith, c.loop-place-test.false) in
     let slice : take (length ss - length us) (drop (length us) ss) ≡ drop k ss = take_all _ (drop (length us) ss) (omega (arith, length-drop (length us) ss)) ∙ ap (λ n. drop n ss) (sym end) in
     let made = c.in_ok-left.ensures ∙ λ i. arrows (slice i) (c.in_ok-behind.ensures i) in
-    if_ok_map c.retyped.result _ (λ found. (e : EntryData) → Contains found.items e ↔ Contains (plain.through E us (arrows ss c.args.ty.now) c.args.entries.items) e)
+    IfOk-weaker c.retyped.result _ (λ found. (e : EntryData) → Contains found.items e ↔ Contains (plain.through E us (arrows ss c.args.ty.now) c.args.entries.items) e)
     (λ out is e. subst (λ (xs : List EntryData). Contains xs e ↔ Contains (plain.through E us (arrows ss c.args.ty.now) c.args.entries.items) e) (sym is)
     (sets_done E us ss c.args.ty.now c.in_ok-left.left k c.loop-place.found.items c.args.entries.items e end made (c.loop-place.invariant e))) c.retyped.ensures

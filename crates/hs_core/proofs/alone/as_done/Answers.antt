@@ -1,7 +1,7 @@
 use Rattle.std.proofs.Common.{subst}
 use Rattle.hs_table.specs.Tables.{IsLeastTable}
-use Rattle.hs_table_laws.proofs.Places.{member_at}
 use Rattle.hs_scheme.specs.Problem.{ProblemData}
+use Rattle.hs_scheme.proofs.Lists.{Contains-at}
 use Rattle.hs_core.specs.Core.{log_of}
 use Rattle.hs_core.proofs.alone.as_done.Goals as goal
 
@@ -19,4 +19,4 @@ returns-in-Over-clause-done c = λ base alone. (alone, c.in-Over.ensures)
 pub returns-in-Found-clause-done : goal.returns-in-Found-clause-done
 returns-in-Found-clause-done c = λ base alone.
     let found = c.in-Found.ensures in
-    (alone, record { first = found.first; start = (found.start.entry, (found.start.is_start, member_at (log_of c.args.core) c.in-Found.place found.start.entry found.start.at)) })
+    (alone, record { first = found.first; start = (found.start.entry, (found.start.is_start, Contains-at (log_of c.args.core) c.in-Found.place found.start.entry found.start.at)) })

@@ -2,7 +2,7 @@ use Rattle.std.proofs.Common.{sym, ap, subst, ◌∙◌, All, Bool, Result, Cont
 use Rattle.std.proofs.lemmas.Bool.{eqb-true}
 use Rattle.std.proofs.lemmas.List.Elements.{All-weaker}
 use Rattle.hs_scheme.specs.declared.memory.OutOfMemory.{OutOfMemory}
-use Rattle.hs_table_laws.proofs.Places.{here}
+use Rattle.hs_scheme.proofs.Lists.{here}
 use Rattle.hs_history.specs.declared.step.Work.TheVariants.{Seed}
 use Rattle.hs_history.specs.Story.{Base, takes}
 use Rattle.hs_history.specs.CoreStep.{IsClosedSeed, CanFinish}

@@ -1,8 +1,8 @@
 use Rattle.std.proofs.Common.{◌≡◌, ap, subst, ◌∙◌, ℕ, true, not, List, slice_get, Option, Some, None, Contains}
 use Rattle.std.specs.Option.{IfSome, is_some}
 use Rattle.std.proofs.lemmas.Bool.{false≢true}
+use Rattle.hs_scheme.proofs.Lists.{Contains-at}
 use Rattle.hs_table.specs.Entries.{EntryData}
-use Rattle.hs_table_laws.proofs.Places.{member_at}
 use Rattle.hs_types.specs.Interned.{entry_of}
 use Rattle.hs_rules.specs.Conclusions.{DeducedData}
 use Rattle.hs_core_examples.proofs.Lists.{one_more}
@@ -10,7 +10,7 @@ use Rattle.hs_core_examples.proofs.following.has_all.Goals as goal
 
 found_in : (log : List EntryData) (e : EntryData) (o : Option ℕ) → IfSome o (λ place. slice_get log place ≡ Some e) → is_some o ≡ true → Contains log e
 found_in log e None h some = absurd (false≢true some)
-found_in log e (Some place) h some = member_at log place e h
+found_in log e (Some place) h some = Contains-at log place e h
 
 pub loop-deduced-preserved : goal.loop-deduced-preserved
 loop-deduced-preserved c =

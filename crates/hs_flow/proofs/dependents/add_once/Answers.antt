@@ -1,7 +1,7 @@
 use Rattle.std.proofs.Common.{◌≡◌, sym, ◌∙◌, ap, subst, ℕ, ◌-◌, List, length, slice_get, Some, None}
 use Rattle.std.specs.Option.{option_copied}
 use Rattle.std.proofs.lemmas.Result.{on_ok_weaker}
-use Rattle.hs_scheme.proofs.DemandLemmas.{some_same}
+use Rattle.std.proofs.lemmas.Option.{same_Some}
 use Rattle.hs_flow.specs.Lists.{list_of}
 use Rattle.hs_flow.proofs.ListLemmas.{list-read}
 use Rattle.hs_flow.proofs.DependentLemmas.{pushed_adds}
@@ -16,7 +16,7 @@ returns c =
     let xs : c.list.result.now ≡ list_of c.args.lists.now c.args.number = sym (list-read c.args.lists.now c.args.number c.list.result.now c.list.ensures) in
     let apart : (x : ℕ) → slice_get c.list.result.now (length c.list.result.now - 1) ≡ Some x → x ≡ c.args.point → ⊥ =
     λ x at same. elim c.match-last.branch [
-      | in-Some+else-last-point w ↦ w.if-last-point.false (some_same _ _ (ap option_copied (sym w.in-Some.is) ∙ (c.last.ensures.value ∙ at)) ∙ same)
+      | in-Some+else-last-point w ↦ w.if-last-point.false (same_Some _ _ (ap option_copied (sym w.in-Some.is) ∙ (c.last.ensures.value ∙ at)) ∙ same)
       | in_default w ↦ none_some x (ap option_copied (sym w.in_default.is) ∙ (c.last.ensures.value ∙ at))
     ] in
     on_ok_weaker c.push.result (λ p. pushed_adds c.args.lists.now c.push.new.self c.args.number c.args.point p.len p.each

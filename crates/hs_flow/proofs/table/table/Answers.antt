@@ -5,8 +5,9 @@ use Rattle.hs_scheme.specs.declared.flow.HeadPair.{HeadPair}
 use Rattle.hs_scheme.specs.declared.flow.Pair.{Pair}
 use Rattle.hs_scheme.specs.Flow.{FlowData, IsFlowTable, pairs_of, head_cmp}
 use Rattle.hs_scheme.proofs.FlowLemmas.{head_cmp_total, head_cmp-equal}
+use Rattle.hs_scheme.proofs.Orderings.{ascends}
 use Rattle.hs_flow.specs.Tables.{flows_in, heads_in}
-use Rattle.hs_flow.proofs.TableLemmas.{length-split, same_pairs, heads_once, ascends, all_parameters}
+use Rattle.hs_flow.proofs.TableLemmas.{length-split, same_pairs, heads_once, all_parameters}
 use Rattle.hs_flow.proofs.table.table.Goals as goal
 
 pub of-requires-clause-ascending : goal.of-requires-clause-ascending

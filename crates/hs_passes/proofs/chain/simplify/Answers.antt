@@ -1,5 +1,6 @@
 use Rattle.std.proofs.Common.{◌^◌, add-one, ◌∙◌, ap, length, arith}
-use Rattle.hs_passes.proofs.Chaining.{on_err, none_applied, tally_below, one_applied, stopped, stopped_images, made_by_all, same_images, all_raised, sum_rose}
+use Rattle.hs_scheme.proofs.Lists.{on_err}
+use Rattle.hs_passes.proofs.Chaining.{none_applied, tally_below, one_applied, stopped, stopped_images, made_by_all, same_images, all_raised, sum_rose}
 use Rattle.hs_passes.proofs.chain.simplify.Goals as goal
 
 pub loop-pass-init : goal.loop-pass-init

@@ -1,11 +1,12 @@
 use Rattle.std.proofs.Common.{◌≡◌, ◌+◌, sym, ◌∙◌, ap, subst, ℕ, Bool, true, false, length, take, arith}
 use Rattle.std.specs.Prelude.{◌||◌, ◌&&◌}
 use Rattle.std.proofs.lemmas.List.{take_all, length-take-le}
+use Rattle.std.proofs.Math.Bool.{or-false}
 use Rattle.hs_scheme.specs.Tree.{node, forest}
 use Rattle.hs_passes.specs.Leaving.{keeps}
 use Rattle.hs_passes.specs.Unused.{needs_at}
 use Rattle.hs_passes.specs.Needing.{live, live_in, kept, GainsFlags}
-use Rattle.hs_passes.proofs.Marks.{gains_both, gains_same, live_in-more, or_assoc, or_nothing, whole}
+use Rattle.hs_passes.proofs.Marks.{gains_both, gains_same, live_in-more, or_assoc, whole}
 use Rattle.hs_passes.proofs.needing.+mark_term.Goals as goal
 use Rattle.hs_passes.proofs.needing.+mark_term.Goals.{then-stays_behind, else-stays_behind}
 
@@ -38,7 +39,7 @@ loop-i-preserved t c =
           let off : p i ≡ false = sym c.stays_behind.ensures ∙ w.if-stays_behind.false in
           subst (λ ns. GainsFlags counts old ns after) (sym w.needed-is)
           (gains_same counts old c.loop-i.needed before after
-          (λ f j q. ap (λ b. here f j || b) (sym (more f j ∙ (ap (λ b. live_in keep g f j p (forest (take i us)) || (b && live keep g f j u)) off ∙ or_nothing (live_in keep g f j p (forest (take i us)))))))
+          (λ f j q. ap (λ b. here f j || b) (sym (more f j ∙ (ap (λ b. live_in keep g f j p (forest (take i us)) || (b && live keep g f j u)) off ∙ or-false (live_in keep g f j p (forest (take i us)))))))
           c.loop-i.invariant)
     ]
 

@@ -1,10 +1,10 @@
 use Rattle.std.proofs.Common.{◌≡◌, sym, ◌∙◌, ap, subst as along, length, arith, ℕ, ◌<◌, List}
 use Rattle.std.proofs.lemmas.List.Elements.{All-weaker}
+use Rattle.std.proofs.lemmas.Option.{get_or_from_slice_get}
 use Rattle.hs_scheme.specs.Points.{PointsData}
 use Rattle.hs_scheme.specs.Problem.{ProblemData}
 use Rattle.hs_table.specs.Entries.{EntryData}
 use Rattle.hs_table.specs.Follows.{Support}
-use Rattle.hs_table_laws.proofs.Places.{read_from}
 use Rattle.hs_naming.specs.Evidence.{Evidence, Packs, evidence, no_packs, stacked}
 use Rattle.hs_naming.specs.Naming.{support_at, point_at, terminal_of, argument_packs}
 use Rattle.hs_core.specs.Core.{log_of, state_of}
@@ -78,6 +78,6 @@ returns-clause-turn c = λ own packs nothing at piled.
     let By : Support → ℕ → Type 0 = λ (x : Support) (r : ℕ).
     Turns b new c.args.spot.number x.head (terminal_of (point_at p r).head) of (stacked (argument_packs give 0 (point_at p r).args x.args) packs) items turn in
     along (λ (r : ℕ). By (support_at supports place) r) (ap (λ (e : EntryData). e.point) (sym c.row_at-point.ensures.entry))
-    (along (λ (x : Support). By x q) (sym (read_from supports place s _ c.support.ensures))
+    (along (λ (x : Support). By x q) (sym (get_or_from_slice_get supports place s _ c.support.ensures))
     (along (λ (us : List ℕ). Turns b new c.args.spot.number s.head (terminal_of (point_at p q).head) of (stacked (argument_packs give 0 us s.args) packs) items turn) are
     (along (λ (a : ℕ). Turns b new c.args.spot.number s.head a of full items turn) c.terminal_at-terminal.ensures turned)))

@@ -1,7 +1,8 @@
 use Rattle.std.proofs.Common.{◌≡◌, ap, sym, ◌∙◌, slice_get, rules}
 use Rattle.hs_scheme.specs.Tree.{node, forest}
+use Rattle.hs_scheme.proofs.Lists.{got_some, got_none}
 use Rattle.hs_reduce.specs.Graph.{term_at, terms_at, head_of}
-use Rattle.hs_reduce.proofs.ReplacementLemmas.{got_some, got_none, whole, parameter, other_head}
+use Rattle.hs_reduce.proofs.ReplacementLemmas.{whole, parameter, other_head}
 use Rattle.hs_reduce.proofs.replacement.front_of.Goals as goal
 use Rattle.hs_reduce.proofs.replacement.front_of.Goals.{in-Var+in_default-get, in_default}
 

@@ -2,7 +2,7 @@ use Rattle.std.proofs.Common.{◌≡◌, sym, ◌∙◌, length}
 use Rattle.std.proofs.lemmas.Bool.{eqb-true}
 use Rattle.std.proofs.lemmas.List.{nil_from_length}
 use Rattle.hs_scheme.specs.Tree.{node, forest}
-use Rattle.hs_reduce.proofs.ReplacementLemmas.{got_some}
+use Rattle.hs_scheme.proofs.Lists.{got_some}
 use Rattle.hs_reduce.proofs.replacement.shared.Goals as goal
 
 pub returns : goal.returns

@@ -1,4 +1,5 @@
-use Rattle.hs_reduce.proofs.ReplacementLemmas.{got_some, unfolding_adds}
+use Rattle.hs_scheme.proofs.Lists.{got_some}
+use Rattle.hs_reduce.proofs.ReplacementLemmas.{unfolding_adds}
 use Rattle.hs_reduce.proofs.replacement.unfold.Goals as goal
 
 pub returns : goal.returns

@@ -2,8 +2,8 @@ use Rattle.std.proofs.Common.{◌≡◌, refl, sym, ◌∙◌, ap, length, Some}
 use Rattle.std.proofs.lemmas.Bool.{ltb-false}
 use Rattle.hs_scheme.specs.Sorted.{SortedData}
 use Rattle.hs_scheme.specs.Automaton.{next}
+use Rattle.hs_scheme.proofs.Lists.{got_some}
 use Rattle.hs_reduce.specs.Graph.{term_at}
-use Rattle.hs_reduce.proofs.ReplacementLemmas.{got_some}
 use Rattle.hs_reduce.proofs.ReplayLemmas.{ends_at, off_at, child_within, goes_down}
 use Rattle.hs_reduce.proofs.replaying.descend.Goals as goal
 

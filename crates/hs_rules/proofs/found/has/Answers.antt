@@ -1,7 +1,8 @@
 use Rattle.std.proofs.Common.{sym, ◌∙◌, ap, Bool, ◌||◌, take}
 use Rattle.std.proofs.lemmas.Map.Made.{is_member-Decides}
+use Rattle.hs_replica.proofs.KeptLemmas.{row_same}
 use Rattle.hs_rules.specs.declared.joining.TheConstants.{FEW}
-use Rattle.hs_rules.proofs.FoundLemmas.{row_same, few_or_more}
+use Rattle.hs_rules.proofs.FoundLemmas.{few_or_more}
 use Rattle.hs_rules.proofs.found.has.Goals as goal
 
 pub returns-else-is_among : goal.returns-else-is_among

@@ -1,6 +1,6 @@
+use Rattle.hs_replica.proofs.KeptLemmas.{row_same}
 use Rattle.hs_types.specs.contracts.ids.RowPartialEq.TheImpl.{eq-value}
 use Rattle.hs_rules.proofs.SetLemmas.{set_new}
-use Rattle.hs_rules.proofs.FoundLemmas.{row_same}
 use Rattle.hs_rules.proofs.found.keep.Goals as goal
 
 pub returns-clause-more : goal.returns-clause-more

@@ -1,10 +1,12 @@
 use Rattle.std.proofs.Common.{refl, sym, ◌∙◌, ap, subst, ℕ, ◌<◌, List, [], length, map, take, Option, Some, OnOk, Contains, ◌⊎◌}
 use Rattle.std.proofs.lemmas.List.Elements.{All-contains}
+use Rattle.std.proofs.lemmas.Option.{get_or_from_slice_get}
 use Rattle.hs_scheme.specs.Points.{PointData, PointsData, IsArgument}
 use Rattle.hs_scheme.specs.Problem.{ProblemData}
+use Rattle.hs_scheme.proofs.Lists.{Contains-at}
 use Rattle.hs_table.specs.Types.{state}
 use Rattle.hs_table.specs.Entries.{Env, EntryData, InShape}
-use Rattle.hs_table_laws.proofs.Places.{within_from, to_take, member_at, read_from}
+use Rattle.hs_table_laws.proofs.Places.{within_from, to_take}
 use Rattle.hs_types.specs.Interned.{InternerData, type_of_id, set_of_id, env_of_id, entry_of, IsInterner}
 use Rattle.hs_rules.specs.Conclusions.{DeducedData, Uses}
 use Rattle.hs_rules.specs.Found.{SearchData, HeadData, HaveEnvs, RowsAre, HeadLeadsTo, IsConclusion, HasEnvFound}
@@ -21,7 +23,7 @@ place_of-requires c =
     let log = c.args.replica.now.log in
     let E = take c.args.search.now.limit log in
     let e0 = entry_of c.args.replica.now.ids c.row-row.result in
-    let s = All-contains (InShape p) E e0 c.requires.spot.shapes (member_at E c.args.place e0 (to_take c.args.search.now.limit log c.args.place e0 c.requires.place c.row-row.ensures.entry)) in
+    let s = All-contains (InShape p) E e0 c.requires.spot.shapes (Contains-at E c.args.place e0 (to_take c.args.search.now.limit log c.args.place e0 c.requires.place c.row-row.ensures.entry)) in
     subst (λ (x : PointsData). c.row-row.result.point < length x.points) (sym (ap (λ (q : ProblemData). q.points) c.problem.view_is)) (within_from p.points.points e0.point s.of s.at)
 
 pub heads_asking-requires-clause-search : goal.heads_asking-requires-clause-search
@@ -34,7 +36,7 @@ heads_asking-requires-clause-search c =
     let point = c.args.search.now.point in
     let of : PointData = record { rule = c.args.spot.now.rule; head = c.args.head; args = c.args.search.now.args.now } in
     let is_place = subst (λ (x : PointsData). IsOnlyPlaceOf x point e0.point arg) (ap (λ (q : ProblemData). q.points) c.problem.view_is) c.in-Some.ensures in
-    let e0_is = read_from log c.args.place e0 (record { point = 0; env = []; ty = state 0 }) c.row-row.ensures.entry in
+    let e0_is = get_or_from_slice_get log c.args.place e0 (record { point = 0; env = []; ty = state 0 }) c.row-row.ensures.entry in
     record {
       indexed = c.requires.search.indexed;
       limited = c.requires.search.limited;
@@ -61,7 +63,7 @@ conclude_all-requires-clause-search c =
     let point = c.args.search.now.point in
     let of : PointData = record { rule = c.args.spot.now.rule; head = c.args.head; args = c.args.search.now.args.now } in
     let is_place = subst (λ (x : PointsData). IsOnlyPlaceOf x point e0.point arg) (ap (λ (q : ProblemData). q.points) c.problem.view_is) c.in-Some.ensures in
-    let e0_is = read_from log c.args.place e0 (record { point = 0; env = []; ty = state 0 }) c.row-row.ensures.entry in
+    let e0_is = get_or_from_slice_get log c.args.place e0 (record { point = 0; env = []; ty = state 0 }) c.row-row.ensures.entry in
     can_search_later c.args.replica.now c.heads_asking.new.replica c.args.search.now.args.now c.args.search.now.limit (Some (record { arg = c.in-Some.arg; place = c.args.place })) c.in_ok-heads.ensures.kept
     (record {
       indexed = c.requires.search.indexed;

@@ -1,6 +1,6 @@
 use Rattle.std.proofs.Common.{refl, sym, ◌∙◌, ap, subst, ℕ, arith, List, length, take, None, OnOk, Contains, ◌⊎◌}
-use Rattle.hs_table_laws.proofs.Places.{none_in}
 use Rattle.hs_scheme.specs.Points.{PointData}
+use Rattle.hs_scheme.proofs.Lists.{none_in}
 use Rattle.hs_table.specs.Entries.{Env, EntryData, InShape}
 use Rattle.hs_rules.specs.Conclusions.{DeducedData, AnySupport}
 use Rattle.hs_rules.specs.Found.{SearchData, HeadData, RowsAre, HeadLeadsTo, IsConclusion, HasEnvFound}

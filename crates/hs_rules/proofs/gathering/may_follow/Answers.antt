@@ -1,13 +1,13 @@
 use Rattle.std.proofs.Common.{◌≡◌, ap, subst, ◌∷◌, [], slice_get, take, Option, Some}
 use Rattle.std.specs.Bool.{OnFalse}
 use Rattle.std.proofs.lemmas.Bool.{OnFalse_from, OnFalse_at}
+use Rattle.std.proofs.lemmas.Result.{IfOk-weaker}
 use Rattle.hs_scheme.specs.declared.term.Head.{Head}
 use Rattle.hs_table.specs.Entries.{EntryData}
 use Rattle.hs_table.specs.Follows.{head_premise, Support, FollowsBy}
 use Rattle.hs_rules.specs.Slots.{FixedData}
 use Rattle.hs_rules.specs.Filling.{fixed_of}
 use Rattle.hs_rules.specs.Shut.{IsBodyShut}
-use Rattle.hs_rules.proofs.Lists.{if_ok_map}
 use Rattle.hs_rules.proofs.ShutLemmas.{nothing_by}
 use Rattle.hs_rules.proofs.gathering.may_follow.Goals as goal
 
@@ -20,7 +20,7 @@ returns-in-Nt-clause-nothing c =
     let f = c.in-Nt.nonterminal in
     let at = subst (λ (h : Head). slice_get p.points.points s.point ≡ Some (record { rule = c.args.spot.now.rule; head = h; args = s.args.now })) c.in-Nt.is c.requires.at in
     let free = ap (fixed_of log) c.requires.free in
-    if_ok_map c.is_body_open.result (λ may. OnFalse may (IsBodyShut p E (fixed_of log s.fixed) s.args.now f c.args.place))
+    IfOk-weaker c.is_body_open.result (λ may. OnFalse may (IsBodyShut p E (fixed_of log s.fixed) s.args.now f c.args.place))
     (λ may. OnFalse may ((d : Support) (e : EntryData) → e.point ≡ s.point → FollowsBy p E d e → head_premise d.head ≡ c.args.place ∷ [] → ⊥))
     (λ may shut. OnFalse_from may ((d : Support) (e : EntryData) → e.point ≡ s.point → FollowsBy p E d e → head_premise d.head ≡ c.args.place ∷ [] → ⊥) (λ no.
     nothing_by p E c.args.spot.now.rule f c.args.place s.args.now s.point at

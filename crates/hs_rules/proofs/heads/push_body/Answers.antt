@@ -1,8 +1,8 @@
 use Rattle.std.proofs.Common.{◌≡◌, sym, ◌∙◌, ap, subst, map}
+use Rattle.std.proofs.lemmas.Option.{same_Some}
 use Rattle.hs_table.specs.declared.support.HeadBy.TheVariants.{Rule}
 use Rattle.hs_table.specs.Types.{state, arrows}
 use Rattle.hs_table.specs.Entries.{Env, EntryData}
-use Rattle.hs_table_laws.proofs.Places.{some_same}
 use Rattle.hs_types.specs.Interned.{InternerData, type_of_id, set_of_id, env_of_id, entry_of}
 use Rattle.hs_rules.specs.Heads.{GainsHeads, Just, BodyAt}
 use Rattle.hs_rules.proofs.Lists.{on_ok_map}
@@ -28,6 +28,6 @@ returns-clause-gains c =
     (heads_same K c.args.count (Just (Rule c.args.place) own given) (BodyAt log own c.args.place) c.args.out.now.items c.push_given.new.out.items
     (λ by o t j. record { entry = e; at = c.row-row.ensures.entry; is_state = (c.in_default.field-0, subst (λ (J : InternerData). type_of_id J row.ty ≡ state c.in_default.field-0) c.interner.ensures c.in_default.ensures); just = (j.0, j.1, j.2 ∙ is) })
     (λ by o t b.
-    let same = some_same b.entry e (sym b.at ∙ c.row-row.ensures.entry) in
+    let same = same_Some b.entry e (sym b.at ∙ c.row-row.ensures.entry) in
     (b.just.0, b.just.1, b.just.2 ∙ (ap (λ (x : EntryData). arrows x.env x.ty) same ∙ sym is))))
     c.push_given.ensures.gains

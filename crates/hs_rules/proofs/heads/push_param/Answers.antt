@@ -1,9 +1,8 @@
 use Rattle.std.proofs.Common.{◌≡◌, refl, sym, ◌∙◌, ap, subst, ◌∷◌, [], length, replicate, set}
-use Rattle.std.proofs.lemmas.Option.{slice_get_within, get_or_from_slice_get}
+use Rattle.std.proofs.lemmas.Option.{slice_get_within, get_or_from_slice_get, same_Some}
 use Rattle.hs_table.specs.declared.support.HeadBy.TheVariants.{Param}
 use Rattle.hs_table.specs.Types.{TypeTree, arrows}
 use Rattle.hs_table.specs.Entries.{Env, EntryData}
-use Rattle.hs_table_laws.proofs.Places.{some_same}
 use Rattle.hs_types.specs.Interned.{InternerData, type_of_id, entry_of}
 use Rattle.hs_types.proofs.Numbers.{type_within, type_stays}
 use Rattle.hs_rules.specs.Found.{HeadData}
@@ -37,4 +36,4 @@ returns-clause-gains c =
       long = s.long;
     })
     (record { entry = e; at = c.row-row.ensures.entry; just = (refl, get_or_from_slice_get K.envs own own_env [] c.in_ok-own.ensures.ok, is) })
-    (λ by o t p. p.just.2 ∙ (ap (λ (x : EntryData). x.ty) (some_same p.entry e (sym p.at ∙ c.row-row.ensures.entry)) ∙ sym is))
+    (λ by o t p. p.just.2 ∙ (ap (λ (x : EntryData). x.ty) (same_Some p.entry e (sym p.at ∙ c.row-row.ensures.entry)) ∙ sym is))

@@ -1,7 +1,8 @@
 use Rattle.std.proofs.Common.{sym, ◌∙◌, ap, subst, List, take, slice_get, inl, inr, Contains}
 use Rattle.std.proofs.lemmas.List.{take_all}
+use Rattle.hs_scheme.proofs.Lists.{Contains-at}
 use Rattle.hs_types.proofs.Numbers.{env_within}
-use Rattle.hs_table_laws.proofs.Places.{place_of, member_at, at_take}
+use Rattle.hs_table_laws.proofs.Places.{place_of, at_take}
 use Rattle.hs_rules.specs.Joins.{PartialData, IsCovered}
 use Rattle.hs_rules.proofs.Lists.{taken_cases}
 use Rattle.hs_rules.proofs.KeepLemmas.{keeps_then}
@@ -55,7 +56,7 @@ loop-partial-preserved c =
     }
   where
     in_all : (from : PartialData) → Contains (take c.loop-partial.partial-index c.args.partials.now) from → Contains c.args.partials.now from
-    in_all from there = let p = place_of (take c.loop-partial.partial-index c.args.partials.now) from there in member_at c.args.partials.now p.0 from (at_take c.loop-partial.partial-index c.args.partials.now p.0 from p.1).1
+    in_all from there = let p = place_of (take c.loop-partial.partial-index c.args.partials.now) from there in Contains-at c.args.partials.now p.0 from (at_take c.loop-partial.partial-index c.args.partials.now p.0 from p.1).1
 
 pub returns-clause-all : goal.returns-clause-all
 returns-clause-all c = λ from there.

@@ -1,6 +1,8 @@
 use Rattle.std.proofs.Common.{◌≡◌, refl, sym, ◌∙◌, ap, subst, ℕ, ◌<◌, List, [], ◌∷◌, ◌++◌, length, take, slice_get, slice_index_or, Contains}
+use Rattle.std.proofs.lemmas.Option.{same_Some}
+use Rattle.hs_scheme.proofs.Lists.{here}
 use Rattle.hs_table.specs.Entries.{EntryData}
-use Rattle.hs_table_laws.proofs.Places.{here, some_same, within_from}
+use Rattle.hs_table_laws.proofs.Places.{within_from}
 use Rattle.hs_table_laws.proofs.Members.{taken_next}
 use Rattle.hs_types.specs.Interned.{env_of_id, entry_of}
 use Rattle.hs_rules.specs.Slots.{FilledData}
@@ -42,7 +44,7 @@ union_envs-requires-clause-long c =
     let one : f.places ≡ place ∷ [] = sym (c.as_slice-places.ensures ∙ ap (λ (x : FilledData). x.places) c.slot.view_is) ∙ single items c.if-places-ne1.false in
     let placed = c.requires.placed f (c.loop-slot.slot-index, c.loop-slot-test.true, sym c.slot-item.is) place (subst (λ (ps : List ℕ). Contains ps place) (sym one) (here place [])) in
     let at = ap (λ (l : List EntryData). slice_get l place) (sym c.loop-slot.invariant.kept.log) ∙ c.row-candidate.ensures.entry in
-    let same = some_same placed.entry (entry_of J c.row-candidate.result) (sym placed.at ∙ at) in
+    let same = same_Some placed.entry (entry_of J c.row-candidate.result) (sym placed.at ∙ at) in
     (c.loop-slot.invariant.joined.sound x (here x [])).join.is_env.long ∙ (sym placed.env.long ∙ ap (λ (e : EntryData). length e.env) same)
 
 pub loop-slot-preserved : goal.loop-slot-preserved

@@ -2,9 +2,10 @@ use Rattle.std.proofs.Common.{◌≡◌, sym, ◌∙◌, ap, subst, length, map,
 use Rattle.std.specs.Bool.{OnFalse}
 use Rattle.std.proofs.lemmas.Bool.{OnFalse_from, OnFalse_at}
 use Rattle.std.proofs.lemmas.List.{length-map, take-map}
+use Rattle.std.proofs.lemmas.Option.{same_Some}
 use Rattle.hs_table.specs.Types.{state, arrows}
 use Rattle.hs_table.specs.Entries.{Env, EntryData}
-use Rattle.hs_table_laws.proofs.Places.{some_same, to_take}
+use Rattle.hs_table_laws.proofs.Places.{to_take}
 use Rattle.hs_types.specs.Interned.{InternerData, set_of_id, env_of_id, entry_of}
 use Rattle.hs_replica.specs.Replica.{ReplicaData}
 use Rattle.hs_rules.specs.Slots.{SlotData, slots, IsCandidate, Picked}
@@ -21,7 +22,7 @@ returns-then-sets-count-clause-shut c = λ sets rest from long args es picked.
     let log = c.args.replica.now.log in
     let e0 = entry_of ids c.row-row.result in
     let full = c.sets-sets.result.now in
-    let same : from.entry ≡ e0 = some_same from.entry e0 (sym from.holds.at ∙ to_take limit log c.args.place e0 c.requires.place c.row-row.ensures.entry) in
+    let same : from.entry ≡ e0 = same_Some from.entry e0 (sym from.holds.at ∙ to_take limit log c.args.place e0 c.requires.place c.row-row.ensures.entry) in
     let env_is : map (set_of_id ids) full ≡ e0.env = subst (λ (I : InternerData). map (set_of_id I) full ≡ env_of_id I c.row-row.result.env) (c.interner.ensures ∙ ap (λ (q : ReplicaData). q.ids) c.in_ok-list_args.ensures.kept.same) c.sets-sets.ensures.sets in
     let is : arrows (map (set_of_id ids) full) (state from.q) ≡ arrows sets rest = ap (λ (e : Env). arrows e (state from.q)) env_is ∙ (ap (λ (e : EntryData). arrows e.env (state from.q)) (sym same) ∙ sym from.is) in
     omega (arith, arrows_long (map (set_of_id ids) full) sets from.q rest is, long, c.if-sets-count.true, length-map full (set_of_id ids))
@@ -34,7 +35,7 @@ returns-clause-shut c = OnFalse_from c.is_open.result (IsBodyShut c.args.spot.no
     let us = c.args.search.now.args.now in
     let e0 = entry_of ids c.row-row.result in
     let full = c.sets-sets.result.now in
-    let same : from.entry ≡ e0 = some_same from.entry e0 (sym from.holds.at ∙ to_take limit log c.args.place e0 c.requires.place c.row-row.ensures.entry) in
+    let same : from.entry ≡ e0 = same_Some from.entry e0 (sym from.holds.at ∙ to_take limit log c.args.place e0 c.requires.place c.row-row.ensures.entry) in
     let env_is : map (set_of_id ids) full ≡ e0.env = subst (λ (I : InternerData). map (set_of_id I) full ≡ env_of_id I c.row-row.result.env) (c.interner.ensures ∙ ap (λ (q : ReplicaData). q.ids) c.in_ok-list_args.ensures.kept.same) c.sets-sets.ensures.sets in
     let is : arrows (map (set_of_id ids) full) (state from.q) ≡ arrows sets rest = ap (λ (e : Env). arrows e (state from.q)) env_is ∙ (ap (λ (e : EntryData). arrows e.env (state from.q)) (sym same) ∙ sym from.is) in
     let first = arrows_first (length us) (map (set_of_id ids) full) sets (state from.q) rest (omega (arith, c.if-sets-count.false, length-map full (set_of_id ids))) long is in

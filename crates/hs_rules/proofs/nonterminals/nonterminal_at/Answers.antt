@@ -1,12 +1,11 @@
 use Rattle.std.proofs.Common.{◌≡◌, sym, ◌∙◌, ap, subst, ℕ, ◌<◌, List, ◌∷◌, [], length, replicate, get_or, take, slice_get, Some, Contains, arith}
-use Rattle.std.proofs.lemmas.Option.{slice_get-get_or, slice_get_within, get_or_from_slice_get}
+use Rattle.std.proofs.lemmas.Option.{slice_get-get_or, slice_get_within, get_or_from_slice_get, same_Some}
 use Rattle.std.proofs.lemmas.List.Elements.{All-contains}
 use Rattle.hs_scheme.specs.Points.{PointsData}
 use Rattle.hs_scheme.specs.Problem.{ProblemData}
 use Rattle.hs_table.specs.Entries.{Env, EntryData, InShape, params_of}
 use Rattle.hs_scheme.specs.declared.term.Head.TheVariants.{Nt}
-use Rattle.hs_table_laws.proofs.Places.{some_same, none_in, here}
-use Rattle.hs_table_laws.proofs.Members.{only}
+use Rattle.hs_scheme.proofs.Lists.{none_in, here, only}
 use Rattle.hs_rules.specs.Found.{HeadData}
 use Rattle.hs_types.specs.Interned.{env_of_id, entry_of}
 use Rattle.hs_rules.specs.Heads.{GainsHeads, BodyAt, AtSome, AreHeads, ComesFrom}
@@ -33,7 +32,7 @@ returns-then-row-body-clause-heads c =
     subst (λ (heads : List HeadData). AreHeads p (take limit log) (record { rule = c.args.spot.now.rule; head = Nt f; args = args }) I (ComesFrom c.args.place) heads) (sym c.new.ensures.items)
     (bodies_from_place p log limit c.args.spot.now.rule args shapes f body body_is I [] [] c.args.place
     (λ place e there at. absurd (none_in place there))
-    (λ e at point_is. absurd (c.if-row-body.true (ap (λ (z : EntryData). z.point) (some_same e0 e (sym c.row.ensures.entry ∙ at)) ∙ point_is)))
+    (λ e at point_is. absurd (c.if-row-body.true (ap (λ (z : EntryData). z.point) (same_Some e0 e (sym c.row.ensures.entry ∙ at)) ∙ point_is)))
     none)
 
 pub push_bodies-requires-clause-places : goal.push_bodies-requires-clause-places
@@ -69,7 +68,7 @@ returns-clause-heads c =
     bodies_from_place p log limit c.args.spot.now.rule args shapes f body body_is K (c.args.place ∷ []) heads c.args.place
     (λ place e there at.
     let is = only c.args.place place there in
-    let e_is = some_same e e0 (sym at ∙ (ap (λ k. slice_get log k) is ∙ c.row.ensures.entry)) in
+    let e_is = same_Some e e0 (sym at ∙ (ap (λ k. slice_get log k) is ∙ c.row.ensures.entry)) in
     (is, omega (arith, is, c.requires.place), ap (λ (z : EntryData). z.point) e_is ∙ c.if-row-body.false))
     (λ e at point_is. here c.args.place [])
     gains

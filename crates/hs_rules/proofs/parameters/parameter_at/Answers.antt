@@ -1,12 +1,12 @@
 use Rattle.std.proofs.Common.{refl, sym, ◌∙◌, ap, subst, ℕ, ◌<◌, ◌&&◌, nat_eq, filter, List, ◌∷◌, [], ◌≡◌, true, false, length, take, slice_get, Contains, arith}
 use Rattle.std.proofs.lemmas.List.Elements.{All-contains}
+use Rattle.std.proofs.lemmas.Option.{same_Some}
 use Rattle.hs_scheme.specs.declared.flow.FlowPair.{FlowPair}
 use Rattle.hs_scheme.specs.Problem.{ProblemData}
 use Rattle.hs_scheme.specs.declared.term.Head.TheVariants.{Var}
+use Rattle.hs_scheme.proofs.Lists.{none_in, here, only}
 use Rattle.hs_table.specs.Entries.{EntryData, InShape, params_of}
-use Rattle.hs_table_laws.proofs.Members.{only}
 use Rattle.hs_types.specs.Interned.{entry_of}
-use Rattle.hs_table_laws.proofs.Places.{some_same, none_in, here}
 use Rattle.hs_rules.specs.Found.{HeadData}
 use Rattle.hs_rules.specs.Heads.{GainsHeads, ParamAt, AtSome, AreHeads, ComesFrom}
 use Rattle.hs_rules.proofs.HeadLemmas.{heads_start}
@@ -31,7 +31,7 @@ returns-then-not-holds-clause-heads c =
     (params_from_place p log limit rule args shapes x (filter (λ (f : FlowPair). nat_eq f.rule rule && nat_eq f.param x) p.flow.pairs) refl I [] c.args.place []
     (λ place e there at. absurd (none_in place there))
     (λ e at flows_there.
-    let e_is = some_same e e0 (sym at ∙ c.row-row.ensures.entry) in
+    let e_is = same_Some e e0 (sym at ∙ c.row-row.ensures.entry) in
     let t = c.holds.ensures.1 (subst (λ (u : ℕ). Contains c.problem.inside.flow.pairs (pair u)) (ap (λ (z : EntryData). z.point) e_is) (subst (λ (fs : List FlowPair). Contains fs (pair e.point)) (sym flows) flows_there)) in
     let f : true ≡ false = sym t ∙ c.if-not-holds.true in absurd (cc))
     (heads_start I (length args) (ParamAt log (params_of p rule) x) []))
@@ -61,7 +61,7 @@ returns-clause-heads c =
     params_from_place p log limit rule args shapes x (filter (λ (f : FlowPair). nat_eq f.rule rule && nat_eq f.param x) p.flow.pairs) refl K heads c.args.place (c.args.place ∷ [])
     (λ place e there at.
     let is = only c.args.place place there in
-    let e_is = some_same e e0 (sym at ∙ (ap (λ k. slice_get log k) is ∙ row_at)) in
+    let e_is = same_Some e e0 (sym at ∙ (ap (λ k. slice_get log k) is ∙ row_at)) in
     (is, omega (arith, is, c.requires.place), subst (λ (fs : List FlowPair). Contains fs (pair e.point)) flows (subst (λ (u : ℕ). Contains c.problem.inside.flow.pairs (pair u)) (sym (ap (λ (z : EntryData). z.point) e_is)) (c.holds.ensures.0 c.if-not-holds.false))))
     (λ e at flows_there. here c.args.place [])
     gains

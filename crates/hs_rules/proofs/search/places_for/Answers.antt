@@ -1,8 +1,9 @@
 use Rattle.std.proofs.Common.{◌≡◌, sym, ◌∙◌, ◌<◌, ap, subst, ℕ, [], true, false, length, take, Contains, ◌↔◌}
 use Rattle.std.proofs.lemmas.Bool.{eq-eqb}
+use Rattle.std.proofs.lemmas.Result.{IfOk-weaker}
+use Rattle.std.proofs.lemmas.Option.{get_or_from_slice_get}
 use Rattle.hs_table.specs.Types.{state}
 use Rattle.hs_table.specs.Entries.{EntryData}
-use Rattle.hs_table_laws.proofs.Places.{read_from}
 use Rattle.hs_types.specs.Interned.{InternerData, type_of_id, entry_of, IsInterner}
 use Rattle.hs_types.proofs.Numbers.{same_type}
 use Rattle.hs_rules.specs.Slots.{Respects, IsCandidate}
@@ -10,7 +11,6 @@ use Rattle.hs_rules.specs.Filling.{fixed_of}
 use Rattle.hs_replica.specs.Places.{typed, ArePlaces}
 use Rattle.hs_replica.specs.Replica.{ReplicaData, typed_to}
 use Rattle.hs_rules.proofs.KeepLemmas.{as_before}
-use Rattle.hs_rules.proofs.Lists.{if_ok_map}
 use Rattle.hs_rules.proofs.FillLemmas.{free_none, free_arg, free_type, free_candidates}
 use Rattle.hs_rules.proofs.search.places_for.Goals as goal
 use Rattle.hs_rules.proofs.search.places_for.Goals.{in-Some+else-fixed-arg, else-fixed-arg-via-then-fixed-arg+else-eq, else-fixed-arg-via-else-fixed-arg, in_default}
@@ -23,7 +23,7 @@ returns-clause-candidates c =
     let free : (place : ℕ) → Respects (fixed_of log c.args.search.now.fixed) (record { arg = c.args.arg; point = c.args.point; ty = ty }) place = λ place. elim c.match-search.branch [
       | in-Some+else-fixed-arg w ↦ elim w.else-fixed-arg.branch [
         | else-fixed-arg-via-then-fixed-arg+else-eq w' ↦ free_type log c.args.search.now.fixed c.args.arg c.args.point ty place w.in-Some.fixed w.in-Some.is (λ e.
-            let read = read_from log w.in-Some.fixed.place (entry_of ids w'.row.result) (record { point = 0; env = []; ty = state 0 }) w'.row.ensures.entry in
+            let read = get_or_from_slice_get log w.in-Some.fixed.place (entry_of ids w'.row.result) (record { point = 0; env = []; ty = state 0 }) w'.row.ensures.entry in
             let numbers = subst (λ (I : InternerData). IsInterner I) c.interner.ensures c.numbers_are_exact.ensures in
             let same = same_type ids numbers w'.row.result.ty c.args.ty w'.row.ensures.row.1 c.requires.ty (sym (ap (λ (x : EntryData). x.ty) read) ∙ e) in
             let f : true ≡ false = sym (eq-eqb w'.row.result.ty c.args.ty same) ∙ (sym w'.eq.ensures ∙ w'.if-eq.false) in
@@ -37,6 +37,6 @@ returns-clause-candidates c =
     let kept = c.in_ok-list_types.ensures.kept in
     let told : typed_to then c.args.point ≡ length log = c.in_ok-list_types.ensures.ok ∙ (ap (λ (r : ReplicaData). r.indexed) kept.same ∙ c.requires.search.indexed) in
     let are = as_before c.args.replica.now then kept (λ I es. ArePlaces es (typed_to then c.args.point) (typed c.args.point (type_of_id I c.args.ty)) c.with_type.result.now) c.with_type.ensures in
-    if_ok_map c.below.result (λ out. (place : ℕ) → Contains out.items place ↔ (Contains c.with_type.result.now place × (place < limit)))
+    IfOk-weaker c.below.result (λ out. (place : ℕ) → Contains out.items place ↔ (Contains c.with_type.result.now place × (place < limit)))
     (λ out. (place : ℕ) → Contains out.items place ↔ ((e : EntryData) × IsCandidate (take limit log) (fixed_of log c.args.search.now.fixed) (record { arg = c.args.arg; point = c.args.point; ty = ty }) place e))
     (λ out h. free_candidates log (typed_to then c.args.point) limit c.args.arg c.args.point ty (fixed_of log c.args.search.now.fixed) c.with_type.result.now out.items told c.requires.search.limited free are h) c.below.ensures

@@ -1,9 +1,8 @@
 use Rattle.std.proofs.Common.{◌≡◌, sym, ◌∙◌, ap, subst, ◌≤◌, ℕ, length, List, slice_get, Some}
 use Rattle.std.proofs.lemmas.Bool.{ltb-true, leb-true}
-use Rattle.std.proofs.lemmas.Option.{slice_get-get_or}
+use Rattle.std.proofs.lemmas.Option.{slice_get-get_or, same_Some}
 use Rattle.hs_scheme.specs.Transition.{TransitionData}
-use Rattle.hs_table_laws.proofs.Places.{some_same}
-use Rattle.hs_rules.proofs.SeedLemmas.{moves_at}
+use Rattle.hs_table.proofs.MoveLemmas.{moves_at}
 use Rattle.hs_rules.proofs.seeds.moves_by.Goals as goal
 
 pub returns-then-transition-q : goal.returns-then-transition-q
@@ -14,7 +13,7 @@ returns-then-transition-q c = λ h.
     let there = c.requires in
     let read = slice_get-get_or all i t (ltb-true i (length all) (sym c.in-Some.ensures.lookup.0)) ∙ ap (λ (u : TransitionData). Some u) (sym c.in-Some.ensures.lookup.1) in
     let at = subst (λ (us : List TransitionData). slice_get us i ≡ Some t) c.transitions.ensures read in
-    let same : there.0 ≡ t = some_same there.0 t (sym there.1.0 ∙ at) in
+    let same : there.0 ≡ t = same_Some there.0 t (sym there.1.0 ∙ at) in
     let terminal = sym (ap (λ (u : TransitionData). u.terminal) same) ∙ there.1.1 in
     let from : t.from ≡ c.args.q = ap (λ (u : TransitionData). u.from) (sym c.transition.view_is) ∙ c.if-transition-q.true in
     let to : c.as_slice.result.now ≡ t.to = c.as_slice.ensures.value ∙ ap (λ (u : TransitionData). u.to) c.transition.view_is in

@@ -3,7 +3,8 @@ use Rattle.hs_scheme.specs.declared.term.Head.{Head}
 use Rattle.hs_scheme.specs.Automaton.{AutomatonData}
 use Rattle.hs_scheme.specs.Sorted.{SortedData, IsSorted}
 use Rattle.hs_scheme.specs.Problem.{ProblemData}
-use Rattle.hs_rules.specs.Heads.{Moves, AreHeads, AsksNothing}
+use Rattle.hs_table.specs.Follows.{HasMove}
+use Rattle.hs_rules.specs.Heads.{AreHeads, AsksNothing}
 use Rattle.hs_rules.proofs.RankLemmas.{ranks_agree}
 use Rattle.hs_rules.proofs.SeedLemmas.{bodies_nothing, params_nothing, moving_nothing}
 use Rattle.hs_rules.proofs.seeds.starts_nothing.Goals as goal
@@ -16,7 +17,7 @@ returns-in-Tm c = λ rule ids t.
     let sorted_is : c.problem.inside.sorted ≡ p.sorted = ap (λ (q : ProblemData). q.sorted) c.problem.view_is in
     let m_is : c.sorted.inside.automaton ≡ p.sorted.automaton = ap (λ (q : SortedData). q.automaton) (c.sorted.view_is ∙ sorted_is) in
     let is_sorted : IsSorted p.sorted = subst (λ (q : SortedData). IsSorted q) (c.sorted.view_is ∙ sorted_is) c.sorted.invariant in
-    let moves = subst (λ (m : AutomatonData). (q : ℕ) → q < m.states → Moves m.transitions a (length args) q) m_is (c.moves_everywhere.ensures t) in
+    let moves = subst (λ (m : AutomatonData). (q : ℕ) → q < m.states → HasMove m.transitions a (length args) q) m_is (c.moves_everywhere.ensures t) in
     subst (λ (h : Head). AreHeads p [] (record { rule = rule; head = h; args = args }) ids AsksNothing []) (sym c.in-Tm.is)
     (moving_nothing p [] rule args ids [] a refl moves (λ q to moved. ranks_agree p.sorted is_sorted q a to moved))
 

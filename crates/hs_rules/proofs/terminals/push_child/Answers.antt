@@ -1,9 +1,8 @@
 use Rattle.std.proofs.Common.{◌≡◌, sym, ◌∙◌, ◌+◌, ◌∷◌, [], ap, ℕ, length, map, replicate, set, get_or, Some}
-use Rattle.std.proofs.lemmas.Option.{slice_get-get_or}
+use Rattle.std.proofs.lemmas.Option.{slice_get-get_or, same_Some}
 use Rattle.hs_table.specs.declared.support.HeadBy.TheVariants.{Terminal}
 use Rattle.hs_table.specs.Types.{state, arrows}
 use Rattle.hs_table.specs.Entries.{Env}
-use Rattle.hs_table_laws.proofs.Places.{some_same}
 use Rattle.hs_types.specs.Interned.{set_of_id, env_of_id}
 use Rattle.hs_types.proofs.Numbers.{env_within, env_stays}
 use Rattle.hs_rules.specs.Heads.{GainsHeads, Just, ChildAt}
@@ -37,6 +36,6 @@ returns-clause-gains c =
     (heads_same K c.args.count (Just by (env_of_id J c.args.own) (arrows full (state q))) (ChildAt own q to place) old new
     (λ b o t j. record { r = r; at = at; just = (j.0, j.1 ∙ own_is, j.2 ∙ is) })
     (λ b o t k.
-    let same = some_same k.r r (sym k.at ∙ at) in
+    let same = same_Some k.r r (sym k.at ∙ at) in
     (k.just.0, k.just.1 ∙ sym own_is, k.just.2 ∙ (ap (λ (x : ℕ). arrows (set (replicate (length to) []) place (state x ∷ [])) (state q)) same ∙ sym is))))
     c.push_state.ensures.gains

@@ -2,12 +2,13 @@ use Rattle.std.proofs.Common.{◌≡◌, sym, ◌∙◌, ap, subst, ℕ, ◌<◌
 use Rattle.std.proofs.lemmas.Option.{slice_get-get_or}
 use Rattle.hs_scheme.specs.declared.term.Head.TheVariants.{Tm}
 use Rattle.std.proofs.lemmas.List.Elements.{All-contains}
+use Rattle.std.proofs.lemmas.Result.{IfOk-weaker}
 use Rattle.hs_scheme.specs.Points.{PointData, PointsData, point_at, NonterminalWithin}
 use Rattle.hs_scheme.specs.Problem.{ProblemData}
 use Rattle.hs_table.specs.Entries.{EntryData, InShape, params_of}
 use Rattle.hs_table.specs.Follows.{Follows}
 use Rattle.hs_table_plain.specs.Enumeration as plain
-use Rattle.hs_table_plain.proofs.ConclusionLemmas.{all_at_exact, if_ok_map}
+use Rattle.hs_table_plain.proofs.ConclusionLemmas.{all_at_exact}
 use Rattle.hs_table_plain.proofs.following.conclusions.Goals as goal
 
 -- a part of the point of a number in range, as it stands in the list
@@ -24,7 +25,7 @@ returns-clause-each c =
     (part_at (λ d. d.head) p.points c.args.point c.head_of-head.result c.requires.point (subst (λ (x : PointsData). c.head_of-head.result ≡ (point_at x c.args.point).head) points c.head_of-head.ensures.head))
     (part_at (λ d. d.args) p.points c.args.point c.args_of-args.result.now c.requires.point (subst (λ (x : PointsData). c.args_of-args.result.now ≡ (point_at x c.args.point).args) points c.args_of-args.ensures.args))
     (subst (λ (x : PointsData). NonterminalWithin (length x.bodies) c.head_of-head.result) points c.head_of-head.ensures.within) in
-    if_ok_map c.gathered.result
+    IfOk-weaker c.gathered.result
     (λ found. (e : EntryData) → Contains found.items e ↔ Contains (plain.all_at p E c.args.point c.rule_of-rule.result (params_of p c.rule_of-rule.result) c.head_of-head.result c.args_of-args.result.now) e)
     (λ found. (e : EntryData) → Contains found.items e ↔ ((e.point ≡ c.args.point) × Follows p E e))
     (λ found each e. (λ there. (exact e).0 ((each e).0 there), λ both. (each e).1 ((exact e).1 both))) c.gathered.ensures.each

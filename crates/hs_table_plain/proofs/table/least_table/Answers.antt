@@ -1,7 +1,8 @@
 use Rattle.std.proofs.Common.{sym, ap, subst, length, List, [], ◌∷◌, ◌++◌, arith}
+use Rattle.std.proofs.lemmas.List.{length_push}
 use Rattle.hs_table.specs.Entries.{EntryData}
 use Rattle.hs_table.specs.Tables.{IsSupportedTable}
-use Rattle.hs_table_plain.proofs.TableLemmas.{supported_push, shapes_push, found_one, found_none, one_more}
+use Rattle.hs_table_plain.proofs.TableLemmas.{supported_push, shapes_push, found_one, found_none}
 use Rattle.hs_table_plain.proofs.table.least_table.Goals as goal
 
 pub returns-then-len-budget-clause-least : goal.returns-then-len-budget-clause-least
@@ -9,7 +10,7 @@ returns-then-len-budget-clause-least c =
     let p = c.args.problem.now in
     let log = c.loop-log.log.items in
     let found = found_one p c.as_slice.result.now log c.in_ok-entry.field-0 c.in-Some.entry c.as_slice.ensures.value c.in-Some.is c.in_ok-entry.ensures in
-    let long = one_more log c.in-Some.entry in
+    let long = length_push log c.in-Some.entry in
     (log ++ c.in-Some.entry ∷ [], (supported_push p log c.in-Some.entry c.loop-log.invariant.supported found.0 found.1, omega (arith, long, c.if-len-budget.true, c.len.ensures, c.loop-log.log.ok.0)))
 
 pub returns-then-len-budget-clause-within : goal.returns-then-len-budget-clause-within
@@ -17,7 +18,7 @@ returns-then-len-budget-clause-within c =
     let p = c.args.problem.now in
     let log = c.loop-log.log.items in
     let found = found_one p c.as_slice.result.now log c.in_ok-entry.field-0 c.in-Some.entry c.as_slice.ensures.value c.in-Some.is c.in_ok-entry.ensures in
-    let long = one_more log c.in-Some.entry in
+    let long = length_push log c.in-Some.entry in
     (log ++ c.in-Some.entry ∷ [], (supported_push p log c.in-Some.entry c.loop-log.invariant.supported found.0 found.1, omega (arith, long, c.if-len-budget.true, c.len.ensures, c.loop-log.log.ok.0)))
 
 pub loop-log-preserved : goal.loop-log-preserved
@@ -26,7 +27,7 @@ loop-log-preserved c =
     let log = c.loop-log.log.items in
     let found = found_one p c.as_slice.result.now log c.in_ok-entry.field-0 c.in-Some.entry c.as_slice.ensures.value c.in-Some.is c.in_ok-entry.ensures in
     let is = c.in_ok-push.ensures.items in
-    let long = one_more log c.in-Some.entry in
+    let long = length_push log c.in-Some.entry in
     record {
       within = omega (arith, long, ap (λ xs. length xs) is, c.if-len-budget.false, c.len.ensures, c.loop-log.log.ok.0);
       supported = subst (λ (T : List EntryData). IsSupportedTable p T) (sym is) (supported_push p log c.in-Some.entry c.loop-log.invariant.supported found.0 found.1);

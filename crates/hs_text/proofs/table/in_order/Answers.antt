@@ -2,9 +2,10 @@ use Rattle.std.proofs.Common.{rules, ◌≡◌, map, subst, Bor}
 use Rattle.std.specs.Ordering.{is_lt}
 use Rattle.std.specs.List.Sorted.{IsPermutation}
 use Rattle.std.proofs.lemmas.List.Sorted.{IsPermutation-map, IsPermutation-sym, Contains-permutation, ranks_by, answers_always}
+use Rattle.hs_scheme.proofs.Orderings.{ascends}
 use Rattle.hs_table.specs.Entries.{EntryData, entry_cmp}
 use Rattle.hs_table_laws.proofs.Orders.{entry_cmp_total, entry_same}
-use Rattle.hs_text.proofs.Ascending.{ascends, sorted_values}
+use Rattle.hs_text.proofs.Ascending.{sorted_values}
 use Rattle.hs_text.proofs.table.in_order.Goals as goal
 
 pub returns-clause-ascending : goal.returns-clause-ascending

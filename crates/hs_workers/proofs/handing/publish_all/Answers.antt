@@ -1,12 +1,13 @@
 use Rattle.std.proofs.Common.{◌≡◌, refl, sym, ◌∙◌, ap, subst, get_or, Contains, arith, inl, inr}
 use Rattle.std.proofs.lemmas.Bool.{cases_lt}
 use Rattle.std.proofs.lemmas.List.{get_or_default}
+use Rattle.hs_shared.proofs.Seen.{prefix_trans}
 use Rattle.hs_types.specs.Interned.{entry_of}
 use Rattle.hs_rules.specs.Conclusions.{DeducedData, IsDeduced}
 use Rattle.hs_history.specs.Story.{Base}
 use Rattle.hs_core.specs.Core.{log_of}
 use Rattle.hs_workers.proofs.WorkingLemmas.{in_whole}
-use Rattle.hs_workers.proofs.HoldLemmas.{goes_none, goes_trans, prefix_trans, still_holds}
+use Rattle.hs_workers.proofs.HoldLemmas.{goes_none, goes_trans, still_holds}
 use Rattle.hs_workers.proofs.handing.publish_all.Goals as goal
 
 pub publish_one-requires-clause-holds : goal.publish_one-requires-clause-holds

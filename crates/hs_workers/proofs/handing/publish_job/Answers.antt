@@ -1,12 +1,12 @@
 use Rattle.std.proofs.Common.{sym, subst, Option, Vec, Global}
 use Rattle.std.specs.Option.{IfSome}
+use Rattle.hs_shared.proofs.Seen.{prefix_trans}
 use Rattle.hs_rules.specs.declared.deduced.Deduced.{Deduced}
 use Rattle.hs_history.specs.Story.{Base}
 use Rattle.hs_history.specs.CoreStep.{IsClosedWork}
 use Rattle.hs_core.specs.Core.{log_of}
 use Rattle.hs_workers.specs.Forming.{HasFound, AreFormed}
 use Rattle.hs_workers.proofs.WorkingLemmas.{formed_closed}
-use Rattle.hs_workers.proofs.HoldLemmas.{prefix_trans}
 use Rattle.hs_workers.proofs.handing.publish_job.Goals as goal
 
 pub returns-in-Ok-clause-closed : goal.returns-in-Ok-clause-closed

@@ -1,4 +1,5 @@
 use Rattle.std.proofs.Common.{◌≡◌, sym, subst}
+use Rattle.hs_shared.proofs.Seen.{prefix_trans}
 use mathlib.Core.List.{IsPrefix}
 use Rattle.hs_history.specs.declared.step.Work.{Work}
 use Rattle.hs_history.specs.History.{IsWork}
@@ -6,7 +7,7 @@ use Rattle.hs_replica.specs.Extending.{extended}
 use Rattle.hs_core.specs.Core.{state_of, log_of}
 use Rattle.hs_core.proofs.Flying.{flying_work}
 use Rattle.hs_workers.proofs.JobLemmas.{carried}
-use Rattle.hs_workers.proofs.HoldLemmas.{prefix_trans, begins_none}
+use Rattle.hs_workers.proofs.HoldLemmas.{begins_none}
 use Rattle.hs_workers.proofs.handing.take_and_read.Goals as goal
 
 pub returns-in_default-clause-begins : goal.returns-in_default-clause-begins

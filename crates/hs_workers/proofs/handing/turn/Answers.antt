@@ -1,6 +1,7 @@
 use Rattle.std.proofs.Common.{refl}
+use Rattle.hs_shared.proofs.Seen.{prefix_trans}
 use Rattle.hs_core.specs.Core.{log_of}
-use Rattle.hs_workers.proofs.HoldLemmas.{prefix_trans, begins_none}
+use Rattle.hs_workers.proofs.HoldLemmas.{begins_none}
 use Rattle.hs_workers.proofs.handing.turn.Goals as goal
 
 pub returns-then-not-hand_over-clause-begins : goal.returns-then-not-hand_over-clause-begins

@@ -2,7 +2,7 @@ use Rattle.std.proofs.Common.{◌≢◌, sym, ◌∙◌, subst, List, All, AllPa
 use Rattle.hs_scheme.specs.Automaton.{IsAutomaton}
 use Rattle.hs_scheme.specs.Problem.{ProblemData}
 use Rattle.hs_table.specs.Entries.{EntryData, InShape}
-use Rattle.hs_workers_examples.proofs.CoreLemmas.{core_table, core_shape}
+use Rattle.hs_core.proofs.Tables.{core_table, core_shape}
 use Rattle.hs_workers_examples.proofs.saturating.lines_of.Goals as goal
 
 pub table_text-requires-clause-shape : goal.table_text-requires-clause-shape

@@ -1,6 +1,6 @@
 use Rattle.std.proofs.Common.{sym, ap, ◌∙◌, ◌<◌, length, arith, Some, slice_get}
+use Rattle.hs_scheme.proofs.Lists.{slice_get-read}
 use Rattle.hs_table.specs.Follows.{Support}
-use Rattle.hs_table_laws.proofs.Places.{at_from}
 use Rattle.hs_core.proofs.Stepping.{base_of, fields_of, seen, each}
 use Rattle.hs_core.proofs.state.Core.support.Goals as goal
 
@@ -15,6 +15,6 @@ returns c =
     let shown = seen (base_of a) (fields_of a) c.self.invariant.0 a.spare c.args.self.now c.self.view_is in
     let within : c.args.place < length a.supports.items = omega (arith, c.requires, ap (λ xs. length xs) shown.log, each (base_of a) (fields_of a) c.self.invariant.0) in
     ap (λ xs. slice_get xs c.args.place) shown.supports
-    ∙ at_from a.supports.items c.args.place c.index-backing.result.now within (sym c.index-backing.ensures)
+    ∙ slice_get-read a.supports.items c.args.place c.index-backing.result.now within (sym c.index-backing.ensures)
     ∙ ap (λ (s : Support). Some s) (sym c.backing.view_is)
     ∙ (λ i. Some (record { head = c.backing.inside.head; args = sym c.as_slice.ensures i }))

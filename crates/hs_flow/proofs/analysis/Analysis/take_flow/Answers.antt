@@ -3,7 +3,7 @@ use Rattle.std.proofs.lemmas.Option.{slice_get_within}
 use Rattle.hs_scheme.specs.declared.flow.FlowPair.{FlowPair}
 use Rattle.hs_scheme.specs.declared.flow.HeadPair.{HeadPair}
 use Rattle.hs_scheme.specs.declared.flow.Pair.TheVariants.{OfFlow, OfHead}
-use Rattle.hs_scheme.proofs.DemandLemmas.{read-slice_get}
+use Rattle.hs_scheme.proofs.Lists.{read-slice_get}
 use Rattle.hs_flow.specs.Pairs.{HasBaseAt, IsReady, Extends}
 use Rattle.hs_flow.specs.Analysis.{AnalysisData, IsAnalysis}
 use Rattle.hs_flow.proofs.ListLemmas.{list-read}

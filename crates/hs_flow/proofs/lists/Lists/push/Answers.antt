@@ -1,4 +1,5 @@
-use Rattle.hs_flow.proofs.ListLemmas.{on_err, row_pushed, row_same}
+use Rattle.hs_scheme.proofs.Lists.{on_err}
+use Rattle.hs_flow.proofs.ListLemmas.{row_pushed, row_same}
 use Rattle.hs_flow.proofs.lists.Lists.push.Goals as goal
 
 pub returns-in_err-push-clause-same : goal.returns-in_err-push-clause-same

@@ -1,7 +1,7 @@
 use Rattle.std.proofs.Common.{◌≡◌, sym, subst, ◌+◌, length, get_or, slice_get, Some, arith}
 use Rattle.std.proofs.lemmas.Result.{on_ok_weaker}
 use Rattle.hs_scheme.specs.declared.flow.Pair.TheVariants.{OfFlow, OfHead}
-use Rattle.hs_scheme.proofs.DemandLemmas.{slice_get-read}
+use Rattle.hs_scheme.proofs.Lists.{slice_get-read}
 use Rattle.hs_flow.specs.Passing.{PassedBy}
 use Rattle.hs_flow.proofs.PairLemmas.{finds_then, finds_keep}
 use Rattle.hs_flow.proofs.PassLemmas.{passing, flow_by, head_by, early_by, done_by, flow_addable, head_addable, step_so_far, step_behind, slice_get-number}

@@ -4,9 +4,10 @@ use Rattle.std.proofs.lemmas.List.Elements.{Contains-append_cases}
 use Rattle.hs_scheme.specs.declared.flow.HeadPair.{HeadPair}
 use Rattle.hs_scheme.specs.declared.flow.Pair.TheVariants.{OfFlow, OfHead}
 use Rattle.hs_scheme.specs.Points.{points_of}
+use Rattle.hs_scheme.proofs.Lists.{none_in, only}
 use Rattle.hs_flow.specs.Bases.{HasBase}
 use Rattle.hs_flow.specs.Pairs.{PairsData, HasBaseAt, IsReady, Extends}
-use Rattle.hs_flow.proofs.PairLemmas.{nothing_in, only_in, extends_same, extends_then, extends_keep, extends_has}
+use Rattle.hs_flow.proofs.PairLemmas.{extends_same, extends_then, extends_keep, extends_has}
 use Rattle.hs_flow.proofs.NotingLemmas.{number_at}
 use Rattle.hs_flow.proofs.pairs.Pairs.spread_flow.Goals as goal
 use Rattle.hs_flow.proofs.pairs.Pairs.spread_flow.Goals.{then-not-is_flagged+in_ok-pass_once, else-not-is_flagged}
@@ -15,7 +16,7 @@ pub loop-head-init : goal.loop-head-init
 loop-head-init c = record {
   extends = extends_same c.args.self.now;
   ready = c.requires.ready;
-  so_far = λ h there. absurd (nothing_in h there);
+  so_far = λ h there. absurd (none_in h there);
 }
 
 pub pass_once-requires-clause-may : goal.pass_once-requires-clause-may
@@ -40,7 +41,7 @@ loop-head-preserved c =
     let cases : (h : HeadPair) → Contains (take (i + 1) c.args.heads.now) h → Contains (take i c.args.heads.now) h ⊎ (h ≡ this) =
     λ h there. elim (Contains-append_cases (take i c.args.heads.now) (this ∷ []) h (subst (λ (xs : List HeadPair). Contains xs h) (take_more c.args.heads.now i (record { point = 0; rule = 0; given = 0 }) c.loop-head-test.true) there)) [
       | inl was ↦ inl was
-      | inr last ↦ inr (only_in this h last)
+      | inr last ↦ inr (only this h last)
     ] in
     elim c.if-not-is_flagged.branch [
       | then-not-is_flagged+in_ok-pass_once w ↦ record {

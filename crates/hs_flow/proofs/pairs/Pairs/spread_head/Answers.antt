@@ -4,9 +4,10 @@ use Rattle.std.proofs.lemmas.List.Elements.{Contains-append_cases}
 use Rattle.hs_scheme.specs.declared.flow.FlowPair.{FlowPair}
 use Rattle.hs_scheme.specs.declared.flow.Pair.TheVariants.{OfFlow, OfHead}
 use Rattle.hs_scheme.specs.Points.{points_of}
+use Rattle.hs_scheme.proofs.Lists.{none_in, only}
 use Rattle.hs_flow.specs.Bases.{HasBase}
 use Rattle.hs_flow.specs.Pairs.{PairsData, HasBaseAt, IsReady, Extends}
-use Rattle.hs_flow.proofs.PairLemmas.{nothing_in, only_in, extends_same, extends_then, extends_keep, extends_has}
+use Rattle.hs_flow.proofs.PairLemmas.{extends_same, extends_then, extends_keep, extends_has}
 use Rattle.hs_flow.proofs.NotingLemmas.{number_at}
 use Rattle.hs_flow.proofs.pairs.Pairs.spread_head.Goals as goal
 use Rattle.hs_flow.proofs.pairs.Pairs.spread_head.Goals.{then-not-is_flagged+in_ok-pass_once, else-not-is_flagged}
@@ -15,7 +16,7 @@ pub loop-flow-init : goal.loop-flow-init
 loop-flow-init c = record {
   extends = extends_same c.args.self.now;
   ready = c.requires.ready;
-  so_far = λ f there. absurd (nothing_in f there);
+  so_far = λ f there. absurd (none_in f there);
 }
 
 pub pass_once-requires-clause-may : goal.pass_once-requires-clause-may
@@ -40,7 +41,7 @@ loop-flow-preserved c =
     let cases : (f : FlowPair) → Contains (take (i + 1) c.args.flows.now) f → Contains (take i c.args.flows.now) f ⊎ (f ≡ this) =
     λ f there. elim (Contains-append_cases (take i c.args.flows.now) (this ∷ []) f (subst (λ (xs : List FlowPair). Contains xs f) (take_more c.args.flows.now i (record { rule = 0; param = 0; point = 0 }) c.loop-flow-test.true) there)) [
       | inl was ↦ inl was
-      | inr last ↦ inr (only_in this f last)
+      | inr last ↦ inr (only this f last)
     ] in
     elim c.if-not-is_flagged.branch [
       | then-not-is_flagged+in_ok-pass_once w ↦ record {

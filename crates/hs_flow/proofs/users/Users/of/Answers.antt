@@ -4,7 +4,7 @@ use Rattle.hs_scheme.specs.Key.{key_eq}
 use Rattle.hs_scheme.specs.declared.term.Head.{Head}
 use Rattle.hs_scheme.specs.Parameters.{IsParameter}
 use Rattle.hs_scheme.specs.Points.{ParameterWithin, point_at}
-use Rattle.hs_flow.proofs.PairLemmas.{nothing_in}
+use Rattle.hs_scheme.proofs.Lists.{none_in}
 use Rattle.hs_flow.specs.Users.{UserMap, list_for, users_of, IsUser}
 use Rattle.hs_flow.proofs.UserLemmas.{user_skip, user_step, once_more, all_empty}
 use Rattle.hs_flow.proofs.users.Users.of.Goals as goal
@@ -25,7 +25,7 @@ loop-point-init c =
     record {
       params = c.in_ok-params.ensures ∙ c.params.ensures.params;
       lists = c.in_ok-lists.ensures.len ∙ c.count.ensures;
-      exact = λ rule x p. (λ h. absurd (nothing_in p (subst (λ (ps : List ℕ). Contains ps p) (none rule x) h)), λ h. absurd (omega (arith, h.0)));
+      exact = λ rule x p. (λ h. absurd (none_in p (subst (λ (ps : List ℕ). Contains ps p) (none rule x) h)), λ h. absurd (omega (arith, h.0)));
       once = λ rule x. subst (λ (ps : List ℕ). AllPairs (λ a b. a ≢ b) ps) (sym (none rule x)) (λ i j d less within. absurd (omega arith));
     }
 

@@ -1,5 +1,6 @@
 use Rattle.std.proofs.Common.{sym, ◌∙◌, ap, slice_get}
-use Rattle.hs_path.proofs.StoredLemmas.{got_some, got_none, node_got, node_missed}
+use Rattle.hs_scheme.proofs.Lists.{got_some, got_none}
+use Rattle.hs_path.proofs.StoredLemmas.{node_got, node_missed}
 use Rattle.hs_path.proofs.evidence.Store.get.Goals as goal
 
 pub returns-in-Some : goal.returns-in-Some

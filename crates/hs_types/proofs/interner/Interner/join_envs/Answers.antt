@@ -1,6 +1,6 @@
 use Rattle.std.proofs.Common.{◌<◌, sym, subst, ap, length, arith}
+use Rattle.std.proofs.lemmas.List.{length_push}
 use Rattle.hs_types.specs.Interned.{env_of_id}
-use Rattle.hs_types.proofs.ListLemmas.{length-push}
 use Rattle.hs_types.proofs.Numbers.{Grows-refl, Grows-trans, env_within}
 use Rattle.hs_types.proofs.JoinLemmas.{same_long, joined_range, joined_each, joined_all}
 use Rattle.hs_types.proofs.interner.Interner.join_envs.Goals as goal
@@ -52,7 +52,7 @@ loop-place-preserved c =
     let y_in : place < length c.sets-in-loop-place.result.now = omega (arith, c.loop-place-test.true, lc, ly, c.requires.long) in
     record {
       grows = Grows-trans I J K h.grows c.in_ok-union_sets.ensures.grows;
-      long = omega (arith, h.long, length-push us u, ap length c.in_ok-push.ensures.ok);
+      long = omega (arith, h.long, length_push us u, ap length c.in_ok-push.ensures.ok);
       range = joined_range I J K h.grows c.in_ok-union_sets.ensures.grows c.args.a c.args.b c.requires.a c.requires.b us c.push.new.self.items place u c.index-sets-place.result c.index-sets-place-in-loop-place.result
           c.sets.result.now c.sets-in-loop-place.result.now c.sets.ensures.sets c.sets-in-loop-place.ensures.sets x_in y_in c.index-sets-place.is c.index-sets-place-in-loop-place.is
           h.long h.range c.in_ok-union_sets.ensures.ok c.in_ok-push.ensures.ok;

@@ -1,0 +1,15 @@
+use Rattle.std.proofs.Common.{◌≡◌, ap, subst, List, All, length}
+use Rattle.hs_scheme.specs.declared.term.Rule.{Rule}
+use Rattle.hs_scheme.specs.Sorted.{SortedData}
+use Rattle.hs_scheme.specs.Points.{points_of}
+use Rattle.hs_scheme.specs.Problem.{FlowWithin, HeadWithin}
+use Rattle.hs_fixtures.proofs.making.of_sorted.Goals as goal
+
+pub new-requires : goal.new-requires
+new-requires c =
+    let same = ap (λ (s : SortedData). s.scheme.rules) c.sorted.view_is in
+    record {
+      points = subst (λ (rules : List Rule). c.in_ok-points.points ≡ points_of rules) same c.in_ok-points.ensures.points;
+      flows = subst (λ (rules : List Rule). All (FlowWithin rules (length c.in_ok-points.points.points)) c.in_ok-flow.flow.pairs) same c.in_ok-flow.ensures.pairs;
+      heads = subst (λ (rules : List Rule). All (HeadWithin rules (length c.in_ok-points.points.points)) c.in_ok-flow.flow.heads) same c.in_ok-flow.ensures.heads;
+    }

@@ -1,9 +1,0 @@
-use Rattle.std.proofs.Common.{slice_index_or}
-use Rattle.hs_types.specs.Interned.{entry_of}
-use Rattle.hs_rules_examples.proofs.growing.are_shaped.Goals as goal
-
-pub returns : goal.returns
-returns c = λ k d h.
-    let x = c.requires k d h in
-    let found = slice_index_or c.args.found.now k d in
-    record { row = x.row; shape = c.what_follows_is_in_shape.ensures.shape c.args.problem.now c.args.replica.now.log c.know.ensures (entry_of c.args.replica.now.ids found.row) (found.support, x.follows) }
