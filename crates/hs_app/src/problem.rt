@@ -1,6 +1,7 @@
 //! The problem of a scheme: its points and its flow, within their limits.
 
 ghost use Rattle.std.specs.Prelude.{◌≡◌, ◌+◌, ◌<◌, ◌≤◌, length, MatchResult};
+ghost use Rattle.hs_scheme.specs.Points.{points_of};
 ghost use Rattle.hs_scheme.specs.declared.flow.Pair.{Pair};
 ghost use Rattle.hs_app.specs.Problems.{IsProblemWithin, IsPastLimits};
 
@@ -13,24 +14,32 @@ use std::mem;
 /// The most pairs of the flow, of both kinds together.
 const MAX_PAIRS: u32 = 4_000_000;
 
+/// The problem of a scheme with these points. `FlowLimit` comes exactly where it has more than
+/// 4,000,000 pairs of flow.
+fn with_flow(alloc: Global, sorted: Sorted, points: Points) -> Result<Problem, Refusal>
+    requires points { points ≡ points_of sorted.scheme.rules }
+    requires few { length points.points ≤ 500000 }
+    ensures { MatchResult result (IsProblemWithin sorted) (IsPastLimits sorted) }
+{
+    match analyse(alloc, &sorted.scheme, &points, MAX_PAIRS) {
+        Ok(flow) => Ok(Problem::new(sorted, points, flow)),
+        Err(FlowFault::FlowLimit) => Err(Refusal::FlowLimit),
+        Err(FlowFault::OutOfMemory) => Err(Refusal::OutOfMemory),
+    }
+}
+
 /// The problem of a scheme. `PointLimit` and `FlowLimit` come exactly where it has more than 500,000
 /// points, or more than 4,000,000 pairs of flow.
 pub(crate) fn problem_of(alloc: Global, sorted: Sorted) -> Result<Problem, Refusal>
     ensures { MatchResult result (IsProblemWithin sorted) (IsPastLimits sorted) }
 {
-    let points = match Points::of(alloc, &sorted.scheme) {
-        Ok(points) => points,
+    match Points::of(alloc, &sorted.scheme) {
+        Ok(points) => with_flow(alloc, sorted, points),
         Err(PointsFault::TooMany) => {
             // The run ends: a large scheme isn't given back piece by piece.
             mem::forget(sorted);
-            return Err(Refusal::PointLimit);
+            Err(Refusal::PointLimit)
         }
-        Err(PointsFault::OutOfMemory) => return Err(Refusal::OutOfMemory),
-    };
-    let flow = match analyse(alloc, &sorted.scheme, &points, MAX_PAIRS) {
-        Ok(flow) => flow,
-        Err(FlowFault::FlowLimit) => return Err(Refusal::FlowLimit),
-        Err(FlowFault::OutOfMemory) => return Err(Refusal::OutOfMemory),
-    };
-    Ok(Problem::new(sorted, points, flow))
+        Err(PointsFault::OutOfMemory) => Err(Refusal::OutOfMemory),
+    }
 }

@@ -7,7 +7,7 @@ use Rattle.std.proofs.lemmas.Cmp.{tied_itself}
 use Rattle.hs_scheme.specs.Tree.{node, none, more, children, children-forest}
 use Rattle.hs_scheme.proofs.Orderings.{equal_of}
 use Rattle.hs_scheme.proofs.Lists.{here, only}
-use Rattle.hs_table.specs.Types.{TypeTree, arrow, arrows, type_cmp}
+use Rattle.hs_table.specs.Types.{TypeTree, state, arrow, arrows, type_cmp}
 use Rattle.hs_table.specs.Entries.{Env, EntryData, set_at}
 use Rattle.hs_table_laws.proofs.Orders.{type_cmp_total, type_same}
 use Rattle.hs_table_laws.proofs.Members.{from_map, into_map}
@@ -78,6 +78,15 @@ through_same E [] ty es fs h e = map_same (retyped ty) es fs h e
 through_same E (u ∷ us) (node (Some q) ts) es fs h e = (λ c. c, λ c. c)
 through_same E (u ∷ us) (node None none) es fs h e = (λ c. c, λ c. c)
 through_same E (u ∷ us) (node None (more t ts)) es fs h e = through_same E us t (picks E u (children ts) es) (picks E u (children ts) fs) (picks_same E u (children ts) es fs h) e
+
+-- with no argument, and at a state
+pub through_none : (E : List EntryData) (us : List ℕ) (ty : TypeTree) (es : List EntryData) → slice_get us 0 ≡ None → through E us ty es ≡ map (retyped ty) es
+through_none E [] ty es at = refl
+through_none E (u ∷ us) ty es at = let f : Some u ≡ None = at in absurd (cc)
+
+pub through_state : (E : List EntryData) (us : List ℕ) (u q : ℕ) (ty : TypeTree) (es : List EntryData) → slice_get us 0 ≡ Some u → ty ≡ state q → through E us ty es ≡ []
+through_state E [] u q ty es at is = let f : None ≡ Some u = at in absurd (cc)
+through_state E (v ∷ us) u q ty es at is = ap (λ z. through E (v ∷ us) z es) is
 
 -- behind the first argument
 pub through_rest : (E : List EntryData) (us : List ℕ) (u : ℕ) (set : List TypeTree) (t ty : TypeTree) (es chosen : List EntryData) → slice_get us 0 ≡ Some u → ty ≡ arrow set t

@@ -10,6 +10,7 @@ use Rattle.hs_table.specs.Types.{TypeTree, arrow, IsSet, IsType, AreTypes}
 use Rattle.hs_table.specs.Entries.{Env, EntryData, Has, set_at, IsEnv, InShape, params_of}
 use Rattle.hs_table_laws.proofs.Shapes.{arrow_shape}
 use Rattle.hs_table_laws.proofs.Members.{taken_next}
+use Rattle.hs_table_plain.proofs.Members.{next_member}
 use Rattle.hs_checker.specs.Shape.{AreAllTypes}
 
 all_types : (n : ℕ) (s : List TypeTree) → AreTypes n (forest s) → AreAllTypes n s
@@ -72,3 +73,10 @@ module _ (p : ProblemData) (e : EntryData) (rule states params : ℕ) (lt : e.po
       let same : h.of ≡ point_at p.points e.point = same_Some h.of (point_at p.points e.point) (sym h.at ∙ there) in
       let n : params_of p h.of.rule ≡ params = ap (λ (d : PointData). params_of p d.rule) same ∙ (ap (params_of p) (sym rule_is) ∙ sym params_are) in
       ((subst (λ m. IsEnv m e.env) n h.env, λ j a c. subst (λ m. IsType m a) (sym states_are) (h.types j a c)), subst (λ m. IsType m e.ty) (sym states_are) h.ty)
+
+-- one more of the types is in shape
+pub all_more : (n : ℕ) (ts : List TypeTree) (k : ℕ) (t : TypeTree) → k < length ts → t ≡ get_or ts k t → AreAllTypes n (take k ts) → IsType n t → AreAllTypes n (take (k + 1) ts)
+all_more n ts k t lt read before own a there = elim ((next_member ts k t a lt read).0 there) [
+  | inl c ↦ before a c
+  | inr e ↦ subst (λ z. IsType n z) (sym e) own
+]

@@ -20,14 +20,14 @@ use crate::terminals::is_marked;
 use hs_scheme::{FlowPair, FlowTable, Head, HeadPair, Pair, Problem, Rule};
 
 /// The two kinds of pairs.
-#[derive(Clone, Copy, Debug, PartialEq, Eq, Drop)]
+#[derive(Clone, Copy, Drop)]
 pub(crate) enum Kind {
     Flow,
     Heads,
 }
 
 /// A head may become the nonterminal of this rule with `given` arguments.
-#[derive(Clone, Copy, Debug, PartialEq, Eq, Drop)]
+#[derive(Clone, Copy, Drop)]
 pub(crate) struct Base {
     pub(crate) rule: u32,
     pub(crate) given: u32,

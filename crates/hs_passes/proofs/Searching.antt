@@ -5,6 +5,7 @@ use Rattle.std.specs.Prelude.{All, flat_map, replicate}
 use Rattle.std.proofs.Math.ListN.{set}
 use Rattle.std.proofs.lemmas.Bool.{or_left, or_right, eq-eqb, eqb-true, or_cases}
 use Rattle.std.proofs.lemmas.List.{get_or-set_same, set-get_or}
+use Rattle.std.proofs.lemmas.Grind.{flat_map-append}
 use Rattle.hs_scheme.specs.declared.term.Head.{Head}
 use Rattle.hs_scheme.specs.declared.term.Head.TheVariants.{Var, Nt, Tm}
 use Rattle.hs_scheme.specs.declared.term.Rule.{Rule}
@@ -79,6 +80,12 @@ mutual
 pub nonterminals_of-forest : (us : List (Tree Head)) → nonterminals_of (forest us) ≡ flat_map nonterminals us
 nonterminals_of-forest [] = refl
 nonterminals_of-forest (u ∷ us) = ap (λ ns. nonterminals u ++ ns) (nonterminals_of-forest us)
+
+pub flat_map_more : {X Y : Type 0} (f : X → List Y) (xs : List X) (i : ℕ) (d : X) → i < length xs → flat_map f (take (i + 1) xs) ≡ flat_map f (take i xs) ++ f (get_or xs i d)
+flat_map_more f xs i d lt =
+    ap (λ n. flat_map f (take n xs)) (add-one i)
+    ∙ (ap (flat_map f) (take-suc xs i d lt)
+    ∙ (flat_map-append f (take i xs) (get_or xs i d ∷ []) ∙ ap (λ ys. flat_map f (take i xs) ++ ys) (append-nil (f (get_or xs i d)))))
 
 pub in_each : (P : ℕ → Type 0) (xs : List ℕ) → ((f : ℕ) → In f xs → P f) → All P xs
 in_each P xs each k d lt = each (get_or xs k d) (in_at xs k d lt)

@@ -1,21 +1,24 @@
 //! From a file to the scheme that it stands for.
 
-ghost use Rattle.std.specs.Prelude.{◌≡◌, ◌⊎◌, ◌≤◌, length, IfOk, OnOk, IfErr, IsErrAnd, IfSome, IfNone};
+ghost use Rattle.std.specs.Prelude.{◌≡◌, ◌⊎◌, ◌≤◌, map, length, IfOk, OnOk, IfErr, IsErrAnd, IfSome, IfNone};
+ghost use Rattle.std.specs.List.{flat_map};
 ghost use Rattle.hs_scheme.specs.Automaton.{IsAutomaton};
 ghost use Rattle.hs_scheme.specs.Unsorted.{IsUnsorted};
 ghost use Rattle.hs_reader.specs.Raw.{File};
 ghost use Rattle.hs_resolve.specs.Least.{IsLeast};
-ghost use Rattle.hs_resolve.specs.LineFaults.{StartHasParams};
-ghost use Rattle.hs_resolve.specs.Numbering.{unsorted_of};
+ghost use Rattle.hs_resolve.specs.Bodies.{AreScoped};
+ghost use Rattle.hs_resolve.specs.LineFaults.{DuplicateRule, DuplicateParam, Undefined, StartHasParams};
+ghost use Rattle.hs_resolve.specs.Names.{texts, distinct};
+ghost use Rattle.hs_resolve.specs.Numbering.{left_names, terminals_in, unsorted_of};
 ghost use Rattle.hs_resolve.specs.Answer.{IsFaultless, IsAnswered, Decides};
 ghost use Rattle.hs_resolve.specs.Tables.{AreLines, AreTables, IsNumberedFile, IsResolved, made_of, names_in};
 
-use crate::body::bodies_of;
+use crate::body::{Bodies, bodies_of};
 use crate::fault::{MAX_STATES, NameFault};
 use crate::line::FaultLines;
 use crate::name_index::NameIndex;
 use crate::numbering::{params_of, transitions_of};
-use crate::seen::{left_of, scopes_of};
+use crate::seen::{Scopes, Seen, left_of, scopes_of};
 use crate::transitions::transition_lines;
 use hs_reader::RawFile;
 use hs_scheme::{Automaton, Names, OutOfMemory, Rule, Transition, Unsorted};
@@ -58,25 +61,58 @@ fn start_line(raw: &RawFile) -> Option<u32>
     Some(rule.name.line)
 }
 
+/// The rules of a file with numbers for their names, and what was found on the way.
+#[derive(Drop)]
+struct NumberedRules<'a> {
+    left: Seen<'a>,
+    scopes: Scopes<'a>,
+    bodies: Bodies<'a>,
+}
+
+/// The rules of a file with numbers for their names.
+fn number_rules<'a>(alloc: Global, raw: &RawFile<'a>) -> Result<NumberedRules<'a>, OutOfMemory>
+    ensures left { IfOk result (λ r. r.left.index ≡ distinct (left_names raw.now)) }
+    ensures params { IfOk result (λ r. r.scopes.params.items
+        ≡ map (λ rule. distinct (texts rule.params)) raw.now.rules) }
+    ensures terminals { IfOk result (λ r. r.bodies.terminals
+        ≡ distinct (flat_map terminals_in raw.now.rules)) }
+    ensures rules { IfOk result (λ r. AreScoped (distinct (left_names raw.now)) r.bodies.terminals
+        raw.now.rules r.bodies.rules.items) }
+    ensures duplicate_rule { IfOk result (λ r. IsLeast (DuplicateRule raw.now) r.left.repeated) }
+    ensures duplicate_param { IfOk result (λ r. IsLeast (DuplicateParam raw.now) r.scopes.repeated) }
+    ensures undefined { IfOk result (λ r. IsLeast (Undefined raw.now) r.bodies.undefined) }
+{
+    let rules = raw.rules.as_slice();
+    let left = left_of(alloc, rules)?;
+    let scopes = scopes_of(alloc, rules)?;
+    let bodies = bodies_of(alloc, &left.index, scopes.params.as_slice(), rules)?;
+    Ok(NumberedRules {
+        left,
+        scopes,
+        bodies,
+    })
+}
+
 /// The names of a file by number, with what was found on the way, and its rules and transitions.
 fn number_file<'a>(alloc: Global, raw: &RawFile<'a>) -> Result<Resolved<'a>, OutOfMemory>
     ensures tables { IfOk result (λ r. AreTables raw.now r.tables) }
     ensures numbered { IfOk result (λ r. IsNumberedFile raw.now r.numbered) }
     ensures lines { IfOk result (λ r. AreLines raw.now r.tables.lines) }
 {
-    let rules = raw.rules.as_slice();
     let transitions = raw.transitions.as_slice();
     let lines = transition_lines(alloc, transitions)?;
-    let left = left_of(alloc, rules)?;
-    let scopes = scopes_of(alloc, rules)?;
-    let bodies = bodies_of(alloc, &left.index, scopes.params.as_slice(), rules)?;
-    let mut terminals = bodies.terminals;
-    let moves = transitions_of(alloc, &mut terminals, transitions)?;
+    let mut rules = number_rules(alloc, raw)?;
+    let moves = transitions_of(alloc, &mut rules.bodies.terminals, transitions)?;
+    let NumberedRules {
+        left,
+        scopes,
+        bodies,
+    } = rules;
     Ok(Resolved {
         tables: Tables {
             left: left.index,
             params: scopes.params,
-            terminals,
+            terminals: bodies.terminals,
             states: moves.states,
             lengths: lines.lengths,
             lines: FaultLines {
@@ -147,7 +183,7 @@ fn put_together(alloc: Global, tables: &Tables, numbered: Numbered) -> Result<Un
     })
 }
 
-/// The scheme of a file that was numbered, or its first fault. It doesn't need the file any more.
+/// The scheme with these rules and transitions and these names, or the first fault.
 fn decide(alloc: Global, tables: &Tables, numbered: Numbered) -> Result<Unsorted, NameFault>
     requires some { (raw : File) × IsResolved raw (record { tables = tables.now; numbered = numbered }) }
     ensures { (raw : File) → IsResolved raw (record { tables = tables.now; numbered = numbered })
@@ -157,6 +193,15 @@ fn decide(alloc: Global, tables: &Tables, numbered: Numbered) -> Result<Unsorted
         return Err(fault);
     }
     Ok(put_together(alloc, tables, numbered)?)
+}
+
+/// The scheme of a file that was numbered, or its first fault. It doesn't need the file any more.
+fn answer(alloc: Global, resolved: Resolved) -> Result<Unsorted, NameFault>
+    requires some { (raw : File) × IsResolved raw resolved }
+    ensures { (raw : File) → IsResolved raw resolved.entry → Decides raw result }
+{
+    let Resolved { tables, numbered } = resolved;
+    decide(alloc, &tables, numbered)
 }
 
 /// Numbers the names of a file.
@@ -176,8 +221,8 @@ pub fn resolve(alloc: Global, raw: &RawFile) -> Result<Unsorted, NameFault>
     ensures refused { (fault : NameFault) → IsAnswered raw.now fault
         → IsErrAnd result (λ e. (e ≡ NameFault.OutOfMemory) ⊎ (e ≡ fault)) }
 {
-    let Resolved { tables, numbered } = number_file(alloc, raw)?;
-    decide(alloc, &tables, numbered)
+    let resolved = number_file(alloc, raw)?;
+    answer(alloc, resolved)
 }
 
 /// As [`resolve`], and what the file says is given back as soon as its names are numbered: before the
@@ -190,8 +235,7 @@ pub fn resolve_owned(alloc: Global, raw: RawFile) -> Result<Unsorted, NameFault>
     ensures refused { (fault : NameFault) → IsAnswered raw.entry fault
         → IsErrAnd result (λ e. (e ≡ NameFault.OutOfMemory) ⊎ (e ≡ fault)) }
 {
-    let resolved = number_file(alloc, &raw)?;
+    let resolved = number_file(alloc, &raw);
     drop(raw);
-    let Resolved { tables, numbered } = resolved;
-    decide(alloc, &tables, numbered)
+    answer(alloc, resolved?)
 }

@@ -65,14 +65,14 @@ fn note_length<'a>(
 {
     let terminal = transition.terminal.text.bytes();
     let length = transition.to.len() as u32;
-    if let Some(first) = lengths.get(terminal) {
-        if *first == length {
-            return Ok(None);
-        }
-        return Ok(Some(transition.from.line));
+    let Some(first) = lengths.get(terminal).copied() else {
+        lengths.insert(terminal, length)?;
+        return Ok(None);
+    };
+    if first == length {
+        return Ok(None);
     }
-    lengths.insert(terminal, length)?;
-    Ok(None)
+    Ok(Some(transition.from.line))
 }
 
 /// The lengths of the right sides of the first transitions of the terminals, and the least line of

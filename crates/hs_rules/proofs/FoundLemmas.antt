@@ -1,5 +1,5 @@
 -- What the types of a head lead to.
-use Rattle.std.proofs.Common.{◌≡◌, ◌≢◌, refl, sym, ◌∙◌, ap, subst, ℕ, zero, suc, ◌<◌, Bool, true, false, List, [], ◌∷◌, ◌++◌, length, map, take, drop, get_or, Option, arith, All, AllPairs, Contains, ◌≤◌, ◌||◌, ◌⊎◌, ◌↔◌, inl, inr}
+use Rattle.std.proofs.Common.{◌≡◌, ◌≢◌, refl, sym, ◌∙◌, ap, subst, ℕ, zero, suc, ◌+◌, ◌<◌, Bool, true, false, List, [], ◌∷◌, ◌++◌, length, map, take, drop, get_or, Option, arith, All, AllPairs, Contains, ◌≤◌, ◌||◌, ◌⊎◌, ◌↔◌, inl, inr}
 use Rattle.std.proofs.lemmas.Bool.{cases_order}
 use Rattle.std.proofs.lemmas.List.{map-append, take-map, take-append-drop, drop_all, drop-append-le, length-map, length-append}
 use Rattle.std.proofs.lemmas.List.Elements.{Contains-push, Contains-append_left, Contains-append_right, Contains-append_cases, All-contains}
@@ -9,7 +9,7 @@ use Rattle.hs_scheme.proofs.Lists.{none_in, here, later, uncons, Contains-at}
 use Rattle.hs_table.specs.Entries.{Env, EntryData, IsEnv}
 use Rattle.hs_table_laws.proofs.Places.{at_take}
 use Rattle.hs_table_laws.proofs.Sets.{envs_same}
-use Rattle.hs_table_laws.proofs.Members.{from_map}
+use Rattle.hs_table_laws.proofs.Members.{from_map, into_map, pushed_cases}
 use Rattle.hs_types.specs.Interned.{InternerData, set_of_id, env_of_id, RowData, Grows}
 use Rattle.hs_types.proofs.Numbers.{env_within, env_stays, set_within, set_stays, type_within}
 use Rattle.hs_rules.specs.Conclusions.{DeducedData}
@@ -18,6 +18,7 @@ use Rattle.hs_rules.specs.Filling.{fixed_of, IsFilled, AreFilled}
 use Rattle.hs_rules.specs.Joins.{PartialData, FillsBy, ArePlaced, AreJoined}
 use Rattle.hs_rules.specs.Found.{SearchData, HeadData, HasKnownNumbers, HaveEnvs, RowsAre, IsRowOf, HasRow, HeadLeadsTo, IsConclusion, HasEnvFound}
 use Rattle.hs_rules.specs.declared.joining.TheConstants.{FEW}
+use Rattle.hs_rules.proofs.Lists.{taken_cases}
 use Rattle.hs_rules.proofs.SlotLemmas.{slot_of}
 
 abbrev rows_of : List DeducedData → List RowData
@@ -33,8 +34,35 @@ row_among rows found row h c =
     subst (λ (rs : List RowData). Contains rs row) (take-append-drop FEW (rows_of found))
     (Contains-append_right (take FEW (rows_of found)) (drop FEW (rows_of found)) row (subst (λ (rs : List RowData). Contains rs row) h.same c))
 
+-- the row at the place is there
+pub row_at : (found : List DeducedData) (k : ℕ) (d : DeducedData) (row : RowData) → k < length found → d ≡ get_or found k d → d.row ≡ row → Contains (rows_of found) row
+row_at found k d row lt is e = subst (λ (r : RowData). Contains (rows_of found) r) e (into_map (λ (x : DeducedData). x.row) found d (k, lt, sym is))
+
+-- a row that isn't among those so far and isn't the next one
+pub row_nowhere : (found : List DeducedData) (k : ℕ) (d : DeducedData) (row : RowData) → k < length found → d ≡ get_or found k d → (Contains (rows_of (take k found)) row → ⊥) → (d.row ≡ row → ⊥)
+    → Contains (rows_of (take (k + 1) found)) row → ⊥
+row_nowhere found k d row lt is none differs c =
+    let r = row_there (take (k + 1) found) row c in
+    elim (taken_cases found k d r.0 lt is r.1) [
+      | inl was ↦ none (subst (λ (z : RowData). Contains (rows_of (take k found)) z) r.2 (into_map (λ (x : DeducedData). x.row) (take k found) r.0 was))
+      | inr e ↦ differs (sym (ap (λ (x : DeducedData). x.row) e) ∙ r.2)
+    ]
+
 pub row_pushed : (found pushed : List DeducedData) (d : DeducedData) → pushed ≡ found ++ d ∷ [] → (x : DeducedData) × Contains pushed x × (x.row ≡ d.row)
 row_pushed found pushed d is = (d, subst (λ (ds : List DeducedData). Contains ds d) (sym is) (Contains-push found d), refl)
+
+-- with one more found, what was there stays, and nothing else comes
+pub found_keeps : (found pushed : List DeducedData) (d : DeducedData) → pushed ≡ found ++ d ∷ [] → (x : DeducedData) → Contains found x → Contains pushed x
+found_keeps found pushed d is x there = subst (λ (ds : List DeducedData). Contains ds x) (sym is) (Contains-append_left found (d ∷ []) x there)
+
+pub found_only : (found pushed : List DeducedData) (d : DeducedData) → pushed ≡ found ++ d ∷ [] → (x : DeducedData) → Contains pushed x → Contains found x ⊎ (x ≡ d)
+found_only found pushed d is x there = pushed_cases found d x (subst (λ (ds : List DeducedData). Contains ds x) is there)
+
+-- a row among the first few
+pub row_first : (found few : List DeducedData) (row : RowData) → few ≡ take FEW found → Contains (rows_of few) row → Contains (rows_of found) row
+row_first found few row is c =
+    subst (λ (rs : List RowData). Contains rs row) (take-append-drop FEW (rows_of found))
+    (Contains-append_left (take FEW (rows_of found)) (drop FEW (rows_of found)) row (subst (λ (rs : List RowData). Contains rs row) (ap (λ (ds : List DeducedData). rows_of ds) is ∙ sym (take-map (λ (d : DeducedData). d.row) FEW found)) c))
 
 -- a row among the first few or behind them
 pub few_or_more : (rows : List RowData) (found few : List DeducedData) (row : RowData) → RowsAre rows found → few ≡ take FEW found → (r b c : Bool) → (b ≡ true ↔ Contains (rows_of few) row) → (c ≡ true ↔ Contains rows row)

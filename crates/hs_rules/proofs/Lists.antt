@@ -1,5 +1,5 @@
 -- Members of lists.
-use Rattle.std.proofs.Common.{Bool, true, false, cond, filter, ◌≡◌, refl, sym, ◌∙◌, ap, subst, ℕ, ◌+◌, ◌<◌, List, [], ◌∷◌, length, get_or, take, Option, Some, MatchOption, Result, Ok, Err, OnOk, All, Contains, ◌⊎◌, inl, inr}
+use Rattle.std.proofs.Common.{Bool, true, false, cond, filter, ◌≡◌, refl, sym, ◌∙◌, ap, subst, ℕ, ◌+◌, ◌<◌, List, [], ◌∷◌, length, get_or, take, Option, Some, None, MatchOption, Result, Ok, Err, OnOk, All, Contains, ◌⊎◌, inl, inr}
 use Rattle.std.proofs.lemmas.List.Elements.{Contains-append_cases, Contains-get_or}
 use Rattle.std.proofs.lemmas.List.{get_or_default}
 use Rattle.hs_scheme.proofs.Lists.{none_in, here, later, uncons}
@@ -34,6 +34,9 @@ along e a = subst (λ (X : Type 0). X) e a
 
 pub match_some : {X : Type 0} (o : Option X) (x : X) (P : Type 0) (Q : X → Type 0) → o ≡ Some x → MatchOption o P Q → Q x
 match_some o x P Q is h = subst (λ r. MatchOption r P Q) is h
+
+pub match_none : {X : Type 0} (o : Option X) (P : Type 0) (Q : X → Type 0) → o ≡ None → MatchOption o P Q → P
+match_none o P Q is h = subst (λ r. MatchOption r P Q) is h
 
 pub from_filter : {X : Type 0} (test : X → Bool) (xs : List X) (x : X) → Contains (filter test xs) x → Contains xs x × (test x ≡ true)
 from_filter test [] x c = absurd (none_in x c)

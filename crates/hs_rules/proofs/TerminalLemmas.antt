@@ -1,6 +1,7 @@
 -- The types of a terminal, in numbers.
 use Rattle.std.proofs.Common.{◌≡◌, refl, sym, ◌∙◌, ap, subst, ℕ, zero, suc, ◌+◌, ◌<◌, ◌≤◌, List, [], ◌∷◌, length, map, replicate, set, None, Some, arith, inl, inr}
 use Rattle.std.proofs.lemmas.Bool.{cases_order}
+use Rattle.std.proofs.lemmas.List.{length-map, length-replicate}
 use Rattle.std.proofs.lemmas.Option.{same_Some}
 use Rattle.hs_scheme.specs.Transition.{TransitionData}
 use Rattle.hs_scheme.specs.Automaton.{next}
@@ -21,6 +22,10 @@ set_none (a ∷ s) h = absurd (none_in a ((h.exact a).0 (here a s)))
 
 pub set_one : (t : TypeTree) (s : List TypeTree) → IsSetOf (t ∷ []) s → s ≡ t ∷ []
 set_one t s h = sets_same s (t ∷ []) h.ascends (one_set t) h.exact
+
+-- as many numbers as empty sets
+pub as_many : (f : ℕ → List TypeTree) (xs ys : List ℕ) (n : ℕ) → ys ≡ xs → map f xs ≡ replicate n [] → length ys ≡ n
+as_many f xs ys n same are = ap (λ (zs : List ℕ). length zs) same ∙ (sym (length-map xs f) ∙ (ap (λ (zs : List (List TypeTree)). length zs) are ∙ (let none : List TypeTree = [] in length-replicate n none)))
 
 pub map-replicate : (f : ℕ → List TypeTree) (n x : ℕ) (v : List TypeTree) → f x ≡ v → map f (replicate n x) ≡ replicate n v
 map-replicate f zero x v e = refl

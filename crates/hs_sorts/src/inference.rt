@@ -4,12 +4,15 @@ ghost use Rattle.std.specs.Prelude.{◌≡◌, ℕ, List, Option, length, IfOk, 
 ghost use Rattle.hs_scheme.specs.declared.term.Rule.{Rule};
 ghost use Rattle.hs_scheme.specs.Scheme.{AreRules};
 ghost use Rattle.hs_scheme.specs.Sorting.{HasSorting};
+ghost use Rattle.hs_sorts.specs.Finding.{Finds};
 ghost use Rattle.hs_sorts.specs.Inference.{IsInferred, IsFirstIllSorted, IsFaultOf, IsInferable};
 ghost use Rattle.hs_sorts.specs.Least.{IsLeast};
 
 use crate::fault::SortFault;
-use crate::finding::{arities, find, first_higher_order, first_large, first_too_long, read_sorts};
-use crate::lengthening::{lengthen, lengthen_names};
+use crate::finding::{
+    WeighedNodes, arities, find, first_higher_order, first_large, first_too_long, read_sorts,
+};
+use crate::lengthening::lengthen;
 use hs_scheme::{OutOfMemory, Rule, Scheme, Sort, Sorted, Unsorted};
 use std::alloc::Global;
 
@@ -43,16 +46,18 @@ fn first_ill_sorted(
     Ok(sorted as u32)
 }
 
-/// The least sorting of a scheme, or why there is none.
-fn find_least(alloc: Global, rules: &[Rule], ranks: &[Option<u32>]) -> Result<Least, SortFault>
-    requires { AreRules rules.now (length ranks.now) }
+/// The least sorting of a scheme that has one, from its nodes, or why it is refused.
+fn read_least(
+    alloc: Global,
+    rules: &[Rule],
+    ranks: &[Option<u32>],
+    found: &WeighedNodes,
+) -> Result<Least, SortFault>
+    requires rules { AreRules rules.now (length ranks.now) }
+    requires found { Finds rules.now ranks.now (length rules.now) found.now }
     ensures ok { IfOk result (λ least. IsLeast rules.now ranks.now least.sorts.items least.ranks.items) }
     ensures fault { IfErr result (λ fault. IsFaultOf rules.now ranks.now fault) }
 {
-    let Some(found) = find(alloc, rules, ranks, rules.len())? else {
-        let rule = first_ill_sorted(alloc, rules, ranks)?;
-        return Err(SortFault::IllSorted { rule });
-    };
     let number = rules.len() as u32;
     let weights = &found.weights;
     if let Some(terminal) = first_higher_order(weights, number, ranks.len() as u32) {
@@ -67,6 +72,43 @@ fn find_least(alloc: Global, rules: &[Rule], ranks: &[Option<u32>]) -> Result<Le
     let sorts = read_sorts(alloc, &found.store, weights, number)?;
     let ranks = arities(alloc, weights, number, ranks.len())?;
     Ok(Least { sorts, ranks })
+}
+
+/// The least sorting of a scheme, or why there is none.
+fn find_least(alloc: Global, rules: &[Rule], ranks: &[Option<u32>]) -> Result<Least, SortFault>
+    requires { AreRules rules.now (length ranks.now) }
+    ensures ok { IfOk result (λ least. IsLeast rules.now ranks.now least.sorts.items least.ranks.items) }
+    ensures fault { IfErr result (λ fault. IsFaultOf rules.now ranks.now fault) }
+{
+    if let Some(found) = find(alloc, rules, ranks, rules.len())? {
+        return read_least(alloc, rules, ranks, &found);
+    }
+    let rule = first_ill_sorted(alloc, rules, ranks)?;
+    Err(SortFault::IllSorted { rule })
+}
+
+/// The scheme with its least sorting, and its rules and names lengthened to it.
+fn with_sorts(alloc: Global, unsorted: Unsorted, least: Least) -> Result<Sorted, SortFault>
+    requires { IsLeast unsorted.rules unsorted.ranks least.sorts.items least.ranks.items }
+    ensures ok { IfOk result (λ sorted. IsInferred unsorted sorted) }
+    ensures fault { IfErr result (λ fault. fault ≡ SortFault.OutOfMemory) }
+{
+    let Unsorted {
+        mut rules,
+        ranks: _,
+        automaton,
+        mut names,
+    } = unsorted;
+    lengthen(alloc, &mut rules, &mut names, least.sorts.as_slice())?;
+    Ok(Sorted {
+        scheme: Scheme {
+            rules,
+            ranks: least.ranks,
+        },
+        automaton,
+        names,
+        sorts: least.sorts,
+    })
 }
 
 /// The sorts of a scheme by unification (Milner, "A Theory of Type Polymorphism in Programming",
@@ -95,22 +137,6 @@ pub fn infer(alloc: Global, unsorted: Unsorted) -> Result<Sorted, SortFault>
     ensures accepted { IsInferable unsorted.rules unsorted.ranks
         → IfErr result (λ fault. fault ≡ SortFault.OutOfMemory) }
 {
-    let Unsorted {
-        mut rules,
-        ranks,
-        automaton,
-        names,
-    } = unsorted;
-    let least = find_least(alloc, rules.as_slice(), ranks.as_slice())?;
-    let names = lengthen_names(alloc, names, least.sorts.as_slice())?;
-    lengthen(alloc, &mut rules, least.sorts.as_slice())?;
-    Ok(Sorted {
-        scheme: Scheme {
-            rules,
-            ranks: least.ranks,
-        },
-        automaton,
-        names,
-        sorts: least.sorts,
-    })
+    let least = find_least(alloc, unsorted.rules.as_slice(), unsorted.ranks.as_slice())?;
+    with_sorts(alloc, unsorted, least)
 }

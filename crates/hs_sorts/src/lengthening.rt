@@ -55,9 +55,8 @@ fn add_names(alloc: Global, names: &mut Vec<Name>, count: u32) -> Result<(), Out
     Ok(())
 }
 
-/// Gives each rule as many parameters as its nonterminal's sort has arguments. Time is linear in the
-/// number of rules and in what is added, and memory in what is added.
-pub fn lengthen(alloc: Global, rules: &mut Vec<Rule>, sorts: &[Sort]) -> Result<(), OutOfMemory>
+/// Gives each rule as many parameters as its nonterminal's sort has arguments.
+fn lengthen_rules(alloc: Global, rules: &mut Vec<Rule>, sorts: &[Sort]) -> Result<(), OutOfMemory>
     requires each_rule { length sorts.now ≡ length rules.old.items }
     requires rules { All (λ r. r.params ≤ 64) rules.old.items }
     requires sorts { All (λ k. length (arguments k) ≤ 1000) sorts.now }
@@ -90,23 +89,21 @@ fn lengthen_params(
     Ok(())
 }
 
-/// The names with those of the further parameters of each rule, at the same cost.
-pub fn lengthen_names(alloc: Global, names: Names, sorts: &[Sort]) -> Result<Names, OutOfMemory>
-    requires each_rule { length sorts.now ≡ length names.params }
+/// Gives each rule as many parameters as its nonterminal's sort has arguments, and the further ones
+/// names. Time is linear in the number of rules and in what is added, and memory in what is added.
+pub fn lengthen(
+    alloc: Global,
+    rules: &mut Vec<Rule>,
+    names: &mut Names,
+    sorts: &[Sort],
+) -> Result<(), OutOfMemory>
+    requires each_rule { length sorts.now ≡ length rules.old.items }
+    requires each_name { length sorts.now ≡ length names.old.params }
+    requires rules { All (λ r. r.params ≤ 64) rules.old.items }
     requires sorts { All (λ k. length (arguments k) ≤ 1000) sorts.now }
-    ensures { IfOk result (λ longer. longer ≡ naming.lengthened_names names sorts.now) }
+    ensures rules { IfOk result (λ _. rules.new.items ≡ lengthening rules.old.items sorts.now) }
+    ensures names { IfOk result (λ _. names.new ≡ naming.lengthened_names names.old sorts.now) }
 {
-    let Names {
-        rules,
-        mut params,
-        terminals,
-        states,
-    } = names;
-    lengthen_params(alloc, &mut params, sorts)?;
-    Ok(Names {
-        rules,
-        params,
-        terminals,
-        states,
-    })
+    lengthen_rules(alloc, rules, sorts)?;
+    lengthen_params(alloc, &mut names.params, sorts)
 }

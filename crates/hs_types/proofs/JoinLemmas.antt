@@ -11,17 +11,28 @@ use Rattle.hs_types.proofs.Numbers.{set_stays, set_within, env_stays}
 use Rattle.hs_types.proofs.UnionLemmas.{union_same}
 
 -- the set at a place, by the number there
-pub set_at_place : (J : InternerData) (xs : List ℕ) (e : Env) (place first : ℕ) → map (set_of_id J) xs ≡ e → place < length xs → first ≡ get_or xs place first → set_of_id J first ≡ set_at e place
+set_at_place : (J : InternerData) (xs : List ℕ) (e : Env) (place first : ℕ) → map (set_of_id J) xs ≡ e → place < length xs → first ≡ get_or xs place first → set_of_id J first ≡ set_at e place
 set_at_place J xs e place first are lt at =
     ap (set_of_id J) at ∙ sym (get_or-map (set_of_id J) xs place first [] lt) ∙ ap (λ (z : Env). set_at z place) are
 
--- there are as many sets as before
-pub same_long : (I J : InternerData) (a : ℕ) (xs : List ℕ) → Grows I J → a < length I.envs → map (set_of_id J) xs ≡ env_of_id J a → length xs ≡ length (env_of_id I a)
-same_long I J a xs g h e = sym (length-map xs (set_of_id J)) ∙ ap (λ (z : Env). length z) e ∙ ap (λ (z : Env). length z) (env_stays I J g a h)
+-- there are as many numbers as sets
+pub sets_long : (J : InternerData) (xs : List ℕ) (e : Env) → map (set_of_id J) xs ≡ e → length xs ≡ length e
+sets_long J xs e are = sym (length-map xs (set_of_id J)) ∙ ap (λ (z : Env). length z) are
 
-module _ (I J K : InternerData) (g : Grows I J) (h : Grows J K) (a b : ℕ) (a_in : a < length I.envs) (b_in : b < length I.envs) (us new : List ℕ) (place u first second : ℕ) (xs ys : List ℕ)
-    (xs_are : map (set_of_id J) xs ≡ env_of_id J a) (ys_are : map (set_of_id J) ys ≡ env_of_id J b) (x_in : place < length xs) (y_in : place < length ys) (at_x : first ≡ get_or xs place first) (at_y : second ≡ get_or ys place second)
-    (long : length us ≡ place) (in_range : All (λ s. s < length J.sets) us) (ok : (u < length K.sets) × IsUnion (set_of_id J first) (set_of_id J second) (set_of_id K u)) (e : new ≡ us ++ u ∷ []) where
+-- the union of the sets at a place, by the numbers there
+pub union_at_place : (I J : InternerData) (xs ys : List ℕ) (e f : Env) (place first second u : ℕ) → map (set_of_id I) xs ≡ e → map (set_of_id I) ys ≡ f → place < length xs → place < length ys
+    → first ≡ get_or xs place first → second ≡ get_or ys place second → (u < length J.sets) × IsUnion (set_of_id I first) (set_of_id I second) (set_of_id J u) → (u < length J.sets) × IsUnion (set_at e place) (set_at f place) (set_of_id J u)
+union_at_place I J xs ys e f place first second u es fs x_in y_in x y h = (
+  h.0,
+  subst (λ s. IsUnion s (set_at f place) (set_of_id J u)) (set_at_place I xs e place first es x_in x) (subst (λ s. IsUnion (set_of_id I first) s (set_of_id J u)) (set_at_place I ys f place second fs y_in y) h.1),
+)
+
+-- there are as many sets as before
+pub still_long : (I J : InternerData) (a : ℕ) → Grows I J → a < length I.envs → length (env_of_id J a) ≡ length (env_of_id I a)
+still_long I J a g h = ap (λ (z : Env). length z) (env_stays I J g a h)
+
+module _ (I J K : InternerData) (g : Grows I J) (h : Grows J K) (a b : ℕ) (a_in : a < length I.envs) (b_in : b < length I.envs) (us new : List ℕ) (place u : ℕ) (long : length us ≡ place) (in_range : All (λ s. s < length J.sets) us)
+    (ok : (u < length K.sets) × IsUnion (set_at (env_of_id J a) place) (set_at (env_of_id J b) place) (set_of_id K u)) (e : new ≡ us ++ u ∷ []) where
   pub joined_range : All (λ s. s < length K.sets) new
   joined_range =
       subst (λ (zs : List ℕ). All (λ s. s < length K.sets) zs) (sym e)
@@ -29,9 +40,9 @@ module _ (I J K : InternerData) (g : Grows I J) (h : Grows J K) (a b : ℕ) (a_i
 
   own : IsUnion (set_at (env_of_id I a) place) (set_at (env_of_id I b) place) (set_of_id K u)
   own =
-      let x = set_at_place J xs (env_of_id J a) place first xs_are x_in at_x ∙ ap (λ (z : Env). set_at z place) (env_stays I J g a a_in) in
-      let y = set_at_place J ys (env_of_id J b) place second ys_are y_in at_y ∙ ap (λ (z : Env). set_at z place) (env_stays I J g b b_in) in
-      subst (λ s. IsUnion s (set_at (env_of_id I b) place) (set_of_id K u)) x (subst (λ s. IsUnion (set_of_id J first) s (set_of_id K u)) y ok.1)
+      let x = ap (λ (z : Env). set_at z place) (env_stays I J g a a_in) in
+      let y = ap (λ (z : Env). set_at z place) (env_stays I J g b b_in) in
+      subst (λ s. IsUnion s (set_at (env_of_id I b) place) (set_of_id K u)) x (subst (λ s. IsUnion (set_at (env_of_id J a) place) s (set_of_id K u)) y ok.1)
 
   pub joined_each : ((k : ℕ) → k < place → IsUnion (set_at (env_of_id I a) k) (set_at (env_of_id I b) k) (set_of_id J (get_or us k 0)))
       → (k : ℕ) → k < place + 1 → IsUnion (set_at (env_of_id I a) k) (set_at (env_of_id I b) k) (set_of_id K (get_or new k 0))

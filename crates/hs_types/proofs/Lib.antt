@@ -9,3 +9,4 @@ pub mod SearchLemmas
 pub mod UnionLemmas
 pub mod JoinLemmas
 pub mod RowLemmas
+pub mod TranslationLemmas

@@ -1,6 +1,6 @@
 -- Lists that grow at their end, and what is read from them.
 use Rattle.std.proofs.Common.{◌≡◌, refl, sym, ◌∙◌, ap, subst, ℕ, zero, suc, ◌+◌, ◌<◌, ◌≤◌, List, [], ◌∷◌, ◌++◌, length, map, get_or, slice_get, Some, arith, Contains, All, inl, inr, take, set, replicate}
-use Rattle.std.proofs.lemmas.List.{get_or_append_left, map_more}
+use Rattle.std.proofs.lemmas.List.{get_or_append_left, map_more, take_all}
 use Rattle.std.proofs.lemmas.Option.{get_or_from_slice_get, same_Some}
 use Rattle.std.proofs.lemmas.List.Elements.{All-head, All-tail, All-weaker, All-push}
 use Rattle.hs_scheme.proofs.Lists.{at_append, push_cases}
@@ -109,3 +109,10 @@ pub map-set_at : {X Y : Type 0} (f : X → Y) (xs : List X) (i : ℕ) (x : X) �
 map-set_at f [] i x = refl
 map-set_at f (y ∷ xs) zero x = refl
 map-set_at f (y ∷ xs) (suc i) x = ap (λ ys. f y ∷ ys) (map-set_at f xs i x)
+
+-- a list that is made item by item of what f gives at the items of another
+pub made_more : {Y X : Type 0} (f : Y → X) (ids : List Y) (xs new : List X) (k : ℕ) (id : Y) (x : X) → xs ≡ map f (take k ids) → x ≡ f id → k < length ids → id ≡ get_or ids k id → new ≡ xs ++ x ∷ [] → new ≡ map f (take (k + 1) ids)
+made_more f ids xs new k id x same is lt at e = e ∙ (λ i. same i ++ (is ∙ ap f at) i ∷ []) ∙ sym (map_more f ids k id lt)
+
+pub made_all : {Y X : Type 0} (f : Y → X) (ids : List Y) (xs whole : List X) (k : ℕ) → xs ≡ map f (take k ids) → length ids ≤ k → map f ids ≡ whole → xs ≡ whole
+made_all {Y} f ids xs whole k same past is = same ∙ ap (λ (js : List Y). map f js) (take_all k ids past) ∙ is

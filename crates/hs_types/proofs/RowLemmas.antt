@@ -1,10 +1,12 @@
 -- Rows while the interner grows.
-use Rattle.std.proofs.Common.{◌≡◌, refl, sym, ◌∙◌, ap, subst, ℕ, ◌+◌, ◌<◌, List, [], ◌∷◌, ◌++◌, length, map, get_or, take, All}
+use Rattle.std.proofs.Common.{◌≡◌, refl, sym, ◌∙◌, ap, subst, ℕ, ◌+◌, ◌<◌, List, [], ◌∷◌, ◌++◌, length, map, get_or, take, All, slice_get, Some}
 use Rattle.std.proofs.lemmas.List.{map_more}
+use Rattle.std.proofs.lemmas.Option.{slice_get_within, get_or_from_slice_get}
 use Rattle.std.proofs.lemmas.List.Elements.{All-head, All-tail, All-push, All-weaker}
-use Rattle.hs_types.specs.Interned.{InternerData, RowData, IsRow, entry_of, Grows}
+use Rattle.hs_table.specs.Types.{TypeTree, state, arrow}
+use Rattle.hs_types.specs.Interned.{InternerData, type_of_id, set_of_id, env_of_id, RowData, IsRow, entry_of, Grows}
 use Rattle.hs_types.proofs.ListLemmas.{map-push}
-use Rattle.hs_types.proofs.Numbers.{row_within, row_stays}
+use Rattle.hs_types.proofs.Numbers.{env_within, env_stays, set_stays, row_within, row_stays}
 
 module _ (J K : InternerData) (g : Grows J K) where
   -- what rows stand for stays
@@ -27,3 +29,24 @@ rows_same J K from g rows new others own other k known same entry lt is e =
     ap (λ (rs : List RowData). map (entry_of K) rs) e ∙ map-push (entry_of K) rows own
     ∙ (λ i. (rows_stay J K g rows known ∙ same) i ++ (entry ∙ ap (entry_of from) is) i ∷ [])
     ∙ sym (map_more (entry_of from) others k other lt)
+
+-- a row of an environment and a type that were found one after the other
+module _ (J K from : InternerData) (g : Grows J K) (row : RowData) (env ty : ℕ) (env_at : slice_get J.envs env ≡ Some (env_of_id from row.env)) (ty_at : slice_get K.types ty ≡ Some (type_of_id from row.ty)) where
+  env_in : env < length J.envs
+  env_in = slice_get_within J.envs env (env_of_id from row.env) env_at
+
+  pub found_row : IsRow K (record { point = row.point; env = env; ty = ty })
+  found_row = (env_within J K g env env_in, slice_get_within K.types ty (type_of_id from row.ty) ty_at)
+
+  pub found_entry : entry_of K (record { point = row.point; env = env; ty = ty }) ≡ entry_of from row
+  found_entry =
+      let e = env_stays J K g env env_in ∙ get_or_from_slice_get J.envs env (env_of_id from row.env) [] env_at in
+      let t = get_or_from_slice_get K.types ty (type_of_id from row.ty) (state 0) ty_at in
+      λ i. record { point = row.point; env = e i; ty = t i }
+
+-- an arrow of a set and a type that were found one after the other
+pub found_arrow : (J K : InternerData) (s r : ℕ) (S : List TypeTree) (R t : TypeTree) → Grows J K → slice_get J.sets s ≡ Some S → slice_get K.types r ≡ Some R → t ≡ arrow S R → arrow (set_of_id K s) (type_of_id K r) ≡ t
+found_arrow J K s r S R t g s_at r_at is =
+    let e = set_stays J K g s (slice_get_within J.sets s S s_at) ∙ get_or_from_slice_get J.sets s S [] s_at in
+    let f = get_or_from_slice_get K.types r R (state 0) r_at in
+    (λ i. arrow (e i) (f i)) ∙ sym is

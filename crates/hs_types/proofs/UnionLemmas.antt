@@ -1,5 +1,5 @@
 -- Unions that are known.
-use Rattle.std.proofs.Common.{◌≡◌, refl, sym, ◌∙◌, ap, subst, ℕ, ◌<◌, Bool, true, false, cond, nat_eq, List, [], ◌∷◌, length, map, Some, Contains, ◌⊎◌, inl, inr, replicate, slice_get}
+use Rattle.std.proofs.Common.{◌≡◌, refl, sym, ◌∙◌, ap, subst, ℕ, ◌<◌, Bool, true, false, cond, nat_eq, List, [], ◌∷◌, length, map, Some, Contains, ◌⊎◌, inl, inr, replicate, slice_get, arith}
 use Rattle.std.specs.Map.{lookup}
 use Rattle.std.proofs.lemmas.Bool.{eqb-true, and_parts}
 use Rattle.std.proofs.lemmas.List.{length-map, length-replicate}
@@ -11,7 +11,8 @@ use Rattle.hs_table.specs.Types.{TypeTree, IsSet}
 use Rattle.hs_table.specs.Entries.{Env, set_at}
 use Rattle.hs_types.specs.declared.unions.Operands.{Operands}
 use Rattle.hs_types.specs.contracts.unions.OperandsPartialEq.TheImpl.{eq-value}
-use Rattle.hs_types.specs.Interned.{InternerData, set_of_id, env_of_id, IsUnion, IsUnionEnv, IsInterner, Grows}
+use Rattle.hs_types.proofs.MergeLemmas.{union_swap}
+use Rattle.hs_types.specs.Interned.{InternerData, type_of_id, set_of_id, env_of_id, IsUnion, IsUnionEnv, IsInterner, Grows}
 use Rattle.hs_types.specs.Unions.{KnownUnions, AreOperands, Knows, KnowsMore, IsSetUnion, IsEnvUnion, AreUnions}
 use Rattle.hs_types.proofs.MergeLemmas.{union_swap}
 use Rattle.hs_types.proofs.Numbers.{set_within, set_stays, env_within, env_stays}
@@ -211,3 +212,31 @@ union_of_empty I K n a b sets same exact at is long first second =
         sets = λ j. union_second (set_at (env_of_id I a) j) (set_at (env_of_id I b) j) (ap (λ (z : Env). set_at z j) e ∙ empties n j) (exact.env_ascends b j);
       };
     })
+
+-- unions that need no look: of equal sets, and where one is empty
+module _ (N I : InternerData) (same : N ≡ I) (is : IsInterner N) (a b : ℕ) (a_in : a < length I.sets) (b_in : b < length I.sets) where
+  up : (s : ℕ) → IsSet (set_of_id I s)
+  up s = (subst (λ (J : InternerData). IsInterner J) same is).set_ascends s
+
+  no_types : (s : ℕ) (xs : List ℕ) → map (type_of_id N) xs ≡ set_of_id N s → length xs ≡ 0 → set_of_id I s ≡ []
+  no_types s [] e none = sym (e ∙ ap (λ (J : InternerData). set_of_id J s) same)
+  no_types s (x ∷ xs) e none = absurd (omega arith)
+
+  pub union_equal : a ≡ b → IsSetUnion I a b a
+  union_equal e = record {
+    first = a_in;
+    second = b_in;
+    within = a_in;
+    is = subst (λ k. IsUnion (set_of_id I a) (set_of_id I k) (set_of_id I a)) e (union_same (set_of_id I a) (up a));
+  }
+
+  pub union_none_first : (xs : List ℕ) → map (type_of_id N) xs ≡ set_of_id N a → length xs ≡ 0 → IsSetUnion I a b b
+  union_none_first xs e none = record { first = a_in; second = b_in; within = b_in; is = union_second (set_of_id I a) (set_of_id I b) (no_types a xs e none) (up b) }
+
+  pub union_none_second : (xs : List ℕ) → map (type_of_id N) xs ≡ set_of_id N b → length xs ≡ 0 → IsSetUnion I a b a
+  union_none_second xs e none = record {
+    first = a_in;
+    second = b_in;
+    within = a_in;
+    is = union_swap (set_of_id I b) (set_of_id I a) (set_of_id I a) (union_second (set_of_id I b) (set_of_id I a) (no_types b xs e none) (up a));
+  }

@@ -119,15 +119,11 @@ impl Nodes {
         ensures grows { Grows self.old self.new }
     {
         match from.view(id) {
-            View::State(q) => {
-                let own = self.number_type(guesses, id, View::State(q))?;
-                Ok(own)
-            }
+            View::State(q) => self.number_type(guesses, id, View::State(q)),
             View::Arrow(set, rest) => {
                 let own_set = self.import_set(alloc, guesses, from, set)?;
                 let own_rest = self.import_type(alloc, guesses, from, rest)?;
-                let own = self.number_type(guesses, id, View::Arrow(own_set, own_rest))?;
-                Ok(own)
+                self.number_type(guesses, id, View::Arrow(own_set, own_rest))
             }
         }
     }
@@ -151,8 +147,7 @@ impl Nodes {
         for member in members {
             types.push(self.import_type(alloc, guesses, from, *member)?)?;
         }
-        let own = self.number_set(guesses, id, types.as_slice())?;
-        Ok(own)
+        self.number_set(guesses, id, types.as_slice())
     }
 
     /// The number here of the other's environment.
@@ -172,7 +167,6 @@ impl Nodes {
         for set in sets {
             own_sets.push(self.import_set(alloc, guesses, from, *set)?)?;
         }
-        let own = self.number_env(guesses, id, own_sets.as_slice())?;
-        Ok(own)
+        self.number_env(guesses, id, own_sets.as_slice())
     }
 }

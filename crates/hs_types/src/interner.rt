@@ -3,6 +3,7 @@
 
 ghost use Rattle.std.specs.Prelude.{◌≡◌, ◌<◌, ◌∷◌, [], IfOk, IfSome, All, Some, length, map, replicate, slice_get, slice_set, Contains, IsTrue, ◌↔◌};
 ghost use Rattle.hs_table.specs.Types.{TypeTree, state, arrow, type_cmp};
+ghost use Rattle.hs_table.specs.Entries.{set_at};
 ghost use Rattle.hs_types.specs.Unions.{IsSetUnion, IsEnvUnion};
 ghost use Rattle.hs_types.specs.Interned.{type_of_id, set_of_id, env_of_id, IsRow, entry_of, IsView, IsInterner, Grows, IsSetOf, IsUnion, IsUnionEnv};
 
@@ -81,8 +82,7 @@ impl Interner {
         ensures ok { IfOk result (λ id. slice_get self.new.types id ≡ Some (state q)) }
         ensures grows { Grows self.old self.new }
     {
-        let id = self.nodes.base(&mut self.latest, q)?;
-        Ok(id)
+        self.nodes.base(&mut self.latest, q)
     }
 
     /// The type with this set and this result. Constant time on average.
@@ -93,8 +93,7 @@ impl Interner {
             ≡ Some (arrow (set_of_id self.old set) (type_of_id self.old rest))) }
         ensures grows { Grows self.old self.new }
     {
-        let id = self.nodes.add_type(View::Arrow(set, rest))?;
-        Ok(id)
+        self.nodes.add_type(View::Arrow(set, rest))
     }
 
     /// The set of these types, which may come in any order and more than once. Compares about as
@@ -105,8 +104,7 @@ impl Interner {
             × IsSetOf (map (type_of_id self.old) ids.now) (set_of_id self.new id)) }
         ensures grows { Grows self.old self.new }
     {
-        let id = self.nodes.set(self.alloc, &mut self.latest, ids)?;
-        Ok(id)
+        self.nodes.set(self.alloc, &mut self.latest, ids)
     }
 
     /// The environment with these sets. Time in proportion to their number, on average.
@@ -116,8 +114,7 @@ impl Interner {
             (map (set_of_id self.old) sets.now)) }
         ensures grows { Grows self.old self.new }
     {
-        let id = self.nodes.add_env(sets)?;
-        Ok(id)
+        self.nodes.add_env(sets)
     }
 
     /// The environment of n empty sets. Time in proportion to n. Nothing is hashed where it was asked
@@ -126,8 +123,7 @@ impl Interner {
         ensures ok { IfOk result (λ id. slice_get self.new.envs id ≡ Some (replicate n [])) }
         ensures grows { Grows self.old self.new }
     {
-        let id = self.nodes.empty_env(self.alloc, &mut self.latest, n)?;
-        Ok(id)
+        self.nodes.empty_env(self.alloc, &mut self.latest, n)
     }
 
     /// The environment of n sets, of which the one at x, counted from 0, has this type alone, and the
@@ -139,10 +135,8 @@ impl Interner {
             ≡ Some (slice_set (replicate n []) x (type_of_id self.old ty ∷ []))) }
         ensures grows { Grows self.old self.new }
     {
-        let id = self
-            .nodes
-            .single_env(self.alloc, &mut self.latest, n, x as usize, ty)?;
-        Ok(id)
+        self.nodes
+            .single_env(self.alloc, &mut self.latest, n, x as usize, ty)
     }
 
     /// The number here of a type of the other interner. Walks the whole type, as deep as it is, and
@@ -152,10 +146,8 @@ impl Interner {
         ensures ok { IfOk result (λ id. slice_get self.new.types id ≡ Some (type_of_id from.now ty)) }
         ensures grows { Grows self.old self.new }
     {
-        let id = self
-            .nodes
-            .import_type(self.alloc, &mut self.guesses, &from.nodes, ty)?;
-        Ok(id)
+        self.nodes
+            .import_type(self.alloc, &mut self.guesses, &from.nodes, ty)
     }
 
     /// The number here of an environment of the other interner. Walks all its types.
@@ -164,10 +156,8 @@ impl Interner {
         ensures ok { IfOk result (λ id. slice_get self.new.envs id ≡ Some (env_of_id from.now env)) }
         ensures grows { Grows self.old self.new }
     {
-        let id = self
-            .nodes
-            .import_env(self.alloc, &mut self.guesses, &from.nodes, env)?;
-        Ok(id)
+        self.nodes
+            .import_env(self.alloc, &mut self.guesses, &from.nodes, env)
     }
 
     /// The row that stands here for the entry that `row` stands for in the other interner.
@@ -200,10 +190,8 @@ impl Interner {
             (entry_of from.now) rows.now) }
         ensures grows { Grows self.old self.new }
     {
-        let own = self
-            .nodes
-            .import_rows(self.alloc, &mut self.guesses, found, &from.nodes, rows)?;
-        Ok(own)
+        self.nodes
+            .import_rows(self.alloc, &mut self.guesses, found, &from.nodes, rows)
     }
 
     /// What the type is. Constant time, and takes no memory.
@@ -257,8 +245,7 @@ impl Interner {
         requires { IsRow self.now row }
         ensures { IfOk result (λ e. e ≡ entry_of self.now row) }
     {
-        let entry = self.nodes.tree(alloc, row)?;
-        Ok(entry)
+        self.nodes.tree(alloc, row)
     }
 
     /// The union of the two sets, where it is at hand: they are equal, or one is empty, or it is known.
@@ -317,6 +304,22 @@ impl Interner {
         Some(EnvId::at(union))
     }
 
+    /// The union of the two sets at the place, counted from 0.
+    fn union_at(&mut self, a: EnvId, b: EnvId, place: usize) -> Result<SetId, OutOfMemory>
+        requires a { a < length self.old.envs }
+        requires b { b < length self.old.envs }
+        requires in_a { place < length (env_of_id self.old a) }
+        requires in_b { place < length (env_of_id self.old b) }
+        ensures ok { IfOk result (λ id. (id < length self.new.sets)
+            × IsUnion (set_at (env_of_id self.old a) place) (set_at (env_of_id self.old b) place)
+            (set_of_id self.new id)) }
+        ensures grows { Grows self.old self.new }
+    {
+        let first = self.sets(a)[place];
+        let second = self.sets(b)[place];
+        self.union_sets(first, second)
+    }
+
     /// The unions of the sets, each made.
     fn join_envs(&mut self, a: EnvId, b: EnvId) -> Result<EnvId, OutOfMemory>
         requires a { a < length self.old.envs }
@@ -329,12 +332,9 @@ impl Interner {
         let count = self.sets(a).len();
         let mut unions: SmallVec<SetId, 8> = SmallVec::new(self.alloc);
         for place in 0..count {
-            let first = self.sets(a)[place];
-            let second = self.sets(b)[place];
-            unions.push(self.union_sets(first, second)?)?;
+            unions.push(self.union_at(a, b, place)?)?;
         }
-        let id = self.env(unions.as_slice())?;
-        Ok(id)
+        self.env(unions.as_slice())
     }
 
     /// The environment whose sets have the types of both, set by set. Constant time on average for

@@ -78,12 +78,10 @@ impl Nodes {
         ensures grows { Grows self.old self.new }
     {
         if ids.len() <= 1 {
-            let id = self.latest_set(latest, ids)?;
-            return Ok(id);
+            return self.latest_set(latest, ids);
         }
         let sorted = self.sorted(alloc, ids)?;
-        let id = self.add_set(sorted.as_slice())?;
-        Ok(id)
+        self.add_set(sorted.as_slice())
     }
 
     /// The set with the types of both.
@@ -101,8 +99,7 @@ impl Nodes {
     {
         self.numbers_are_exact();
         let merged = self.merge(alloc, self.members(a), self.members(b))?;
-        let id = self.add_set(merged.as_slice())?;
-        Ok(id)
+        self.add_set(merged.as_slice())
     }
 
     /// Whether this is the number of the environment of n empty sets.
@@ -165,7 +162,6 @@ impl Nodes {
         let empty = self.latest_set(latest, &[])?;
         let mut sets: SmallVec<SetId, 8> = SmallVec::from_elem(alloc, empty, n)?;
         sets[x] = single;
-        let id = self.latest_env(latest, ty, sets.as_slice())?;
-        Ok(id)
+        self.latest_env(latest, ty, sets.as_slice())
     }
 }

@@ -1,6 +1,6 @@
 //! Sets that are merged, and sets of any list of types.
 
-ghost use Rattle.std.specs.Prelude.{◌≡◌, ◌<◌, IfOk, All, length, map};
+ghost use Rattle.std.specs.Prelude.{◌≡◌, ◌<◌, [], IfOk, OnOk, All, length, map};
 ghost use Rattle.hs_table.specs.Types.{IsSet};
 ghost use Rattle.hs_types.specs.Interned.{type_of_id, IsSetOf, IsUnion};
 
@@ -11,23 +11,22 @@ use std::alloc::Global;
 use std::cmp::Ordering;
 
 impl Nodes {
-    /// The types of both, in order. Compares as often as there are types in both.
-    pub(crate) fn merge(
+    /// Fills the empty list with the types of both, in order. Compares as often as there are types in both.
+    fn merge_into(
         &self,
-        alloc: Global,
         xs: &[TyId],
         ys: &[TyId],
-    ) -> Result<Vec<TyId>, OutOfMemory>
+        merged: &mut Vec<TyId>,
+    ) -> Result<(), OutOfMemory>
         requires xs_range { All (λ t. t < length self.now.types) xs.now }
         requires ys_range { All (λ t. t < length self.now.types) ys.now }
         requires xs_ascend { IsSet (map (type_of_id self.now) xs.now) }
         requires ys_ascend { IsSet (map (type_of_id self.now) ys.now) }
-        ensures range { IfOk result (λ r. All (λ t. t < length self.now.types) r.items) }
-        ensures union { IfOk result (λ r.
-            IsUnion (map (type_of_id self.now) xs.now) (map (type_of_id self.now) ys.now)
-            (map (type_of_id self.now) r.items)) }
+        requires empty { merged.old.items ≡ [] }
+        ensures range { OnOk result (All (λ t. t < length self.now.types) merged.new.items) }
+        ensures union { OnOk result (IsUnion (map (type_of_id self.now) xs.now) (map (type_of_id self.now) ys.now)
+            (map (type_of_id self.now) merged.new.items)) }
     {
-        let mut merged = Vec::new(alloc);
         let mut i = 0;
         let mut j = 0;
         while i < xs.len() && j < ys.len() {
@@ -49,6 +48,27 @@ impl Nodes {
         }
         merged.extend_from_slice(&xs[i..])?;
         merged.extend_from_slice(&ys[j..])?;
+        Ok(())
+    }
+
+    /// The types of both, in order. Compares as often as there are types in both.
+    pub(crate) fn merge(
+        &self,
+        alloc: Global,
+        xs: &[TyId],
+        ys: &[TyId],
+    ) -> Result<Vec<TyId>, OutOfMemory>
+        requires xs_range { All (λ t. t < length self.now.types) xs.now }
+        requires ys_range { All (λ t. t < length self.now.types) ys.now }
+        requires xs_ascend { IsSet (map (type_of_id self.now) xs.now) }
+        requires ys_ascend { IsSet (map (type_of_id self.now) ys.now) }
+        ensures range { IfOk result (λ r. All (λ t. t < length self.now.types) r.items) }
+        ensures union { IfOk result (λ r.
+            IsUnion (map (type_of_id self.now) xs.now) (map (type_of_id self.now) ys.now)
+            (map (type_of_id self.now) r.items)) }
+    {
+        let mut merged = Vec::new(alloc);
+        self.merge_into(xs, ys, &mut merged)?;
         Ok(merged)
     }
 
@@ -65,7 +85,6 @@ impl Nodes {
         let middle = ids.len() / 2;
         let first = self.sorted(alloc, &ids[..middle])?;
         let second = self.sorted(alloc, &ids[middle..])?;
-        let merged = self.merge(alloc, first.as_slice(), second.as_slice())?;
-        Ok(merged)
+        self.merge(alloc, first.as_slice(), second.as_slice())
     }
 }

@@ -30,16 +30,16 @@ option name = record (new_rule name) { long = Some name }
 abbrev pub bare : App
 bare = on_top (λ (s : Shape). record s { disable_help_flag = true }) (new_app (codes "horsat"))
 
+-- the options that bound a run, and those without a value
+abbrev pub with_bounds : App → App
+with_bounds command = with_rule (with_rule (with_rule command (option (codes "workers"))) (option (codes "entries"))) (option (codes "steps"))
+
+abbrev pub with_flags : App → App
+with_flags command = with_rule (with_rule (with_rule command (flag (codes "table"))) (flag (codes "first"))) (flag (codes "simplify"))
+
 -- the first of the words is the program's name, and one that is no option is FILE
 abbrev pub horsat : App
-horsat =
-    with_rule
-    (with_rule
-    (with_rule
-    (with_rule (with_rule (with_rule (with_rule (with_rule bare (option (codes "workers"))) (option (codes "entries"))) (option (codes "steps"))) (flag (codes "table"))) (flag (codes "first")))
-    (flag (codes "simplify")))
-    (option (codes "gen")))
-    (new_rule (codes "file"))
+horsat = with_rule (with_rule (with_flags (with_bounds bare)) (option (codes "gen"))) (new_rule (codes "file"))
 
 -- one to nine ASCII digits
 abbrev pub is_numeral : List ℕ → Bool

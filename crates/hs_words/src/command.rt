@@ -27,7 +27,7 @@ fn flag<'a>(alloc: Global, name: &'a str) -> Arg<'a>
     ensures rule { rule_of result ≡ words.flag name.entry.now }
     ensures local { result.global ≡ false }
 {
-    Arg::new(alloc, name).long(name).action(ArgAction::SetTrue)
+    option(alloc, name).action(ArgAction::SetTrue)
 }
 
 /// The command without options.
@@ -37,17 +37,31 @@ fn bare<'a>(alloc: Global) -> Command<'a>
     Command::new(alloc, "horsat").disable_help_flag(true)
 }
 
+/// The command with the options that bound a run.
+fn with_bounds<'a>(alloc: Global, command: Command<'a>) -> Result<Command<'a>, AllocError>
+    ensures { IfOk result (λ added. app_of added ≡ words.with_bounds (app_of command.entry)) }
+{
+    command
+        .arg(option(alloc, "workers"))?
+        .arg(option(alloc, "entries"))?
+        .arg(option(alloc, "steps"))
+}
+
+/// The command with the options without a value.
+fn with_flags<'a>(alloc: Global, command: Command<'a>) -> Result<Command<'a>, AllocError>
+    ensures { IfOk result (λ added. app_of added ≡ words.with_flags (app_of command.entry)) }
+{
+    command
+        .arg(flag(alloc, "table"))?
+        .arg(flag(alloc, "first"))?
+        .arg(flag(alloc, "simplify"))
+}
+
 /// The command, to which help and version are unknown words like others.
 fn horsat<'a>(alloc: Global) -> Result<Command<'a>, AllocError>
     ensures { IfOk result (λ command. app_of command ≡ words.horsat) }
 {
-    bare(alloc)
-        .arg(option(alloc, "workers"))?
-        .arg(option(alloc, "entries"))?
-        .arg(option(alloc, "steps"))?
-        .arg(flag(alloc, "table"))?
-        .arg(flag(alloc, "first"))?
-        .arg(flag(alloc, "simplify"))?
+    with_flags(alloc, with_bounds(alloc, bare(alloc))?)?
         .arg(option(alloc, "gen"))?
         .arg(Arg::new(alloc, "file"))
 }

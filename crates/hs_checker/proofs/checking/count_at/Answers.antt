@@ -3,7 +3,7 @@ use Rattle.hs_table.specs.Types.{TypeTree}
 use Rattle.hs_table.specs.Entries.{EntryData}
 use Rattle.hs_table.specs.Follows.{Follows}
 use Rattle.hs_table.specs.Tables.{IsInstance}
-use Rattle.hs_checker.proofs.InstanceLemmas.{nothing_found}
+use Rattle.hs_checker.proofs.InstanceLemmas.{nothing_found, one_found}
 use Rattle.hs_checker.proofs.CountLemmas.{set_count}
 use Rattle.hs_checker.proofs.InertLemmas.{inert_follows, inert_count}
 use Rattle.hs_checker.proofs.checking.count_at.Goals as goal
@@ -31,4 +31,17 @@ returns-then-is_marked c =
       closed = λ e at f. absurd (inert_follows c.args.problem.now c.args.index.now c.args.point own e at f);
       count = inert_count c.args.problem.now c.args.index.now c.args.point own;
       missing = tt;
+    }
+
+pub returns-in-Nt : goal.returns-in-Nt
+returns-in-Nt c = c.count_at_rule.ensures
+
+pub returns-in-Some : goal.returns-in-Some
+returns-in-Some c =
+    let p = c.args.problem.now in
+    let E = c.args.index.now in
+    record {
+      closed = tt;
+      count = tt;
+      missing = one_found c.in_ok-entry.field-0 c.in-Some.entry ((e : EntryData) → e.point ≡ c.args.point → Follows p E e → Contains E e) (λ e. Follows p E e × (Contains E e → ⊥)) c.in-Some.is c.in_ok-entry.ensures;
     }

@@ -3,7 +3,7 @@ use Rattle.std.proofs.lemmas.List.{take_all}
 use Rattle.hs_table.specs.Types.{TypeTree, IsSet, IsType}
 use Rattle.hs_table.specs.TypeView.{type_of}
 use Rattle.hs_checker.specs.Shape.{AreAllTypes}
-use Rattle.hs_checker.proofs.ShapeLemmas.{arrow_parts, arrow_whole}
+use Rattle.hs_checker.proofs.ShapeLemmas.{arrow_parts, arrow_whole, all_more}
 use Rattle.hs_checker.proofs.shape.+is_type.Goals as goal
 
 pub returns-then-not-is_type : goal.returns-then-not-is_type
@@ -36,3 +36,8 @@ returns-else-is_set t c =
           let parts = arrow_parts c.args.states c.in-Arrow.set.items c.in-Arrow.rest.value (subst (λ z. IsType c.args.states z) is typed) in
           c.is_set.ensures.1 (subst (λ (xs : List TypeTree). IsSet xs) (sym c.as_slice.ensures.value) parts.1.0),
     )
+
+pub loop-member-preserved : goal.loop-member-preserved
+loop-member-preserved t c =
+    all_more c.args.states c.deref-member-items.result.now c.loop-member.member-index c.member-item.result c.loop-member-test.true c.member-item.is c.loop-member.invariant
+    (c.is_type.ensures.0 c.if-not-is_type.false)

@@ -1,5 +1,5 @@
 use Rattle.std.proofs.Common.{◌≡◌, refl, sym, ap, subst, ◌∙◌, ◌<◌, [], length, get_or, slice_get, unwrap_or, Contains, arith, inl, inr}
-use Rattle.std.proofs.lemmas.Bool.{cases_lt, MatchBool-at_true}
+use Rattle.std.proofs.lemmas.Bool.{cases_lt, MatchBool-at_true, MatchBool-at_false}
 use Rattle.std.proofs.lemmas.List.Elements.{Contains-get_or}
 use Rattle.hs_types.specs.Interned.{entry_of}
 use Rattle.hs_history.specs.Story.{Base}
@@ -12,6 +12,9 @@ list-dependent-items-requires c =
     let at = ap (λ xs. slice_get xs c.args.place) (sym c.replica.ensures.log) ∙ c.row-point.ensures.entry in
     omega (arith, point_within c.args.core.now c.args.place (entry_of c.replica.result.now.ids c.row-point.result) c.is_core.ensures.legal at, c.requires.dependents.each)
 
+pub loop-dependent-init : goal.loop-dependent-init
+loop-dependent-init c = record { moves = moves_same c.args.core.now c.args.core.now refl refl; all = λ k lt. absurd (omega arith) }
+
 pub at_place-requires-clause-point : goal.at_place-requires-clause-point
 at_place-requires-clause-point c =
     let items = c.list-dependent-items.result.now in
@@ -23,6 +26,20 @@ at_place-requires-clause-point c =
 pub at_place-requires-clause-place : goal.at_place-requires-clause-place
 at_place-requires-clause-place c = in_log_still c.args.core.now c.loop-dependent.core c.args.place c.loop-dependent.invariant.moves.alone c.requires.place
 
+pub returns-in_err-found-clause-goes : goal.returns-in_err-found-clause-goes
+returns-in_err-found-clause-goes c = (moves_asked c.args.core.now c.loop-dependent.core c.at_place.new.self c.loop-dependent.invariant.moves c.in_err-found.ensures.kept).alone
+
+pub returns-in_err-found-clause-flight : goal.returns-in_err-found-clause-flight
+returns-in_err-found-clause-flight c = (moves_asked c.args.core.now c.loop-dependent.core c.at_place.new.self c.loop-dependent.invariant.moves c.in_err-found.ensures.kept).flight
+
+pub returns-in_err-found-clause-weight : goal.returns-in_err-found-clause-weight
+returns-in_err-found-clause-weight c = (moves_asked c.args.core.now c.loop-dependent.core c.at_place.new.self c.loop-dependent.invariant.moves c.in_err-found.ensures.kept).lighter
+
+pub publish_all-requires-clause-holds : goal.publish_all-requires-clause-holds
+publish_all-requires-clause-holds c =
+    let moves = moves_asked c.args.core.now c.loop-dependent.core c.at_place.new.self c.loop-dependent.invariant.moves c.in_ok-found.ensures.kept in
+    (c.requires.holds.0, moves.flight c.args.ticket ∙ c.requires.holds.1)
+
 pub publish_all-requires-clause-ready : goal.publish_all-requires-clause-ready
 publish_all-requires-clause-ready c =
     place_ready c.loop-dependent.core c.at_place.new.self _ c.args.place c.in_ok-found.found.items c.in_ok-found.ensures.kept
@@ -33,10 +50,33 @@ returns-in_err-publish_all-clause-goes c =
     (moves_trans c.args.core.now c.at_place.new.self c.publish_all.new.core (moves_asked c.args.core.now c.loop-dependent.core c.at_place.new.self c.loop-dependent.invariant.moves c.in_ok-found.ensures.kept)
     (record { alone = c.in_err-publish_all.ensures.goes; flight = c.in_err-publish_all.ensures.flight; lighter = c.in_err-publish_all.ensures.weight })).alone
 
+pub returns-in_err-publish_all-clause-flight : goal.returns-in_err-publish_all-clause-flight
+returns-in_err-publish_all-clause-flight c =
+    (moves_trans c.args.core.now c.at_place.new.self c.publish_all.new.core (moves_asked c.args.core.now c.loop-dependent.core c.at_place.new.self c.loop-dependent.invariant.moves c.in_ok-found.ensures.kept)
+    (record { alone = c.in_err-publish_all.ensures.goes; flight = c.in_err-publish_all.ensures.flight; lighter = c.in_err-publish_all.ensures.weight })).flight
+
+pub returns-in_err-publish_all-clause-weight : goal.returns-in_err-publish_all-clause-weight
+returns-in_err-publish_all-clause-weight c =
+    (moves_trans c.args.core.now c.at_place.new.self c.publish_all.new.core (moves_asked c.args.core.now c.loop-dependent.core c.at_place.new.self c.loop-dependent.invariant.moves c.in_ok-found.ensures.kept)
+    (record { alone = c.in_err-publish_all.ensures.goes; flight = c.in_err-publish_all.ensures.flight; lighter = c.in_err-publish_all.ensures.weight })).lighter
+
 pub returns-then-not-branch-clause-goes : goal.returns-then-not-branch-clause-goes
 returns-then-not-branch-clause-goes c =
     (moves_trans c.args.core.now c.at_place.new.self c.publish_all.new.core (moves_asked c.args.core.now c.loop-dependent.core c.at_place.new.self c.loop-dependent.invariant.moves c.in_ok-found.ensures.kept)
     (record { alone = c.in_ok-publish_all.ensures.goes; flight = c.in_ok-publish_all.ensures.flight; lighter = c.in_ok-publish_all.ensures.weight })).alone
+
+pub returns-then-not-branch-clause-flight : goal.returns-then-not-branch-clause-flight
+returns-then-not-branch-clause-flight c =
+    (moves_trans c.args.core.now c.at_place.new.self c.publish_all.new.core (moves_asked c.args.core.now c.loop-dependent.core c.at_place.new.self c.loop-dependent.invariant.moves c.in_ok-found.ensures.kept)
+    (record { alone = c.in_ok-publish_all.ensures.goes; flight = c.in_ok-publish_all.ensures.flight; lighter = c.in_ok-publish_all.ensures.weight })).flight
+
+pub returns-then-not-branch-clause-weight : goal.returns-then-not-branch-clause-weight
+returns-then-not-branch-clause-weight c =
+    (moves_trans c.args.core.now c.at_place.new.self c.publish_all.new.core (moves_asked c.args.core.now c.loop-dependent.core c.at_place.new.self c.loop-dependent.invariant.moves c.in_ok-found.ensures.kept)
+    (record { alone = c.in_ok-publish_all.ensures.goes; flight = c.in_ok-publish_all.ensures.flight; lighter = c.in_ok-publish_all.ensures.weight })).lighter
+
+pub returns-then-not-branch-clause-closed : goal.returns-then-not-branch-clause-closed
+returns-then-not-branch-clause-closed c = MatchBool-at_false _ _ c.if-not-branch.true c.in_ok-publish_all.ensures.all
 
 pub loop-dependent-preserved : goal.loop-dependent-preserved
 loop-dependent-preserved c =
@@ -59,6 +99,15 @@ loop-dependent-preserved c =
             (has_new a b m e c.args.place (get_or items n 0) c.in_ok-found.found.items c.requires.place c.loop-dependent.invariant.moves.alone c.in_ok-publish_all.ensures.ids c.in_ok-found.ensures.found (MatchBool-at_true _ _ c.if-not-branch.false c.in_ok-publish_all.ensures.all))
       ];
     }
+
+pub returns-clause-goes : goal.returns-clause-goes
+returns-clause-goes c = c.loop-dependent.invariant.moves.alone
+
+pub returns-clause-flight : goal.returns-clause-flight
+returns-clause-flight c = c.loop-dependent.invariant.moves.flight
+
+pub returns-clause-weight : goal.returns-clause-weight
+returns-clause-weight c = c.loop-dependent.invariant.moves.lighter
 
 pub returns-clause-closed : goal.returns-clause-closed
 returns-clause-closed c =

@@ -8,7 +8,7 @@ use Rattle.hs_history.specs.Story.{Base, takes}
 use Rattle.hs_history.specs.CoreStep.{IsClosedSeed, CanFinish}
 use Rattle.hs_core.specs.Core.{CoreData, state_of, log_of}
 use Rattle.hs_core.specs.Draining.{IsReady, IsThere}
-use Rattle.hs_core.proofs.Moving.{Moves, alone_step, nothing_flies, holds_new, holds_then, ready_still, seed_ready, seed_closed_after, taken_work}
+use Rattle.hs_core.proofs.Moving.{Moves, alone_same, alone_step, nothing_flies, holds_new, holds_then, ready_still, seed_ready, seed_closed_after, taken_work}
 use Rattle.hs_core.proofs.Turning.{TurnEnds, closed_turn, turn_behind, next_brought, passed_turn, none_closed, may_close}
 use Rattle.hs_core.proofs.draining.seed_turn.Goals as goal
 
@@ -17,6 +17,30 @@ at_seed-requires g c =
     let a = c.args.core.now in
     taken_work a (Seed c.args.point) c.is_core.ensures.legal (subst (λ ws. Contains ws (Seed c.args.point)) (sym c.requires.next.pending) (here (Seed c.args.point) c.requires.next.rest))
 
+pub returns-in_err-found-clause-goes : goal.returns-in_err-found-clause-goes
+returns-in_err-found-clause-goes g c =
+    let a = c.args.core.now in
+    let m = c.at_seed.new.self in
+    let is = c.in_err-found.ensures.kept in
+    alone_same a m (ap (λ (x : CoreData). x.base) is) (ap (λ (x : CoreData). x.story) is)
+
+pub returns-in_err-found-clause-flight : goal.returns-in_err-found-clause-flight
+returns-in_err-found-clause-flight g c =
+    let a = c.args.core.now in
+    let m = c.at_seed.new.self in
+    let is = c.in_err-found.ensures.kept in
+    nothing_flies a m (ap (λ (x : CoreData). x.base) is) (ap (λ (x : CoreData). x.story) is) c.requires.flight
+
+pub pass_seed-requires-clause-next : goal.pass_seed-requires-clause-next
+pass_seed-requires-clause-next g c = next_brought c.args.core.now c.at_seed.new.self c.args.point c.in_ok-found.ensures.kept c.requires.next
+
+pub pass_seed-requires-clause-flight : goal.pass_seed-requires-clause-flight
+pass_seed-requires-clause-flight g c =
+    let a = c.args.core.now in
+    let m = c.at_seed.new.self in
+    let is = c.in_ok-found.ensures.kept in
+    nothing_flies a m (ap (λ (x : CoreData). x.base) is) (ap (λ (x : CoreData). x.story) is) c.requires.flight
+
 pub pass_seed-requires-clause-closed : goal.pass_seed-requires-clause-closed
 pass_seed-requires-clause-closed g c =
     let a = c.args.core.now in
@@ -24,6 +48,20 @@ pass_seed-requires-clause-closed g c =
     let empty = eqb-true _ _ (sym c.is_empty.ensures ∙ c.if-is_empty.true) in
     subst (λ (b : Base). IsClosedSeed b.problem (log_of m) c.args.point) (sym (ap (λ (x : CoreData). x.base) c.in_ok-found.ensures.kept))
     (none_closed a.base.problem m.ids (log_of m) c.in_ok-found.found.items c.args.point (omega (arith, c.in_ok-found.found.ok.0, empty)) c.in_ok-found.ensures.found)
+
+pub pass_seed-requires-clause-spare : goal.pass_seed-requires-clause-spare
+pass_seed-requires-clause-spare g c = omega (arith, c.requires.spare, ap (λ (x : CoreData). x.spare) c.in_ok-found.ensures.kept)
+
+pub returns-then-is_empty-clause-goes : goal.returns-then-is_empty-clause-goes
+returns-then-is_empty-clause-goes g c =
+    let a = c.args.core.now in
+    let m = c.at_seed.new.self in
+    let is = c.in_ok-found.ensures.kept in
+    let base = ap (λ (x : CoreData). x.base) is in
+    let story = ap (λ (x : CoreData). x.story) is in
+    let free = nothing_flies a m base story c.requires.flight in
+    let ends = passed_turn {E = OutOfMemory} {me = c.args.worker} m c.pass_seed.new.self c.args.point _ free (next_brought a m c.args.point is c.requires.next) c.pass_seed.ensures in
+    (turn_behind a m base story c.pass_seed.new.self _ ends).goes
 
 pub returns-then-is_empty-clause-flight : goal.returns-then-is_empty-clause-flight
 returns-then-is_empty-clause-flight g c =
@@ -46,6 +84,12 @@ returns-then-is_empty-clause-more g c =
     let free = nothing_flies a m base story c.requires.flight in
     let ends = passed_turn {E = OutOfMemory} {me = c.args.worker} m c.pass_seed.new.self c.args.point _ free (next_brought a m c.args.point is c.requires.next) c.pass_seed.ensures in
     (turn_behind a m base story c.pass_seed.new.self _ ends).more
+
+pub take_seed-ticket-requires-clause-next : goal.take_seed-ticket-requires-clause-next
+take_seed-ticket-requires-clause-next g c = next_brought c.args.core.now c.at_seed.new.self c.args.point c.in_ok-found.ensures.kept c.requires.next
+
+pub take_seed-ticket-requires-clause-spare : goal.take_seed-ticket-requires-clause-spare
+take_seed-ticket-requires-clause-spare g c = omega (arith, c.requires.spare, ap (λ (x : CoreData). x.spare) c.in_ok-found.ensures.kept)
 
 pub publish_all-all-requires-clause-holds : goal.publish_all-all-requires-clause-holds
 publish_all-all-requires-clause-holds g c =

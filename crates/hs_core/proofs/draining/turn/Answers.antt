@@ -1,10 +1,45 @@
 use Rattle.std.proofs.Common.{sym, ap, subst, ◌∙◌, Bool, Result}
 use Rattle.hs_scheme.specs.declared.memory.OutOfMemory.{OutOfMemory}
+use Rattle.hs_flow.specs.Dependents.{HasDependents}
+use Rattle.hs_history.specs.Story.{Base}
 use Rattle.hs_history.specs.CoreStep.{IsClosedWork, CanFinish}
 use Rattle.hs_core.specs.Core.{CoreData, state_of, log_of}
 use Rattle.hs_core.proofs.Moving.{Moves, alone_same, nothing_flies, not_taken, holds_new, holds_then, taken_work, work_taken}
 use Rattle.hs_core.proofs.Turning.{TurnEnds, closed_turn, turn_behind, may_close}
 use Rattle.hs_core.proofs.draining.turn.Goals as goal
+
+pub returns-in_err-reserve_some-clause-goes : goal.returns-in_err-reserve_some-clause-goes
+returns-in_err-reserve_some-clause-goes g c =
+    let same = c.in_err-reserve_some.ensures.err in
+    alone_same c.args.core.now c.reserve_some.new.self (ap (λ (x : CoreData). x.base) same) (ap (λ (x : CoreData). x.story) same)
+
+pub returns-in_err-reserve_some-clause-flight : goal.returns-in_err-reserve_some-clause-flight
+returns-in_err-reserve_some-clause-flight g c =
+    let same = c.in_err-reserve_some.ensures.err in
+    nothing_flies c.args.core.now c.reserve_some.new.self (ap (λ (x : CoreData). x.base) same) (ap (λ (x : CoreData). x.story) same) c.requires.flight
+
+pub seed_turn-requires-clause-flight : goal.seed_turn-requires-clause-flight
+seed_turn-requires-clause-flight g c =
+    let r = c.in_ok-reserve_some.ensures.same in
+    nothing_flies c.args.core.now c.reserve_some.new.self (ap (λ (x : CoreData). x.base) r) (ap (λ (x : CoreData). x.story) r) c.requires.flight
+
+pub returns-in-Some-clause-goes : goal.returns-in-Some-clause-goes
+returns-in-Some-clause-goes g c =
+    let r = c.in_ok-reserve_some.ensures.same in
+    let ends : TurnEnds c.args.worker c.reserve_some.new.self c.seed_turn.new.core c.seed_turn.result = record { goes = c.seed_turn.ensures.goes; flight = c.seed_turn.ensures.flight; more = c.seed_turn.ensures.more } in
+    (turn_behind c.args.core.now c.reserve_some.new.self (ap (λ (x : CoreData). x.base) r) (ap (λ (x : CoreData). x.story) r) c.seed_turn.new.core c.seed_turn.result ends).goes
+
+pub returns-in-Some-clause-flight : goal.returns-in-Some-clause-flight
+returns-in-Some-clause-flight g c =
+    let r = c.in_ok-reserve_some.ensures.same in
+    let ends : TurnEnds c.args.worker c.reserve_some.new.self c.seed_turn.new.core c.seed_turn.result = record { goes = c.seed_turn.ensures.goes; flight = c.seed_turn.ensures.flight; more = c.seed_turn.ensures.more } in
+    (turn_behind c.args.core.now c.reserve_some.new.self (ap (λ (x : CoreData). x.base) r) (ap (λ (x : CoreData). x.story) r) c.seed_turn.new.core c.seed_turn.result ends).flight
+
+pub returns-in-Some-clause-more : goal.returns-in-Some-clause-more
+returns-in-Some-clause-more g c =
+    let r = c.in_ok-reserve_some.ensures.same in
+    let ends : TurnEnds c.args.worker c.reserve_some.new.self c.seed_turn.new.core c.seed_turn.result = record { goes = c.seed_turn.ensures.goes; flight = c.seed_turn.ensures.flight; more = c.seed_turn.ensures.more } in
+    (turn_behind c.args.core.now c.reserve_some.new.self (ap (λ (x : CoreData). x.base) r) (ap (λ (x : CoreData). x.story) r) c.seed_turn.new.core c.seed_turn.result ends).more
 
 pub returns-in_default-take : goal.returns-in_default-take
 returns-in_default-take g c =
@@ -25,6 +60,10 @@ conclude-all-requires-clause-holds g c = (c.in-Item.work, holds_new c.reserve_so
 pub conclude-all-requires-clause-work : goal.conclude-all-requires-clause-work
 conclude-all-requires-clause-work g c =
     work_taken c.args.worker c.reserve_some.new.self c.take.new.self c.in-Item.work c.in-Item.ticket _ (taken_work c.reserve_some.new.self c.in-Item.work c.is_core.ensures.legal c.in-Item.ensures.0.pending) c.in-Item.ensures.1
+
+pub conclude-all-requires-clause-dependents : goal.conclude-all-requires-clause-dependents
+conclude-all-requires-clause-dependents g c =
+    subst (λ (b : Base). HasDependents b.problem.points b.problem.flow.pairs c.args.dependents.now) (sym (ap (λ (x : CoreData). x.base) c.in-Item.ensures.1 ∙ ap (λ (x : CoreData). x.base) c.in_ok-reserve_some.ensures.same)) c.requires.dependents
 
 pub close-requires-clause-holds : goal.close-requires-clause-holds
 close-requires-clause-holds g c =

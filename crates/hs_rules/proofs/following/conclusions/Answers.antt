@@ -4,10 +4,19 @@ use Rattle.std.proofs.lemmas.List.Elements.{All-contains, All-take}
 use Rattle.hs_scheme.specs.Points.{PointsData, point_at, points_of, NonterminalWithin, ParameterWithin}
 use Rattle.hs_scheme.specs.Problem.{ProblemData}
 use Rattle.hs_table.specs.Entries.{EntryData, InShape}
+use Rattle.hs_types.specs.Interned.{InternerData, Grows}
+use Rattle.hs_types.proofs.Numbers.{Grows-refl}
 use Rattle.hs_replica.specs.Replica.{ReplicaData}
 use Rattle.hs_rules.specs.Conclusions.{AnySupport, AreConclusions}
-use Rattle.hs_rules.proofs.PartLemmas.{part_conclusions, have_envs, point_parts, head_within}
+use Rattle.hs_rules.proofs.PartLemmas.{part_conclusions, part_none, have_envs, point_parts, head_within}
 use Rattle.hs_rules.proofs.following.conclusions.Goals as goal
+
+pub add_all-requires-clause-search : goal.add_all-requires-clause-search
+add_all-requires-clause-search c = record { indexed = c.in_ok-index.ensures.ok; limited = omega (arith, c.len-limit.ensures.len); few = c.arguments.ensures.few; fixed_within = tt }
+
+pub add_all-requires-clause-part : goal.add_all-requires-clause-part
+add_all-requires-clause-part c =
+    part_none c.args.problem.now c.index.new.self.ids (take c.len-limit.result c.index.new.self.log) c.args.point AnySupport c.none_found-found.result.rows.keys c.none_found-found.result.list.items c.none_found-found.ensures.rows c.none_found-found.ensures.list
 
 pub add_all-requires-clause-head : goal.add_all-requires-clause-head
 add_all-requires-clause-head c =
@@ -54,3 +63,30 @@ returns-clause-found c =
     let whole = take_all c.len-limit.result log le ∙ ap (λ (r : ReplicaData). r.log) c.in_ok-index.ensures.kept in
     subst (λ (E : List EntryData). AreConclusions p K E c.args.point AnySupport found) whole
     (part_conclusions p K (take c.len-limit.result log) c.args.point AnySupport c.add_all.new.found.rows.keys found c.in_ok-add_all.ensures.part c.in_ok-add_all.ensures.all)
+
+pub returns-in_err-index-clause-log : goal.returns-in_err-index-clause-log
+returns-in_err-index-clause-log c = ap (λ (r : ReplicaData). r.log) c.index.ensures.kept
+
+pub returns-in_err-index-clause-spare : goal.returns-in_err-index-clause-spare
+returns-in_err-index-clause-spare c = ap (λ (r : ReplicaData). r.spare) c.index.ensures.kept
+
+pub returns-in_err-index-clause-grows : goal.returns-in_err-index-clause-grows
+returns-in_err-index-clause-grows c = subst (λ (I : InternerData). Grows I c.index.new.self.ids) (ap (λ (r : ReplicaData). r.ids) c.index.ensures.kept) (Grows-refl c.index.new.self.ids)
+
+pub returns-in_err-add_all-clause-log : goal.returns-in_err-add_all-clause-log
+returns-in_err-add_all-clause-log c = c.add_all.ensures.kept.log ∙ ap (λ (r : ReplicaData). r.log) c.index.ensures.kept
+
+pub returns-in_err-add_all-clause-spare : goal.returns-in_err-add_all-clause-spare
+returns-in_err-add_all-clause-spare c = c.add_all.ensures.kept.spare ∙ ap (λ (r : ReplicaData). r.spare) c.index.ensures.kept
+
+pub returns-in_err-add_all-clause-grows : goal.returns-in_err-add_all-clause-grows
+returns-in_err-add_all-clause-grows c = subst (λ (I : InternerData). Grows I c.add_all.new.replica.ids) (ap (λ (r : ReplicaData). r.ids) c.index.ensures.kept) c.add_all.ensures.kept.grows
+
+pub returns-clause-log : goal.returns-clause-log
+returns-clause-log c = c.add_all.ensures.kept.log ∙ ap (λ (r : ReplicaData). r.log) c.index.ensures.kept
+
+pub returns-clause-spare : goal.returns-clause-spare
+returns-clause-spare c = c.add_all.ensures.kept.spare ∙ ap (λ (r : ReplicaData). r.spare) c.index.ensures.kept
+
+pub returns-clause-grows : goal.returns-clause-grows
+returns-clause-grows c = subst (λ (I : InternerData). Grows I c.add_all.new.replica.ids) (ap (λ (r : ReplicaData). r.ids) c.index.ensures.kept) c.add_all.ensures.kept.grows

@@ -1,9 +1,12 @@
-use Rattle.std.proofs.Common.{◌∙◌, ap, []}
+use Rattle.std.proofs.Common.{◌∙◌, ap, [], refl, subst}
 use Rattle.hs_scheme.specs.Points.{PointsData, point_at}
 use Rattle.hs_scheme.specs.Problem.{ProblemData}
 use Rattle.hs_rules.specs.Conclusions.{AnySupport}
 use Rattle.hs_rules.proofs.PartLemmas.{part_conclusions, point_parts}
 use Rattle.hs_rules.proofs.SeedLemmas.{nothing_follows}
+use Rattle.hs_types.specs.Interned.{InternerData, Grows}
+use Rattle.hs_types.proofs.Numbers.{Grows-refl}
+use Rattle.hs_replica.specs.Replica.{ReplicaData}
 use Rattle.hs_rules.proofs.following.seed_conclusions.Goals as goal
 
 pub add_seeds-requires-clause-at : goal.add_seeds-requires-clause-at
@@ -30,3 +33,39 @@ returns-then-starts_nothing-clause-found c =
     (c.head_of-head.ensures.head ∙ ap (λ (x : PointsData). (point_at x c.args.point).head) points) c.arguments-args.ensures.args in
     nothing_follows p c.args.replica.now.ids c.args.point (record { rule = rule; head = head; args = args }) c.new.result.items c.new.ensures.items at
     (c.starts_nothing.ensures rule c.args.replica.now.ids c.if-starts_nothing.true)
+
+pub returns-then-starts_nothing-clause-log : goal.returns-then-starts_nothing-clause-log
+returns-then-starts_nothing-clause-log c = refl
+
+pub returns-then-starts_nothing-clause-spare : goal.returns-then-starts_nothing-clause-spare
+returns-then-starts_nothing-clause-spare c = refl
+
+pub returns-then-starts_nothing-clause-grows : goal.returns-then-starts_nothing-clause-grows
+returns-then-starts_nothing-clause-grows c = Grows-refl c.args.replica.now.ids
+
+pub returns-in_err-index-clause-log : goal.returns-in_err-index-clause-log
+returns-in_err-index-clause-log c = ap (λ (r : ReplicaData). r.log) c.index.ensures.kept
+
+pub returns-in_err-index-clause-spare : goal.returns-in_err-index-clause-spare
+returns-in_err-index-clause-spare c = ap (λ (r : ReplicaData). r.spare) c.index.ensures.kept
+
+pub returns-in_err-index-clause-grows : goal.returns-in_err-index-clause-grows
+returns-in_err-index-clause-grows c = subst (λ (I : InternerData). Grows I c.index.new.self.ids) (ap (λ (r : ReplicaData). r.ids) c.index.ensures.kept) (Grows-refl c.index.new.self.ids)
+
+pub returns-in_err-add_seeds-clause-log : goal.returns-in_err-add_seeds-clause-log
+returns-in_err-add_seeds-clause-log c = c.add_seeds.ensures.kept.log ∙ ap (λ (r : ReplicaData). r.log) c.index.ensures.kept
+
+pub returns-in_err-add_seeds-clause-spare : goal.returns-in_err-add_seeds-clause-spare
+returns-in_err-add_seeds-clause-spare c = c.add_seeds.ensures.kept.spare ∙ ap (λ (r : ReplicaData). r.spare) c.index.ensures.kept
+
+pub returns-in_err-add_seeds-clause-grows : goal.returns-in_err-add_seeds-clause-grows
+returns-in_err-add_seeds-clause-grows c = subst (λ (I : InternerData). Grows I c.add_seeds.new.replica.ids) (ap (λ (r : ReplicaData). r.ids) c.index.ensures.kept) c.add_seeds.ensures.kept.grows
+
+pub returns-clause-log : goal.returns-clause-log
+returns-clause-log c = c.add_seeds.ensures.kept.log ∙ ap (λ (r : ReplicaData). r.log) c.index.ensures.kept
+
+pub returns-clause-spare : goal.returns-clause-spare
+returns-clause-spare c = c.add_seeds.ensures.kept.spare ∙ ap (λ (r : ReplicaData). r.spare) c.index.ensures.kept
+
+pub returns-clause-grows : goal.returns-clause-grows
+returns-clause-grows c = subst (λ (I : InternerData). Grows I c.add_seeds.new.replica.ids) (ap (λ (r : ReplicaData). r.ids) c.index.ensures.kept) c.add_seeds.ensures.kept.grows

@@ -1,5 +1,5 @@
-use Rattle.std.proofs.Common.{◌≡◌, sym, ◌∙◌, true, false, arith}
-use Rattle.hs_rules.proofs.FoundLemmas.{row_there, row_among, row_pushed, rows_pushed}
+use Rattle.std.proofs.Common.{◌≡◌, sym, ◌∙◌, true, false, arith, rules, inl, inr}
+use Rattle.hs_rules.proofs.FoundLemmas.{row_there, row_among, row_pushed, rows_pushed, found_keeps, found_only}
 use Rattle.hs_rules.proofs.found.add.Goals as goal
 
 pub returns-then-has-clause-there : goal.returns-then-has-clause-there
@@ -18,3 +18,23 @@ returns-clause-rows c =
 
 pub returns-clause-there : goal.returns-clause-there
 returns-clause-there c = row_pushed c.args.found.now.list.items c.push.new.self.items _ c.in_ok-push.ensures.items
+
+pub returns-then-has-clause-rows : goal.returns-then-has-clause-rows
+returns-then-has-clause-rows c = c.requires
+
+pub returns-then-has-clause-keeps : goal.returns-then-has-clause-keeps
+returns-then-has-clause-keeps c = λ d there. there
+
+pub returns-then-has-clause-only : goal.returns-then-has-clause-only
+returns-then-has-clause-only c = λ d there. inl there
+
+pub returns-clause-keeps : goal.returns-clause-keeps
+returns-clause-keeps c = found_keeps c.args.found.now.list.items c.push.new.self.items _ c.in_ok-push.ensures.items
+
+pub returns-clause-only : goal.returns-clause-only
+returns-clause-only c = λ d there.
+    let args_are = c.in_ok-args.ensures.items_if_clones_equal (λ x y e. search rules) in
+    elim (found_only c.args.found.now.list.items c.push.new.self.items _ c.in_ok-push.ensures.items d there) [
+      | inl was ↦ inl was
+      | inr is ↦ inr (is ∙ (λ i. record { row = c.args.row; support = record { head = c.args.head; args = args_are i } }))
+    ]

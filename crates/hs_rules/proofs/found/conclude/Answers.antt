@@ -1,5 +1,5 @@
-use Rattle.std.proofs.Common.{sym, ◌∙◌, ap, subst, ℕ, List, ◌⊎◌, length, map, take, inl, inr, Contains}
-use Rattle.hs_table.specs.Entries.{Env}
+use Rattle.std.proofs.Common.{sym, ◌∙◌, ap, subst, ℕ, ◌<◌, List, ◌⊎◌, length, All, map, take, inl, inr, Contains}
+use Rattle.hs_table.specs.Entries.{Env, IsEnv}
 use Rattle.hs_types.specs.Interned.{set_of_id, env_of_id}
 use Rattle.hs_rules.specs.Conclusions.{DeducedData}
 use Rattle.hs_rules.specs.Slots.{slots, FilledData}
@@ -7,10 +7,55 @@ use Rattle.hs_rules.specs.Filling.{fixed_of, AreFilled}
 use Rattle.hs_rules.specs.Shut.{AreShut}
 use Rattle.hs_rules.specs.Joins.{PartialData, ArePlaced, AreJoined}
 use Rattle.hs_rules.specs.Found.{HeadData, seek, IsRowOf, HasRow, HeadLeadsTo, IsConclusion, HasEnvFound}
-use Rattle.hs_rules.proofs.KeepLemmas.{as_before, as_then}
-use Rattle.hs_rules.proofs.Lists.{on_ok_map, match_some}
+use Rattle.hs_rules.proofs.KeepLemmas.{keeps_then, as_before, as_then, lists_keep}
+use Rattle.hs_rules.proofs.Lists.{on_ok_map, match_some, match_none}
 use Rattle.hs_rules.proofs.FoundLemmas.{filled_placed, rows_conclude, conclude_rows}
 use Rattle.hs_rules.proofs.found.conclude.Goals as goal
+
+pub fill-requires-clause-search : goal.fill-requires-clause-search
+fill-requires-clause-search c = c.requires.search
+
+pub fill-requires-clause-sets : goal.fill-requires-clause-sets
+fill-requires-clause-sets c = subst (λ (xs : List ℕ). All (λ s. s < length c.args.replica.now.ids.sets) xs) (sym (c.as_slice.ensures ∙ ap (λ (x : HeadData). x.sets) c.head.view_is)) c.requires.head.sets
+
+pub fill-requires-clause-long : goal.fill-requires-clause-long
+fill-requires-clause-long c = ap (λ (xs : List ℕ). length xs) (c.as_slice.ensures ∙ ap (λ (x : HeadData). x.sets) c.head.view_is) ∙ c.requires.head.long
+
+pub returns-in_err-slots-clause-kept : goal.returns-in_err-slots-clause-kept
+returns-in_err-slots-clause-kept c = lists_keep c.args.replica.now c.fill.new.replica c.fill.ensures.kept
+
+pub returns-in_default-clause-rows : goal.returns-in_default-clause-rows
+returns-in_default-clause-rows c = c.requires.rows
+
+pub returns-in_default-clause-keeps : goal.returns-in_default-clause-keeps
+returns-in_default-clause-keeps c = λ d there. there
+
+pub returns-in_default-clause-only : goal.returns-in_default-clause-only
+returns-in_default-clause-only c = λ d there. inl there
+
+pub returns-in_default-clause-all : goal.returns-in_default-clause-all
+returns-in_default-clause-all c = λ args env leads.
+    let ids = c.args.replica.now.ids in
+    let log = c.args.replica.now.log in
+    let s = seek c.args.search.now in
+    let seen = c.as_slice.result.now in
+    let none = match_none c.in_ok-slots.field-0 (AreShut (take s.limit log) (fixed_of log s.fixed) (slots 0 s.args (map (set_of_id ids) seen)))
+    (λ out. AreFilled (take s.limit log) (fixed_of log s.fixed) (slots 0 s.args (map (set_of_id ids) seen)) out.items) c.in_default.is c.in_ok-slots.ensures.filled in
+    let shut = subst (λ (xs : List ℕ). AreShut (take s.limit log) (fixed_of log s.fixed) (slots 0 s.args (map (set_of_id ids) xs))) (c.as_slice.ensures ∙ ap (λ (x : HeadData). x.sets) c.head.view_is) none in
+    absurd (shut args leads.chosen leads.picked)
+
+pub returns-in_default-clause-kept : goal.returns-in_default-clause-kept
+returns-in_default-clause-kept c = lists_keep c.args.replica.now c.fill.new.replica c.in_ok-slots.ensures.kept
+
+pub joined-requires-clause-own : goal.joined-requires-clause-own
+joined-requires-clause-own c =
+    as_then c.args.replica.now c.fill.new.replica c.in_ok-slots.ensures.kept (λ I es. c.head.inside.own < length I.envs)
+    (subst (λ (n : ℕ). n < length c.args.replica.now.ids.envs) (sym (ap (λ (x : HeadData). x.own) c.head.view_is)) c.requires.head.own)
+
+pub joined-requires-clause-is_env : goal.joined-requires-clause-is_env
+joined-requires-clause-is_env c =
+    as_then c.args.replica.now c.fill.new.replica c.in_ok-slots.ensures.kept (λ I es. IsEnv (length (env_of_id I c.head.inside.own)) (env_of_id I c.head.inside.own))
+    (subst (λ (n : ℕ). IsEnv (length (env_of_id c.args.replica.now.ids n)) (env_of_id c.args.replica.now.ids n)) (sym (ap (λ (x : HeadData). x.own) c.head.view_is)) c.requires.head.is_env)
 
 pub joined-requires-clause-placed : goal.joined-requires-clause-placed
 joined-requires-clause-placed c = λ f there.
@@ -74,3 +119,18 @@ returns-clause-all c =
     on_ok_map c.add_all.result ((x : PartialData) → Contains c.as_slice-3.result.now x → HasRow s.point h x c.add_all.new.found.list.items)
     ((args : List (ℕ × ℕ)) (env : Env) → HeadLeadsTo ids log s h args env → HasEnvFound K s h env c.add_all.new.found.list.items)
     (λ all. conclude_rows ids K log s h fs partials filled joined c.add_all.new.found.list.items (λ x there. all x (subst (λ (xs : List PartialData). Contains xs x) (sym c.as_slice-3.ensures) there))) c.add_all.ensures.all
+
+pub returns-in_err-partials-clause-kept : goal.returns-in_err-partials-clause-kept
+returns-in_err-partials-clause-kept c = keeps_then c.args.replica.now c.fill.new.replica c.joined.new.replica (lists_keep c.args.replica.now c.fill.new.replica c.in_ok-slots.ensures.kept) c.joined.ensures.kept
+
+pub add_all-requires : goal.add_all-requires
+add_all-requires c = c.requires.rows
+
+pub returns-clause-rows : goal.returns-clause-rows
+returns-clause-rows c = c.add_all.ensures.rows
+
+pub returns-clause-keeps : goal.returns-clause-keeps
+returns-clause-keeps c = c.add_all.ensures.keeps
+
+pub returns-clause-kept : goal.returns-clause-kept
+returns-clause-kept c = keeps_then c.args.replica.now c.fill.new.replica c.joined.new.replica (lists_keep c.args.replica.now c.fill.new.replica c.in_ok-slots.ensures.kept) c.in_ok-partials.ensures.kept

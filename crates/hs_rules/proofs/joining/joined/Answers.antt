@@ -1,4 +1,5 @@
 use Rattle.std.proofs.Common.{refl, sym, ◌∙◌, ap, subst, ℕ, List, ◌∷◌, [], ◌++◌, length, take, Option, IfSome, Contains}
+use Rattle.std.proofs.lemmas.List.{take_all}
 use Rattle.hs_table.specs.Entries.{Env, EntryData, IsEnv}
 use Rattle.hs_table_laws.proofs.Members.{taken_next}
 use Rattle.hs_types.specs.Interned.{env_of_id}
@@ -61,3 +62,35 @@ loop-slot-preserved c =
       joined = subst (λ (fs : List FilledData). AreJoined K log n own fs new) (sym (taken_next c.args.slots.now c.loop-slot.slot-index f c.loop-slot-test.true c.slot-item.is))
           (joined_next J K log n own (take c.loop-slot.slot-index c.args.slots.now) f old new c.loop-slot.invariant.joined some all);
     }
+
+pub joined_only-requires-clause-own : goal.joined_only-requires-clause-own
+joined_only-requires-clause-own c = c.requires.own
+
+pub joined_only-requires-clause-is_env : goal.joined_only-requires-clause-is_env
+joined_only-requires-clause-is_env c = c.requires.is_env
+
+pub joined_only-requires-clause-placed : goal.joined_only-requires-clause-placed
+joined_only-requires-clause-placed c = c.requires.placed
+
+pub returns-in_err-only-clause-kept : goal.returns-in_err-only-clause-kept
+returns-in_err-only-clause-kept c = c.joined_only.ensures.kept
+
+pub returns-in_err-push-clause-kept : goal.returns-in_err-push-clause-kept
+returns-in_err-push-clause-kept c = c.joined_only.ensures.kept
+
+pub returns-in-Some-clause-kept : goal.returns-in-Some-clause-kept
+returns-in-Some-clause-kept c = c.joined_only.ensures.kept
+
+pub returns-in_err-push-2-clause-kept : goal.returns-in_err-push-2-clause-kept
+returns-in_err-push-2-clause-kept c = c.joined_only.ensures.kept
+
+pub returns-in_err-partials-clause-kept : goal.returns-in_err-partials-clause-kept
+returns-in_err-partials-clause-kept c = keeps_then c.args.replica.now c.loop-slot.replica c.extended.new.replica c.loop-slot.invariant.kept c.extended.ensures.kept
+
+pub returns-clause-joined : goal.returns-clause-joined
+returns-clause-joined c =
+    let own = env_of_id c.args.replica.now.ids c.args.own in
+    subst (λ (fs : List FilledData). AreJoined c.loop-slot.replica.ids c.args.replica.now.log (length own) own fs c.loop-slot.partials.items) (take_all c.loop-slot.slot-index c.args.slots.now c.loop-slot-test.false) c.loop-slot.invariant.joined
+
+pub returns-clause-kept : goal.returns-clause-kept
+returns-clause-kept c = c.loop-slot.invariant.kept

@@ -1,8 +1,11 @@
-use Rattle.std.proofs.Common.{◌≡◌, sym, ◌∙◌, ap, subst, length, map, take, arith}
+use Rattle.std.proofs.Common.{◌≡◌, sym, ◌∙◌, ap, subst, ◌<◌, length, map, take, get_or, All, arith}
 use Rattle.std.specs.Bool.{OnFalse}
 use Rattle.std.proofs.lemmas.Bool.{OnFalse_from, OnFalse_at}
-use Rattle.std.proofs.lemmas.List.{length-map, take-map}
-use Rattle.std.proofs.lemmas.Option.{same_Some}
+use Rattle.std.proofs.lemmas.List.{length-map, length-take-le, take-map}
+use Rattle.std.proofs.lemmas.Option.{same_Some, slice_get-get_or}
+use Rattle.std.proofs.lemmas.List.Elements.{All-take}
+use Rattle.hs_scheme.specs.Points.{PointsData}
+use Rattle.hs_scheme.specs.Problem.{ProblemData}
 use Rattle.hs_table.specs.Types.{state, arrows}
 use Rattle.hs_table.specs.Entries.{Env, EntryData}
 use Rattle.hs_table_laws.proofs.Places.{to_take}
@@ -11,9 +14,20 @@ use Rattle.hs_replica.specs.Replica.{ReplicaData}
 use Rattle.hs_rules.specs.Slots.{SlotData, slots, IsCandidate, Picked}
 use Rattle.hs_rules.specs.Filling.{fixed_of}
 use Rattle.hs_rules.specs.Shut.{AreShut, IsBodyShut}
-use Rattle.hs_rules.proofs.KeepLemmas.{as_before}
+use Rattle.hs_rules.proofs.KeepLemmas.{as_before, lists_keep}
+use Rattle.hs_rules.proofs.PartLemmas.{can_search_later}
 use Rattle.hs_rules.proofs.ArrowLemmas.{arrows_long, arrows_first}
 use Rattle.hs_rules.proofs.nonterminals.is_body_open.Goals as goal
+
+pub returns-then-row-body_of-clause-shut : goal.returns-then-row-body_of-clause-shut
+returns-then-row-body_of-clause-shut c = λ sets rest from long args es picked.
+    let p = c.args.spot.now.problem.now in
+    let f = c.args.nonterminal in
+    let e0 = entry_of c.args.replica.now.ids c.row-row.result in
+    let same : from.entry ≡ e0 = same_Some from.entry e0 (sym from.holds.at ∙ to_take c.args.search.now.limit c.args.replica.now.log c.args.place e0 c.requires.place c.row-row.ensures.entry) in
+    let points = ap (λ (q : ProblemData). q.points) c.problem.view_is in
+    let at = same_Some from.entry.point (get_or p.points.bodies f 0) (sym from.body ∙ slice_get-get_or p.points.bodies f 0 c.requires.head) in
+    c.if-row-body_of.true (ap (λ (e : EntryData). e.point) (sym same) ∙ (at ∙ sym (c.body_of.ensures.body ∙ ap (λ (x : PointsData). get_or x.bodies f 0) points)))
 
 pub returns-then-sets-count-clause-shut : goal.returns-then-sets-count-clause-shut
 returns-then-sets-count-clause-shut c = λ sets rest from long args es picked.
@@ -43,3 +57,24 @@ returns-clause-shut c = OnFalse_from c.is_open.result (IsBodyShut c.args.spot.no
     let shut = as_before c.args.replica.now c.list_args.new.replica c.in_ok-list_args.ensures.kept
     (λ I es. OnFalse c.is_open.result (AreShut (take limit es) (fixed_of es c.args.search.now.fixed) (slots 0 us (map (set_of_id I) (take (length us) full))))) c.is_open.ensures in
     OnFalse_at no shut args es (subst (λ (ss : Env). Picked (λ (s : SlotData). s.arg) (IsCandidate (take limit log) (fixed_of log c.args.search.now.fixed)) (slots 0 us ss) args es) sets_are picked))
+
+pub is_open-requires-clause-search : goal.is_open-requires-clause-search
+is_open-requires-clause-search c =
+    can_search_later c.args.replica.now c.list_args.new.replica c.args.search.now.args.now c.args.search.now.limit c.args.search.now.fixed (lists_keep c.args.replica.now c.list_args.new.replica c.in_ok-list_args.ensures.kept) c.requires.search
+
+pub is_open-requires-clause-sets : goal.is_open-requires-clause-sets
+is_open-requires-clause-sets c =
+    subst (λ (I : InternerData). All (λ s. s < length I.sets) (take (length c.args.search.now.args.now) c.sets-sets.result.now)) c.interner.ensures
+    (All-take (λ s. s < length c.interner.result.now.sets) (length c.args.search.now.args.now) c.sets-sets.result.now c.sets-sets.ensures.range)
+
+pub is_open-requires-clause-listed : goal.is_open-requires-clause-listed
+is_open-requires-clause-listed c = λ k d lt. omega (arith, c.in_ok-list_args.ensures.listed k d lt, c.requires.search.limited, c.requires.search.indexed)
+
+pub is_open-requires-clause-long : goal.is_open-requires-clause-long
+is_open-requires-clause-long c = length-take-le (length c.args.search.now.args.now) c.sets-sets.result.now c.if-sets-count.false
+
+pub returns-then-sets-count-clause-kept : goal.returns-then-sets-count-clause-kept
+returns-then-sets-count-clause-kept c = c.in_ok-list_args.ensures.kept
+
+pub returns-clause-kept : goal.returns-clause-kept
+returns-clause-kept c = c.in_ok-list_args.ensures.kept

@@ -8,6 +8,7 @@ use Rattle.hs_types.specs.Interned.{env_of_id}
 use Rattle.hs_replica.specs.Places.{here, ArePlaces}
 use Rattle.hs_rules.specs.Heads.{GainsHeads, BodyAt, AtSome}
 use Rattle.hs_rules.proofs.Lists.{along, all_from}
+use Rattle.hs_rules.proofs.KeepLemmas.{keeps_then}
 use Rattle.hs_rules.proofs.SourceLemmas.{bodies_all}
 use Rattle.hs_rules.proofs.nonterminals.nonterminal_all.Goals as goal
 
@@ -44,3 +45,15 @@ returns-clause-heads c =
     let indexed = c.in_ok-own.ensures.kept.indexed ∙ c.requires.search.indexed in
     let are = subst (λ (l : List EntryData). ArePlaces l c.empty_env.new.self.indexed (here body) c.at_point.result.now) same c.at_point.ensures in
     bodies_all p log limit c.args.spot.now.rule args shapes f body body_is K c.in_ok-places.places.items heads c.empty_env.new.self.indexed c.at_point.result.now indexed are c.in_ok-places.ensures gains
+
+pub returns-in_err-own-clause-kept : goal.returns-in_err-own-clause-kept
+returns-in_err-own-clause-kept c = c.empty_env.ensures.kept
+
+pub returns-in_err-places-clause-kept : goal.returns-in_err-places-clause-kept
+returns-in_err-places-clause-kept c = c.in_ok-own.ensures.kept
+
+pub returns-in_err-push_bodies-clause-kept : goal.returns-in_err-push_bodies-clause-kept
+returns-in_err-push_bodies-clause-kept c = keeps_then c.args.replica.now c.empty_env.new.self c.push_bodies.new.replica c.in_ok-own.ensures.kept c.push_bodies.ensures.kept
+
+pub returns-clause-kept : goal.returns-clause-kept
+returns-clause-kept c = keeps_then c.args.replica.now c.empty_env.new.self c.push_bodies.new.replica c.in_ok-own.ensures.kept c.in_ok-push_bodies.ensures.kept

@@ -9,6 +9,7 @@ use Rattle.hs_replica.specs.Replica.{ReplicaData, KeepsLog}
 use Rattle.hs_replica.specs.Places.{asks, ArePlaces}
 use Rattle.hs_rules.specs.Heads.{GainsHeads, BodyAt, AtSome}
 use Rattle.hs_rules.proofs.Lists.{along, all_from}
+use Rattle.hs_rules.proofs.KeepLemmas.{keeps_none, keeps_then}
 use Rattle.hs_rules.proofs.SourceLemmas.{bodies_asking}
 use Rattle.hs_rules.proofs.nonterminals.nonterminal_asking.Goals as goal
 
@@ -48,3 +49,17 @@ returns-clause-heads c =
     let are = subst (λ (xs : List ℕ). ArePlaces log c.args.replica.now.indexed (asks body c.args.arg (type_of_id I c.args.ty)) xs) (sym c.as_slice.ensures) c.in_ok-asked.ensures.exact in
     bodies_asking p log limit c.args.spot.now.rule args shapes f body body_is K c.begin_below-places.result.now heads c.args.replica.now.indexed c.args.arg (type_of_id I c.args.ty) c.as_slice.result.now c.requires.search.indexed c.requires.arg are
     c.begin_below-places.ensures gains
+
+pub returns-in_err-asked-clause-kept : goal.returns-in_err-asked-clause-kept
+returns-in_err-asked-clause-kept c = subst (λ (r : ReplicaData). KeepsLog c.args.replica.now r) (sym c.asking.ensures.kept) (keeps_none c.args.replica.now)
+
+pub returns-in_err-own-clause-kept : goal.returns-in_err-own-clause-kept
+returns-in_err-own-clause-kept c = kept_from c.args.replica.now c.asking.new.self c.empty_env.new.self c.in_ok-asked.ensures.kept c.empty_env.ensures.kept
+
+pub returns-in_err-push_bodies-clause-kept : goal.returns-in_err-push_bodies-clause-kept
+returns-in_err-push_bodies-clause-kept c =
+    keeps_then c.args.replica.now c.empty_env.new.self c.push_bodies.new.replica (kept_from c.args.replica.now c.asking.new.self c.empty_env.new.self c.in_ok-asked.ensures.kept c.in_ok-own.ensures.kept) c.push_bodies.ensures.kept
+
+pub returns-clause-kept : goal.returns-clause-kept
+returns-clause-kept c =
+    keeps_then c.args.replica.now c.empty_env.new.self c.push_bodies.new.replica (kept_from c.args.replica.now c.asking.new.self c.empty_env.new.self c.in_ok-asked.ensures.kept c.in_ok-own.ensures.kept) c.in_ok-push_bodies.ensures.kept

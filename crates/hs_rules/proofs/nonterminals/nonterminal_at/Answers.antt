@@ -12,6 +12,7 @@ use Rattle.hs_rules.specs.Heads.{GainsHeads, BodyAt, AtSome, AreHeads, ComesFrom
 use Rattle.hs_rules.proofs.HeadLemmas.{heads_start}
 use Rattle.hs_rules.proofs.Lists.{along, all_from}
 use Rattle.hs_rules.proofs.SourceLemmas.{bodies_from_place}
+use Rattle.hs_rules.proofs.KeepLemmas.{keeps_then}
 use Rattle.hs_rules.proofs.nonterminals.nonterminal_at.Goals as goal
 
 pub returns-then-row-body-clause-heads : goal.returns-then-row-body-clause-heads
@@ -72,3 +73,12 @@ returns-clause-heads c =
     (is, omega (arith, is, c.requires.place), ap (λ (z : EntryData). z.point) e_is ∙ c.if-row-body.false))
     (λ e at point_is. here c.args.place [])
     gains
+
+pub returns-in_err-own-clause-kept : goal.returns-in_err-own-clause-kept
+returns-in_err-own-clause-kept c = c.empty_env.ensures.kept
+
+pub returns-in_err-push_bodies-clause-kept : goal.returns-in_err-push_bodies-clause-kept
+returns-in_err-push_bodies-clause-kept c = keeps_then c.args.replica.now c.empty_env.new.self c.push_bodies.new.replica c.in_ok-own.ensures.kept c.push_bodies.ensures.kept
+
+pub returns-clause-kept : goal.returns-clause-kept
+returns-clause-kept c = keeps_then c.args.replica.now c.empty_env.new.self c.push_bodies.new.replica c.in_ok-own.ensures.kept c.in_ok-push_bodies.ensures.kept

@@ -26,3 +26,9 @@ returns-clause-heads c =
     let are_pairs : pairs ≡ filter (λ (f : FlowPair). nat_eq f.rule rule && nat_eq f.param x) p.flow.pairs = c.flow_of-pairs.ensures.pairs ∙ ap (filter (λ (f : FlowPair). nat_eq f.rule rule && nat_eq f.param x)) flows in
     let gains = along (λ i. GainsHeads K (length args) (AtFlow log (c.requires.spot.params_are i) x limit here pairs) (c.new-out.ensures.items i) heads) c.in_ok-push_flowing.ensures.gains in
     params_all p log limit rule args shapes x pairs are_pairs K heads gains
+
+pub returns-in_err-push_flowing-clause-kept : goal.returns-in_err-push_flowing-clause-kept
+returns-in_err-push_flowing-clause-kept c = c.push_flowing.ensures.kept
+
+pub returns-clause-kept : goal.returns-clause-kept
+returns-clause-kept c = c.in_ok-push_flowing.ensures.kept

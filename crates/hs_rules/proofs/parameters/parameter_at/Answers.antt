@@ -65,3 +65,9 @@ returns-clause-heads c =
     (is, omega (arith, is, c.requires.place), subst (λ (fs : List FlowPair). Contains fs (pair e.point)) flows (subst (λ (u : ℕ). Contains c.problem.inside.flow.pairs (pair u)) (sym (ap (λ (z : EntryData). z.point) e_is)) (c.holds.ensures.0 c.if-not-holds.false))))
     (λ e at flows_there. here c.args.place [])
     gains
+
+pub returns-in_err-push_params-clause-kept : goal.returns-in_err-push_params-clause-kept
+returns-in_err-push_params-clause-kept c = c.push_params.ensures.kept
+
+pub returns-clause-kept : goal.returns-clause-kept
+returns-clause-kept c = c.in_ok-push_params.ensures.kept

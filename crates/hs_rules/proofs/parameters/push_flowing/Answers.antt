@@ -2,10 +2,11 @@ use Rattle.std.proofs.Common.{sym, ◌∙◌, ap, subst, List, ℕ, ◌<◌, len
 use Rattle.hs_scheme.specs.declared.flow.FlowPair.{FlowPair}
 use Rattle.hs_table.specs.Entries.{EntryData}
 use Rattle.hs_replica.specs.Places.{here, ArePlaces}
-use Rattle.hs_rules.specs.Heads.{GainsHeads, ParamAt, AtSome}
+use Rattle.hs_rules.specs.Heads.{GainsHeads, ParamAt, AtSome, AtFlow}
 use Rattle.hs_rules.proofs.KeepLemmas.{keeps_then}
 use Rattle.hs_rules.proofs.Lists.{along, all_from}
 use Rattle.hs_rules.proofs.HeadLemmas.{flow_next}
+use Rattle.std.proofs.lemmas.List.{take_all}
 use Rattle.hs_rules.proofs.parameters.push_flowing.Goals as goal
 
 pub push_params-requires-clause-places : goal.push_params-requires-clause-places
@@ -34,3 +35,17 @@ loop-pair-preserved c =
           c.args.out.now.items c.loop-pair.out.items c.push_params.new.out.items c.in_ok-push_params.ensures.kept.grows c.loop-pair-test.true (c.loop-pair.invariant.kept.indexed ∙ c.requires.search.indexed) are c.in_ok-places.ensures
           c.loop-pair.invariant.gains gains;
     }
+
+pub returns-in_err-places-clause-kept : goal.returns-in_err-places-clause-kept
+returns-in_err-places-clause-kept c = c.loop-pair.invariant.kept
+
+pub returns-in_err-push_params-clause-kept : goal.returns-in_err-push_params-clause-kept
+returns-in_err-push_params-clause-kept c = keeps_then c.args.replica.now c.loop-pair.replica c.push_params.new.replica c.loop-pair.invariant.kept c.push_params.ensures.kept
+
+pub returns-clause-kept : goal.returns-clause-kept
+returns-clause-kept c = c.loop-pair.invariant.kept
+
+pub returns-clause-gains : goal.returns-clause-gains
+returns-clause-gains c =
+    subst (λ (fs : List FlowPair). GainsHeads c.loop-pair.replica.ids (length c.args.search.now.args.now) (AtFlow c.args.replica.now.log c.args.params c.args.x c.args.search.now.limit here fs) c.args.out.now.items c.loop-pair.out.items)
+    (take_all c.loop-pair.pair-index c.args.pairs.now c.loop-pair-test.false) c.loop-pair.invariant.gains

@@ -63,3 +63,15 @@ pub returns-clause-gains : goal.returns-clause-gains
 returns-clause-gains c =
     subst (λ (fs : List FlowPair). GainsHeads c.loop-pair.replica.ids (length c.args.search.now.args.now) (AtFlow c.args.replica.now.log c.args.params c.args.x c.args.search.now.limit (λ u. takes u c.args.arg (type_of_id c.args.replica.now.ids c.args.ty)) fs) c.args.out.now.items c.loop-pair.out.items)
     (take_all c.loop-pair.pair-index c.args.pairs.now c.loop-pair-test.false) c.loop-pair.invariant.gains
+
+pub returns-in_err-list_types-clause-kept : goal.returns-in_err-list_types-clause-kept
+returns-in_err-list_types-clause-kept c = listed c.args.replica.now c.loop-pair.replica c.list_types.new.self c.loop-pair.invariant.kept c.list_types.ensures.kept
+
+pub returns-in_err-places-clause-kept : goal.returns-in_err-places-clause-kept
+returns-in_err-places-clause-kept c = listed c.args.replica.now c.loop-pair.replica c.list_types.new.self c.loop-pair.invariant.kept c.in_ok-list_types.ensures.kept
+
+pub returns-in_err-push_params-clause-kept : goal.returns-in_err-push_params-clause-kept
+returns-in_err-push_params-clause-kept c = keeps_then c.args.replica.now c.list_types.new.self c.push_params.new.replica (listed c.args.replica.now c.loop-pair.replica c.list_types.new.self c.loop-pair.invariant.kept c.in_ok-list_types.ensures.kept) c.push_params.ensures.kept
+
+pub returns-clause-kept : goal.returns-clause-kept
+returns-clause-kept c = c.loop-pair.invariant.kept

@@ -15,6 +15,7 @@ use Rattle.hs_rules.specs.Heads.{GainsHeads, AtSome, ReadIn, AreHeads, Asks}
 use Rattle.hs_rules.proofs.Lists.{along}
 use Rattle.hs_rules.proofs.RankLemmas.{ranks_agree}
 use Rattle.hs_rules.proofs.SourceLemmas.{terminals_asking, terminals_asking_none}
+use Rattle.hs_rules.proofs.KeepLemmas.{keeps_then}
 use Rattle.hs_rules.proofs.terminals.terminal_asking.Goals as goal
 
 pub push_reading-requires-clause-own : goal.push_reading-requires-clause-own
@@ -64,3 +65,12 @@ returns-in_default-clause-heads c =
     let view = subst (λ (ids : InternerData). IsView ids c.args.ty (Arrow c.in_default.field-0 c.in_default.field-1)) c.interner.ensures c.in_default.ensures in
     terminals_asking_none p log limit c.args.spot.now.rule c.args.search.now.args.now shapes c.args.terminal I c.new.result.items c.args.arg c.requires.arg (type_of_id I c.args.ty)
     (λ q is. state_no_arrow q (set_of_id I c.in_default.field-0) (type_of_id I c.in_default.field-1) (sym is ∙ view.2)) c.new.ensures.items
+
+pub returns-in_err-own-clause-kept : goal.returns-in_err-own-clause-kept
+returns-in_err-own-clause-kept c = c.empty_env.ensures.kept
+
+pub returns-in_err-push_reading-clause-kept : goal.returns-in_err-push_reading-clause-kept
+returns-in_err-push_reading-clause-kept c = keeps_then c.args.replica.now c.empty_env.new.self c.push_reading.new.replica c.in_ok-own.ensures.kept c.push_reading.ensures.kept
+
+pub returns-clause-kept : goal.returns-clause-kept
+returns-clause-kept c = keeps_then c.args.replica.now c.empty_env.new.self c.push_reading.new.replica c.in_ok-own.ensures.kept c.in_ok-push_reading.ensures.kept

@@ -9,6 +9,7 @@ use Rattle.hs_rules.specs.Heads.{GainsHeads, AtRange, InState}
 use Rattle.hs_rules.proofs.Lists.{along}
 use Rattle.hs_rules.proofs.RankLemmas.{ranks_agree}
 use Rattle.hs_rules.proofs.SeedLemmas.{terminals_nothing}
+use Rattle.hs_rules.proofs.KeepLemmas.{keeps_then}
 use Rattle.hs_rules.proofs.terminals.terminal_nothing.Goals as goal
 
 pub push_terminal-requires-clause-own : goal.push_terminal-requires-clause-own
@@ -39,3 +40,12 @@ returns-clause-heads c =
     let heads = c.push_terminal.new.out.items in
     let gains = along (λ i. GainsHeads K (length args) (AtRange (InState (m_is i).transitions a (c.rank-rank.ensures i) (length args) (own_is i)) 0 (m_is i).states) (c.new-out.ensures.items i) heads) c.in_ok-push_terminal.ensures.gains in
     terminals_nothing p [] c.args.spot.now.rule args K heads a gains (λ q to moves. ranks_agree p.sorted is_sorted q a to moves)
+
+pub returns-in_err-own-clause-kept : goal.returns-in_err-own-clause-kept
+returns-in_err-own-clause-kept c = c.empty_env.ensures.kept
+
+pub returns-in_err-push_terminal-clause-kept : goal.returns-in_err-push_terminal-clause-kept
+returns-in_err-push_terminal-clause-kept c = keeps_then c.args.replica.now c.empty_env.new.self c.push_terminal.new.replica c.in_ok-own.ensures.kept c.push_terminal.ensures.kept
+
+pub returns-clause-kept : goal.returns-clause-kept
+returns-clause-kept c = keeps_then c.args.replica.now c.empty_env.new.self c.push_terminal.new.replica c.in_ok-own.ensures.kept c.in_ok-push_terminal.ensures.kept

@@ -4,5 +4,4 @@ use Rattle.clap.specs.Walk.{Rule, rule_of}
 use Rattle.hs_words.proofs.command.flag.Goals as goal
 
 pub returns-clause-rule : goal.returns-clause-rule
-returns-clause-rule c =
-    ap rule_of c.action.ensures ∙ (ap (λ a. record (rule_of a) { action = Some SetTrue }) c.long.ensures ∙ ap (λ (r : Rule). record r { long = Some c.args.name.now; action = Some SetTrue }) c.new.ensures.rule)
+returns-clause-rule c = ap rule_of c.action.ensures ∙ ap (λ (r : Rule). record r { action = Some SetTrue }) c.option.ensures.rule

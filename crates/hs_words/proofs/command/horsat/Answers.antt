@@ -1,15 +1,12 @@
-use Rattle.std.proofs.Common.{◌∙◌, ap₂}
+use Rattle.std.proofs.Common.{◌∙◌, ap, ap₂}
 use Rattle.std.proofs.lemmas.Result.{IfOk-weaker}
 use Rattle.clap.specs.Simple.{with_rule}
+use Rattle.hs_words.specs.Words.{with_bounds, with_flags}
 use Rattle.hs_words.proofs.command.horsat.Goals as goal
 
 pub returns : goal.returns
 returns c =
-    let one = c.in_ok-arg.ensures.shape c.option.ensures.local ∙ ap₂ with_rule c.bare.ensures c.option.ensures.rule in
-    let two = c.in_ok-arg-2.ensures.shape c.option-2.ensures.local ∙ ap₂ with_rule one c.option-2.ensures.rule in
-    let three = c.in_ok-arg-3.ensures.shape c.option-3.ensures.local ∙ ap₂ with_rule two c.option-3.ensures.rule in
-    let four = c.in_ok-arg-4.ensures.shape c.flag.ensures.local ∙ ap₂ with_rule three c.flag.ensures.rule in
-    let five = c.in_ok-arg-5.ensures.shape c.flag-2.ensures.local ∙ ap₂ with_rule four c.flag-2.ensures.rule in
-    let six = c.in_ok-arg-6.ensures.shape c.flag-3.ensures.local ∙ ap₂ with_rule five c.flag-3.ensures.rule in
-    let seven = c.in_ok-arg-7.ensures.shape c.option-4.ensures.local ∙ ap₂ with_rule six c.option-4.ensures.rule in
-    IfOk-weaker c.arg-8.result _ _ (λ command added. added.shape c.new.ensures.optional.1 ∙ ap₂ with_rule seven c.new.ensures.rule) c.arg-8.ensures
+    let bounded = c.in_ok-with_bounds.ensures ∙ ap with_bounds c.bare.ensures in
+    let flagged = c.in_ok-with_flags.ensures ∙ ap with_flags bounded in
+    let generating = c.in_ok-arg.ensures.shape c.option.ensures.local ∙ ap₂ with_rule flagged c.option.ensures.rule in
+    IfOk-weaker c.arg-2.result _ _ (λ command added. added.shape c.new.ensures.optional.1 ∙ ap₂ with_rule generating c.new.ensures.rule) c.arg-2.ensures

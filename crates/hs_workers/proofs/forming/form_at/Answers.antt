@@ -1,5 +1,6 @@
-use Rattle.std.proofs.Common.{◌≡◌, sym, subst, ◌∙◌, ◌+◌, ◌<◌, length, take, get_or}
+use Rattle.std.proofs.Common.{◌≡◌, sym, subst, ◌∙◌, ◌+◌, ◌<◌, length, take, get_or, All}
 use Rattle.hs_types.proofs.Numbers.{Grows-trans}
+use Rattle.hs_table.specs.Entries.{InShape}
 use Rattle.hs_rules.specs.Conclusions.{AreConclusions, Uses}
 use Rattle.hs_workers.proofs.FormingLemmas.{AreAllBefore, point_more, whole_so_far}
 use Rattle.hs_workers.proofs.forming.form_at.Goals as goal
@@ -29,3 +30,22 @@ loop-point-preserved c =
 pub returns-clause-found : goal.returns-clause-found
 returns-clause-found c =
     whole_so_far c.args.problem.now c.loop-point.replica.ids c.loop-point.replica.log c.args.points.now c.loop-point.point-index c.args.place c.loop-point.found.items c.loop-point-test.false c.loop-point.invariant.so_far
+
+pub conclusions_with-requires-clause-place : goal.conclusions_with-requires-clause-place
+conclusions_with-requires-clause-place c = subst (λ xs. c.args.place < length xs) (sym c.loop-point.invariant.log) c.requires.place
+
+pub conclusions_with-requires-clause-shape : goal.conclusions_with-requires-clause-shape
+conclusions_with-requires-clause-shape c = subst (λ xs. All (InShape c.args.problem.now) xs) (sym c.loop-point.invariant.log) c.requires.shape
+
+pub returns-in_err-keep_new-clause-log : goal.returns-in_err-keep_new-clause-log
+returns-in_err-keep_new-clause-log c = c.in_ok-formed.ensures.log ∙ c.loop-point.invariant.log
+
+pub returns-in_err-keep_new-clause-grows : goal.returns-in_err-keep_new-clause-grows
+returns-in_err-keep_new-clause-grows c =
+    Grows-trans c.args.replica.now.ids c.loop-point.replica.ids c.conclusions_with.new.replica.ids c.loop-point.invariant.grows c.in_ok-formed.ensures.grows
+
+pub returns-clause-log : goal.returns-clause-log
+returns-clause-log c = c.loop-point.invariant.log
+
+pub returns-clause-grows : goal.returns-clause-grows
+returns-clause-grows c = c.loop-point.invariant.grows

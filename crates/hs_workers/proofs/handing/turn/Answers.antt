@@ -1,8 +1,15 @@
 use Rattle.std.proofs.Common.{refl}
 use Rattle.hs_shared.proofs.Seen.{prefix_trans}
 use Rattle.hs_core.specs.Core.{log_of}
-use Rattle.hs_workers.proofs.HoldLemmas.{begins_none}
+use Rattle.hs_workers.proofs.HoldLemmas.{goes_trans, begins_none}
+use Rattle.hs_workers.proofs.NothingLemmas.{fits_none}
 use Rattle.hs_workers.proofs.handing.turn.Goals as goal
+
+pub returns-then-not-hand_over-clause-goes : goal.returns-then-not-hand_over-clause-goes
+returns-then-not-hand_over-clause-goes c = c.hand_over.ensures.goes
+
+pub returns-then-not-hand_over-clause-fits : goal.returns-then-not-hand_over-clause-fits
+returns-then-not-hand_over-clause-fits c = fits_none c.args.replica.now c.args.replica.now c.args.rows.now.items refl c.requires.none c.len-known.ensures.replica
 
 pub returns-then-not-hand_over-clause-begins : goal.returns-then-not-hand_over-clause-begins
 returns-then-not-hand_over-clause-begins c =
@@ -10,3 +17,31 @@ returns-then-not-hand_over-clause-begins c =
     let whole = log_of c.hand_over.new.hold.core in
     begins_none c.args.replica.now c.args.rows.now.items log whole refl c.requires.none
     (prefix_trans log (log_of c.args.hold.now.core) whole c.requires.begins c.hand_over.ensures.goes.log)
+
+pub returns-then-not-hand_over-clause-works : goal.returns-then-not-hand_over-clause-works
+returns-then-not-hand_over-clause-works c = tt
+
+pub take_next-requires-clause-holds : goal.take_next-requires-clause-holds
+take_next-requires-clause-holds c = c.hand_over.ensures.goes.holds
+
+pub take_next-requires-clause-begins : goal.take_next-requires-clause-begins
+take_next-requires-clause-begins c = prefix_trans c.args.replica.now.log (log_of c.args.hold.now.core) (log_of c.hand_over.new.hold.core) c.requires.begins c.hand_over.ensures.goes.log
+
+pub returns-clause-goes : goal.returns-clause-goes
+returns-clause-goes c =
+    goes_trans c.args.seat.now c.hand_over.new.seat c.take_next.new.seat c.args.hold.now c.hand_over.new.hold c.take_next.new.hold c.hand_over.ensures.goes c.take_next.ensures.goes
+
+pub returns-clause-fits : goal.returns-clause-fits
+returns-clause-fits c = c.take_next.ensures.fits
+
+pub returns-clause-begins : goal.returns-clause-begins
+returns-clause-begins c = c.take_next.ensures.begins
+
+pub returns-clause-carries : goal.returns-clause-carries
+returns-clause-carries c = c.take_next.ensures.carries
+
+pub returns-clause-unformed : goal.returns-clause-unformed
+returns-clause-unformed c = c.take_next.ensures.unformed
+
+pub returns-clause-works : goal.returns-clause-works
+returns-clause-works c = c.take_next.ensures.works

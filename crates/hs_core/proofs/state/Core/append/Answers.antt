@@ -13,6 +13,21 @@ use Rattle.hs_core.specs.Inside.{KnowsStart}
 use Rattle.hs_core.proofs.Stepping.{base_of, fields_of, knows_fields, Goes, added, adds_goes, goes_as, steps_to}
 use Rattle.hs_core.proofs.state.Core.append.Goals as goal
 
+pub add-requires-clause-spare : goal.add-requires-clause-spare
+add-requires-clause-spare c = omega (arith, c.requires.spare, ap (λ (v : CoreData). v.spare) c.self.view_is, c.self.invariant.1.replica)
+
+pub push_reserved-requires : goal.push_reserved-requires
+push_reserved-requires c = omega (arith, c.requires.spare, ap (λ (v : CoreData). v.spare) c.self.view_is, c.self.invariant.1.supports)
+
+pub push_back_reserved-requires : goal.push_back_reserved-requires
+push_back_reserved-requires c = omega (arith, c.requires.spare, ap (λ (v : CoreData). v.spare) c.self.view_is, c.self.invariant.1.pending)
+
+pub push-requires : goal.push-requires
+push-requires c = omega (arith, c.requires.spare, ap (λ (v : CoreData). v.spare) c.self.view_is, c.self.invariant.1.journal)
+
+pub overflow_sub-self : goal.overflow_sub-self
+overflow_sub-self c = omega (arith, c.requires.spare, ap (λ (v : CoreData). v.spare) c.self.view_is)
+
 goes : (c : goal.After-self-2-1) → Goes (base_of c.self.inside) (fields_of c.self.inside) (record { worker = c.args.worker; action = adds c.args.ticket (deduction_of c.self.inside.replica.ids c.args.deduced) }) (record {
   ids = c.add.new.self.ids;
   log = c.add.new.self.log;

@@ -42,6 +42,15 @@ returns-in_default-pop_front c =
           (on, record { none_kept = kept; pending = shown.pending ∙ empty; ticket = there.0; flown = there.1; flight = shown.flight there.0 ∙ there.2 }, c.self.view_is)
     ]
 
+pub insert-ticket-requires : goal.insert-ticket-requires
+insert-ticket-requires c = omega (arith, c.requires, ap (λ (v : CoreData). v.spare) c.self.view_is, c.self.invariant.1.tickets)
+
+pub push-requires : goal.push-requires
+push-requires c = omega (arith, c.requires, ap (λ (v : CoreData). v.spare) c.self.view_is, c.self.invariant.1.journal)
+
+pub overflow_sub-self : goal.overflow_sub-self
+overflow_sub-self c = omega (arith, c.requires, ap (λ (v : CoreData). v.spare) c.self.view_is)
+
 never_found : (c : goal.After-self-1) (place : ℕ) → IsFound c.args.self.now place → ⊥
 never_found c place found = c.in_default.not-Some place ((c.found.ensures place).1 found)
 

@@ -1,8 +1,11 @@
-use Rattle.std.proofs.Common.{length, arith}
-use Rattle.hs_table.specs.Types.{state}
+use Rattle.std.proofs.Common.{◌≡◌, ◌<◌, ◌∙◌, sym, ap, subst, ℕ, List, All, length, map, slice_get, Some, arith}
+use Rattle.std.proofs.lemmas.Option.{slice_get_within}
+use Rattle.std.proofs.lemmas.Result.{IfOk-weaker}
+use Rattle.hs_table.specs.Types.{TypeTree, state, arrow, IsSet}
 use Rattle.hs_types.specs.Interned.{type_of_id, set_of_id, Grows}
-use Rattle.hs_types.proofs.ListLemmas.{more_range, more_same}
-use Rattle.hs_types.proofs.Numbers.{Grows-trans}
+use Rattle.hs_types.proofs.ListLemmas.{more_range, more_same, made_all}
+use Rattle.hs_types.proofs.Numbers.{Grows-trans, set_within}
+use Rattle.hs_types.proofs.RowLemmas.{found_arrow}
 use Rattle.hs_types.proofs.OrderLemmas.{member_lower, member_within}
 use Rattle.hs_types.proofs.nodes.Nodes.+import.Goals as goal
 
@@ -28,3 +31,61 @@ import_set-loop-member-preserved t c =
       same = more_same J.types K.types (state 0) F c.loop-member.types.items c.push.new.self.items c.members-members.result.now c.loop-member.member-index c.in_ok-import_type.field-0 c.member-item.result
           g.types h.range h.same c.in_ok-import_type.ensures.ok c.loop-member-test.true c.member-item.is c.in_ok-push.ensures.ok;
     }
+
+pub import_set-returns-in_err-import_type-clause-grows : goal.import_set-returns-in_err-import_type-clause-grows
+import_set-returns-in_err-import_type-clause-grows t c = Grows-trans c.args.self.now c.loop-member.self c.import_type.new.self c.loop-member.invariant.grows c.import_type.ensures.grows
+
+pub import_set-returns-in_err-push-clause-grows : goal.import_set-returns-in_err-push-clause-grows
+import_set-returns-in_err-push-clause-grows t c = Grows-trans c.args.self.now c.loop-member.self c.import_type.new.self c.loop-member.invariant.grows c.import_type.ensures.grows
+
+pub import_set-number_set-requires-clause-range : goal.import_set-number_set-requires-clause-range
+import_set-number_set-requires-clause-range t c = subst (λ (zs : List ℕ). All (λ i. i < length c.loop-member.self.types) zs) (sym c.as_slice.ensures) c.loop-member.invariant.range
+
+pub import_set-number_set-requires-clause-ascends : goal.import_set-number_set-requires-clause-ascends
+import_set-number_set-requires-clause-ascends t c =
+    let I = c.args.from.now in
+    let J = c.loop-member.self in
+    let all : map (type_of_id J) c.loop-member.types.items ≡ set_of_id I c.args.id =
+    made_all (type_of_id I) c.members-members.result.now (map (type_of_id J) c.loop-member.types.items) (set_of_id I c.args.id) c.loop-member.member-index c.loop-member.invariant.same (omega (arith, c.loop-member-test.false)) c.members-members.ensures.members in
+    subst (λ (s : List TypeTree). IsSet s) (sym (ap (λ (zs : List ℕ). map (type_of_id J) zs) c.as_slice.ensures ∙ all)) (c.numbers_are_exact.ensures.set_ascends c.args.id)
+
+pub import_set-returns-clause-ok : goal.import_set-returns-clause-ok
+import_set-returns-clause-ok t c =
+    let I = c.args.from.now in
+    let J = c.loop-member.self in
+    let K = c.number_set.new.self in
+    let all : map (type_of_id J) c.loop-member.types.items ≡ set_of_id I c.args.id =
+    made_all (type_of_id I) c.members-members.result.now (map (type_of_id J) c.loop-member.types.items) (set_of_id I c.args.id) c.loop-member.member-index c.loop-member.invariant.same (omega (arith, c.loop-member-test.false)) c.members-members.ensures.members in
+    IfOk-weaker c.number_set.result (λ own. slice_get K.sets own ≡ Some (map (type_of_id J) c.as_slice.result.now)) (λ own. slice_get K.sets own ≡ Some (set_of_id I c.args.id))
+    (λ own at. at ∙ ap (λ (s : List TypeTree). Some s) (ap (λ (zs : List ℕ). map (type_of_id J) zs) c.as_slice.ensures ∙ all)) c.number_set.ensures.ok
+
+pub import_set-returns-clause-grows : goal.import_set-returns-clause-grows
+import_set-returns-clause-grows t c = Grows-trans c.args.self.now c.loop-member.self c.number_set.new.self c.loop-member.invariant.grows c.number_set.ensures.grows
+
+pub import_type-returns-in_err-own_rest-in-Arrow-clause-grows : goal.import_type-returns-in_err-own_rest-in-Arrow-clause-grows
+import_type-returns-in_err-own_rest-in-Arrow-clause-grows t c = Grows-trans c.args.self.now c.import_set.new.self c.import_type.new.self c.import_set.ensures.grows c.import_type.ensures.grows
+
+pub import_type-number_type-requires-in-Arrow : goal.import_type-number_type-requires-in-Arrow
+import_type-number_type-requires-in-Arrow t c =
+    let J = c.import_set.new.self in
+    let K = c.import_type.new.self in (
+      set_within J K c.import_type.ensures.grows c.in_ok-own_set-in-Arrow.own_set (slice_get_within J.sets c.in_ok-own_set-in-Arrow.own_set (set_of_id c.args.from.now c.in-Arrow.set) c.in_ok-own_set-in-Arrow.ensures.ok),
+      slice_get_within K.types c.in_ok-own_rest-in-Arrow.own_rest (type_of_id c.args.from.now c.in-Arrow.rest) c.in_ok-own_rest-in-Arrow.ensures.ok,
+    )
+
+pub import_type-returns-in_ok-own_rest-in-Arrow-clause-ok : goal.import_type-returns-in_ok-own_rest-in-Arrow-clause-ok
+import_type-returns-in_ok-own_rest-in-Arrow-clause-ok t c =
+    let I = c.args.from.now in
+    let K = c.import_type.new.self in
+    let N = c.number_type-in-Arrow.new.self in
+    IfOk-weaker c.number_type-in-Arrow.result (λ own. slice_get N.types own ≡ Some (arrow (set_of_id K c.in_ok-own_set-in-Arrow.own_set) (type_of_id K c.in_ok-own_rest-in-Arrow.own_rest))) (λ own. slice_get N.types own ≡ Some (type_of_id I c.args.id))
+    (λ own at.
+    at
+    ∙ ap (λ (x : TypeTree). Some x) (found_arrow c.import_set.new.self K c.in_ok-own_set-in-Arrow.own_set c.in_ok-own_rest-in-Arrow.own_rest (set_of_id I c.in-Arrow.set) (type_of_id I c.in-Arrow.rest) (type_of_id I c.args.id)
+    c.import_type.ensures.grows c.in_ok-own_set-in-Arrow.ensures.ok c.in_ok-own_rest-in-Arrow.ensures.ok c.in-Arrow.ensures.2)) c.number_type-in-Arrow.ensures.ok
+
+pub import_type-returns-in_ok-own_rest-in-Arrow-clause-grows : goal.import_type-returns-in_ok-own_rest-in-Arrow-clause-grows
+import_type-returns-in_ok-own_rest-in-Arrow-clause-grows t c =
+    let J = c.import_set.new.self in
+    let K = c.import_type.new.self in
+    Grows-trans c.args.self.now K c.number_type-in-Arrow.new.self (Grows-trans c.args.self.now J K c.import_set.ensures.grows c.import_type.ensures.grows) c.number_type-in-Arrow.ensures.grows

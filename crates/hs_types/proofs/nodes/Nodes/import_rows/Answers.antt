@@ -1,3 +1,6 @@
+use Rattle.std.proofs.Common.{refl, sym, subst, map, arith}
+use Rattle.hs_types.specs.Interned.{RowData, IsRow, entry_of}
+use Rattle.hs_types.proofs.ListLemmas.{made_all}
 use Rattle.hs_types.proofs.RowLemmas.{rows_known, rows_same}
 use Rattle.hs_types.proofs.Numbers.{Grows-trans}
 use Rattle.hs_types.proofs.nodes.Nodes.import_rows.Goals as goal
@@ -16,3 +19,16 @@ loop-row-preserved c =
       same = rows_same J K c.args.from.now g c.loop-row.own.items c.push.new.self.items c.args.rows.now own c.row-item.result c.loop-row.row-index
           h.known h.same c.in_ok-find_row.ensures.entry c.loop-row-test.true c.row-item.is c.in_ok-push.ensures.items;
     }
+
+pub find_row-requires-clause-row : goal.find_row-requires-clause-row
+find_row-requires-clause-row c = subst (λ (r : RowData). IsRow c.args.from.now r) (sym c.row-item.is) (c.requires c.loop-row.row-index c.row-item.result c.loop-row-test.true)
+
+pub returns-in_err-find_row-clause-grows : goal.returns-in_err-find_row-clause-grows
+returns-in_err-find_row-clause-grows c = Grows-trans c.args.self.now c.loop-row.self c.find_row.new.self c.loop-row.invariant.grows c.find_row.ensures.grows
+
+pub returns-in_err-push-clause-grows : goal.returns-in_err-push-clause-grows
+returns-in_err-push-clause-grows c = Grows-trans c.args.self.now c.loop-row.self c.find_row.new.self c.loop-row.invariant.grows c.find_row.ensures.grows
+
+pub returns-clause-entries : goal.returns-clause-entries
+returns-clause-entries c =
+    made_all (entry_of c.args.from.now) c.args.rows.now (map (entry_of c.loop-row.self) c.loop-row.own.items) (map (entry_of c.args.from.now) c.args.rows.now) c.loop-row.row-index c.loop-row.invariant.same (omega (arith, c.loop-row-test.false)) refl

@@ -1,0 +1,86 @@
+use Rattle.std.proofs.Common.{refl, sym, subst}
+use mathlib.Core.List.{IsPrefix}
+use Rattle.hs_core.specs.Core.{state_of, log_of}
+use Rattle.hs_workers.proofs.HoldLemmas.{goes_none, begins_none}
+use Rattle.hs_workers.proofs.NothingLemmas.{carries_none, unformed_none, fits_none}
+use Rattle.hs_workers.proofs.handing.take_next.Goals as goal
+
+pub returns-then-is_resting-clause-goes : goal.returns-then-is_resting-clause-goes
+returns-then-is_resting-clause-goes c = goes_none c.args.seat.now c.args.hold.now c.requires.holds
+
+pub returns-then-is_resting-clause-fits : goal.returns-then-is_resting-clause-fits
+returns-then-is_resting-clause-fits c = fits_none c.args.replica.now c.args.replica.now c.args.rows.now.items refl c.requires.none c.len-known.ensures.replica
+
+pub returns-then-is_resting-clause-begins : goal.returns-then-is_resting-clause-begins
+returns-then-is_resting-clause-begins c =
+    begins_none c.args.replica.now c.args.rows.now.items c.args.replica.now.log (log_of c.args.hold.now.core) refl c.requires.none c.requires.begins
+
+pub returns-then-is_resting-clause-carries : goal.returns-then-is_resting-clause-carries
+returns-then-is_resting-clause-carries c = carries_none c.args.seat.now.known.number (state_of c.args.hold.now.core).flight c.args.jobs.now.items c.requires.free
+
+pub returns-then-is_resting-clause-unformed : goal.returns-then-is_resting-clause-unformed
+returns-then-is_resting-clause-unformed c = unformed_none c.args.jobs.now.items c.requires.free
+
+pub returns-then-is_resting-clause-works : goal.returns-then-is_resting-clause-works
+returns-then-is_resting-clause-works c = tt
+
+pub returns-then-not-is_lone-clause-goes : goal.returns-then-not-is_lone-clause-goes
+returns-then-not-is_lone-clause-goes c = c.take_and_read.ensures.goes
+
+pub returns-then-not-is_lone-clause-fits : goal.returns-then-not-is_lone-clause-fits
+returns-then-not-is_lone-clause-fits c = c.take_and_read.ensures.fits
+
+pub returns-then-not-is_lone-clause-begins : goal.returns-then-not-is_lone-clause-begins
+returns-then-not-is_lone-clause-begins c = c.take_and_read.ensures.begins
+
+pub returns-then-not-is_lone-clause-carries : goal.returns-then-not-is_lone-clause-carries
+returns-then-not-is_lone-clause-carries c = c.take_and_read.ensures.carries
+
+pub returns-then-not-is_lone-clause-unformed : goal.returns-then-not-is_lone-clause-unformed
+returns-then-not-is_lone-clause-unformed c = c.take_and_read.ensures.unformed
+
+pub returns-then-not-is_lone-clause-works : goal.returns-then-not-is_lone-clause-works
+returns-then-not-is_lone-clause-works c = c.take_and_read.ensures.works
+
+pub take_some-next-requires-clause-carries : goal.take_some-next-requires-clause-carries
+take_some-next-requires-clause-carries c = carries_none c.args.seat.now.known.number (state_of c.args.hold.now.core).flight c.args.jobs.now.items c.requires.free
+
+pub take_some-next-requires-clause-unformed : goal.take_some-next-requires-clause-unformed
+take_some-next-requires-clause-unformed c = unformed_none c.args.jobs.now.items c.requires.free
+
+pub returns-then-is_empty-clause-goes : goal.returns-then-is_empty-clause-goes
+returns-then-is_empty-clause-goes c = c.take_some-next.ensures.goes
+
+pub returns-then-is_empty-clause-fits : goal.returns-then-is_empty-clause-fits
+returns-then-is_empty-clause-fits c = fits_none c.args.replica.now c.args.replica.now c.args.rows.now.items refl c.requires.none c.len-known.ensures.replica
+
+pub returns-then-is_empty-clause-begins : goal.returns-then-is_empty-clause-begins
+returns-then-is_empty-clause-begins c =
+    let log = c.args.replica.now.log in
+    begins_none c.args.replica.now c.args.rows.now.items log (log_of c.take_some-next.new.hold.core) refl c.requires.none (subst (λ xs. IsPrefix log xs) (sym c.take_some-next.ensures.log) c.requires.begins)
+
+pub returns-then-is_empty-clause-carries : goal.returns-then-is_empty-clause-carries
+returns-then-is_empty-clause-carries c = c.take_some-next.ensures.carries
+
+pub returns-then-is_empty-clause-unformed : goal.returns-then-is_empty-clause-unformed
+returns-then-is_empty-clause-unformed c = c.take_some-next.ensures.unformed
+
+pub returns-else-is_empty-clause-goes : goal.returns-else-is_empty-clause-goes
+returns-else-is_empty-clause-goes c = c.take_some-next.ensures.goes
+
+pub returns-else-is_empty-clause-fits : goal.returns-else-is_empty-clause-fits
+returns-else-is_empty-clause-fits c = fits_none c.args.replica.now c.args.replica.now c.args.rows.now.items refl c.requires.none c.len-known.ensures.replica
+
+pub returns-else-is_empty-clause-begins : goal.returns-else-is_empty-clause-begins
+returns-else-is_empty-clause-begins c =
+    let log = c.args.replica.now.log in
+    begins_none c.args.replica.now c.args.rows.now.items log (log_of c.take_some-next.new.hold.core) refl c.requires.none (subst (λ xs. IsPrefix log xs) (sym c.take_some-next.ensures.log) c.requires.begins)
+
+pub returns-else-is_empty-clause-carries : goal.returns-else-is_empty-clause-carries
+returns-else-is_empty-clause-carries c = c.take_some-next.ensures.carries
+
+pub returns-else-is_empty-clause-unformed : goal.returns-else-is_empty-clause-unformed
+returns-else-is_empty-clause-unformed c = c.take_some-next.ensures.unformed
+
+pub returns-else-is_empty-clause-works : goal.returns-else-is_empty-clause-works
+returns-else-is_empty-clause-works c = tt
