@@ -2,7 +2,7 @@
 """Writes families of files, runs a proved program on them, and prints a table of times.
 
 A benchmark proves nothing and is no part of the gate. Build the programs first, with
-(cd crates/horsat && rt run </dev/null), and so flow_pairs and core_cost.
+(cd crates/horsat && rt run </dev/null) and (cd crates/costs && rt run <stdin).
 Usage: bench/run.py [FAMILY ..]
 
 The time is that of the processor, in whatever thread and in the system: the least of the runs counts.
@@ -10,7 +10,7 @@ In the environment:
 OTHER         a command, as "/path/program word", that is run on the same file, alternately with ours, with the
               file's name as its last word; the table has its time, its memory and the ratio of ours to it
 PROGRAM       which of our programs is run, with its words, in the place of the one that the family has; or
-              several, as "core_cost, core_cost core", which are run in turn and have a row each
+              several, as "costs, costs core", which are run in turn and have a row each
 RUNS          how often each is run (5)
 WORKERS       with how many workers horsat runs (1)
 INSTRUCTIONS  if it is set, instructions are counted by valgrind in the place of times, in one run of each
@@ -204,7 +204,7 @@ def bare(rules):
     return framed([f"F{i} -> a F{(i + 1) % rules} F{(i * 7 + 1) % rules}.\n" for i in range(rules)], ["q0 a -> q0 q0.\n"])
 
 
-# How a family is made, its sizes and their unit, and the program that is run on it.
+# How a family is made, its sizes and their unit, and the program that is run on it, with its words.
 FAMILIES = {
     "plain": (plain, [5_000, 10_000, 20_000], "rules", "horsat"),
     "pairs": (pairs, [2_500, 5_000, 10_000], "states", "horsat"),
@@ -214,10 +214,10 @@ FAMILIES = {
     "transitions": (transitions, [50_000, 100_000, 200_000], "transitions", "horsat"),
     "unary": (flow_few, [5_000, 10_000, 20_000], "rules", "horsat"),
     "bare": (bare, [5_000, 10_000, 20_000], "rules", "horsat"),
-    "flow_many": (flow_many, [500, 700, 1_000, 1_400], "functions", "flow_pairs"),
-    "meetings": (meetings, [150, 300, 600], "functions", "flow_pairs"),
+    "flow_many": (flow_many, [500, 700, 1_000, 1_400], "functions", "costs flow"),
+    "meetings": (meetings, [150, 300, 600], "functions", "costs flow"),
     "joined": (joined, [1_000, 2_000, 4_000], "rules", "horsat"),
-    "flow_few": (flow_few, [5_000, 10_000, 20_000], "rules", "flow_pairs"),
+    "flow_few": (flow_few, [5_000, 10_000, 20_000], "rules", "costs flow"),
     "calls_4": (lambda rules: calls(rules, 4), [500, 1_000, 2_000], "rules", "horsat"),
     "calls_8": (lambda rules: calls(rules, 8), [500, 1_000, 2_000], "rules", "horsat"),
     "functions": (functions, [500, 1_000, 2_000], "functions", "horsat"),
@@ -243,7 +243,7 @@ def words_of(words, path):
 
 def programs_of(family):
     """Our programs that are run on the family, each with its words."""
-    return PROGRAMS or [[FAMILIES[family][3]]]
+    return PROGRAMS or [FAMILIES[family][3].split()]
 
 
 def are_built(programs):

@@ -1,9 +1,7 @@
 //! `horsat FILE`: whether the automaton of a file accepts the value tree of its scheme.
 #![tactic(auto)]
 
-mod words;
-
-use crate::words::run_on;
+use hs_app::{NO_MEMORY, run_on};
 use hs_edge::{FileSource, Sink, Source, StdSink};
 use hs_passes::{DropUnreachable, DropUnused, FoldAliases, Pass, add};
 use hs_scheme::OutOfMemory;
@@ -13,9 +11,6 @@ use std::io;
 use std::process::ExitCode;
 use std::sync::Wait;
 use std::thread::Threads;
-
-/// The status where memory is refused before the run.
-const OUT_OF_MEMORY: u8 = 10;
 
 /// The run on the words, with the passes of `--simplify` in their order.
 fn run_with_passes<R: Threads + Wait + Sync, S: Source, O: Sink, E: Sink>(
@@ -43,5 +38,5 @@ fn main(rt: HostRuntime) -> ExitCode {
         &mut StdSink::out(&rt),
         &mut StdSink::err(&rt),
     );
-    ExitCode::from(status.unwrap_or(OUT_OF_MEMORY))
+    ExitCode::from(status.unwrap_or(NO_MEMORY))
 }

@@ -1,0 +1,4 @@
+pub mod CallLemmas
+pub mod FollowingLemmas
+pub mod HoldLemmas
+pub mod StepLemmas

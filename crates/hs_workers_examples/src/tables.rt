@@ -5,6 +5,7 @@ use crate::saturating::{Asked, Summary, saturated};
 use hs_fixtures::{problem_of, problem_of_text};
 use std::alloc::Global;
 use std::mem::forget;
+use std::process::Abort;
 use std::sync::Wait;
 use std::test::Fail;
 use std::thread::Threads;
@@ -137,60 +138,152 @@ fn told_of_random<R: Threads + Wait + Sync>(
     summary
 }
 
+/// Sees that the answer is `least`, with these lines.
+fn see_lines(
+    rt: &impl Abort,
+    told: &Summary,
+    expected: &str,
+    rules: &str,
+    workers: u32,
+) -> Result<(), Fail> {
+    let table = str::from_utf8(told.table.as_slice())?;
+    assert_eq!(rt;
+        (told.answer, table),
+        ("least", expected),
+        "{rules} by {workers}"
+    );
+    Ok(())
+}
+
+/// Looks at the table that so many workers form.
+fn see_table<R: Abort + Threads + Wait + Sync>(
+    rt: &R,
+    alloc: Global,
+    row: &(&str, &str, &str),
+    workers: u32,
+) -> Result<(), Fail> {
+    let asked = Asked {
+        workers,
+        budget: 1_000,
+        first: false,
+    };
+    let told = told(rt, alloc, row.0, row.1, asked)?;
+    see_lines(rt, &told, row.2, row.0, workers)
+}
+
 #[test]
 fn worked_tables_by_any_number_of_workers(rt: HostRuntime) -> Result<(), Fail> {
-    for (rules, transitions, expected) in TABLES {
+    for row in TABLES {
         for workers in WORKERS {
-            let asked = Asked {
-                workers,
-                budget: 1_000,
-                first: false,
-            };
-            let told = told(&rt, rt.alloc(), rules, transitions, asked)?;
-            assert_eq!(rt; told.answer, "least", "{rules} by {workers}");
-            let table = str::from_utf8(told.table.as_slice())?;
-            assert_eq!(rt; table, *expected, "{rules} by {workers}");
+            see_table(&rt, rt.alloc(), row, workers)?;
         }
     }
+    Ok(())
+}
+
+/// Looks at the answer of so many workers within this budget.
+fn see_budget<R: Abort + Threads + Wait + Sync>(
+    rt: &R,
+    alloc: Global,
+    workers: u32,
+    budget: u32,
+    expected: (&'static str, bool),
+) -> Result<(), Fail> {
+    let asked = Asked {
+        workers,
+        budget,
+        first: false,
+    };
+    let told = told(rt, alloc, TWICE, TWICE_TRANSITIONS, asked)?;
+    assert_eq!(rt;
+        (told.answer, told.entries, told.kept),
+        (expected.0, budget, expected.1),
+        "{budget} by {workers}"
+    );
     Ok(())
 }
 
 #[test]
 fn the_edge_of_the_budget(rt: HostRuntime) -> Result<(), Fail> {
     for workers in WORKERS {
-        for (budget, answer, kept) in [(13, "least", false), (12, "over", true)] {
-            let asked = Asked {
-                workers,
-                budget,
-                first: false,
-            };
-            let told = told(&rt, rt.alloc(), TWICE, TWICE_TRANSITIONS, asked)?;
-            assert_eq!(rt; told.answer, answer, "{budget} by {workers}");
-            assert_eq!(rt;
-                (told.entries, told.kept),
-                (budget, kept),
-                "{budget} by {workers}"
-            );
-        }
+        see_budget(&rt, rt.alloc(), workers, 13, ("least", false))?;
+        see_budget(&rt, rt.alloc(), workers, 12, ("over", true))?;
     }
+    Ok(())
+}
+
+/// What so many workers answer on the branching scheme where only the start entry is sought.
+fn sought<R: Threads + Wait + Sync>(
+    rt: &R,
+    alloc: Global,
+    transitions: &str,
+    workers: u32,
+) -> Result<Summary, Fail> {
+    let asked = Asked {
+        workers,
+        budget: 1_000,
+        first: true,
+    };
+    told(rt, alloc, BRANCHING, transitions, asked)
+}
+
+/// Looks at the answer where there is a start entry.
+fn see_rejected<R: Abort + Threads + Wait + Sync>(
+    rt: &R,
+    alloc: Global,
+    workers: u32,
+) -> Result<(), Fail> {
+    let told = sought(rt, alloc, REJECTED, workers)?;
+    assert_eq!(rt;
+        (told.answer, told.start, told.entries <= 18),
+        ("first", true, true),
+        "{workers}"
+    );
+    Ok(())
+}
+
+/// Looks at the answer where there is none.
+fn see_accepted<R: Abort + Threads + Wait + Sync>(
+    rt: &R,
+    alloc: Global,
+    workers: u32,
+) -> Result<(), Fail> {
+    let told = sought(rt, alloc, ACCEPTED, workers)?;
+    assert_eq!(rt;
+        (told.answer, told.start, told.entries),
+        ("least", false, 4),
+        "{workers}"
+    );
     Ok(())
 }
 
 #[test]
 fn the_start_entry_is_all_that_is_sought(rt: HostRuntime) -> Result<(), Fail> {
     for workers in WORKERS {
-        let asked = Asked {
-            workers,
-            budget: 1_000,
-            first: true,
-        };
-        let rejected = told(&rt, rt.alloc(), BRANCHING, REJECTED, asked)?;
-        assert_eq!(rt; rejected.answer, "first", "{workers}");
-        assert!(rt; rejected.start && rejected.entries <= 18, "{workers}");
-        let accepted = told(&rt, rt.alloc(), BRANCHING, ACCEPTED, asked)?;
-        assert_eq!(rt; accepted.answer, "least", "{workers}");
-        assert!(rt; !accepted.start && accepted.entries == 4, "{workers}");
+        see_rejected(&rt, rt.alloc(), workers)?;
+        see_accepted(&rt, rt.alloc(), workers)?;
     }
+    Ok(())
+}
+
+/// Sees that both answers are `least`, with the same table.
+fn see_same(rt: &impl Abort, one: &Summary, four: &Summary, file: &str) {
+    assert_eq!(rt;
+        (one.answer, four.answer, one.table.as_slice()),
+        ("least", "least", four.table.as_slice()),
+        "{file}"
+    );
+}
+
+/// Looks at the tables of the file that one worker and four form.
+fn see_random<R: Abort + Threads + Wait + Sync>(
+    rt: &R,
+    alloc: Global,
+    file: &str,
+) -> Result<(), Fail> {
+    let one = told_of_random(rt, alloc, file, 1)?;
+    let four = told_of_random(rt, alloc, file, 4)?;
+    see_same(rt, &one, &four, file);
     Ok(())
 }
 
@@ -198,10 +291,7 @@ fn the_start_entry_is_all_that_is_sought(rt: HostRuntime) -> Result<(), Fail> {
 fn tables_of_random_schemes_by_one_worker_and_by_four(rt: HostRuntime) -> Result<(), Fail> {
     for number in 0..100 {
         let file = random_file(rt.alloc(), number)?;
-        let one = told_of_random(&rt, rt.alloc(), file.as_str(), 1)?;
-        let four = told_of_random(&rt, rt.alloc(), file.as_str(), 4)?;
-        assert_eq!(rt; (one.answer, four.answer), ("least", "least"), "{file}");
-        assert_eq!(rt; one.table.as_slice(), four.table.as_slice(), "{file}");
+        see_random(&rt, rt.alloc(), file.as_str())?;
     }
     Ok(())
 }

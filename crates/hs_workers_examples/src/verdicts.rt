@@ -11,6 +11,7 @@ use hs_reduce::{Bounded, bounded};
 use hs_scheme::{OutOfMemory, Problem, Sorted};
 use std::alloc::Global;
 use std::mem::forget;
+use std::process::Abort;
 use std::sync::Wait;
 use std::test::Fail;
 use std::thread::Threads;
@@ -119,60 +120,79 @@ fn compare_random<R: Threads + Wait + Sync>(
     verdicts
 }
 
+const BRANCHING: &str = "S -> F c. F x -> br x (a (F (b x))).";
+
+/// Rules and transitions, and whether the scheme is rejected.
+const WORKED: &[(&str, &str, bool)] = &[
+    ("S -> a S.", "q0 a -> q0.", false),
+    ("S -> a b.", "q0 a -> q0.", true),
+    ("S -> S.", "q0 a -> .", false),
+    (
+        BRANCHING,
+        "q0 br -> q0 q0. q0 a -> q0. q0 b -> q1. q1 b -> q1. q0 c -> . q1 c -> .",
+        false,
+    ),
+    (
+        BRANCHING,
+        "q0 br -> q0 q0. q0 a -> q0. q0 b -> q1. q0 c -> . q1 c -> .",
+        true,
+    ),
+    (
+        "S -> Tw a c. Tw f x -> f (f x).",
+        "q0 a -> q1. q1 a -> q2. q2 a -> q2. q0 c -> . q1 c -> .",
+        true,
+    ),
+    (
+        "S -> Loop end. Loop k -> br (close k) (read (Loop k)).",
+        "q0 br -> q0 q0. q0 read -> q0. q0 close -> q1. q1 end -> .",
+        false,
+    ),
+];
+
 #[test]
 fn worked_verdicts_are_those_of_reduction(rt: HostRuntime) -> Result<(), Fail> {
-    let branching = "S -> F c. F x -> br x (a (F (b x))).";
-    let rows = [
-        ("S -> a S.", "q0 a -> q0.", false),
-        ("S -> a b.", "q0 a -> q0.", true),
-        ("S -> S.", "q0 a -> .", false),
-        (
-            branching,
-            "q0 br -> q0 q0. q0 a -> q0. q0 b -> q1. q1 b -> q1. q0 c -> . q1 c -> .",
-            false,
-        ),
-        (
-            branching,
-            "q0 br -> q0 q0. q0 a -> q0. q0 b -> q1. q0 c -> . q1 c -> .",
-            true,
-        ),
-        (
-            "S -> Tw a c. Tw f x -> f (f x).",
-            "q0 a -> q1. q1 a -> q2. q2 a -> q2. q0 c -> . q1 c -> .",
-            true,
-        ),
-        (
-            "S -> Loop end. Loop k -> br (close k) (read (Loop k)).",
-            "q0 br -> q0 q0. q0 read -> q0. q0 close -> q1. q1 end -> .",
-            false,
-        ),
-    ];
-    for (rules, transitions, rejected) in rows {
+    for (rules, transitions, rejected) in WORKED {
         let found = compare_worked(&rt, rt.alloc(), rules, transitions)?;
-        assert_eq!(rt; found.reduction, rejected, "{rules}");
         assert_eq!(rt;
-            (found.alone, found.four),
-            (Some(rejected), Some(rejected)),
+            (found.reduction, found.alone, found.four),
+            (*rejected, Some(*rejected), Some(*rejected)),
             "{rules}"
         );
     }
     Ok(())
 }
 
-/// Where reduction finds no error in so few steps and the table rejects, the path is longer.
+/// Sees that the verdicts agree. Where reduction finds no error in so few steps and the table rejects,
+/// the path is longer.
+fn see_agreeing(rt: &impl Abort, found: Verdicts, file: &str) {
+    assert!(rt;
+        found.alone.is_some() && found.alone == found.four,
+        "{file}"
+    );
+    if found.reduction {
+        assert_eq!(rt; found.alone, Some(true), "{file}");
+    }
+}
+
+/// The verdicts on the random file of this number, which agree.
+fn agreeing<R: Abort + Threads + Wait + Sync>(
+    rt: &R,
+    alloc: Global,
+    number: u32,
+) -> Result<Verdicts, Fail> {
+    let file = random_file(alloc, number)?;
+    let found = compare_random(rt, alloc, file.as_str())?;
+    see_agreeing(rt, found, file.as_str());
+    Ok(found)
+}
+
 #[test]
 fn verdicts_on_random_schemes_agree_with_reduction(rt: HostRuntime) -> Result<(), Fail> {
     let mut accepted: u32 = 0;
     let mut rejected: u32 = 0;
     for number in 1_000..1_200 {
-        let file = random_file(rt.alloc(), number)?;
-        let found = compare_random(&rt, rt.alloc(), file.as_str())?;
-        assert!(rt;
-            found.alone.is_some() && found.alone == found.four,
-            "{file}"
-        );
+        let found = agreeing(&rt, rt.alloc(), number)?;
         if found.reduction {
-            assert_eq!(rt; found.alone, Some(true), "{file}");
             rejected = rejected.wrapping_add(1);
         }
         if found.alone == Some(false) {

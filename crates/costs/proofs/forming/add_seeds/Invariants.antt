@@ -1,0 +1,7 @@
+-- all entries of the log are in shape
+use Rattle.std.proofs.Common.{All}
+use Rattle.hs_table.specs.Entries.{InShape}
+use Rattle.costs.proofs.forming.add_seeds.Given as goal
+
+abbrev pub invariant-loop-point : goal.invariant-loop-point
+invariant-loop-point l = All (InShape l.problem) l.replica.log

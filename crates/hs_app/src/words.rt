@@ -1,0 +1,76 @@
+//! The run on the words of the command line, as the system gives them.
+
+ghost use Rattle.std.specs.Prelude.{◌≡◌, ◌≢◌, ◌⊎◌, map, All, IfOk, IfErr, OnErr, string_bytes};
+ghost use Rattle.std.specs.IoError.{error_kind};
+ghost use Rattle.std.specs.Vec.Iter.{into_iter_items};
+ghost use Rattle.hs_words.specs.Words.{texts};
+ghost use Rattle.hs_app.specs.Outcome as outcome;
+ghost use Rattle.hs_app.specs.Order.{ordered, source_run};
+ghost use Rattle.hs_app.specs.Outcome.{sink_run};
+
+use crate::top::run;
+use hs_edge::{Sink, Source};
+use hs_passes::Pass;
+use hs_workers::Open;
+use std::alloc::{AllocError, Global};
+use std::env::Args;
+use std::io::{self, ErrorKind};
+use std::sync::Wait;
+use std::thread::Threads;
+
+/// The status where memory is refused before the run.
+pub const NO_MEMORY: u8 = 10;
+
+/// The status where the system doesn't give the words of the command line.
+pub const NO_WORDS: u8 = 13;
+
+/// The words in a list.
+fn collected(alloc: Global, words: Args) -> Result<Vec<String>, AllocError>
+    ensures { IfOk result (λ all. all.items ≡ into_iter_items words) }
+{
+    words.collect(alloc)
+}
+
+/// The words as texts.
+fn borrowed(alloc: Global, words: &[String]) -> Result<Vec<&str>, AllocError>
+    ensures { IfOk result (λ all. texts all.items ≡ map string_bytes words.now) }
+{
+    words.iter().map(|word| word.as_str()).collect(alloc)
+}
+
+/// The run on the words that the system gave: the status is that of `run` on all of them, in their
+/// order. Where the system gives none, or one isn't UTF-8, it is 13, and 10 where there is no memory
+/// for them; then nothing is touched.
+pub fn run_on<R: Threads + Wait + Sync, S: Source, O: Sink, E: Sink>(
+    rt: &R,
+    alloc: Global,
+    words: io::Result<Args>,
+    source: &mut S,
+    out: &mut O,
+    err: &mut E,
+    passes: Vec<Box<dyn Pass>>,
+) -> u8
+    requires { All (λ p. taken p ≡ 0) passes.items }
+    ensures rows { IfOk words (λ given.
+        ((result ≡ NO_MEMORY) × (source.new ≡ source.old) × (out.new ≡ out.old) × (err.new ≡ err.old))
+        ⊎ outcome.Rows (ordered (map (λ p. image p) passes.items) (map string_bytes (into_iter_items given)))
+        (source_run S.file S.left S.reading S.faults source.old source.new)
+        (sink_run O.writing O.faults out.old out.new) (sink_run E.writing E.faults err.old err.new) result) }
+    ensures no_words { IfErr words (λ error. error_kind error ≢ ErrorKind.OutOfMemory → result ≡ NO_WORDS) }
+    ensures no_memory { IfErr words (λ error. error_kind error ≡ ErrorKind.OutOfMemory
+        → result ≡ NO_MEMORY) }
+    ensures untouched { OnErr words ((source.new ≡ source.old) × (out.new ≡ out.old) × (err.new ≡ err.old)) }
+{
+    let words = match words {
+        Ok(words) => words,
+        Err(error) if error.kind() == ErrorKind::OutOfMemory => return NO_MEMORY,
+        Err(_) => return NO_WORDS,
+    };
+    let Ok(words) = collected(alloc, words) else {
+        return NO_MEMORY;
+    };
+    match borrowed(alloc, words.as_slice()) {
+        Ok(texts) => run(rt, alloc, texts.as_slice(), source, out, err, &Open, passes),
+        Err(_) => NO_MEMORY,
+    }
+}

@@ -1,0 +1,182 @@
+//! Tables of words.
+
+use hs_words::{Options, WordsFault, read_words};
+use std::alloc::Global;
+use std::process::Abort;
+
+const DEFAULT: Options<'static> = Options {
+    workers: 4,
+    entries: 200_000,
+    steps: 1_000_000,
+    table: false,
+    first: false,
+    simplify: false,
+    cycle: None,
+    file: None,
+};
+
+/// Looks at what these words say.
+fn see_words<'w>(
+    rt: &impl Abort,
+    alloc: Global,
+    words: &'w [&'w str],
+    expected: Result<Options<'w>, WordsFault>,
+) {
+    assert_eq!(rt; read_words(alloc, words), expected, "{words:?}");
+}
+
+/// Words, whether the table and the first entry are asked for, and the file.
+const FLAGS: [(&[&str], bool, bool, Option<&str>); 12] = [
+    (&["horsat"], false, false, None),
+    (&["--nosuch"], false, false, None),
+    (&["horsat", "f"], false, false, Some("f")),
+    (&["horsat", "-"], false, false, Some("-")),
+    (&["horsat", ""], false, false, Some("")),
+    (&["horsat", "--table"], true, false, None),
+    (&["horsat", "--first", "f"], false, true, Some("f")),
+    (
+        &["horsat", "f", "--table", "--first"],
+        true,
+        true,
+        Some("f"),
+    ),
+    (&["horsat", "--"], false, false, None),
+    (&["horsat", "--first", "--", "f"], false, true, Some("f")),
+    (&["horsat", "--", "--table"], false, false, Some("--table")),
+    (&["horsat", "--", "-"], false, false, Some("-")),
+];
+
+#[test]
+fn files_and_flags(rt: HostRuntime) {
+    for (words, table, first, file) in &FLAGS {
+        let expected = Options {
+            table: *table,
+            first: *first,
+            file: *file,
+            ..DEFAULT
+        };
+        see_words(&rt, rt.alloc(), words, Ok(expected));
+    }
+}
+
+/// Words, the most entries and steps, and the number of the generated file.
+const NUMBERS: [(&[&str], u32, u64, Option<u32>); 11] = [
+    (&["horsat", "--entries", "1"], 1, 1_000_000, None),
+    (&["horsat", "--entries=1000000"], 1_000_000, 1_000_000, None),
+    (&["horsat", "--entries", "000000007"], 7, 1_000_000, None),
+    (&["horsat", "--steps", "1"], 200_000, 1, None),
+    (&["horsat", "--steps=4000000"], 200_000, 4_000_000, None),
+    (&["horsat", "--gen", "1"], 200_000, 1_000_000, Some(1)),
+    (&["horsat", "--gen=300"], 200_000, 1_000_000, Some(300)),
+    (
+        &["horsat", "--gen", "04", "--"],
+        200_000,
+        1_000_000,
+        Some(4),
+    ),
+    (&["horsat", "--steps", "9", "--entries", "8"], 8, 9, None),
+    (
+        &["horsat", "--entries=8", "--gen=2", "--steps=9"],
+        8,
+        9,
+        Some(2),
+    ),
+    (&["horsat", "--entries", "200000"], 200_000, 1_000_000, None),
+];
+
+#[test]
+fn numbers_within_their_ranges(rt: HostRuntime) {
+    for (words, entries, steps, cycle) in &NUMBERS {
+        let expected = Options {
+            entries: *entries,
+            steps: *steps,
+            cycle: *cycle,
+            ..DEFAULT
+        };
+        see_words(&rt, rt.alloc(), words, Ok(expected));
+    }
+}
+
+/// Words, the number of workers, whether the scheme is made smaller, and the file.
+const WORKERS: [(&[&str], u32, bool, Option<&str>); 6] = [
+    (&["horsat", "--workers", "1"], 1, false, None),
+    (&["horsat", "--workers=16", "f"], 16, false, Some("f")),
+    (&["horsat", "--workers", "04"], 4, false, None),
+    (&["horsat", "--simplify"], 4, true, None),
+    (&["horsat", "f", "--simplify"], 4, true, Some("f")),
+    (&["horsat", "--simplify", "--workers=3"], 3, true, None),
+];
+
+#[test]
+fn workers_and_simplification(rt: HostRuntime) {
+    for (words, workers, simplify, file) in &WORKERS {
+        let expected = Options {
+            workers: *workers,
+            simplify: *simplify,
+            file: *file,
+            ..DEFAULT
+        };
+        see_words(&rt, rt.alloc(), words, Ok(expected));
+    }
+}
+
+/// Words that are refused.
+const REFUSED: [&[&str]; 50] = [
+    &["horsat", "--nosuch"],
+    &["horsat", "--help"],
+    &["horsat", "--version"],
+    &["horsat", "-h"],
+    &["horsat", "-V"],
+    &["horsat", "-t"],
+    &["horsat", "--tab"],
+    &["horsat", "--workers"],
+    &["horsat", "--workers", "0"],
+    &["horsat", "--workers", "17"],
+    &["horsat", "--workers", "1x"],
+    &["horsat", "--workers=2", "--workers", "2"],
+    &["horsat", "--simplify=x"],
+    &["horsat", "--simplify", "--simplify"],
+    &["horsat", "--minimal"],
+    &["horsat", "---"],
+    &["horsat", "--=f"],
+    &["horsat", "--table=x"],
+    &["horsat", "--table="],
+    &["horsat", "--table", "--table"],
+    &["horsat", "--first=x"],
+    &["horsat", "--first", "--first"],
+    &["horsat", "--entries"],
+    &["horsat", "--entries", "--table"],
+    &["horsat", "--entries", ""],
+    &["horsat", "--entries="],
+    &["horsat", "--entries", "0"],
+    &["horsat", "--entries", "1000001"],
+    &["horsat", "--entries", "0000000001"],
+    &["horsat", "--entries", "1x"],
+    &["horsat", "--entries", "+1"],
+    &["horsat", "--entries", "-1"],
+    &["horsat", "--entries", "1", "--entries", "1"],
+    &["horsat", "--steps"],
+    &["horsat", "--steps", "0"],
+    &["horsat", "--steps", "4000001"],
+    &["horsat", "--steps", " 1"],
+    &["horsat", "--steps=1", "--steps", "1"],
+    &["horsat", "--gen"],
+    &["horsat", "--gen", "0"],
+    &["horsat", "--gen", "301"],
+    &["horsat", "--gen", "4294967297"],
+    &["horsat", "--gen", "1", "--gen=2"],
+    &["horsat", "--gen", "2", "f"],
+    &["horsat", "f", "--gen", "2"],
+    &["horsat", "--gen", "2", "-"],
+    &["horsat", "--gen", "2", "--", "f"],
+    &["horsat", "f", "g"],
+    &["horsat", "-", "-"],
+    &["horsat", "f", "--", "g"],
+];
+
+#[test]
+fn words_that_are_refused(rt: HostRuntime) {
+    for words in &REFUSED {
+        see_words(&rt, rt.alloc(), words, Err(WordsFault::Usage));
+    }
+}

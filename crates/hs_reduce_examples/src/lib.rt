@@ -1,5 +1,0 @@
-//! Tests of plain reduction on worked examples, from files.
-#![tactic(auto)]
-
-#[cfg(test)]
-mod tests;

@@ -1,4 +1,0 @@
-pub mod StepLemmas
-pub mod FollowingLemmas
-pub mod CallLemmas
-pub mod HoldLemmas

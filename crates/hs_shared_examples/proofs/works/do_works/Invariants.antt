@@ -1,6 +1,0 @@
--- the worker's seat holds the table
-use Rattle.hs_shared_examples.specs.Working.{IsHolder}
-use Rattle.hs_shared_examples.proofs.works.do_works.Given as goal
-
-abbrev pub invariant-loop-row : goal.invariant-loop-row
-invariant-loop-row g l = IsHolder l.table l.problem l.worker.seat l.hold l.worker.replica.log l.worker.held

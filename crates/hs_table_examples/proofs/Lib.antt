@@ -1,0 +1,4 @@
+mod NumberLemmas
+pub mod Closing
+pub mod Fewer
+pub mod Lists

@@ -1,0 +1,7 @@
+use Rattle.std.proofs.Common.{sym, subst, ◌∙◌, List, All}
+use Rattle.hs_table.specs.Entries.{EntryData, InShape}
+use Rattle.hs_table_examples.proofs.comparing.points_agree.Goals as goal
+
+pub point_agrees-requires-clause-log : goal.point_agrees-requires-clause-log
+point_agrees-requires-clause-log c =
+    subst (λ (xs : List EntryData). All (InShape c.args.problem.now) xs) (sym (c.as_slice.ensures.value ∙ c.in_ok-log.ensures)) c.requires
