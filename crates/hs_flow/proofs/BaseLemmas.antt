@@ -1,5 +1,5 @@
 -- What parameters may become, one more of it.
-use Rattle.std.proofs.Common.{◌≡◌, refl, sym, ℕ, zero, suc, ◌<◌, ◌↔◌, ◌∙◌, subst, Bool, true, false, not, ◌&&◌, nat_eq, length, arith, List, [], ◌∷◌, ◌++◌, cond, ◌⊎◌, inl, inr, Contains}
+use Rattle.std.proofs.Common.{◌≡◌, refl, sym, ℕ, zero, suc, ◌<◌, ◌↔◌, ◌∙◌, subst, Bool, true, false, not, ◌&&◌, nat_eq, length, arith, List, [], ◌∷◌, ◌++◌, cond, ◌⊎◌, inl, inr, Contains, Option, Some}
 use Rattle.std.specs.Bool.{Decides}
 use Rattle.std.specs.List.{list_any}
 use Rattle.std.proofs.lemmas.Bool.{eqb-true, eq-eqb, and_parts}
@@ -10,7 +10,7 @@ use Rattle.hs_flow.specs.contracts.bases.BasePartialEq.TheImpl.{eq-value}
 use Rattle.hs_scheme.specs.Parameters.{IsParameter, parameter_of}
 use Rattle.hs_scheme.proofs.ParameterLemmas.{number_once}
 use Rattle.hs_scheme.proofs.Lists.{only}
-use Rattle.hs_flow.specs.Bases.{HasFlag, InRows, IsOutside, TellsNew}
+use Rattle.hs_flow.specs.Bases.{HasFlag, InRows, IsOutside, TellsNew, HasBase, IsNumber}
 
 base_true : (a b : Base) → eq-value.it a b ≡ true → a ≡ b
 base_true a b h =
@@ -147,3 +147,15 @@ module _ (counts : List ℕ) (old new : List (List Bool)) (others : List Base) (
     base = base;
     flag = subst (λ (x : ℕ). HasFlag old x (parameter_of counts b.base b.given)) k_is (subst (λ (y : ℕ). HasFlag old k y) j_is tells);
   })
+
+-- a flag that is set is a base
+pub flagged : (counts : List ℕ) (rows : List (List Bool)) (others : List Base) (b : Base) (number flag : Option ℕ) (n k : ℕ) → number ≡ Some n → flag ≡ Some k → HasFlag rows n k
+    → IsNumber counts b.rule b.param number → IsNumber counts b.base b.given flag → HasBase counts (record { rows = rows; others = others }) b
+flagged counts rows others b number flag n k number_is flag_is set param base =
+    let p = subst (λ (o : Option ℕ). IsNumber counts b.rule b.param o) number_is param in
+    let q = subst (λ (o : Option ℕ). IsNumber counts b.base b.given o) flag_is base in
+    inl (record {
+      param = p.0;
+      base = q.0;
+      flag = subst (λ i. HasFlag rows i (parameter_of counts b.base b.given)) p.1 (subst (λ j. HasFlag rows n j) q.1 set);
+    })

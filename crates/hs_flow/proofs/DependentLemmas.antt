@@ -62,6 +62,17 @@ module _ (old new : List (List ℕ)) (number point : ℕ) (long : length new ≡
       by p true here r = rises_push point (list_of old p) (subst (λ k. (x : ℕ) → slice_get (list_of old k) (length (list_of old k) - 1) ≡ Some x → x ≡ point → ⊥) (sym (eqb-true p number here)) apart) r
       by p false elsewhere r = r
 
+-- the point is there already
+pub adds_nothing : (lists : List (List ℕ)) (number point : ℕ) → Contains (list_of lists number) point → AddsPoint (λ p. p ≡ number) point lists lists
+adds_nothing lists number point there = record {
+  exact = λ p d. (
+    λ h. inl h,
+    λ h. elim h [ inl was ↦ was | inr (same, at) ↦ subst (λ e. Contains (list_of lists p) e) (sym same) (subst (λ k. Contains (list_of lists k) point) (sym at) there) ],
+  );
+  rises = λ p r. r;
+  len = refl;
+}
+
 pub adds_then : (point : ℕ) (S T U : ℕ → Type 0) (a b c : List (List ℕ)) → ((p : ℕ) → (S p ⊎ T p) ↔ U p) → AddsPoint S point a b → AddsPoint T point b c → AddsPoint U point a c
 adds_then point S T U a b c and_parts f g = record {
   exact = λ p d. (

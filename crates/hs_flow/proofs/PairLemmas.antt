@@ -2,9 +2,9 @@
 use Rattle.std.proofs.Common.{◌≡◌, ◌≢◌, refl, sym, ◌∙◌, ap, subst, ◌+◌, ◌-◌, ◌⊎◌, List, [], ◌∷◌, ◌++◌, length, length-append, get_or, append_assoc, arith, inl, inr, Contains, AllPairs}
 use Rattle.std.proofs.lemmas.Bool.{cases_lt}
 use Rattle.std.proofs.lemmas.List.{append-nil, get_or_append_left, get_or-append_right}
-use Rattle.std.proofs.lemmas.List.Elements.{Contains-append_left, Contains-append_right, Contains-append_cases, Contains-get_or}
+use Rattle.std.proofs.lemmas.List.Elements.{Contains-append_left, Contains-append_cases, Contains-get_or}
 use Rattle.hs_scheme.specs.declared.flow.Pair.{Pair}
-use Rattle.hs_scheme.proofs.Lists.{none_in, only, here}
+use Rattle.hs_scheme.proofs.Lists.{none_in, only}
 use Rattle.hs_flow.specs.declared.bases.Base.{Base}
 use Rattle.hs_flow.specs.Bases.{BasesData}
 use Rattle.hs_flow.specs.Passing.{PassedAtFirst, PassedFor, MayBecome}
@@ -38,9 +38,6 @@ finds_nothing P a = record {
 -- a pair is added
 pub finds_one : (a b : PairsData) (k : Pair) → b ≡ grown a (k ∷ []) → FindsOnly (λ q. q ≡ k) a b
 finds_one a b k is = record { added = k ∷ []; is = is; with = only k }
-
-pub finds_there : (a b : PairsData) (k : Pair) → b ≡ grown a (k ∷ []) → Contains b.found k
-finds_there a b k is = subst (λ (x : PairsData). Contains x.found k) (sym is) (Contains-append_right a.found (k ∷ []) k (here k []))
 
 module _ (P : Pair → Type 0) (a b : PairsData) (f : FindsOnly P a b) where
   pub finds_rules : b.rules ≡ a.rules

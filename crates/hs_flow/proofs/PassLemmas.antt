@@ -21,6 +21,15 @@ abbrev pub IsEarlier : ℕ → Pair → Type 0
 IsEarlier param (OfFlow f) = f.param < param
 IsEarlier param (OfHead h) = ⊥
 
+-- a point passes pairs on to a rule that is there
+pub rule_within : (rules : List Rule) (base given point : ℕ) (q : Pair) → PassedBy rules base given point q → base < length rules
+rule_within rules base given point (OfFlow f) h = slice_get_within rules base h.passes.1.3.0 h.passes.1.3.1.0
+rule_within rules base given point (OfHead k) h = slice_get_within rules base h.passes.1.0 h.passes.1.1.0
+
+-- the parameter at which the arguments begin
+pub none_given : (given : ℕ) → given ≡ given + 0
+none_given given = omega arith
+
 module _ (rules : List Rule) (point : ℕ) (args : List ℕ) (base given : ℕ) (rule : Rule) (at : slice_get rules base ≡ Some rule) where
   pub pass_flow : (i a : ℕ) (q : Pair) → slice_get args i ≡ Some a → given + i < rule.params → q ≡ OfFlow (record { rule = base; param = given + i; point = a }) → Passes rules point args base given q
   pass_flow i a q there lt is = subst (Passes rules point args base given) (sym is) (i, (there, refl, refl, (rule, (at, lt))))

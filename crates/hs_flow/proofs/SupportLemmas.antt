@@ -1,7 +1,7 @@
 -- What is found stays supported as it grows, and its points are in range.
-use Rattle.std.proofs.Common.{◌≡◌, sym, ◌∙◌, ap, subst, ℕ, ◌<◌, List, [], ◌∷◌, ◌++◌, ◌⊎◌, length, take, slice_get, Some, length-append, arith, inl, inr, Contains, All}
+use Rattle.std.proofs.Common.{◌≡◌, sym, ◌∙◌, ap, subst, ℕ, ◌<◌, List, [], ◌∷◌, ◌++◌, ◌⊎◌, length, take, slice_get, Some, length-append, arith, inl, inr, Contains, All, Ok}
 use Rattle.std.proofs.lemmas.Bool.{cases_lt}
-use Rattle.std.proofs.lemmas.List.Elements.{Contains-append_cases}
+use Rattle.std.proofs.lemmas.List.Elements.{Contains-append_cases, Contains-append_right}
 use Rattle.std.proofs.lemmas.Option.{slice_get_within}
 use Rattle.std.proofs.lemmas.List.{take_all, take-append-le, length-take, get_or-take, get_or_append_left, get_or_push}
 use Rattle.hs_scheme.specs.declared.term.Rule.{Rule}
@@ -13,14 +13,15 @@ use Rattle.hs_scheme.specs.Points.{PointData, PointsData, points_of}
 use Rattle.hs_scheme.specs.Problem.{FlowWithin, HeadWithin}
 use Rattle.hs_scheme.specs.Flow.{HasParameter, Demands, IsSupported}
 use Rattle.hs_scheme.proofs.PointLemmas.{args_within}
-use Rattle.hs_scheme.proofs.Lists.{slice_get-read, read-slice_get, only}
+use Rattle.hs_scheme.proofs.Lists.{slice_get-read, read-slice_get, only, here}
 use Rattle.hs_flow.specs.declared.bases.Base.{Base}
 use Rattle.hs_flow.specs.Users.{UserMap}
 use Rattle.hs_flow.specs.Passing.{PassedAtFirst, PassedFor}
-use Rattle.hs_flow.specs.Pairs.{PairsData, HasBaseAt, IsAddable, ArePairs}
+use Rattle.hs_flow.specs.Pairs.{PairsData, HasBaseAt, IsAddable, ArePairs, FindsOnly}
 use Rattle.hs_flow.specs.Analysis.{point_of}
-use Rattle.hs_flow.proofs.PairLemmas.{append_once, grown}
+use Rattle.hs_flow.proofs.PairLemmas.{append_once, grown, finds_nothing, finds_one}
 use Rattle.hs_flow.proofs.PassingLemmas.{addable_demanded}
+use Rattle.std.specs.Prelude.{IsErrOf}
 
 pub in_take : {X : Type 0} (n : ℕ) (xs : List X) (x : X) → Contains (take n xs) x → Contains xs x
 in_take n xs x (k, within, is) = (k, omega (arith, length-take n xs), sym (get_or-take n xs k x (omega (arith, length-take n xs))) ∙ is)
@@ -87,3 +88,19 @@ module _ (points : PointsData) (users : UserMap) (a old : PairsData) (q : Pair) 
 
   pushed_is : record { rules = a.rules; max = a.max; found = items; bases = a.bases } ≡ grown old (q ∷ [])
   pushed_is = (λ i. record { rules = a.rules; max = a.max; found = pushed i; bases = a.bases }) ∙ ap (λ (x : PairsData). grown x (q ∷ [])) view
+
+  pub pushed_finds : FindsOnly (λ p. p ≡ q) old (record { rules = a.rules; max = a.max; found = items; bases = a.bases })
+  pushed_finds = finds_one old (record { rules = a.rules; max = a.max; found = items; bases = a.bases }) q pushed_is
+
+  pub pushed_there : Contains items q
+  pushed_there = subst (λ (ps : List Pair). Contains ps q) (sym pushed) (Contains-append_right a.found (q ∷ []) q (here q []))
+
+-- the same, where nothing was pushed
+pub kept_finds : (P : Pair → Type 0) (a old : PairsData) (items : List Pair) → a ≡ old → items ≡ a.found → FindsOnly P old (record { rules = a.rules; max = a.max; found = items; bases = a.bases })
+kept_finds P a old items view same =
+    subst (λ (x : PairsData). FindsOnly P x (record { rules = a.rules; max = a.max; found = items; bases = a.bases })) view
+    (subst (λ (ps : List Pair). FindsOnly P a (record { rules = a.rules; max = a.max; found = ps; bases = a.bases })) (sym same) (finds_nothing P a))
+
+-- what is there is no refusal
+pub no_refusal : {T E : Type 0} (x : T) (e : E) → IsErrOf (Ok x) e → ⊥
+no_refusal x e refused = (cc)

@@ -1,6 +1,7 @@
 //! Building a scheme of some of another one's rules.
 
-ghost use Rattle.std.specs.Prelude.{◌≡◌, ◌<◌, ◌≤◌, ℕ, length, map, vec_len, IfOk};
+ghost use Rattle.std.specs.Prelude.{◌≡◌, ◌<◌, ◌≤◌, ℕ, [], length, map, vec_len, IfOk, OnOk};
+ghost use Rattle.hs_scheme.specs.Copying.{MakesEqual};
 ghost use Rattle.hs_scheme.specs.Scheme.{IsScheme};
 ghost use Rattle.hs_scheme.specs.Sorted.{IsSorted};
 ghost use Rattle.hs_passes.specs.Selection as definition;
@@ -79,18 +80,53 @@ fn chosen_rules(
     Ok(out)
 }
 
+/// Items equal to those that stay, in their order, each made by `copy`.
+fn chosen_copies<T: Drop, F: Fn(&T) -> Result<T, OutOfMemory>>(
+    alloc: Global,
+    items: &[T],
+    keep: &[bool],
+    copy: F,
+) -> Result<Vec<T>, OutOfMemory>
+    requires callable { F.IsAlwaysCallable copy }
+    requires equal { MakesEqual F.Fn copy }
+    requires each { length keep.now ≡ length items.now }
+    ensures { IfOk result (λ out. out.items ≡ chosen (stays keep.now) items.now) }
+{
+    let mut out = Vec::new(alloc);
+    for (i, item) in items.iter().enumerate() {
+        if keep[i] {
+            out.push(copy(item)?)?;
+        }
+    }
+    Ok(out)
+}
+
 /// The names of the rules that stay.
 fn chosen_names(alloc: Global, names: &[Name], keep: &[bool]) -> Result<Vec<Name>, OutOfMemory>
     requires { length keep.now ≡ length names.now }
     ensures { IfOk result (λ out. out.items ≡ chosen (stays keep.now) names.now) }
 {
-    let mut out = Vec::new(alloc);
-    for (i, name) in names.iter().enumerate() {
+    chosen_copies(alloc, names, keep, |name| name.copy(alloc))
+}
+
+/// Adds the names of the parameters of the rules that stay to a list that has none so far.
+fn add_params(
+    alloc: Global,
+    params: &[Vec<Name>],
+    keep: &[bool],
+    out: &mut Vec<Vec<Name>>,
+) -> Result<(), OutOfMemory>
+    requires each { length keep.now ≡ length params.now }
+    requires empty { out.old.items ≡ [] }
+    ensures { OnOk result (map (λ names. names.items) out.new.items ≡ chosen (stays keep.now)
+        (map (λ names. names.items) params.now)) }
+{
+    for (i, names) in params.iter().enumerate() {
         if keep[i] {
-            out.push(name.copy(alloc)?)?;
+            out.push(Name::copy_all(alloc, names.as_slice())?)?;
         }
     }
-    Ok(out)
+    Ok(())
 }
 
 /// The names of the parameters of the rules that stay.
@@ -104,11 +140,7 @@ fn chosen_params(
         (map (λ names. names.items) params.now)) }
 {
     let mut out = Vec::new(alloc);
-    for (i, names) in params.iter().enumerate() {
-        if keep[i] {
-            out.push(Name::copy_all(alloc, names.as_slice())?)?;
-        }
-    }
+    add_params(alloc, params, keep, &mut out)?;
     Ok(out)
 }
 
@@ -117,13 +149,7 @@ fn chosen_sorts(alloc: Global, sorts: &[Sort], keep: &[bool]) -> Result<Vec<Sort
     requires { length keep.now ≡ length sorts.now }
     ensures { IfOk result (λ out. out.items ≡ chosen (stays keep.now) sorts.now) }
 {
-    let mut out = Vec::new(alloc);
-    for (i, sort) in sorts.iter().enumerate() {
-        if keep[i] {
-            out.push(sort.copy(alloc)?)?;
-        }
-    }
-    Ok(out)
+    chosen_copies(alloc, sorts, keep, |sort| sort.copy(alloc))
 }
 
 /// The rules that stay, with the new numbers, and all terminals.

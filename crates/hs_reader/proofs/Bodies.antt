@@ -1,19 +1,27 @@
 -- One token of a rule's right side.
-use Rattle.std.proofs.Common.{◌≡◌, ℕ, Bool, true, false, eqb, List, ◌∷◌, length, Option, Some, None, Err, refl, sym, ap, ◌∙◌}
+use Rattle.std.proofs.Common.{◌≡◌, ℕ, Bool, true, false, eqb, List, ◌∷◌, length, Option, Some, None, ok_or, Result, Ok, Err, OnOk, IfErr, refl, sym, ap, ◌∙◌}
 use Rattle.std.specs.Option.{option_map}
 use Rattle.hs_scheme.specs.Tree.{Tree}
 use Rattle.hs_reader.specs.declared.raw.RawName.{RawName}
-use Rattle.hs_reader.specs.declared.fault.ReadFault.TheVariants.{Syntax, Limit}
+use Rattle.hs_reader.specs.declared.fault.ReadFault.{ReadFault}
+use Rattle.hs_reader.specs.declared.fault.ReadFault.TheVariants.{Syntax, Limit, OutOfMemory}
 use Rattle.hs_reader.specs.declared.fault.Which.{Which}
 use Rattle.hs_reader.specs.declared.fault.Which.TheVariants as which
-use Rattle.hs_reader.specs.Raw.{Rule}
+use Rattle.hs_reader.specs.Raw.{Rule, File}
 use Rattle.hs_reader.specs.Tokens.{Placed, left, right, dot}
-use Rattle.hs_reader.specs.Reading.{place, from_token, tokens}
-use Rattle.hs_reader.specs.ReadingStages.{in_rules, in_body, leaf, added, is_full, is_long, when, which_if, first_of, closes, ends, passed, named, run, with_rule}
-use Rattle.hs_reader.proofs.Running.{on, over, off, word_on, word_full, full_at, free_at}
+use Rattle.hs_reader.specs.Reading.{place}
+use Rattle.hs_reader.specs.ReadingStages.{in_rules, in_body, leaf, added, is_full, is_long, when, which_if, first_of, closes, ends, passed, named, run, with_rule, Goes, IsMemory}
+use Rattle.hs_reader.proofs.Running.{on, over, off_at, word_on, word_full, full_at, free_at}
 
 which_is : (b c : Bool) (w : Which) → b ≡ c → which_if b w ≡ which_if c w
 which_is b c w e = ap (λ (t : Bool). which_if t w) e
+
+-- nothing but want of memory keeps a token from being taken
+pub unless_memory : {X : Type 0} (r : Result X ReadFault) (Done : Type 0) (here behind : Result File ReadFault) → OnOk r Done → IfErr r IsMemory → (Done → here ≡ behind) → Goes (λ _. behind) r here
+unless_memory (Ok x) Done here behind done fault same = same done
+unless_memory (Err (Syntax line)) Done here behind done fault same = absurd fault
+unless_memory (Err (Limit w)) Done here behind done fault same = absurd fault
+unless_memory (Err OutOfMemory) Done here behind done fault same = tt
 
 module _ (rs : List Rule) (n : RawName) (ps : List RawName) where
   pub body_word : (outer : List (Option (Tree RawName))) (begun : Option (Tree RawName)) (line : ℕ) (bytes : List ℕ) (m : RawName) (u : Tree RawName) (ts rest : List Placed) → ts ≡ named line bytes ∷ rest → m ≡ record { text = bytes; line = line } → is_long bytes ≡ false → is_full begun ≡ false → u ≡ added begun (leaf m)
@@ -51,17 +59,12 @@ module _ (rs : List Rule) (n : RawName) (ps : List RawName) where
   right_on outer others begun top closed line ts rest e closes is =
       on (in_body rs n ps outer begun) (in_body rs n ps others top) line right ts rest e (closes ∙ ap (λ (b : Bool). when b (in_body rs n ps others top)) is) refl
 
-  pub right_off : (outer others : List (Option (Tree RawName))) (begun top : Option (Tree RawName)) (closed : Bool) (line : ℕ) (ts : List Placed) (rest : List ℕ) → ts ≡ from_token tokens line (right, rest)
+  pub right_off : (outer others : List (Option (Tree RawName))) (begun top : Option (Tree RawName)) (closed : Bool) (line : ℕ) (ts rest : List Placed) → ts ≡ place line right ∷ rest
       → closes rs n ps outer begun ≡ when closed (in_body rs n ps others top) → closed ≡ false → run (in_body rs n ps outer begun) ts ≡ Err (Syntax line)
   right_off outer others begun top closed line ts rest e closes is =
-      off (in_body rs n ps outer begun) line right rest ts e (closes ∙ ap (λ (b : Bool). when b (in_body rs n ps others top)) is)
+      off_at (in_body rs n ps outer begun) line right ts rest e (closes ∙ ap (λ (b : Bool). when b (in_body rs n ps others top)) is)
 
-  pub dot_on : (outer : List (Option (Tree RawName))) (begun term : Option (Tree RawName)) (t : Tree RawName) (line : ℕ) (ts rest : List Placed) → ts ≡ place line dot ∷ rest
-      → ends rs n ps outer begun ≡ option_map (λ u. in_rules (with_rule rs n ps u)) term → term ≡ Some t → run (in_body rs n ps outer begun) ts ≡ run (in_rules (with_rule rs n ps t)) rest
-  dot_on outer begun term t line ts rest e ends is =
-      on (in_body rs n ps outer begun) (in_rules (with_rule rs n ps t)) line dot ts rest e (ends ∙ ap (option_map (λ (u : Tree RawName). in_rules (with_rule rs n ps u))) is) refl
-
-  pub dot_off : (outer : List (Option (Tree RawName))) (begun term : Option (Tree RawName)) (line : ℕ) (ts : List Placed) (rest : List ℕ) → ts ≡ from_token tokens line (dot, rest)
-      → ends rs n ps outer begun ≡ option_map (λ u. in_rules (with_rule rs n ps u)) term → term ≡ None → run (in_body rs n ps outer begun) ts ≡ Err (Syntax line)
-  dot_off outer begun term line ts rest e ends is =
-      off (in_body rs n ps outer begun) line dot rest ts e (ends ∙ ap (option_map (λ (u : Tree RawName). in_rules (with_rule rs n ps u))) is)
+  pub dot_goes : (outer : List (Option (Tree RawName))) (begun term : Option (Tree RawName)) (line : ℕ) (rest : List Placed) → ends rs n ps outer begun ≡ option_map (λ u. in_rules (with_rule rs n ps u)) term
+      → Goes (λ t. run (in_rules (with_rule rs n ps t)) rest) (ok_or term (Syntax line)) (run (in_body rs n ps outer begun) (place line dot ∷ rest))
+  dot_goes outer begun None line rest ends = off_at (in_body rs n ps outer begun) line dot (place line dot ∷ rest) rest refl ends
+  dot_goes outer begun (Some t) line rest ends = on (in_body rs n ps outer begun) (in_rules (with_rule rs n ps t)) line dot (place line dot ∷ rest) rest refl ends refl

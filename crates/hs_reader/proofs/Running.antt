@@ -26,7 +26,7 @@ go_on s p ts rest r e h = ap (run s) e ∙ ap (λ (o : Result Stage ReadFault). 
 pub on : (s next : Stage) (line : ℕ) (t : Token) (ts rest : List Placed) → ts ≡ place line t ∷ rest → step s t ≡ Some next → passed s t ≡ None → run s ts ≡ run next rest
 on s next line t ts rest e h free = go_on s (place line t) ts rest (Ok next) e (rw (h, free) refl)
 
-off_at : (s : Stage) (line : ℕ) (t : Token) (ts rest : List Placed) → ts ≡ place line t ∷ rest → step s t ≡ None → run s ts ≡ Err (Syntax line)
+pub off_at : (s : Stage) (line : ℕ) (t : Token) (ts rest : List Placed) → ts ≡ place line t ∷ rest → step s t ≡ None → run s ts ≡ Err (Syntax line)
 off_at s line t ts rest e h = go_on s (place line t) ts rest (Err (Syntax line)) e (rw h refl)
 
 pub over : (s next : Stage) (line : ℕ) (t : Token) (w : Which) (ts rest : List Placed) → ts ≡ place line t ∷ rest → step s t ≡ Some next → passed s t ≡ Some w → run s ts ≡ Err (Limit w)

@@ -4,15 +4,19 @@
 --     AreBegun      the nodes are those of the terms begun, the outermost first, and each begins at its place
 --     HasRoom       one more argument is allowed
 --     IsBuilding    what holds while a right side is read
-use Rattle.std.specs.Prelude.{◌≡◌, refl, ℕ, ◌<◌, ◌≤◌, List, [], ◌∷◌, ◌++◌, length, take, drop, reverse, Option, Some, None}
+--     Takes         what a function says that takes a token of it: reading goes on behind it, or ends there
+use Rattle.std.specs.Prelude.{◌≡◌, refl, ℕ, ◌<◌, ◌≤◌, List, [], ◌∷◌, ◌++◌, length, take, drop, reverse, Option, Some, None, Result}
 use Rattle.std.specs.List.{AllByRecursion}
 use Rattle.std.specs.Coded.{Coded, code_by, coded×, coded_list, coded_option}
 use Rattle.hs_scheme.specs.Tree.{Tree, tree_code}
 use Rattle.hs_reader.specs.declared.raw.RawName.{RawName}
 use Rattle.hs_reader.specs.declared.raw.RawNode.{RawNode}
-use Rattle.hs_reader.specs.Raw.{coded_name}
+use Rattle.hs_reader.specs.declared.fault.ReadFault.{ReadFault}
+use Rattle.hs_reader.specs.Raw.{Rule, coded_name}
+use Rattle.hs_reader.specs.Tokens.{Placed}
 use Rattle.hs_reader.specs.Faults.{arguments}
 use Rattle.hs_reader.specs.Preorder.{preorder, first_term}
+use Rattle.hs_reader.specs.ReadingStages.{in_body, run, Goes}
 
 pub record Begun : Type 0 where
   pub outer : List (Option (Tree RawName))
@@ -56,3 +60,8 @@ pub record IsBuilding (ns : List RawNode) (places : List ℕ) (start : ℕ) (beg
   pub are : AreBegun ns (start ∷ reverse places) (begun.top ∷ begun.outer)
   pub wide : IsWide begun.top
   pub room : AllByRecursion HasRoom begun.outer
+
+abbrev pub Takes : {X : Type 0} → Placed → (old new : Begun) → Result X ReadFault → Type 0
+Takes token old new result =
+    (rs : List Rule) (n : RawName) (ps : List RawName) (rest : List Placed)
+    → Goes (λ _. run (in_body rs n ps new.outer new.top) rest) result (run (in_body rs n ps old.outer old.top) (token ∷ rest))

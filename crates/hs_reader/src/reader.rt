@@ -6,7 +6,9 @@ ghost use Rattle.hs_reader.specs.declared.raw.RawName.{RawName};
 ghost use Rattle.hs_reader.specs.Raw.{Rule, Transition, File};
 ghost use Rattle.hs_reader.specs.declared.fault.ReadFault.{ReadFault};
 ghost use Rattle.hs_reader.specs.Faults.{IsFileWithin, IsFaultOf, IsAnswer};
-ghost use Rattle.hs_reader.specs.Reading.{tokens};
+ghost use Rattle.hs_reader.specs.Tokens.{dot, left, right};
+ghost use Rattle.hs_reader.specs.Reading.{place, tokens};
+ghost use Rattle.hs_reader.specs.Building.{Takes};
 ghost use Rattle.hs_reader.specs.ReadingStages.{start, in_rules, in_head, in_body, between, in_transitions, in_transition, in_children, closed, added, is_full, named, run, read, Goes, GivesName, GivesCased, IsMemory, with_rule, with_transition};
 
 use crate::building::Building;
@@ -64,6 +66,65 @@ fn parameters<'a>(alloc: Global, cursor: &mut Cursor<'a>) -> Result<Vec<RawName<
     }
 }
 
+/// Puts a name into the right side that is read.
+fn add_name<'a>(building: &mut Building<'a>, bytes: &'a [u8], line: u32) -> Result<(), ReadFault>
+    ensures { Takes (named line bytes.now) building.old building.new result }
+{
+    let name = short_name(bytes, line)?;
+    if building.is_full() {
+        return Err(ReadFault::Limit {
+            which: Which::Arguments,
+        });
+    }
+    building.add(name)
+}
+
+/// Opens a parenthesis in the right side that is read.
+fn open_parenthesis(building: &mut Building) -> Result<(), ReadFault>
+    ensures { (line : ℕ) → Takes (place line left) building.old building.new result }
+{
+    if building.depth() == MAX_DEPTH {
+        return Err(ReadFault::Limit {
+            which: Which::Depth,
+        });
+    }
+    if building.is_full() {
+        return Err(ReadFault::Limit {
+            which: Which::Arguments,
+        });
+    }
+    building.open()
+}
+
+/// Closes a parenthesis in the right side that is read.
+fn close_parenthesis(building: &mut Building, line: u32) -> Result<(), ReadFault>
+    ensures { Takes (place line right) building.old building.new result }
+{
+    if !building.close() {
+        return Err(ReadFault::Syntax { line });
+    }
+    Ok(())
+}
+
+/// Reads the tokens of a right side, up to its dot.
+fn up_to_dot<'a>(building: &mut Building<'a>, cursor: &mut Cursor<'a>) -> Result<(), ReadFault>
+    ensures value { (rs : List Rule) (n : RawName) (ps : List RawName) → Goes
+        (λ _. run (in_body rs n ps building.new.outer building.new.top)
+        (place cursor.new.line dot ∷ tokens cursor.new.line cursor.new.rest.now))
+        result (read (in_body rs n ps building.old.outer building.old.top) cursor.old.line cursor.old.rest.now) }
+    ensures within { OnOk result (length cursor.new.rest.now ≤ length cursor.old.rest.now) }
+{
+    loop {
+        match cursor.next() {
+            Token::Name(bytes) => add_name(building, bytes, cursor.line)?,
+            Token::Left => open_parenthesis(building)?,
+            Token::Right => close_parenthesis(building, cursor.line)?,
+            Token::Dot => return Ok(()),
+            _ => return Err(ReadFault::Syntax { line: cursor.line }),
+        }
+    }
+}
+
 /// The right side of a rule, up to its dot.
 fn body<'a>(alloc: Global, cursor: &mut Cursor<'a>) -> Result<RawTerm<'a>, ReadFault>
     ensures value { (rs : List Rule) (n : RawName) (ps : List RawName) → Goes
@@ -72,44 +133,10 @@ fn body<'a>(alloc: Global, cursor: &mut Cursor<'a>) -> Result<RawTerm<'a>, ReadF
     ensures within { OnOk result (length cursor.new.rest.now ≤ length cursor.old.rest.now) }
 {
     let mut building = Building::new(alloc);
-    loop {
-        match cursor.next() {
-            Token::Name(bytes) => {
-                let name = short_name(bytes, cursor.line)?;
-                if building.is_full() {
-                    return Err(ReadFault::Limit {
-                        which: Which::Arguments,
-                    });
-                }
-                building.add(name)?;
-            }
-            Token::Left => {
-                if building.depth() == MAX_DEPTH {
-                    return Err(ReadFault::Limit {
-                        which: Which::Depth,
-                    });
-                }
-                if building.is_full() {
-                    return Err(ReadFault::Limit {
-                        which: Which::Arguments,
-                    });
-                }
-                building.open()?;
-            }
-            Token::Right => {
-                if !building.close() {
-                    return Err(ReadFault::Syntax { line: cursor.line });
-                }
-            }
-            Token::Dot => {
-                let Some(term) = building.term() else {
-                    return Err(ReadFault::Syntax { line: cursor.line });
-                };
-                return Ok(term);
-            }
-            _ => return Err(ReadFault::Syntax { line: cursor.line }),
-        }
-    }
+    up_to_dot(&mut building, cursor)?;
+    building
+        .term()
+        .ok_or(ReadFault::Syntax { line: cursor.line })
 }
 
 /// A rule behind its name.

@@ -1,16 +1,18 @@
 -- The names of bodies, one after another, with numbers that later terminals don't change.
 use Rattle.std.proofs.Common.{◌≡◌, refl, sym, ◌∙◌, ap, subst, ℕ, zero, suc, ◌+◌, Bool, true, false, not, ◌&&◌, cond, List, [], ◌∷◌, ◌++◌, take, filter, map, slice_get, is_some, Option, Some, None, ◌⊎◌, inl, inr}
+use Rattle.std.specs.Option.{option_map_or}
 use Rattle.std.specs.Str.{bytes_eq}
 use Rattle.std.proofs.lemmas.List.Elements.{filter-append}
 use Rattle.std.proofs.lemmas.Option.{same_Some}
 use Rattle.hs_scheme.specs.Tree.{Tree, forest}
 use Rattle.hs_scheme.specs.declared.term.Head.{Head}
+use Rattle.hs_scheme.specs.declared.term.Head.TheVariants.{Var, Nt, Tm}
 use Rattle.hs_scheme.specs.declared.term.Rule.{Rule as NumberedRule}
 use Rattle.hs_reader.specs.declared.raw.RawName.{RawName}
 use Rattle.hs_reader.specs.Raw.{Rule}
 use Rattle.hs_reader.specs.Limits.{term_names, terms_names}
 use Rattle.hs_reader.specs.Grammar.{begins_upper}
-use Rattle.hs_resolve.specs.Names.{texts, is_among, number_of, with_names}
+use Rattle.hs_resolve.specs.Names.{texts, is_among, number_of, number, with_names}
 use Rattle.hs_resolve.specs.Numbering.{is_terminal, head_of, numbered}
 use Rattle.hs_resolve.specs.Least.{IsLeast, earliest, Before}
 use Rattle.hs_resolve.specs.LineFaults.{Somewhere, IsUndefined}
@@ -112,6 +114,18 @@ among-some names x k is = sym (is_some-position (bytes_eq x) names) ∙ ap is_so
 
 among-none : (names : List (List ℕ)) (x : List ℕ) → number_of names x ≡ None → is_among names x ≡ false
 among-none names x is = sym (is_some-position (bytes_eq x) names) ∙ ap is_some is
+
+-- a lower name is not undefined
+pub lower-at : (left : List (List ℕ)) (name : RawName) (o : Option ℕ) → begins_upper name.text ≡ false → o ≡ earliest o (undefined_at left name)
+lower-at left name o lower = sym (earliest-none o) ∙ (λ i. earliest o (cond (sym lower i && not (is_among left name.text)) (Some name.line) None))
+
+pub head-parameter : (left params terminals : List (List ℕ)) (name : RawName) (k : ℕ) → begins_upper name.text ≡ false → number_of params name.text ≡ Some k → Var k ≡ head_of left params terminals name
+head-parameter left params terminals name k lower is =
+    λ i. cond (sym lower i) (Nt (number left name.text)) (option_map_or Var (sym is i) (Tm (number terminals name.text)))
+
+pub head-terminal : (left params terminals : List (List ℕ)) (name : RawName) → begins_upper name.text ≡ false → number_of params name.text ≡ None → Tm (number terminals name.text) ≡ head_of left params terminals name
+head-terminal left params terminals name lower is =
+    λ i. cond (sym lower i) (Nt (number left name.text)) (option_map_or Var (sym is i) (Tm (number terminals name.text)))
 
 pub known-at : (left : List (List ℕ)) (n : RawName) (o : Option ℕ) (k : ℕ) → number_of left n.text ≡ Some k → o ≡ earliest o (unknown_at left n)
 known-at left n o k is =

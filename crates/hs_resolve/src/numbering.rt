@@ -84,8 +84,8 @@ pub(crate) fn transitions_of<'a>(
     ensures transitions { IfOk result (λ moves. moves.transitions.items
         ≡ map (definition.transition_of moves.states terminals.new) transitions.now) }
 {
-    let mut states = NameIndex::new(alloc);
     let mut numbered = Vec::with_capacity(alloc, transitions.len())?;
+    let mut states = NameIndex::new(alloc);
     for transition in transitions {
         numbered.push(transition_of(alloc, &mut states, terminals, transition)?)?;
     }

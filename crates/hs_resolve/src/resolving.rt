@@ -201,7 +201,9 @@ fn answer(alloc: Global, resolved: Resolved) -> Result<Unsorted, NameFault>
     ensures { (raw : File) → IsResolved raw resolved.entry → Decides raw result }
 {
     let Resolved { tables, numbered } = resolved;
-    decide(alloc, &tables, numbered)
+    let decided = decide(alloc, &tables, numbered);
+    drop(tables);
+    decided
 }
 
 /// Numbers the names of a file.

@@ -36,9 +36,9 @@ impl<'a> Seen<'a> {
         ensures repeated { OnOk result (self.new.repeated
             ≡ least.earliest self.old.repeated (repeat_of self.old.index name.now)) }
     {
-        if !self.index.add(name.text.bytes())? {
-            self.repeated = earliest(self.repeated, Some(name.line));
-        }
+        let fresh = self.index.add(name.text.bytes())?;
+        let line = if fresh { None } else { Some(name.line) };
+        self.repeated = earliest(self.repeated, line);
         Ok(())
     }
 }

@@ -14,3 +14,4 @@ pub mod CheckedLemmas
 pub mod SameLemmas
 pub mod Sortings
 pub mod Copies
+pub mod Exits

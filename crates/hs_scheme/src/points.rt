@@ -153,9 +153,6 @@ fn add_term(
         from: 0,
         to: 0,
     })?;
-    if term.args.is_empty() {
-        return Ok(());
-    }
     let start = pending.len();
     for (place, arg) in term.args.iter().enumerate() {
         pending.push(rows.points.len() as u32)?;

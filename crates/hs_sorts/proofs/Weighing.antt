@@ -1,6 +1,6 @@
 -- Sizes of sorts, and what a weight says of an arrow.
 use Rattle.std.proofs.Common.{◌≡◌, refl, sym, ◌∙◌, ap, subst, ℕ, ◌+◌, ◌<◌, List, length, slice_get, get_or, min, Option, Some, None, inl, inr, arith}
-use Rattle.std.proofs.lemmas.List.Elements.{All-cons, All-head, All-tail}
+use Rattle.std.proofs.lemmas.List.Elements.{All-cons, All-tail}
 use Rattle.std.specs.Prelude.{unwrap_or}
 use Rattle.std.specs.Option.{option_map}
 use Rattle.std.proofs.lemmas.List.{length-map}
@@ -32,9 +32,6 @@ arity-arrow a (node u ks) = omega arith
 
 pub first_order_more : (a b : SortTree) → a ≡ o → IsFirstOrder b → IsFirstOrder (arrow a b)
 first_order_more a (node u ks) e h = All-cons (λ k. k ≡ o) a (children ks) e h
-
-pub first_order_head : (a b : SortTree) → IsFirstOrder (arrow a b) → a ≡ o
-first_order_head a (node u ks) h = All-head (λ k. k ≡ o) a (children ks) h
 
 pub first_order_tail : (a b : SortTree) → IsFirstOrder (arrow a b) → IsFirstOrder b
 first_order_tail a (node u ks) h = All-tail (λ k. k ≡ o) a (children ks) h

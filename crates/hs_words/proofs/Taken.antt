@@ -1,6 +1,6 @@
 -- What `clap` makes of the words.
 use Rattle.std.proofs.Common.{◌≡◌, refl, sym, ◌∙◌, ap, subst, true, List, [], Option, Some, None}
-use Rattle.std.specs.Prelude.{if◌then◌else◌, Result, Ok, Err, option_map, IfOk, IsErrOf}
+use Rattle.std.specs.Prelude.{if◌then◌else◌, Result, Ok, Err, option_map, IfOk, IfSome, IsErrOf}
 use Rattle.std.specs.Option.{ok_or}
 use Rattle.clap.specs.Kinds.{Kinds}
 use Rattle.clap.specs.Faults.{fault_of, is_simple_and_free}
@@ -12,7 +12,7 @@ use Rattle.clap.proofs.OnLiterals.{clap_on_literals}
 use Rattle.hs_words.specs.declared.fault.WordsFault.{WordsFault}
 use Rattle.hs_words.specs.declared.fault.WordsFault.TheVariants as words
 use Rattle.hs_words.specs.declared.options.Options.{Options}
-use Rattle.hs_words.specs.Words.{OptionsData, horsat, said, said_by, options_of}
+use Rattle.hs_words.specs.Words.{AreWithin, OptionsData, horsat, said, said_by, options_of}
 
 simple_and_free : is_simple_and_free horsat ≡ true
 unfolding clap_on_literals
@@ -41,3 +41,7 @@ module _ (r : Result Options WordsFault) (all : Option OptionsData) where
   pub unanswered : (o : Option Options) → r ≡ ok_or o words.Usage → option_map said_by o ≡ all → IsErrOf r words.Usage → all ≡ None
   unanswered None e s h = sym s
   unanswered (Some x) e s h = absurd (let both : Ok x ≡ Err words.Usage = sym e ∙ h in cc)
+
+  pub answered_within : (o : Option Options) → r ≡ ok_or o words.Usage → IfSome o AreWithin → IfOk r AreWithin
+  answered_within None e within = subst (λ q. IfOk q AreWithin) (sym e) tt
+  answered_within (Some x) e within = subst (λ q. IfOk q AreWithin) (sym e) within

@@ -1,9 +1,18 @@
 use Rattle.std.proofs.Common.{◌≡◌, ◌∙◌, ap, sym, map, ◌++◌}
 use Rattle.hs_reader.specs.declared.raw.RawName.{RawName}
-use Rattle.hs_resolve.specs.Names.{texts, number}
+use Rattle.hs_reader.specs.Raw.{Transition}
+use Rattle.hs_resolve.specs.Names.{texts, number, with_name, with_names}
 use Rattle.hs_resolve.specs.Numbering as definition
 use Rattle.hs_resolve.proofs.Moves.{number-later}
 use Rattle.hs_resolve.proofs.numbering.transition_of.Goals as goal
+
+pub returns-clause-states : goal.returns-clause-states
+returns-clause-states c =
+    c.in_ok-to.ensures.states
+    ∙ ((λ i. with_names (c.in_ok-from.ensures.added i) (texts (c.as_slice.ensures.value i))) ∙ ap (λ (t : Transition). with_names c.args.states.now (definition.states_in t)) c.raw.view_is)
+
+pub returns-clause-terminals : goal.returns-clause-terminals
+returns-clause-terminals c = c.in_ok-terminal.ensures.added ∙ ap (λ (t : Transition). with_name c.args.terminals.now t.terminal.text) c.raw.view_is
 
 pub returns-clause-transition : goal.returns-clause-transition
 returns-clause-transition c = λ p a.

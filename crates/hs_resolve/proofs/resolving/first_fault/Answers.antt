@@ -12,6 +12,9 @@ returns-then-len-gt-MAX_STATES-clause-fault c = λ raw tables lines.
     let len = c.len.ensures ∙ ap (λ (ns : List (List ℕ)). length ns) tables.states in
     (clean, omega arith)
 
+pub returns-clause-fault : goal.returns-clause-fault
+returns-clause-fault c = λ raw tables lines. tt
+
 pub returns-clause-none : goal.returns-clause-none
 returns-clause-none c = λ raw tables lines.
     let len = c.len.ensures ∙ ap (λ (ns : List (List ℕ)). length ns) tables.states in

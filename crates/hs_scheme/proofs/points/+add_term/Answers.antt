@@ -1,15 +1,21 @@
-use Rattle.std.proofs.Common.{◌≡◌, refl, sym, ◌∙◌, ap, subst, ℕ, ◌+◌, ◌≤◌, ◌<◌, List, [], ◌∷◌, ◌++◌, length, length-append, append_assoc, get_or, take, arith}
+use Rattle.std.proofs.Common.{◌≡◌, refl, sym, ◌∙◌, ap, subst, ℕ, ◌+◌, ◌≤◌, ◌<◌, List, [], ◌∷◌, ◌++◌, length, length-append, append_assoc, get_or, take, All, IsErrOf, arith}
 use Rattle.std.proofs.lemmas.Result.{err_from_is_err_and}
-use Rattle.std.proofs.lemmas.List.{take_all, length_push, length-map, length-set}
+use Rattle.std.proofs.lemmas.List.{take_all, take-append-le, length_push, length-map, length-set, append-nil}
+use Rattle.std.proofs.lemmas.List.Elements.{All-cons, All-append, All-set}
 use Rattle.std.specs.List.{slice_range}
 use Rattle.hs_scheme.specs.declared.term.Head.{Head}
 use Rattle.hs_scheme.specs.declared.points.Row.{Row}
+use Rattle.hs_scheme.specs.declared.points.PointsFault.TheVariants.{TooMany}
 use Rattle.hs_scheme.specs.Tree.{Tree, node, forest}
 use Rattle.hs_scheme.specs.Points.{PointData, size, sizes, numbers, term_points, terms_points}
-use Rattle.hs_scheme.specs.Rows.{point_of, points_in, places_in, terms_places}
+use Rattle.hs_scheme.specs.Rows.{point_of, points_in, places_in, Fits, terms_places}
 use Rattle.hs_scheme.proofs.PointLemmas.{row_more, row_length, numbers_more, row_many, point_at, term_done}
-use Rattle.hs_scheme.proofs.RowLemmas.{places_more, first_pushed, place_pushed, ranged_points, ranged_places, term_placed, length-numbers, last_range}
+use Rattle.hs_scheme.proofs.RowLemmas.{all_grown, places_more, first_pushed, place_pushed, ranged_points, ranged_places, term_placed, length-numbers, last_range}
+use Rattle.hs_scheme.proofs.Exits.{on_ok_err}
 use Rattle.hs_scheme.proofs.points.+add_term.Goals as goal
+
+fit_pushed : (args : List ℕ) (rows new : List Row) (row : Row) → new ≡ rows ++ row ∷ [] → All (Fits args) rows → Fits args row → All (Fits args) new
+fit_pushed args rows new row e fit it = subst (All (Fits args)) (sym e) (All-append (Fits args) rows (row ∷ []) fit (All-cons (Fits args) row [] it (λ k d l. absurd (omega arith))))
 
 at_least_one : (t : Tree Head) → 1 ≤ size t
 at_least_one (node h ts) = omega arith
@@ -45,20 +51,90 @@ own_arguments n i us old pending seen start all is at same =
     let whole : seen ≡ old ++ numbers n (forest us) = same ∙ (is ∙ ap (λ (vs : List (Tree Head)). old ++ numbers n (forest vs)) (take_all i us all)) in
     (λ j. slice_range (whole j) start (length (whole j))) ∙ last_range old (numbers n (forest us)) start (length (old ++ numbers n (forest us))) at (length-append old (numbers n (forest us)))
 
-pub returns-then-len-ge-MAX_POINTS-clause-many : goal.returns-then-len-ge-MAX_POINTS-clause-many
-returns-then-len-ge-MAX_POINTS-clause-many t c = λ h. omega (arith, at_least_one c.args.term.now)
+pub returns-then-len-ge-MAX_POINTS : goal.returns-then-len-ge-MAX_POINTS
+returns-then-len-ge-MAX_POINTS t c = record { added = tt; places = tt; pending = tt; ranges = tt; few = tt; args = tt; many = λ h. omega (arith, at_least_one c.args.term.now) }
 
-pub returns-in_err-add_term-clause-many : goal.returns-in_err-add_term-clause-many
-returns-in_err-add_term-clause-many t c =
+pub returns-in_err-push : goal.returns-in_err-push
+returns-in_err-push t c =
+    let p = err_from_is_err_and c.from_residual.result c.from_residual.ensures.1 in
+    rw p.1 (record { added = tt; places = tt; pending = tt; ranges = tt; few = tt; args = tt; many = λ h. absurd (cc (p.2, h)) })
+
+pub loop-place-init : goal.loop-place-init
+loop-place-init t c = record {
+  points = sym (append-nil (points_in c.args.rows.now.args.items c.push.new.self.items));
+  places = sym (append-nil (places_in c.push.new.self.items));
+  args = sym (append-nil c.args.pending.now.items);
+  ranges = fit_pushed c.args.rows.now.args.items c.args.rows.now.points.items c.push.new.self.items _ c.in_ok-push.ensures.items c.requires.ranges (record { up = omega arith; within = omega arith });
+  few = omega (arith, longer c.args.rows.now.points.items c.push.new.self.items _ c.in_ok-push.ensures.items);
+  room = omega (arith, longer c.args.rows.now.points.items c.push.new.self.items _ c.in_ok-push.ensures.items, c.requires.args);
+}
+
+pub overflow_cast-len : goal.overflow_cast-len
+overflow_cast-len t c = omega (arith, c.loop-place.invariant.few)
+
+pub overflow_cast-argument : goal.overflow_cast-argument
+overflow_cast-argument t c = omega arith
+
+pub overflow_cast-argument-in-loop-place : goal.overflow_cast-argument-in-loop-place
+overflow_cast-argument-in-loop-place t c = omega (arith, c.loop-place.invariant.room, c.loop-place.invariant.few, c.requires.args)
+
+pub returns-in_err-push-2 : goal.returns-in_err-push-2
+returns-in_err-push-2 t c =
+    let p = err_from_is_err_and c.from_residual-in_err-push-2.result c.from_residual-in_err-push-2.ensures.1 in
+    rw p.1 (record { added = tt; places = tt; pending = tt; ranges = tt; few = tt; args = tt; many = λ h. absurd (cc (p.2, h)) })
+
+pub returns-in_err-extend_from_slice : goal.returns-in_err-extend_from_slice
+returns-in_err-extend_from_slice t c =
+    let p = err_from_is_err_and c.from_residual-in_err-extend_from_slice.result c.from_residual-in_err-extend_from_slice.ensures.1 in
+    rw p.1 (record { added = tt; places = tt; pending = tt; ranges = tt; few = tt; args = tt; many = λ h. absurd (cc (p.2, h)) })
+
+pub overflow_cast-from : goal.overflow_cast-from
+overflow_cast-from t c = omega (arith, c.loop-place.invariant.room, c.loop-place.invariant.few, c.requires.args)
+
+pub index_mut-row-requires : goal.index_mut-row-requires
+index_mut-row-requires t c =
+    let within : c.len-number.result < length c.loop-place.rows.points.items = stands c.args.rule c.args.rows.now.args.items c.args.rows.now.points.items c.push.new.self.items c.loop-place.rows.args.items c.loop-place.rows.points.items _ _ c.in_ok-push.ensures.items c.loop-place.invariant.points (omega arith) in
+    omega arith
+
+pub returns-clause-pending : goal.returns-clause-pending
+returns-clause-pending t c =
+    let old = c.args.pending.now.items in
+    let us = forest (take c.loop-place.place c.deref-arg-items.result.now) in
+    let long : length old ≤ c.len-start.result = omega arith in
+    c.truncate.ensures.items ∙ (ap (take c.len-start.result) c.loop-place.invariant.args
+    ∙ (take-append-le c.len-start.result old (numbers (c.len-number.result + 1) us) (omega arith) ∙ take_all c.len-start.result old long))
+
+pub returns-clause-ranges : goal.returns-clause-ranges
+returns-clause-ranges t c =
+    let us = c.deref-arg-items.result.now in
+    let rows = c.loop-place.rows.points.items in
+    let args = c.loop-place.rows.args.items in
+    let own = numbers (c.len-number.result + 1) (forest us) in
+    let grown : c.extend_from_slice.new.self.items ≡ args ++ own =
+    c.in_ok-extend_from_slice.ensures.items ∙ ap (λ (xs : List ℕ). args ++ xs)
+    (own_arguments (c.len-number.result + 1) c.loop-place.place us c.args.pending.now.items c.loop-place.pending.items c.deref.result.now c.len-start.result c.loop-place-test.false c.loop-place.invariant.args (omega arith) c.deref.ensures.value) in
+    All-set (Fits c.extend_from_slice.new.self.items) rows c.len-number.result _ (record { up = omega (arith, length-append args own, ap length grown); within = omega arith })
+    (subst (λ (xs : List ℕ). All (Fits xs) rows) (sym grown) (all_grown args own rows c.loop-place.invariant.ranges))
+
+pub returns-clause-few : goal.returns-clause-few
+returns-clause-few t c = omega (arith, length-set {A = Row}, c.loop-place.invariant.few)
+
+pub returns-clause-many : goal.returns-clause-many
+returns-clause-many t c = λ h. absurd (cc h)
+
+pub returns-in_err-add_term : goal.returns-in_err-add_term
+returns-in_err-add_term t c =
     let p = err_from_is_err_and c.from_residual-in_err-add_term.result c.from_residual-in_err-add_term.ensures.1 in
     let us = c.deref-arg-items.result.now in
     let args = c.args.rows.now.args.items in
     let long : length (points_in args c.push.new.self.items) ≡ c.len-number.result + 1 = one_more args c.args.rows.now.points.items c.push.new.self.items _ c.len-number.result (omega arith) c.in_ok-push.ensures.items in
+    let many : IsErrOf c.from_residual-in_err-add_term.result TooMany → 500000 < length c.args.rows.now.points.items + size c.args.term.now =
     λ h. subst (λ (n : ℕ). 500000 < n + size c.args.term.now) (as_many args c.args.rows.now.points.items)
     (row_many c.args.rule (c.len-number.result + 1) c.loop-place.place (points_in args c.push.new.self.items) (points_in c.loop-place.rows.args.items c.loop-place.rows.points.items) us c.arg-item.result
     c.loop-place-test.true c.arg-item.is long c.loop-place.invariant.points 500000 (points_in args c.args.rows.now.points.items) c.term.inside.head c.args.term.now
     (omega (arith, as_many args c.args.rows.now.points.items)) (ap (λ vs. node c.term.inside.head (forest vs)) c.deref-arg-items.ensures.value ∙ c.term.view_is)
-    (subst (λ (n : ℕ). 500000 < n + size c.arg-item.result) (sym (as_many c.loop-place.rows.args.items c.loop-place.rows.points.items)) (c.in_err-add_term.ensures.many (cc (p.1, p.2, h)))))
+    (subst (λ (n : ℕ). 500000 < n + size c.arg-item.result) (sym (as_many c.loop-place.rows.args.items c.loop-place.rows.points.items)) (c.in_err-add_term.ensures.many (cc (p.1, p.2, h))))) in
+    record { added = on_ok_err _ p.1; places = on_ok_err _ p.1; pending = on_ok_err _ p.1; ranges = on_ok_err _ p.1; few = on_ok_err _ p.1; args = on_ok_err _ p.1; many = many }
 
 pub loop-place-preserved : goal.loop-place-preserved
 loop-place-preserved t c =

@@ -1,8 +1,23 @@
-use Rattle.std.proofs.Common.{subst, ℕ, ◌+◌, Bool, length, get_or, Option, None, arith}
+use Rattle.std.proofs.Common.{◌≡◌, subst, ℕ, ◌+◌, Bool, length, get_or, Option, None, arith}
 use Rattle.std.proofs.lemmas.Option.{slice_get-get_or, slice_get_within}
-use Rattle.hs_sorts.specs.Constraints.{IsClaim, IsRankedIf}
-use Rattle.hs_sorts.proofs.Laying.{each_more, each_clash, ranked_stable}
+use Rattle.hs_sorts.specs.Constraints.{IsClaim, Claims, IsRankedIf}
+use Rattle.hs_sorts.specs.Solving.{EachBefore}
+use Rattle.hs_sorts.proofs.Laying.{claims_none, each_more, each_clash, ranked_stable}
 use Rattle.hs_sorts.proofs.solve.make_terminals.Goals as goal
+
+pub loop-terminal-init : goal.loop-terminal-init
+loop-terminal-init c = claims_none c.args.store.now (EachBefore (λ a rank. IsRankedIf (c.args.rules + a) rank) c.args.ranks.now 0) c.requires.few (λ v f x below there. absurd (omega (arith, below)))
+
+pub make_ranked_if-requires : goal.make_ranked_if-requires
+make_ranked_if-requires c = record {
+  node = omega (arith, c.loop-terminal-test.true, c.requires.room, c.loop-terminal.invariant.longer);
+  few = c.loop-terminal.invariant.few;
+}
+
+pub returns : goal.returns
+returns c =
+    let all : c.loop-terminal.terminal ≡ length c.args.ranks.now = omega (arith, c.loop-terminal-test.false) in
+    subst (λ (n : ℕ). Claims c.args.store.now c.loop-terminal.store (EachBefore (λ a rank. IsRankedIf (c.args.rules + a) rank) c.args.ranks.now n)) all c.loop-terminal.invariant
 
 pub loop-terminal-preserved : goal.loop-terminal-preserved
 loop-terminal-preserved c =

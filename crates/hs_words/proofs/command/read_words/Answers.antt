@@ -1,7 +1,8 @@
 use Rattle.std.proofs.Common.{◌∙◌, sym, ◌≡◌}
+use Rattle.std.proofs.lemmas.Result.{err_from_is_err_and}
 use Rattle.clap.specs.Words.{app_of, found_of, rows_of}
 use Rattle.hs_words.specs.Words.{options_of, said, texts}
-use Rattle.hs_words.proofs.Taken.{answered, unanswered, is_simple_and_free_app, taken}
+use Rattle.hs_words.proofs.Taken.{answered, answered_within, unanswered, is_simple_and_free_app, taken}
 use Rattle.hs_words.proofs.command.read_words.Goals as goal
 
 pub returns-clause-ok : goal.returns-clause-ok
@@ -19,3 +20,28 @@ returns-clause-usage c =
     taken app c.in_ok-command.ensures (texts c.args.words.now) c.in_ok-matches.matches c.in_ok-matches.ensures.matches
     (c.in_ok-matches.ensures.kinds (is_simple_and_free_app app c.in_ok-command.ensures (texts c.args.words.now))) in
     unanswered c.ok_or.result (options_of (texts c.args.words.now)) c.options.result c.ok_or.ensures.value (c.options.ensures.said ∙ sym whole)
+
+pub returns-clause-within : goal.returns-clause-within
+returns-clause-within c =
+    answered_within c.ok_or.result (options_of (texts c.args.words.now)) c.options.result c.ok_or.ensures.value c.options.ensures.within
+
+pub returns-in_err-command-clause-ok : goal.returns-in_err-command-clause-ok
+returns-in_err-command-clause-ok c =
+    let p = err_from_is_err_and c.from_residual.result c.from_residual.ensures.1 in rw p.1 tt
+
+pub returns-in_err-command-clause-within : goal.returns-in_err-command-clause-within
+returns-in_err-command-clause-within c =
+    let p = err_from_is_err_and c.from_residual.result c.from_residual.ensures.1 in rw p.1 tt
+
+pub returns-in_err-command-clause-usage : goal.returns-in_err-command-clause-usage
+returns-in_err-command-clause-usage c =
+    let p = err_from_is_err_and c.from_residual.result c.from_residual.ensures.1 in
+    rw (p.1, p.2) (λ same. absurd (cc))
+
+pub returns-in_err-matches-clause-ok : goal.returns-in_err-matches-clause-ok
+returns-in_err-matches-clause-ok c =
+    let p = err_from_is_err_and c.from_residual-in_err-matches.result c.from_residual-in_err-matches.ensures.1 in rw p.1 tt
+
+pub returns-in_err-matches-clause-within : goal.returns-in_err-matches-clause-within
+returns-in_err-matches-clause-within c =
+    let p = err_from_is_err_and c.from_residual-in_err-matches.result c.from_residual-in_err-matches.ensures.1 in rw p.1 tt

@@ -1,4 +1,4 @@
-use Rattle.std.proofs.Common.{◌≡◌, sym, subst, List, All, Contains, slice_get, Some, arith}
+use Rattle.std.proofs.Common.{◌≡◌, sym, subst, List, All, Contains, slice_get, Some, arith, ◌<◌, length}
 use Rattle.std.proofs.lemmas.Option.{slice_get_within}
 use Rattle.hs_scheme.specs.declared.flow.FlowPair.{FlowPair}
 use Rattle.hs_scheme.specs.declared.flow.HeadPair.{HeadPair}
@@ -9,6 +9,7 @@ use Rattle.hs_flow.specs.Analysis.{AnalysisData, IsAnalysis}
 use Rattle.hs_flow.proofs.ListLemmas.{list-read}
 use Rattle.hs_flow.proofs.PairLemmas.{extends_same}
 use Rattle.hs_flow.proofs.AnalysisLemmas.{extended, extended_at, step_unused, step_flow, heads_found}
+use Rattle.hs_scheme.specs.Points.{points_of}
 use Rattle.hs_flow.proofs.analysis.Analysis.take_flow.Goals as goal
 
 pub overflow_add-self : goal.overflow_add-self
@@ -56,3 +57,35 @@ invariant_of-self-2 c =
     (sym (list-read c.self.inside.heads c.args.flow.point c.list-heads.result.now c.list-heads.ensures)) c.in_ok-spread_flow.ensures.bases in
     step_flow c.spread_flow.new.self c.self.inside.taken c.self.inside.flows c.self.inside.heads (extended c.self.inside.pairs c.spread_flow.new.self c.self.inside.taken c.self.inside.flows c.self.inside.heads c.spread_flow.ensures.extends c.self.invariant)
     c.args.flow c.push.new.self (extended_at c.self.inside.pairs c.spread_flow.new.self c.self.inside.taken (OfFlow c.args.flow) c.spread_flow.ensures.extends next) c.in_ok-push.ensures.pushed bases
+
+pub returns-then-not-is_used-clause-ready : goal.returns-then-not-is_used-clause-ready
+returns-then-not-is_used-clause-ready c = subst (λ (x : AnalysisData). IsReady x.pairs) (sym c.self.view_is) c.requires.ready
+
+pub returns-then-not-is_used-clause-limit : goal.returns-then-not-is_used-clause-limit
+returns-then-not-is_used-clause-limit c =
+    let ready : IsReady c.self.inside.pairs = subst (λ (x : AnalysisData). IsReady x.pairs) (sym c.self.view_is) c.requires.ready in
+    record { within = ready.within; over = λ e. absurd (cc) }
+
+pub list-heads-requires : goal.list-heads-requires
+list-heads-requires c = subst (λ n. c.args.flow.point < n) (sym c.self.invariant.heads_len) (subst (λ (x : AnalysisData). c.args.flow.point < length (points_of x.pairs.rules).points) (sym c.self.view_is) c.requires.point)
+
+pub spread_flow-requires-clause-ready : goal.spread_flow-requires-clause-ready
+spread_flow-requires-clause-ready c = subst (λ (x : AnalysisData). IsReady x.pairs) (sym c.self.view_is) c.requires.ready
+
+pub returns-in_err-spread_flow-clause-extends : goal.returns-in_err-spread_flow-clause-extends
+returns-in_err-spread_flow-clause-extends c = subst (λ (x : AnalysisData). Extends x.pairs c.spread_flow.new.self) c.self.view_is c.spread_flow.ensures.extends
+
+pub returns-in_err-push-clause-extends : goal.returns-in_err-push-clause-extends
+returns-in_err-push-clause-extends c = subst (λ (x : AnalysisData). Extends x.pairs c.spread_flow.new.self) c.self.view_is c.spread_flow.ensures.extends
+
+pub push-requires : goal.push-requires
+push-requires c = subst (λ n. c.args.flow.point < n) (sym c.self.invariant.flows_len) (subst (λ (x : AnalysisData). c.args.flow.point < length (points_of x.pairs.rules).points) (sym c.self.view_is) c.requires.point)
+
+pub returns-clause-extends : goal.returns-clause-extends
+returns-clause-extends c = subst (λ (x : AnalysisData). Extends x.pairs c.spread_flow.new.self) c.self.view_is c.spread_flow.ensures.extends
+
+pub returns-clause-ready : goal.returns-clause-ready
+returns-clause-ready c = c.in_ok-spread_flow.ensures.ready
+
+pub returns-clause-limit : goal.returns-clause-limit
+returns-clause-limit c = record { within = c.in_ok-spread_flow.ensures.limit.within; over = λ e. absurd (cc) }

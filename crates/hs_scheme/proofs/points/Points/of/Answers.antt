@@ -1,4 +1,4 @@
-use Rattle.std.proofs.Common.{◌≡◌, sym, ◌∙◌, ap, subst, ℕ, List, ◌∷◌, [], ◌++◌, ◌^◌, ◌<◌, ◌≤◌, length, sum, arith}
+use Rattle.std.proofs.Common.{◌≡◌, sym, ◌∙◌, ap, subst, ℕ, List, ◌∷◌, [], ◌++◌, ◌^◌, ◌<◌, ◌≤◌, length, take, sum, arith}
 use Rattle.std.proofs.lemmas.List.{take_all, length-map}
 use Rattle.std.proofs.lemmas.Result.{err_from_is_err_and}
 use Rattle.hs_scheme.specs.declared.term.Rule.{Rule}
@@ -16,18 +16,73 @@ use Rattle.hs_scheme.proofs.points.Points.of.Goals as goal
 as_many : (args : List ℕ) (rows : List Row) → length (points_in args rows) ≡ length rows
 as_many args rows = length-map rows (point_of args)
 
+-- all rules have their points
+all_points : (rules : List Rule) (i : ℕ) (points : List PointData) (places params : List ℕ) → length rules ≤ i → points ≡ rules_points 0 0 (take i rules) → places ≡ bodies 0 (take i rules) → params ≡ counts_of rules
+    → record { points = points; bodies = places; params = params } ≡ points_of rules
+all_points rules i points places params all so_far numbered counted =
+    let whole : take i rules ≡ rules = take_all i rules all in
+    λ j. record { points = (so_far ∙ ap (rules_points 0 0) whole) j; bodies = (numbered ∙ ap (bodies 0) whole) j; params = counted j }
+
 pub of-requires : goal.of-requires
 of-requires c =
     subst (λ (rules : List Rule). sum (counts_of rules) < 2 ^ 32) (sym c.as_slice.ensures.value)
     (omega (arith, sum_few c.scheme.inside.rules.items 64 c.scheme.invariant.few_params, c.scheme.invariant.few_rules))
 
-pub returns-in_err-add_term-clause-many : goal.returns-in_err-add_term-clause-many
-returns-in_err-add_term-clause-many c =
+pub returns-in_err-add_term : goal.returns-in_err-add_term
+returns-in_err-add_term c =
     let p = err_from_is_err_and c.from_residual-in_err-add_term.result c.from_residual-in_err-add_term.ensures.1 in
     let points = points_in c.loop-number.rows.args.items c.loop-number.rows.points.items in
-    λ h. subst (λ (rules : List Rule). 500000 < length (rules_points 0 0 rules)) (c.deref-rule-items.ensures.value ∙ ap (λ (s : SchemeData). s.rules) c.scheme.view_is)
-    (rule_many c.loop-number.number c.deref-rule-items.result.now c.rule-item.result points c.loop-number-test.true c.rule-item.is c.loop-number.invariant.points 500000
-    (omega (arith, as_many c.loop-number.rows.args.items c.loop-number.rows.points.items, c.in_err-add_term.ensures.many (cc (p.1, p.2, h)))))
+    rw p.1 (record {
+      points = tt;
+      few = tt;
+      many = λ h. subst (λ (rules : List Rule). 500000 < length (rules_points 0 0 rules)) (c.deref-rule-items.ensures.value ∙ ap (λ (s : SchemeData). s.rules) c.scheme.view_is)
+          (rule_many c.loop-number.number c.deref-rule-items.result.now c.rule-item.result points c.loop-number-test.true c.rule-item.is c.loop-number.invariant.points 500000
+          (omega (arith, as_many c.loop-number.rows.args.items c.loop-number.rows.points.items, c.in_err-add_term.ensures.many (cc (p.2, h)))));
+    })
+
+pub returns-in_err-params : goal.returns-in_err-params
+returns-in_err-params c =
+    let p = err_from_is_err_and c.from_residual.result c.from_residual.ensures.1 in
+    rw p.1 (record { points = tt; few = tt; many = λ h. absurd (cc (p.2, h)) })
+
+pub returns-in_err-bodies : goal.returns-in_err-bodies
+returns-in_err-bodies c =
+    let p = err_from_is_err_and c.from_residual-in_err-bodies.result c.from_residual-in_err-bodies.ensures.1 in
+    rw p.1 (record { points = tt; few = tt; many = λ h. absurd (cc (p.2, h)) })
+
+pub returns-in_err-push : goal.returns-in_err-push
+returns-in_err-push c =
+    let p = err_from_is_err_and c.from_residual-in_err-push.result c.from_residual-in_err-push.ensures.1 in
+    rw p.1 (record { points = tt; few = tt; many = λ h. absurd (cc (p.2, h)) })
+
+pub loop-number-init : goal.loop-number-init
+loop-number-init c =
+    let none = ap (λ (rows : List Row). length rows) c.new.ensures.items in
+    record {
+      points = ap (points_in c.new-2.result.items) c.new.ensures.items;
+      places = ap places_in c.new.ensures.items;
+      bodies = c.in_ok-bodies.ensures.items;
+      ranges = λ k d l. absurd (omega (arith, none));
+      few = omega (arith, none);
+      room = omega (arith, none, ap (λ (args : List ℕ). length args) c.new-2.ensures.items);
+    }
+
+pub add_term-requires : goal.add_term-requires
+add_term-requires c = record { few = c.loop-number.invariant.few; args = c.loop-number.invariant.room; ranges = c.loop-number.invariant.ranges }
+
+pub returns-clause-points : goal.returns-clause-points
+returns-clause-points c =
+    let rules = c.deref-rule-items.result.now in
+    all_points rules c.loop-number.number (points_in c.loop-number.rows.args.items c.loop-number.rows.points.items) c.loop-number.bodies.items c.in_ok-params.params c.loop-number-test.false c.loop-number.invariant.points c.loop-number.invariant.bodies
+    (c.in_ok-params.ensures ∙ ap counts_of (c.as_slice.ensures.value ∙ sym c.deref-rule-items.ensures.value))
+    ∙ ap points_of (c.deref-rule-items.ensures.value ∙ ap (λ (s : SchemeData). s.rules) c.scheme.view_is)
+
+pub returns-clause-few : goal.returns-clause-few
+returns-clause-few c =
+    subst (λ n. n ≤ 500000) (sym (as_many c.loop-number.rows.args.items c.loop-number.rows.points.items)) c.loop-number.invariant.few
+
+pub returns-clause-many : goal.returns-clause-many
+returns-clause-many c = λ h. absurd (cc h)
 
 pub loop-number-preserved : goal.loop-number-preserved
 loop-number-preserved c =

@@ -3,8 +3,8 @@ use Rattle.std.proofs.lemmas.List.{length-map, map-append}
 use Rattle.std.proofs.Math.ListN.{get_or-map}
 use Rattle.hs_passes.specs.Selection.{stays}
 use Rattle.hs_passes.proofs.Choosing.{one_chosen, one_left}
-use Rattle.hs_passes.proofs.selecting.chosen_params.Goals as goal
-use Rattle.hs_passes.proofs.selecting.chosen_params.Goals.{then-keep-i+in_ok-copy_all+in_ok-push, else-keep-i}
+use Rattle.hs_passes.proofs.selecting.add_params.Goals as goal
+use Rattle.hs_passes.proofs.selecting.add_params.Goals.{then-keep-i+in_ok-copy_all+in_ok-push, else-keep-i}
 
 pub loop-i-preserved : goal.loop-i-preserved
 loop-i-preserved c =

@@ -1,0 +1,38 @@
+use Rattle.std.proofs.Common.{◌≡◌, sym, ◌∙◌, ap, subst, ℕ, ◌+◌, List, [], ◌∷◌, ◌++◌, length, slice_get, length-append, Some, inl, inr, arith}
+use Rattle.std.proofs.lemmas.Option.{same_Some}
+use Rattle.hs_scheme.proofs.Lists.{push_cases}
+use Rattle.hs_sorts.specs.declared.weights.Weight.{Weight}
+use Rattle.hs_sorts.specs.Finding.{AreArities}
+use Rattle.hs_sorts.proofs.finding.arities.Goals as goal
+
+nothing : (weights : List Weight) (start : ℕ) (arities : List ℕ) → arities ≡ [] → AreArities weights start 0 arities
+nothing weights start arities empty = record {
+  as_long = ap length empty;
+  at = λ a n w h there. let nowhere : slice_get [] a ≡ Some n = ap (λ (ns : List ℕ). slice_get ns a) (sym empty) ∙ h in absurd (cc);
+}
+
+more : (weights : List Weight) (start count : ℕ) (arities new : List ℕ) (weight : Weight) → AreArities weights start count arities → slice_get weights (start + count) ≡ Some weight → new ≡ arities ++ weight.arity ∷ []
+    → AreArities weights start (count + 1) new
+more weights start count arities new weight so_far next is = record {
+  as_long = ap length is ∙ (length-append arities (weight.arity ∷ []) ∙ ap (λ n. n + 1) so_far.as_long);
+  at = λ a n w h there. elim (push_cases arities weight.arity n a (ap (λ (ns : List ℕ). slice_get ns a) (sym is) ∙ h)) [
+    | inl was ↦ so_far.at a n w was there
+    | inr (last, same) ↦
+        let here : slice_get weights (start + count) ≡ Some w = ap (λ (k : ℕ). slice_get weights (start + k)) (sym (last ∙ so_far.as_long)) ∙ there in
+        sym same ∙ ap (λ (v : Weight). v.arity) (same_Some weight w (sym next ∙ here))
+  ];
+}
+
+pub loop-place-init : goal.loop-place-init
+loop-place-init c = nothing c.args.weights.now c.args.start c.in_ok-arities.arities.items c.in_ok-arities.ensures.items
+
+pub at-requires : goal.at-requires
+at-requires c = omega (arith, c.requires, c.loop-place-test.true)
+
+pub loop-place-preserved : goal.loop-place-preserved
+loop-place-preserved c = more c.args.weights.now c.args.start c.loop-place.place c.loop-place.arities.items c.push.new.self.items c.at.result c.loop-place.invariant c.at.ensures c.in_ok-push.ensures.items
+
+pub returns : goal.returns
+returns c =
+    let all : c.loop-place.place ≡ c.args.count = omega (arith, c.loop-place-test.false) in
+    subst (λ (n : ℕ). AreArities c.args.weights.now c.args.start n c.loop-place.arities.items) all c.loop-place.invariant
