@@ -1,5 +1,5 @@
 -- What a head asks of the parameters, and what follows by a type that asks nothing of the arguments.
-use Rattle.std.proofs.Common.{◌≡◌, ◌≢◌, refl, sym, ◌∙◌, ap, subst, ℕ, ◌-◌, ◌<◌, true, false, Bool, nat_eq, cond, List, [], ◌∷◌, length, map, take, drop, set, replicate, get_or, Option, Some, None, MatchOption, Contains, arith}
+use Rattle.std.proofs.Common.{◌≡◌, ◌≢◌, refl, sym, ◌∙◌, ap, subst, ℕ, ◌-◌, ◌<◌, true, false, nat_eq, cond, List, [], ◌∷◌, length, map, take, drop, set, replicate, get_or, Option, Some, None, MatchOption, Contains, arith}
 use Rattle.std.proofs.Math.ListN.{length-replicate}
 use Rattle.std.proofs.lemmas.Bool.{eqb-true, eq-eqb}
 use Rattle.std.proofs.lemmas.List.{ext_get_or, get_or-set_same, get_or-set_other, get_or-replicate, take_all, length-set}
@@ -42,26 +42,11 @@ pub match_some : {X : Type 0} (o : Option X) (P : Type 0) (Q R : X → Type 0) �
 match_some None P Q R to h = h
 match_some (Some x) P Q R to h = to x h
 
--- what is asked of the head's own parameter, and of others
-pub asked_own : (h : Head) (x : ℕ) (ty : TypeTree) (j : ℕ) → h ≡ Var x → x ≡ j → asked h ty j ≡ ty ∷ []
-asked_own h x ty j is same = ap (λ g. asked g ty j) is ∙ ap (λ b. cond b (ty ∷ []) none) (eq-eqb x j same)
-
-pub asked_other : (h : Head) (x : ℕ) (ty : TypeTree) (j : ℕ) → h ≡ Var x → (x ≡ j → ⊥) → asked h ty j ≡ []
-asked_other h x ty j is other = ap (λ g. asked g ty j) is ∙ go (nat_eq x j) refl
-  where
-    go : (b : Bool) → nat_eq x j ≡ b → cond (nat_eq x j) (ty ∷ []) none ≡ none
-    go true e = absurd (other (eqb-true x j e))
-    go false e = ap (λ b. cond b (ty ∷ []) none) e
-
 -- an empty set less before the type
 pub behind_one : (E : List EntryData) (us : List ℕ) (rest ty : TypeTree) (es : List EntryData) → (length us ≡ 0 → ⊥) → ty ≡ arrow [] rest
     → through E us ty es ≡ through E (take (length us - 1) (drop 1 us)) rest es
 behind_one E [] rest ty es some is = absurd (some refl)
 behind_one E (u ∷ us) rest ty es some is = ap (λ t. through E (u ∷ us) t es) is ∙ ap (λ vs. through E vs rest es) (sym (take_all (length (u ∷ us) - 1) us (omega arith)))
-
-pub behind_none : (E : List EntryData) (us : List ℕ) (ty : TypeTree) (es : List EntryData) → length us ≡ 0 → through E us ty es ≡ map (retyped ty) es
-behind_none E [] ty es empty = refl
-behind_none E (u ∷ us) ty es empty = absurd (omega arith)
 
 -- the entry that stands at the point with what the head asks and the type behind the sets is all that follows
 pub opened_is : (E : List EntryData) (us : List ℕ) (point n : ℕ) (h : Head) (ty rest : TypeTree) (x e : EntryData) → through E us ty (opening point n h ty ∷ []) ≡ map (retyped rest) (opening point n h ty ∷ [])

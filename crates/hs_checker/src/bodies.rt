@@ -15,7 +15,7 @@ ghost use Rattle.hs_checker.specs.Slots.{Says, FitsSets, AreInShape, IsCountAt};
 use crate::fault::CheckFault;
 use crate::index::EntryIndex;
 use crate::instances::sets_fit;
-use crate::missing::{first_missing, opening};
+use crate::missing::{alone, first_missing, opening};
 use crate::unions::through_sets;
 use hs_scheme::{Head, OutOfMemory, Problem};
 use hs_table::{Entry, Shape, parameters};
@@ -54,9 +54,8 @@ fn missing_by_body(
         (plain.opening point params (Nt f) (types.arrows entry.now.env entry.now.ty) ∷ [])) e
         × (Contains index.now e → ⊥))) }
 {
-    let mut entries = Vec::new(alloc);
     let start = opening(alloc, point, params, Head::Nt(0), &entry.ty)?;
-    entries.push(start)?;
+    let entries = alone(alloc, start)?;
     let found = through_sets(alloc, index, args, entry.env.as_slice(), &entry.ty, entries)?;
     Ok(first_missing(index, found, guess))
 }

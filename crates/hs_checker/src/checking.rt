@@ -101,7 +101,31 @@ fn count_at(
     }
 }
 
-/// The number of instances, where all that follows from the index is in it.
+/// The number of instances at all points, where all that follows from the index is in it.
+fn count_points(
+    alloc: Global,
+    problem: &Problem,
+    complete: &[bool],
+    index: &EntryIndex,
+    inert: &[bool],
+) -> Result<u64, CheckFault>
+    requires shape { AreInShape problem.now index.now }
+    requires complete { AreComplete problem.now complete.now }
+    requires inert { AreInert problem.now index.now inert.now }
+    ensures closed { OnOk result (IsClosedTable problem.now index.now) }
+    ensures count { IfOk result (IsCount problem.now index.now) }
+    ensures missing { IfErr result (IsGap problem.now index.now) }
+{
+    let mut count: u64 = 0;
+    for point in 0..problem.points.count() {
+        let added = count_at(alloc, problem, complete, index, inert, point)?;
+        count = count.saturating_add(added);
+    }
+    Ok(count)
+}
+
+/// The number of instances, where all that follows from the index is in it. It finds first which
+/// terminals are complete.
 fn count_closed(
     alloc: Global,
     problem: &Problem,
@@ -115,12 +139,7 @@ fn count_closed(
     ensures missing { IfErr result (IsGap problem.now index.now) }
 {
     let complete = complete_terminals(alloc, problem)?;
-    let mut count: u64 = 0;
-    for point in 0..problem.points.count() {
-        let added = count_at(alloc, problem, complete.as_slice(), index, inert, point)?;
-        count = count.saturating_add(added);
-    }
-    Ok(count)
+    count_points(alloc, problem, complete.as_slice(), index, inert)
 }
 
 /// The check of a table by its index.
@@ -146,11 +165,11 @@ fn check_index(
     if let Some(pair) = gap {
         return Err(open(pair));
     }
-    let count = count_closed(alloc, problem, index, inert.as_slice())?;
+    let instances = count_closed(alloc, problem, index, inert.as_slice())?;
     if has_start(problem, table) {
         return Err(CheckFault::HasStart);
     }
-    Ok(count)
+    Ok(instances)
 }
 
 /// The number of the table's instances, or 2^64 - 1 where there are more, where the flow holds all

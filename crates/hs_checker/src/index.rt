@@ -149,6 +149,18 @@ fn shaped<'a>(
     Ok(rows)
 }
 
+/// The rows in the order of the index, each once.
+fn ordered<'a>(rows: Vec<&'a Entry>) -> Result<Vec<&'a Entry>, OutOfMemory>
+    ensures once { IfOk result (λ found. IsAscending index_cmp (map (λ r. r.now) found.items)) }
+    ensures each { IfOk result (λ found. (e : EntryData) → Contains (map (λ r. r.now) found.items) e
+        ↔ Contains (map (λ r. r.now) rows.entry.items) e) }
+{
+    let mut found = rows;
+    found.sort_by(|a, b| order(a, b))?;
+    found.dedup_by(|a, b| order(a, b) == Ordering::Equal);
+    Ok(found)
+}
+
 /// Whether the rows from this place on are of no lesser points than this one.
 fn are_behind(rows: &[&Entry], place: usize, point: u32) -> bool
     ensures { IsTrue result → (d : Bor EntryData) → place < length rows.now
@@ -228,9 +240,7 @@ impl<'a> EntryIndex<'a> {
         ensures { IfOk result (λ index. (e : EntryData) → Contains index e
             ↔ (Contains table.now e × InShape problem.now e)) }
     {
-        let mut rows = shaped(alloc, problem, table)?;
-        rows.sort_by(|a, b| order(a, b))?;
-        rows.dedup_by(|a, b| order(a, b) == Ordering::Equal);
+        let rows = ordered(shaped(alloc, problem, table)?)?;
         let starts = starts_of(alloc, rows.as_slice(), problem.points.count())?;
         Ok(EntryIndex { rows, starts })
     }

@@ -76,6 +76,15 @@ pub(crate) fn first_missing(
     }
 }
 
+/// The entry in a list of its own.
+pub(crate) fn alone(alloc: Global, entry: Entry) -> Result<Vec<Entry>, OutOfMemory>
+    ensures { IfOk result (λ entries. entries.items ≡ entry ∷ []) }
+{
+    let mut entries = Vec::new(alloc);
+    entries.push(entry)?;
+    Ok(entries)
+}
+
 /// The first that follows by this type of the head and isn't in the index.
 fn missing_by(
     alloc: Global,
@@ -91,8 +100,7 @@ fn missing_by(
         (λ e. Contains (plain.through index.now args.now ty.now (start ∷ [])) e
         × (Contains index.now e → ⊥))) }
 {
-    let mut entries = Vec::new(alloc);
-    entries.push(start)?;
+    let entries = alone(alloc, start)?;
     let found = through(alloc, index, args, ty, entries)?;
     Ok(first_missing(index, found, guess))
 }

@@ -244,6 +244,13 @@ fn mark_complete(
     Ok(())
 }
 
+/// The number of terminals.
+fn terminal_count(problem: &Problem) -> usize
+    ensures { result ≡ length problem.now.sorted.scheme.ranks }
+{
+    problem.sorted.scheme.ranks.len()
+}
+
 /// For each terminal whether it is complete: whether each state has a transition for it, with no more
 /// children than its rank.
 ///
@@ -251,8 +258,8 @@ fn mark_complete(
 pub(crate) fn complete_terminals(alloc: Global, problem: &Problem) -> Result<Vec<bool>, OutOfMemory>
     ensures { IfOk result (λ marks. AreComplete problem.now marks.items) }
 {
-    let mut marks = vec![in alloc; false; problem.sorted.scheme.ranks.len()]?;
-    for transition in problem.sorted.automaton.transitions() {
+    let mut marks = vec![in alloc; false; terminal_count(problem)]?;
+    for transition in automaton_of(problem).transitions() {
         mark_complete(alloc, problem, &mut marks, transition)?;
     }
     Ok(marks)

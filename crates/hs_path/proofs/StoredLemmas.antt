@@ -3,7 +3,7 @@ use Rattle.std.proofs.Common.{◌≡◌, refl, sym, ◌∙◌, ap, subst as alon
 use Rattle.std.specs.Ordering.{is_eq}
 use Rattle.std.proofs.lemmas.Bool.{eqb-true, eq-eqb}
 use Rattle.std.proofs.lemmas.List.{drop_more, drop_all}
-use Rattle.std.proofs.lemmas.Option.{slice_get_within, same_Some}
+use Rattle.std.proofs.lemmas.Option.{same_Some}
 use Rattle.hs_scheme.proofs.Lists.{at_append, slice_get-push, back_at}
 use Rattle.hs_table.specs.Types.{TypeTree, type_cmp}
 use Rattle.hs_types.specs.Interned.{InternerData, IsInterner, type_of_id, Begins}
@@ -81,10 +81,6 @@ module _ (bound : ℕ) (s : Store) where
     piled_ordered numbers from to no_packs e = omega (arith, e)
     piled_ordered numbers from to (put pack packs) (at, number, span, e, is, there, members, rest) =
         omega (arith, e, piled_ordered numbers from at packs rest)
-
-    pub piled_within : (numbers : List ℕ) (to : ℕ) (packs : Packs) → Piled bound s below numbers 0 to packs → to ≤ length numbers
-    piled_within numbers to no_packs e = omega (arith, e)
-    piled_within numbers to (put pack packs) (at, number, span, e, is, there, members, rest) = omega (arith, e, slice_get_within numbers at number is)
 
     -- the numbers behind others
     pub piled_behind : (front numbers : List ℕ) (n from to : ℕ) (packs : Packs) → length front ≡ n → Piled bound s below numbers from to packs

@@ -1,12 +1,12 @@
 -- A search through a cut finds no error exactly where the cut is read to its end.
-use Rattle.std.proofs.Common.{◌≡◌, refl, sym, ◌∙◌, ap, ℕ, zero, suc, ◌+◌, ◌-◌, ◌<◌, ◌≤◌, true, false, ◌&&◌, List, [], ◌∷◌, length, drop, map, slice_get, get_or, Some, option_map, arith}
+use Rattle.std.proofs.Common.{◌≡◌, refl, sym, ◌∙◌, ap, ℕ, zero, suc, ◌+◌, ◌-◌, ◌<◌, ◌≤◌, true, false, ◌&&◌, List, [], ◌∷◌, length, drop, map, slice_get, get_or, None, Some, option_map, arith}
 use Rattle.std.proofs.Common.{subst as along}
 use Rattle.std.specs.Prelude.{IsTrue, slice_index}
 use Rattle.std.specs.Option.{option_map_or}
 use Rattle.std.proofs.lemmas.List.{drop_more, drop_all, get_or-map, length-map}
 use Rattle.std.proofs.lemmas.Option.{get_or_from_slice_get, slice_get-get_or, slice_get_read, slice_get-map}
 use Rattle.hs_scheme.specs.declared.term.Head.{Head}
-use Rattle.hs_scheme.specs.declared.term.Head.TheVariants.{Nt, Tm}
+use Rattle.hs_scheme.specs.declared.term.Head.TheVariants.{Var, Nt, Tm}
 use Rattle.hs_scheme.specs.declared.term.Rule.{Rule}
 use Rattle.hs_scheme.specs.Transition.{TransitionData}
 use Rattle.hs_scheme.specs.Automaton.{next}
@@ -17,7 +17,7 @@ use Rattle.hs_scheme.specs.Sorting.{Sorts}
 use Rattle.hs_scheme.specs.Sorted.{SortedData, known, sorts_of}
 use Rattle.hs_scheme.specs.Steps.{Reaches, Fails, HasNoTransition}
 use Rattle.hs_scheme.specs.TreeTerms.{IsTreeTerm}
-use Rattle.hs_scheme.proofs.PlainLemmas.{cut-Nt_some, cut-Tm}
+use Rattle.hs_scheme.proofs.PlainLemmas.{cut-Var, cut-Nt_none, cut-Nt_some, cut-Tm}
 use Rattle.hs_steps.proofs.Sorted.{step_sorted}
 use Rattle.hs_steps.proofs.Failing.{within_refused}
 use Rattle.hs_steps.proofs.PathLemmas.{after_replacement, after_descent}
@@ -50,6 +50,16 @@ module _ (s : SortedData) where
   read_replaced n q f t u more_steps front e read =
       along (λ (x : CutTree). IsTrue (run ts q x)) (cut-Nt_some rules n t (head_of t) (arguments_of t) (whole t) f u front more_steps e) read
 
+  -- a term without a step is read
+  pub read_cut_off : (n q : ℕ) (t : Tree Head) → n ≡ 0 → ReadsCut s n q t
+  read_cut_off n q t e = along (λ k. ReadsCut s k q t) (sym e) refl
+
+  pub read_parameter : (n q j : ℕ) (t : Tree Head) → head_of t ≡ Var j → ReadsCut s n q t
+  read_parameter n q j t front = along (λ (x : CutTree). IsTrue (run ts q x)) (cut-Var rules n t (head_of t) (arguments_of t) (whole t) j front) refl
+
+  pub read_stays : (n q f : ℕ) (t : Tree Head) → head_of t ≡ Nt f → unfolded rules f (arguments_of t) ≡ None → ReadsCut s n q t
+  read_stays n q f t front e = along (λ (x : CutTree). IsTrue (run ts q x)) (cut-Nt_none rules n t (head_of t) (arguments_of t) (whole t) f front e) refl
+
   one_later : (n : ℕ) → suc n ≡ n + 1
   one_later n = omega arith
 
@@ -64,6 +74,13 @@ module _ (s : SortedData) where
         reaches = along (λ k. Reaches rules ts k q (node (Nt f) us) path.steps path.state (node (Tm path.last) error.arguments)) (one_later path.used)
             (after_replacement rules ts (λ r v. (r ≡ path.state) × (v ≡ node (Tm path.last) error.arguments)) path.used q f us u path.steps goes_to error.reaches);
       })
+
+  -- a terminal without transition is an error at once
+  pub error_here : (q a : ℕ) (t : Tree Head) (steps : List (ℕ × ℕ)) → steps ≡ [] → head_of t ≡ Tm a → next ts q a ≡ None → IsError q t (record { steps = steps; last = a; state = q; used = 0 })
+  error_here q a t steps none front e =
+      let us = forest (arguments_of t) in
+      let fronted : node (Tm a) us ≡ t = sym (ap (λ h. node h us) front) ∙ whole t in
+      along (λ (x : Tree Head). IsError q x (record { steps = steps; last = a; state = q; used = 0 })) fronted (record { fails = (none, e); arguments = us; reaches = (none, (refl, refl)) })
 
   module _ (sorted : HasKnownSorts s) where
     pub refused : (n q : ℕ) (t : Tree Head) (path : PathData) → IsErrorWithin s n q t path → run ts q (cut rules n t) ≡ false

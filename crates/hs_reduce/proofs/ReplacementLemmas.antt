@@ -1,5 +1,5 @@
 -- Replacement in the graph is replacement of terms.
-use Rattle.std.proofs.Common.{◌≡◌, refl, sym, ◌∙◌, ap, subst as along, ℕ, ◌<◌, ◌≤◌, List, [], ◌∷◌, ◌++◌, ◌+◌, ◌-◌, append_assoc, length, map, take, drop, slice_get, get_or, Some, None, unwrap_or, option_map, arith}
+use Rattle.std.proofs.Common.{◌≡◌, refl, sym, ◌∙◌, ap, subst as along, ℕ, ◌<◌, ◌≤◌, List, [], ◌∷◌, ◌++◌, ◌+◌, ◌-◌, append_assoc, length, map, take, drop, slice_get, get_or, Option, Some, None, unwrap_or, option_map, arith}
 use Rattle.std.specs.Prelude.{All}
 use Rattle.std.proofs.lemmas.List.{map_push, map_more, take_all, take_rest, take-map, drop-map, length-map}
 use Rattle.std.proofs.lemmas.List.Elements.{All-drop, All-push}
@@ -27,6 +27,10 @@ Grows-then old mid new g h = record {
   longer = omega (arith, g.longer, h.longer);
   same = λ i lt. let there : i < length mid = omega (arith, g.longer) in h.same i there ∙ g.same i lt;
 }
+
+pub unfolds_nothing : (old new : List (Tree Head)) (o : Option ℕ) (t : Option (Tree Head)) → ((place : ℕ) → o ≡ Some place → ⊥) → Unfolds old new o t → (t ≡ None) × Grows old new
+unfolds_nothing old new None t nowhere h = h
+unfolds_nothing old new (Some place) t nowhere h = absurd (nowhere place refl)
 
 pub AddsTerm-after : (old mid new : List (Tree Head)) (place : ℕ) (t u : Tree Head) → Grows old mid → t ≡ u → AddsTerm mid new place t → AddsTerm old new place u
 AddsTerm-after old mid new place t u g e a = record { grows = Grows-then old mid new g a.grows; within = a.within; term = a.term ∙ e }

@@ -12,6 +12,10 @@ arrows_long ss [] q u e = omega arith
 arrows_long [] (r ∷ rs) q u e = absurd (state_no_arrow q r (arrows rs u) e)
 arrows_long (s ∷ ss) (r ∷ rs) q u e = omega (arith, arrows_long ss rs q u (arrow_same s r (arrows ss (state q)) (arrows rs u) e).1)
 
+-- nor so many as are wanted, where it has fewer
+pub arrows_short : (ss rs : Env) (q : ℕ) (u : TypeTree) (n count : ℕ) → arrows ss (state q) ≡ arrows rs u → length ss ≡ n → length rs ≡ count → n < count → ⊥
+arrows_short ss rs q u n count e have want less = omega (arith, arrows_long ss rs q u e, have, want, less)
+
 pub arrows_parts : (n : ℕ) (ss : Env) (t : TypeTree) → arrows ss t ≡ arrows (take n ss) (arrows (drop n ss) t)
 arrows_parts zero ss t = refl
 arrows_parts (suc n) [] t = refl

@@ -4,9 +4,9 @@ use Rattle.std.specs.List.Sorted.{IsStrictlyIncreasing, IsPartitionPoint}
 use Rattle.std.proofs.lemmas.List.Kept.{AllPairs-from_increasing}
 use Rattle.std.proofs.lemmas.List.{map-append, append-nil, length-take-le, length-map, get_or-map}
 use Rattle.std.proofs.lemmas.Bool.{cases_lt, cases_order, ltb-true, ltb-false}
-use Rattle.std.proofs.lemmas.Option.{get_or_from_slice_get}
-use Rattle.hs_scheme.proofs.Lists.{none_in, here, later, uncons, Contains-at}
-use Rattle.hs_table.specs.Types.{TypeTree}
+use Rattle.std.proofs.lemmas.Option.{get_or_from_slice_get, same_Some}
+use Rattle.hs_scheme.proofs.Lists.{none_in, here, later, uncons, Contains-at, only}
+use Rattle.hs_table.specs.Types.{TypeTree, state}
 use Rattle.hs_table.specs.Entries.{Env, EntryData, set_at}
 use Rattle.hs_table_laws.proofs.Places.{place_of, at_take, to_take, within_from}
 use Rattle.hs_table_laws.proofs.Members.{taken_next}
@@ -14,7 +14,7 @@ use Rattle.hs_types.specs.Interned.{InternerData, type_of_id, set_of_id}
 use Rattle.hs_replica.specs.Places.{typed, ArePlaces}
 use Rattle.hs_rules.specs.declared.search.Fixed.{Fixed}
 use Rattle.hs_rules.specs.Slots.{SlotData, slots_of, slots, FixedData, FilledData, Respects, IsCandidate, Picked, none_left, pick}
-use Rattle.hs_rules.specs.Filling.{entry_at, fixed_of, IsFilled, AreFilled, GainsFilled, LacksCandidate, LacksSlot}
+use Rattle.hs_rules.specs.Filling.{entry_at, fixed_of, IsFilled, AreFilled, GainsFilled, LacksCandidate, LacksSlot, IsWithin}
 use Rattle.hs_rules.specs.Shut.{AreShut}
 use Rattle.hs_rules.proofs.Lists.{read_other}
 use Rattle.hs_rules.proofs.SlotLemmas.{into_slots}
@@ -175,3 +175,18 @@ pub type_of_place : (I : InternerData) (ids : List ℕ) (j t : ℕ) → j < leng
 type_of_place I [] j t lt is = absurd (omega arith)
 type_of_place I (x ∷ ids) zero t lt is = subst (λ (y : ℕ). Contains (map (type_of_id I) (x ∷ ids)) (type_of_id I y)) (sym is) (here (type_of_id I x) (map (type_of_id I) ids))
 type_of_place I (x ∷ ids) (suc j) t lt is = later (type_of_id I x) (type_of_id I t) (map (type_of_id I) ids) (type_of_place I ids j t (omega arith) is)
+
+-- a fixed entry with the type is the only candidate
+pub fixed_candidates : (log : List EntryData) (limit arg point : ℕ) (ty : TypeTree) (f : Fixed) (args : List ℕ) (e : EntryData) (out : List ℕ) → slice_get log f.place ≡ Some e → e.ty ≡ ty → f.arg ≡ arg → slice_get args arg ≡ Some point
+    → IsWithin log args limit (Some f) → out ≡ f.place ∷ [] → (place : ℕ) → Contains out place ↔ ((x : EntryData) × IsCandidate (take limit log) (fixed_of log (Some f)) (record { arg = arg; point = point; ty = ty }) place x)
+fixed_candidates log limit arg point ty f args e out at ty_is arg_is point_at within is place = (
+  λ c. subst (λ (p : ℕ). (x : EntryData) × IsCandidate (take limit log) (fixed_of log (Some f)) (record { arg = arg; point = point; ty = ty }) p x) (sym (only f.place place (subst (λ (ps : List ℕ). Contains ps place) is c)))
+      (e, record { at = to_take limit log f.place e within.0 at; point = point_is; ty = ty_is; respects = λ a t. refl }),
+  λ (x, c). subst (λ (ps : List ℕ). Contains ps place) (sym is) (subst (λ (p : ℕ). Contains (f.place ∷ []) p) (sym (c.respects (sym arg_is) (sym (ap (λ (y : EntryData). y.ty) read ∙ ty_is)))) (here f.place [])),
+)
+  where
+    read : entry_at log f.place ≡ e
+    read = get_or_from_slice_get log f.place e (record { point = 0; env = []; ty = state 0 }) at
+
+    point_is : e.point ≡ point
+    point_is = ap (λ (y : EntryData). y.point) (sym read) ∙ same_Some (entry_at log f.place).point point (sym within.1 ∙ (ap (slice_get args) arg_is ∙ point_at))

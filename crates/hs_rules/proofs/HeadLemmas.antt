@@ -1,11 +1,11 @@
 -- The types of a head, in numbers.
-use Rattle.std.proofs.Common.{◌≡◌, refl, sym, ◌∙◌, ap, subst, ℕ, zero, suc, ◌+◌, ◌<◌, ◌≤◌, List, [], ◌∷◌, ◌++◌, length, map, take, drop, get_or, arith, All, Contains, ◌⊎◌, inl, inr, ◌↔◌}
+use Rattle.std.proofs.Common.{◌≡◌, refl, sym, ◌∙◌, ap, subst, ℕ, zero, suc, ◌+◌, ◌<◌, ◌≤◌, List, [], ◌∷◌, ◌++◌, length, map, take, drop, get_or, arith, All, Contains, ◌⊎◌, inl, inr, ◌↔◌, slice_get, Some}
 use Rattle.std.proofs.lemmas.List.{length-map, take_all, drop_all}
 use Rattle.std.proofs.lemmas.List.Elements.{All-take, Contains-append_left, Contains-push}
 use Rattle.hs_scheme.specs.declared.flow.FlowPair.{FlowPair}
 use Rattle.hs_scheme.proofs.Lists.{none_in}
 use Rattle.hs_table.specs.declared.support.HeadBy.{HeadBy}
-use Rattle.hs_table.specs.Types.{TypeTree, arrows}
+use Rattle.hs_table.specs.Types.{TypeTree, arrows, arrow, state}
 use Rattle.hs_table.specs.Entries.{Env, EntryData}
 use Rattle.hs_table_laws.proofs.Places.{within_from}
 use Rattle.hs_table_laws.proofs.Members.{taken_next, pushed_cases}
@@ -13,10 +13,12 @@ use Rattle.hs_types.specs.Interned.{InternerData, type_of_id, set_of_id, env_of_
 use Rattle.hs_types.proofs.Numbers.{type_within, type_stays, env_within, env_stays}
 use Rattle.hs_replica.specs.Places.{Question, Answers, ArePlaces}
 use Rattle.hs_rules.specs.Found.{HeadData}
-use Rattle.hs_rules.specs.Heads.{head_type, IsWholeHead, HasType, GainsHeads, ParamAt, AtSome, AtFlow}
+use Rattle.hs_rules.specs.Heads.{head_type, IsWholeHead, HasType, GainsHeads, ParamAt, AtSome, AtFlow, BodyAt}
 use Rattle.hs_rules.proofs.Lists.{read_again, taken_cases}
 use Rattle.hs_rules.proofs.ArrowLemmas.{arrows_first, arrows_parts}
 use Rattle.hs_rules.proofs.FoundLemmas.{sets_stay, sets_within}
+use Rattle.std.proofs.lemmas.Option.{same_Some}
+use Rattle.hs_table_laws.proofs.Arrows.{state_no_arrow}
 
 pub whole_later : (I J : InternerData) (count : ℕ) (h : HeadData) → Grows I J → IsWholeHead I count h → IsWholeHead J count h
 whole_later I J count h g w = record {
@@ -170,3 +172,10 @@ flow_next J K count log n x limit asked pairs k d found places indexed old mid n
           let ans = subst (λ (u : FlowPair). Answers log a.place (asked u.point)) last a.answers in
           inr (record { place = a.place; among = (below a.place).1 ((are.exact a.place).1 (omega (arith, w, all), ans), a.within); from = a.source })
     ]) f h
+
+-- an entry whose type is an arrow gives no type of a nonterminal
+pub body_none : (ids : InternerData) (count : ℕ) (log : List EntryData) (own : Env) (place : ℕ) (e : EntryData) (s : List TypeTree) (t : TypeTree) (heads : List HeadData) → slice_get log place ≡ Some e → e.ty ≡ arrow s t
+    → GainsHeads ids count (BodyAt log own place) heads heads
+body_none ids count log own place e s t heads at is =
+    heads_none ids count (BodyAt log own place) heads
+    (λ by o ty b sets rest long eq. state_no_arrow b.is_state.0 s t (sym b.is_state.1 ∙ (ap (λ (x : EntryData). x.ty) (same_Some b.entry e (sym b.at ∙ at)) ∙ is)))

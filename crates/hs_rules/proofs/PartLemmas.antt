@@ -1,11 +1,11 @@
 -- Conclusions as they are gathered.
-use Rattle.std.proofs.Common.{◌≡◌, ◌≢◌, refl, sym, ◌∙◌, ap, subst, ℕ, zero, suc, ◌<◌, List, [], ◌∷◌, length, map, drop, get_or, slice_get, slice_index, Option, Some, arith, AllPairs, Contains, ◌⊎◌, inl, inr}
+use Rattle.std.proofs.Common.{◌≡◌, ◌≢◌, refl, sym, ◌∙◌, ap, subst, ℕ, zero, suc, ◌<◌, List, [], ◌∷◌, length, map, drop, get_or, slice_get, slice_index, Option, Some, arith, AllPairs, Contains, ◌⊎◌, inl, inr, ◌↔◌}
 use Rattle.std.proofs.lemmas.Option.{slice_get-get_or, same_Some}
 use Rattle.std.proofs.lemmas.List.{length-map}
 use Rattle.std.proofs.lemmas.List.Elements.{Contains-append_cases}
 use Rattle.hs_scheme.specs.declared.term.Head.{Head}
 use Rattle.hs_scheme.specs.declared.term.Head.TheVariants.{Var, Nt, Tm}
-use Rattle.hs_scheme.specs.Points.{PointData, PointsData, NonterminalWithin, ParameterWithin, point_at, points_of}
+use Rattle.hs_scheme.specs.Points.{PointData, PointsData, NonterminalWithin, ParameterWithin, point_at, points_of, IsArgument}
 use Rattle.hs_scheme.specs.Problem.{ProblemData}
 use Rattle.hs_scheme.proofs.Lists.{none_in, only}
 use Rattle.hs_table.specs.declared.support.HeadBy.{HeadBy}
@@ -22,10 +22,11 @@ use Rattle.hs_rules.specs.Conclusions.{DeducedData, IsDeduced, Uses, AreConclusi
 use Rattle.hs_rules.specs.declared.joining.TheConstants.{FEW}
 use Rattle.hs_rules.specs.Filling.{CanSearch, IsWithin}
 use Rattle.hs_rules.specs.Found.{HaveEnvs, RowsAre}
-use Rattle.hs_rules.specs.Parts.{ArePart, HasAll, UsesArgument, IsInRule}
+use Rattle.hs_rules.specs.Parts.{ArePart, HasAll, UsesArgument, IsInRule, IsOnlyPlaceOf}
 use Rattle.hs_rules.proofs.Lists.{all_from}
 use Rattle.hs_rules.specs.Heads.{IsHeadWithin}
 use Rattle.hs_rules.proofs.PointLemmas.{params_are}
+use Rattle.hs_scheme.specs.declared.points.Argument.{Argument}
 
 -- each row once
 read_map : (found : List DeducedData) (i : ℕ) (d : DeducedData) → get_or (map (λ (x : DeducedData). x.row) found) i d.row ≡ (get_or found i d).row
@@ -112,3 +113,16 @@ head_within p rule params (Var x) points within parameter is =
     omega (arith, parameter, counts, is)
 head_within p rule params (Nt f) points within parameter is = within
 head_within p rule params (Tm a) points within parameter is = tt
+
+-- where a point is an argument of another
+module _ (points : PointsData) (result : Option Argument) (point a : ℕ) (is : (q place : ℕ) → result ≡ Some (record { point = q; place = place }) ↔ IsArgument points q place a) where
+  pub argument_other : (whose : Argument) → result ≡ Some whose → (whose.point ≡ point → ⊥) → (i : ℕ) → IsArgument points point i a → ⊥
+  argument_other whose there differs i other = differs (ap (λ (w : Argument). w.point) (same_Some whose (record { point = point; place = i }) (sym there ∙ (is point i).1 other)))
+
+  pub argument_only : (whose : Argument) → result ≡ Some whose → whose.point ≡ point → IsOnlyPlaceOf points point a whose.place
+  argument_only whose there here = record {
+    there = subst (λ (q : ℕ). IsArgument points q whose.place a) here ((is whose.point whose.place).0 there);
+    only = λ q i other.
+        let same : whose ≡ record { point = q; place = i } = same_Some whose (record { point = q; place = i }) (sym there ∙ (is q i).1 other) in
+        (ap (λ (w : Argument). w.point) (sym same) ∙ here, ap (λ (w : Argument). w.place) (sym same));
+  }

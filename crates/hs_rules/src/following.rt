@@ -10,7 +10,7 @@ ghost use Rattle.hs_rules.specs.Parts.{IsInRule};
 
 use crate::deduced::Deduced;
 use crate::found::Found;
-use crate::gathering::{add_all, add_by_argument, add_by_head, add_seeds};
+use crate::gathering::{add_all, add_seeds, add_with};
 use crate::search::Search;
 use crate::seeds::starts_nothing;
 use crate::spot::Spot;
@@ -163,7 +163,6 @@ pub fn conclusions_with(
         fixed: None,
     };
     let mut found = none_found(alloc);
-    add_by_head(alloc, &spot, replica, &search, head, place, &mut found)?;
-    add_by_argument(alloc, &spot, replica, &search, head, place, &mut found)?;
+    add_with(alloc, &spot, replica, &search, head, place, &mut found)?;
     Ok(found.list)
 }

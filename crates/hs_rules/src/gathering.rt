@@ -35,7 +35,7 @@ fn place_of(points: &Points, point: u32, argument: u32) -> Option<u32>
 }
 
 /// Adds what follows with the entry at the place as an argument.
-pub(crate) fn add_by_argument(
+fn add_by_argument(
     alloc: Global,
     spot: &Spot,
     replica: &mut Replica,
@@ -145,7 +145,7 @@ fn add_from_head(
 }
 
 /// Adds what follows with the entry at the place as the head's.
-pub(crate) fn add_by_head(
+fn add_by_head(
     alloc: Global,
     spot: &Spot,
     replica: &mut Replica,
@@ -181,6 +181,39 @@ pub(crate) fn add_by_head(
         return Ok(());
     }
     add_from_head(alloc, spot, replica, search, head, place, found)
+}
+
+/// Adds what follows with the entry at the place, as the head's or as an argument.
+pub(crate) fn add_with(
+    alloc: Global,
+    spot: &Spot,
+    replica: &mut Replica,
+    search: &Search,
+    head: Head,
+    place: u32,
+    found: &mut Found,
+) -> Result<(), OutOfMemory>
+    requires search { CanSearch replica.old search.now.args.now search.now.limit search.now.fixed }
+    requires free { search.now.fixed ≡ None }
+    requires spot { IsParameterSpot spot.now.problem.now spot.now.rule spot.now.params
+        (take search.now.limit replica.old.log) }
+    requires head { IsHeadWithin spot.now.problem.now spot.now.params head }
+    requires at { slice_get spot.now.problem.now.points.points search.now.point ≡ Some
+        (record { rule = spot.now.rule; head = head; args = search.now.args.now }) }
+    requires envs { HaveEnvs (take search.now.limit replica.old.log) search.now.args.now spot.now.params }
+    requires place { place < search.now.limit }
+    requires part { ArePart spot.now.problem.now replica.old.ids
+        (take search.now.limit replica.old.log) search.now.point
+        (Uses place) found.old.rows.keys found.old.list.items }
+    ensures part { OnOk result (ArePart spot.now.problem.now replica.new.ids
+        (take search.now.limit replica.old.log) search.now.point
+        (Uses place) found.new.rows.keys found.new.list.items) }
+    ensures all { OnOk result (HasAll spot.now.problem.now replica.new.ids
+        (take search.now.limit replica.old.log) search.now.point (Uses place) found.new.list.items) }
+    ensures kept { KeepsLog replica.old replica.new }
+{
+    add_by_head(alloc, spot, replica, search, head, place, found)?;
+    add_by_argument(alloc, spot, replica, search, head, place, found)
 }
 
 /// Adds all that follows.

@@ -1,20 +1,21 @@
 -- What a step of each loop adds.
 use Rattle.std.proofs.Common.{◌≡◌, refl, sym, ◌∙◌, ap, subst, ℕ, zero, suc, ◌+◌, ◌<◌, Bool, true, false, ◌&&◌, nat_eq, cond, List, [], ◌∷◌, ◌++◌, length, get_or, take, drop, slice_get, Some, arith, Contains, ◌⊎◌, inl, inr, ◌↔◌, IsTrue, add-one, append-nil}
 use Rattle.std.specs.Bool.{◌==◌}
-use Rattle.std.specs.List.{list_any}
-use Rattle.std.specs.Ordering.{ordering_index}
+use Rattle.std.specs.List.{flat_map, list_any}
+use Rattle.std.specs.Ordering.{ordering_index, is_eq}
 use Rattle.std.specs.declared.cmp.Ordering.{Ordering}
 use Rattle.std.specs.declared.cmp.Ordering.TheVariants.{Less, Equal, Greater}
 use Rattle.std.proofs.lemmas.Bool.{eqb-true, eq-eqb, and_parts, and_from, or_left, or_right, or_cases}
 use Rattle.std.proofs.lemmas.Cmp.{tied_itself}
+use Rattle.std.proofs.lemmas.List.{drop_more}
 use Rattle.std.proofs.lemmas.Option.{same_Some}
 use Rattle.hs_scheme.specs.declared.flow.FlowPair.{FlowPair}
 use Rattle.hs_scheme.specs.Tree.{children-forest}
 use Rattle.hs_scheme.proofs.Lists.{none_in, here, later, uncons}
-use Rattle.hs_table.specs.Types.{TypeTree, arrow}
+use Rattle.hs_table.specs.Types.{TypeTree, arrow, type_cmp}
 use Rattle.hs_table.specs.Entries.{Env, EntryData, set_at, entry_cmp}
 use Rattle.hs_table_laws.proofs.Orders.{entry_cmp_total}
-use Rattle.hs_table_plain.specs.Enumeration.{union, union_from, is_pair, flow_type, picks, through}
+use Rattle.hs_table_plain.specs.Enumeration.{union, union_from, is_pair, flow_type, joined, extended, picks, through}
 
 pub is_equal : (o : Ordering) → true ≡ (ordering_index o == 1) → o ≡ Equal
 is_equal Less e = (cc)
@@ -84,6 +85,13 @@ test_false pairs rule x u b h e = elim (list_any (is_pair rule x u) pairs) as (�
   | false ↦ λ f. refl
 ] refl
 
+-- behind one type of the set
+pub picks_step : (E : List EntryData) (u : ℕ) (set : List TypeTree) (k : ℕ) (a : TypeTree) (es fs : List EntryData) → k < length set → a ≡ get_or set k a
+    → fs ≡ flat_map (λ e. flat_map (extended u a e) E) es → picks E u (drop (k + 1) set) fs ≡ picks E u (drop k set) es
+picks_step E u set k a es fs lt is e =
+    let split : drop k set ≡ a ∷ drop (k + 1) set = drop_more set k a lt ∙ ap (λ x. x ∷ drop (k + 1) set) (sym is) in
+    ap (picks E u (drop (k + 1) set)) e ∙ sym (ap (λ s. picks E u s es) split)
+
 -- behind the first argument
 pub through_step : (E : List EntryData) (us : List ℕ) (u : ℕ) (set : List TypeTree) (t ty : TypeTree) (es chosen : List EntryData) → slice_get us 0 ≡ Some u → ty ≡ arrow set t → chosen ≡ picks E u set es
     → through E (drop 1 us) t chosen ≡ through E us ty es
@@ -98,6 +106,14 @@ pub flow_none : (pairs : List FlowPair) (rule x : ℕ) (e : EntryData) (out : Li
     → out ≡ out ++ flow_type pairs rule x e
 flow_none pairs rule x e out b h f =
     sym (append-nil out) ∙ ap (λ v. out ++ cond v (e.ty ∷ []) []) (sym (test_false pairs rule x e.point b h f))
+
+pub flow_one : (pairs : List FlowPair) (rule x : ℕ) (e : EntryData) (b : Bool) → IsTrue b ↔ Contains pairs (record { rule = rule; param = x; point = e.point }) → b ≡ true
+    → (e.ty ∷ []) ≡ flow_type pairs rule x e
+flow_one pairs rule x e b h f = ap (λ v. cond v (e.ty ∷ []) []) (sym (pair_there pairs rule x e.point (h.0 f)))
+
+-- the entry is joined with one at the argument of the type
+pub extended_one : (u : ℕ) (a : TypeTree) (e x : EntryData) → x.point ≡ u → type_cmp x.ty a ≡ Equal → (joined e x ∷ []) ≡ extended u a e x
+extended_one u a e x at is = ap (λ v. cond v (joined e x ∷ []) []) (sym (and_from (nat_eq x.point u) (is_eq (type_cmp x.ty a)) (eq-eqb x.point u at) (ap is_eq is)))
 
 pub at_item : {X : Type 0} (xs : List X) (k : ℕ) (y x : X) → k < length xs → y ≡ get_or xs k y → y ≡ x → Contains xs x
 at_item xs k y x lt is same = subst (λ z. Contains xs z) same (k, lt, sym is)

@@ -1,7 +1,8 @@
 -- Members of lists that are made of lists.
-use Rattle.std.proofs.Common.{◌≡◌, ◌≢◌, refl, sym, ◌∙◌, subst, ℕ, ◌+◌, ◌<◌, List, [], ◌∷◌, ◌++◌, length, get_or, take, arith, AllPairs, Contains, ◌⊎◌, inl, inr, ◌↔◌}
+use Rattle.std.proofs.Common.{◌≡◌, ◌≢◌, refl, sym, ◌∙◌, ap, subst, ℕ, ◌+◌, ◌<◌, List, [], ◌∷◌, ◌++◌, length, get_or, take, arith, append_assoc, append-nil, AllPairs, Contains, ◌⊎◌, inl, inr, ◌↔◌}
 use Rattle.std.specs.List.{flat_map}
 use Rattle.std.proofs.lemmas.List.Elements.{Contains-append_left, Contains-append_right, Contains-append_cases}
+use Rattle.std.proofs.lemmas.Grind.{flat_map-append}
 use Rattle.hs_scheme.proofs.Lists.{none_in, here, later, uncons, only}
 use Rattle.hs_table_laws.proofs.Places.{pairs_cons, pairs_head, pairs_tail}
 use Rattle.hs_table_laws.proofs.Members.{taken_next}
@@ -58,6 +59,16 @@ next_gives f xs k y z lt is =
     back : Contains (flat_map f (take k xs)) z ⊎ Contains (f y) z → Contains (flat_map f (take k xs ++ y ∷ [])) z
     back (inl h) = let s = from_flat_map f (take k xs) z h in into_flat_map f (take k xs ++ y ∷ []) s.item z ((in_pushed (take k xs) y s.item).1 (inl s.there)) s.gives
     back (inr h) = into_flat_map f (take k xs ++ y ∷ []) y z ((in_pushed (take k xs) y y).1 (inr refl)) h
+
+-- what one more item gives
+pub flat_map_more : {X Y : Type 0} (f : X → List Y) (xs : List X) (k : ℕ) (y : X) → k < length xs → y ≡ get_or xs k y → flat_map f (take k xs) ++ f y ≡ flat_map f (take (k + 1) xs)
+flat_map_more f xs k y lt is =
+    sym (ap (flat_map f) (taken_next xs k y lt is) ∙ (flat_map-append f (take k xs) (y ∷ []) ∙ ap (λ zs. flat_map f (take k xs) ++ zs) (append-nil (f y))))
+
+-- so behind others
+pub flat_map_behind : {X Y : Type 0} (f : X → List Y) (xs : List X) (k : ℕ) (y : X) (old : List Y) → k < length xs → y ≡ get_or xs k y
+    → (old ++ flat_map f (take k xs)) ++ f y ≡ old ++ flat_map f (take (k + 1) xs)
+flat_map_behind f xs k y old lt is = append_assoc old (flat_map f (take k xs)) (f y) ∙ ap (λ zs. old ++ zs) (flat_map_more f xs k y lt is)
 
 -- lists with the same members, told in two steps
 pub two_steps : (A B C D F : Type 0) → A ↔ (B ⊎ C) → B ↔ D → F ↔ (D ⊎ C) → A ↔ F

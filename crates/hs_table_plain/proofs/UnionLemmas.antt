@@ -1,5 +1,6 @@
 -- Joined environments ask for what either asks for.
-use Rattle.std.proofs.Common.{◌≡◌, refl, sym, ◌∙◌, ap, subst, ℕ, zero, suc, ◌+◌, ◌<◌, List, [], ◌∷◌, ◌++◌, length, arith, Contains, ◌⊎◌, inl, inr, ◌↔◌}
+use Rattle.std.proofs.Common.{◌≡◌, refl, sym, ◌∙◌, ap, subst, ℕ, zero, suc, ◌+◌, ◌<◌, ◌≤◌, List, [], ◌∷◌, ◌++◌, length, set, replicate, arith, Contains, ◌⊎◌, inl, inr, ◌↔◌}
+use Rattle.std.proofs.lemmas.List.{set_past}
 use Rattle.hs_scheme.specs.declared.term.Head.{Head}
 use Rattle.hs_scheme.specs.declared.term.Head.TheVariants.{Var, Nt, Tm}
 use Rattle.hs_scheme.proofs.Lists.{none_in, here, later, uncons}
@@ -102,3 +103,21 @@ pub own_has : (n : ℕ) (h : Head) (t : TypeTree) (j : ℕ) (a : TypeTree) → j
 own_has n (Var x) t j a lt = one_has n x j t a lt
 own_has n (Nt f) t j a lt = (λ h. empties_has n j a h, λ h. absurd h)
 own_has n (Tm b) t j a lt = (λ h. empties_has n j a h, λ h. absurd h)
+
+-- an environment of empty sets, with the own type of a parameter where it has one
+module _ (n : ℕ) (h : Head) (t : TypeTree) (env : Env) (empty : env ≡ replicate n []) where
+  pub own_of_parameter : (x : ℕ) (s : List TypeTree) → h ≡ Var x → s ≡ (t ∷ []) → set env x s ≡ own_env n h t
+  own_of_parameter x s is e = (λ i. set (empty i) x (e i)) ∙ ap (λ k. own_env n k t) (sym is)
+
+  pub own_of_past : (x : ℕ) → h ≡ Var x → length env ≤ x → env ≡ own_env n h t
+  own_of_past x is past =
+      let past_all : length (replicate {A = List TypeTree} n []) ≤ x = subst (λ (e : Env). length e ≤ x) empty past in
+      empty ∙ (sym (set_past (replicate n []) x (t ∷ []) past_all) ∙ ap (λ k. own_env n k t) (sym is))
+
+  pub own_of_others : ((x : ℕ) → h ≡ Var x → ⊥) → env ≡ own_env n h t
+  own_of_others other = cases h other
+    where
+      cases : (k : Head) → ((x : ℕ) → k ≡ Var x → ⊥) → env ≡ own_env n k t
+      cases (Var x) none = absurd (none x refl)
+      cases (Nt f) none = empty
+      cases (Tm a) none = empty

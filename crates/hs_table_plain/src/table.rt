@@ -1,6 +1,6 @@
 //! The least table.
 
-ghost use Rattle.std.specs.Prelude.{◌≡◌, ◌<◌, ◌≤◌, ◌↔◌, length, All, Contains, IsTrue, IfOk, MatchOption, OnOk};
+ghost use Rattle.std.specs.Prelude.{◌≡◌, ◌<◌, ◌≤◌, ◌↔◌, length, slice_index_or, All, Contains, IsTrue, IfOk, MatchOption, OnOk};
 ghost use Rattle.hs_table.specs.Entries.{EntryData, InShape};
 ghost use Rattle.hs_table.specs.Follows.{Follows};
 ghost use Rattle.hs_table.specs.Tables.{IsSupportedTable, IsClosedTable, IsLeastTable, Exceeds};
@@ -12,18 +12,32 @@ use hs_scheme::{Automaton, OutOfMemory, Problem};
 use hs_table::Entry;
 use std::alloc::Global;
 
+/// The place of the first of the entries that isn't in the list.
+fn place_of_new(log: &[Entry], entries: &[Entry]) -> Option<usize>
+    ensures { MatchOption result
+        ((e : EntryData) → Contains entries.now e → Contains log.now e)
+        (λ place. (place < length entries.now)
+        × ((d : EntryData) → Contains log.now (slice_index_or entries.now place d) → ⊥)) }
+{
+    for (place, entry) in entries.iter().enumerate() {
+        if !contains(log, entry) {
+            return Some(place);
+        }
+    }
+    None
+}
+
 /// The first of the entries that isn't in the list.
 fn first_new(log: &[Entry], entries: Vec<Entry>) -> Option<Entry>
     ensures { MatchOption result
         ((e : EntryData) → Contains entries.items e → Contains log.now e)
         (λ e. Contains entries.items e × (Contains log.now e → ⊥)) }
 {
-    for entry in entries {
-        if !contains(log, &entry) {
-            return Some(entry);
-        }
+    let mut entries = entries;
+    match place_of_new(log, entries.as_slice()) {
+        None => None,
+        Some(place) => Some(entries.swap_remove(place)),
     }
-    None
 }
 
 /// An entry that follows from the list and isn't in it, or `None` where there is no such.

@@ -1,12 +1,13 @@
 -- The seats among themselves: their numbers differ and seat 0 counts them, through every step.
-use Rattle.std.proofs.Common.{◌≡◌, ℕ, ◌+◌, ◌≤◌, ◌≢◌, Bool, true, false, cond, zero, suc, List, [], ◌∷◌, ◌++◌, length, set, refl, sym, ap, ◌∙◌, subst, ⊎_elim, inl, inr, ◌⊎◌, arith, length-set}
+use Rattle.std.proofs.Common.{◌≡◌, ℕ, ◌+◌, ◌≤◌, ◌≢◌, Bool, true, false, cond, zero, suc, List, [], ◌∷◌, ◌++◌, length, set, Option, refl, sym, ap, ◌∙◌, subst, ⊎_elim, inl, inr, ◌⊎◌, arith, length-set}
 use mathlib.Core.Option.{some, some-injective, some-ne-none}
 use lib.ListN.{get_elem?}
 use Rattle.atomic_table.specs.Seated.{TableId}
+use Rattle.atomic_table.specs.Table.{Me}
 use Rattle.atomic_table.proofs.Lists.{at_set, set_else}
 use Rattle.hs_turn.specs.declared.known.Known.{Known}
 use Rattle.hs_turn.specs.Views.{first_seat, having_split, split_off, having_joined, spent}
-use Rattle.hs_turn.specs.Seats.{SeatView, seat_view, resting}
+use Rattle.hs_turn.specs.Seats.{SeatView, seat_view, resting, IsSeat}
 use Rattle.hs_turn.specs.Rule.{count_live, AreSeats}
 
 pub set_at : {A : Type 0} (xs : List A) (i : ℕ) (a b : A) → get_elem? xs i ≡ some a → get_elem? (set xs i b) i ≡ some b
@@ -204,3 +205,22 @@ one_rests turn (v ∷ w ∷ views) seat e = absurd (cc e)
 -- what contracts see of a seat is so of its view
 pub seen_of : {B E : Type 0} (P : Known B E → Type 0) (turn : TableId) (v : Known B E) (seat : SeatView B E) → seat_view turn v ≡ seat → P seat.known → P v
 seen_of {B} {E} P turn v seat is p = subst (λ (s : SeatView B E). P s.known) (sym is) p
+
+-- a split: the numbers that the code keeps are those that the two seats know
+module _ {T B E : Type 0} (number splits : ℕ) (me after : Me (Option T) (Known B E)) (s : IsSeat number splits me) where
+  abbrev M : Type 0
+  M = Me (Option T) (Known B E)
+
+  pub seat-split : after ≡ (having_split me.0, me.1) → IsSeat number (splits + 1) after
+  seat-split is = subst (λ (m : M). IsSeat number (splits + 1) m) (sym is) record {
+    numbered = record { number_is = s.numbered.number_is; splits_is = ap (λ (n : ℕ). n + 1) s.numbered.splits_is; lives = s.numbered.lives };
+    idle = s.idle;
+    busy = s.busy;
+  }
+
+  pub seat-split_off : after ≡ (split_off me.0, []) → IsSeat (splits + 1) 0 after
+  seat-split_off is = subst (λ (m : M). IsSeat (splits + 1) 0 m) (sym is) record {
+    numbered = record { number_is = ap (λ (n : ℕ). n + 1) s.numbered.splits_is; splits_is = refl; lives = refl };
+    idle = λ _. refl;
+    busy = λ h. absurd (cc h);
+  }

@@ -1,9 +1,8 @@
 -- Sets that got their numbers, and environments of few sets.
-use Rattle.std.proofs.Common.{◌≡◌, refl, sym, ◌∙◌, ap, subst, All, ℕ, suc, ◌+◌, ◌<◌, ◌≤◌, List, [], ◌∷◌, ◌++◌, length, take, drop, map, set, replicate, get_or, slice_get, Some, arith, inl, inr}
+use Rattle.std.proofs.Common.{◌≡◌, refl, sym, ◌∙◌, ap, subst, All, ℕ, suc, ◌<◌, ◌≤◌, List, [], ◌∷◌, ◌++◌, length, take, drop, map, set, replicate, get_or, slice_get, Some, arith}
 use Rattle.std.specs.List.{refill}
 use Rattle.std.proofs.Math.Seq.{take-append_seam}
-use Rattle.std.proofs.lemmas.Bool.{cases_lt}
-use Rattle.std.proofs.lemmas.List.{get_or_default, length-set}
+use Rattle.std.proofs.lemmas.List.{length-set}
 use Rattle.std.proofs.lemmas.Option.{get_or_from_slice_get, slice_get-get_or, slice_get_within}
 use Rattle.std.proofs.lemmas.List.Elements.{All-replicate, All-set}
 use Rattle.hs_table.specs.Types.{TypeTree, IsSet}
@@ -60,14 +59,6 @@ set_refilled xs ys x s is = ap (λ (zs : List ℕ). refill (length xs) xs (set z
 -- the first sets of an environment that are looked at one by one
 abbrev pub AreEmpty : (ℕ → List TypeTree) → List ℕ → ℕ → Type 0
 AreEmpty f sets n = (k : ℕ) → k < n → f (get_or sets k 0) ≡ []
-
-pub more_empty : (f : ℕ → List TypeTree) (sets : List ℕ) (n s : ℕ) → AreEmpty f sets n → n < length sets → s ≡ get_or sets n s → f s ≡ [] → AreEmpty f sets (n + 1)
-more_empty f sets n s was lt is empty k less = elim (cases_lt k n) [
-  | inl before ↦ was k before
-  | inr last ↦
-      let same : k ≡ n = omega arith in
-      ap f (ap (λ j. get_or sets j 0) same ∙ sym (is ∙ get_or_default sets n s 0 lt)) ∙ empty
-]
 
 all_empty : (f : ℕ → List TypeTree) (sets : List ℕ) → AreEmpty f sets (length sets) → map f sets ≡ replicate (length sets) []
 all_empty f [] h = refl

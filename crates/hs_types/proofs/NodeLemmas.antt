@@ -1,7 +1,7 @@
 -- What the stored lists stand for, when one more node, set or environment is stored.
 use Rattle.std.proofs.Common.{◌≡◌, refl, sym, ◌∙◌, ap, subst, ℕ, zero, suc, ◌<◌, List, [], ◌∷◌, ◌++◌, length, map, get_or, slice_get, Option, option_map, Some, arith, Contains, All, ◌⊎◌, inl, inr}
 use Rattle.std.proofs.lemmas.List.{length-map, get_or_append_left, get_or_push, length_push}
-use Rattle.std.proofs.lemmas.List.Elements.{All-get_or, Contains-get_or}
+use Rattle.std.proofs.lemmas.List.Elements.{All-nil, All-get_or, Contains-get_or}
 use Rattle.std.proofs.lemmas.Option.{slice_get-get_or, slice_get-map, get_or_from_slice_get}
 use Rattle.std.proofs.Math.ListN.{get_or-map}
 use Rattle.hs_scheme.specs.Tree.{node, none, more, children}
@@ -15,7 +15,7 @@ use Rattle.hs_types.specs.declared.ids.View.{View}
 use Rattle.hs_types.specs.declared.ids.View.TheVariants.{State, Arrow}
 use Rattle.hs_types.specs.Interned.{InternerData, type_of_id, set_of_id, env_of_id, IsView, IsInterner, Grows}
 use Rattle.hs_types.specs.Nodes.{node_type, IsInRange, items_at, types_behind, sets_over, data_of, AreNodes, Adds}
-use Rattle.hs_types.proofs.Numbers.{Grows-refl, same_type, same_set, type_stays, type_within, set_stays, set_within}
+use Rattle.hs_types.proofs.Numbers.{IsInterner-empty, Grows-refl, same_type, same_set, type_stays, type_within, set_stays, set_within}
 use Rattle.hs_types.proofs.ListLemmas.{Begins-push, map-push, IsWithoutRepeats-push, items_at-begun, all_at-append, AllBelow-more, AllBelow-push, same_places}
 
 abbrev pub with_type : InternerData → TypeTree → InternerData
@@ -362,3 +362,17 @@ module _ (nodes : List View) (sets envs : List (List ℕ)) (are : AreNodes nodes
   sets_range e h =
       let I = data_of nodes sets envs in
       subst (λ (J : InternerData). All (λ s. s < length J.sets) (get_or envs e [])) is (All-get_or (λ (ids : List ℕ). All (λ s. s < length I.sets) ids) envs e [] (env_stored e h) are.env_range)
+
+-- nothing is stored
+pub no_nodes : (nodes : List View) (sets envs : List (List ℕ)) → nodes ≡ [] → sets ≡ [] → envs ≡ [] → AreNodes nodes sets envs (data_of nodes sets envs)
+no_nodes nodes sets envs e f g =
+    subst (λ (z : List View × (List (List ℕ) × List (List ℕ))). AreNodes z.0 z.1.0 z.1.1 (data_of z.0 z.1.0 z.1.1)) (λ i. (sym e i, (sym f i, sym g i)))
+    record {
+      exact = IsInterner-empty;
+      long = refl;
+      of_sets = refl;
+      of_envs = refl;
+      reads = λ t n e. absurd (cc);
+      set_range = All-nil (λ (ids : List ℕ). All (λ i. i < 0) ids);
+      env_range = All-nil (λ (ids : List ℕ). All (λ i. i < 0) ids);
+    }

@@ -3,7 +3,7 @@ use Rattle.std.proofs.Common.{◌≡◌, refl, sym, ◌∙◌, ap, ℕ, zero, su
 use Rattle.std.specs.Ordering.{nat_cmp, ordering_then}
 use Rattle.std.specs.Cmp.Lexicographic.{slice_cmp}
 use Rattle.std.specs.declared.cmp.Ordering.{Ordering}
-use Rattle.std.specs.declared.cmp.Ordering.TheVariants.{Equal}
+use Rattle.std.specs.declared.cmp.Ordering.TheVariants.{Less, Equal, Greater}
 use Rattle.std.proofs.lemmas.Cmp.{tied_itself}
 use Rattle.std.proofs.lemmas.List.{length-map}
 use Rattle.hs_scheme.specs.Tree.{height, heights, forest}
@@ -14,6 +14,15 @@ use Rattle.hs_types.specs.Nodes.{items_at}
 
 pub cmp_itself : (t u : TypeTree) → t ≡ u → Equal ≡ type_cmp t u
 cmp_itself t u e = sym (tied_itself type_cmp_total t) ∙ ap (type_cmp t) e
+
+then_equal-is : (o : Ordering) → ordering_then o Equal ≡ o
+then_equal-is Less = refl
+then_equal-is Equal = refl
+then_equal-is Greater = refl
+
+-- states are ordered by their numbers
+pub cmp_states : (a b : TypeTree) (q p : ℕ) (o : Ordering) → a ≡ state q → b ≡ state p → o ≡ nat_cmp q p → o ≡ type_cmp a b
+cmp_states a b q p o is is' e = e ∙ sym (then_equal-is (nat_cmp q p)) ∙ (λ i. type_cmp (sym is i) (sym is' i))
 
 -- arrows of one result are ordered by their sets
 pub cmp_by_sets : (a b : TypeTree) (s r : List TypeTree) (t u : TypeTree) (o p : Ordering) → a ≡ arrow s t → b ≡ arrow r u → o ≡ type_cmp t u → o ≡ Equal → p ≡ slice_cmp type_cmp s r

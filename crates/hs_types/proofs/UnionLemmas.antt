@@ -11,7 +11,6 @@ use Rattle.hs_table.specs.Types.{TypeTree, IsSet}
 use Rattle.hs_table.specs.Entries.{Env, set_at}
 use Rattle.hs_types.specs.declared.unions.Operands.{Operands}
 use Rattle.hs_types.specs.contracts.unions.OperandsPartialEq.TheImpl.{eq-value}
-use Rattle.hs_types.proofs.MergeLemmas.{union_swap}
 use Rattle.hs_types.specs.Interned.{InternerData, type_of_id, set_of_id, env_of_id, IsUnion, IsUnionEnv, IsInterner, Grows}
 use Rattle.hs_types.specs.Unions.{KnownUnions, AreOperands, Knows, KnowsMore, IsSetUnion, IsEnvUnion, AreUnions}
 use Rattle.hs_types.proofs.MergeLemmas.{union_swap}
@@ -53,6 +52,13 @@ inserted_entry p v ((q, w) ∷ es) x h = by (eq-value.it p q) refl (inserted_ent
           | inl is ↦ inl (subst (λ (y : Operands × ℕ). Contains ((q, w) ∷ es) y) (sym is) (here (q, w) es))
           | inr there ↦ elim (rest there) [ inl was ↦ inl (later (q, w) x es was) | inr own ↦ inr own ]
         ]
+
+-- nothing is known
+pub no_unions : (I : InternerData) (sets envs : KnownUnions) → sets ≡ [] → envs ≡ [] → AreUnions I sets envs
+no_unions I sets envs e f = record {
+  sets = λ p u c. absurd (none_in (p, u) (subst (λ (es : KnownUnions). Contains es (p, u)) e c));
+  envs = λ p u c. absurd (none_in (p, u) (subst (λ (es : KnownUnions). Contains es (p, u)) f c));
+}
 
 -- what is known stays so while the interner grows
 pub unions_grow : (I J : InternerData) (sets envs : KnownUnions) → Grows I J → AreUnions I sets envs → AreUnions J sets envs

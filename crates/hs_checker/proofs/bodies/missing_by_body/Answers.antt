@@ -1,4 +1,4 @@
-use Rattle.std.proofs.Common.{◌≡◌, sym, ◌∙◌, ap, subst, ◌≤◌, List, [], ◌∷◌, ◌++◌, length, Contains, ◌↔◌}
+use Rattle.std.proofs.Common.{◌≡◌, sym, ◌∙◌, ap, subst, ◌≤◌, List, [], ◌∷◌, length, Contains, ◌↔◌}
 use Rattle.hs_scheme.specs.declared.term.Head.TheVariants.{Nt}
 use Rattle.hs_table.specs.Types.{arrows, state}
 use Rattle.hs_table.specs.Entries.{Env, EntryData}
@@ -24,7 +24,7 @@ returns c = λ f.
     let behind = ap (λ (x : EntryData). x.ty) c.entry.view_is in
     let start = c.in_ok-start.start in
     let first = plain.opening c.args.point c.args.params (Nt f) ty in
-    let starts = c.in_ok-push.ensures.items ∙ ap (λ (es : List EntryData). es ++ start ∷ []) c.new-entries.ensures.items in
+    let starts = c.in_ok-entries.ensures in
     let begun : plain.through E us ty (start ∷ []) ≡ plain.through E us ty (first ∷ []) =
     ap (λ (s : EntryData). plain.through E us ty (s ∷ [])) c.in_ok-start.ensures ∙ through_retyped E us ty (state 0) (first ∷ []) in
     let each = subst (λ (es : List EntryData). (e : EntryData) → Contains found e ↔ Contains es e) ((λ i. plain.through E us (arrows (env i) (behind i)) (starts i)) ∙ begun) c.in_ok-found.ensures in

@@ -14,6 +14,9 @@ not_less Less e f = (cc)
 not_less Equal e f = (cc)
 not_less Greater e f = (cc)
 
+pub loop-place-init : goal.loop-place-init
+loop-place-init c = (omega arith, λ k d lt. absurd (omega (arith, lt)))
+
 pub returns-then-ne : goal.returns-then-ne
 returns-then-ne c = (
   λ e. let f : false ≡ true = e in absurd (cc),

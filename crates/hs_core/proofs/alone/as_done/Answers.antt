@@ -20,3 +20,12 @@ pub returns-in-Found-clause-done : goal.returns-in-Found-clause-done
 returns-in-Found-clause-done c = λ base alone.
     let found = c.in-Found.ensures in
     (alone, record { first = found.first; start = (found.start.entry, (found.start.is_start, Contains-at (log_of c.args.core) c.in-Found.place found.start.entry found.start.at)) })
+
+pub answer-requires : goal.answer-requires
+answer-requires c = c.requires.ends
+
+pub returns-in-Over-clause-verdict : goal.returns-in-Over-clause-verdict
+returns-in-Over-clause-verdict c = λ closed. tt
+
+pub returns-in-Found-clause-verdict : goal.returns-in-Found-clause-verdict
+returns-in-Found-clause-verdict c = λ closed. tt

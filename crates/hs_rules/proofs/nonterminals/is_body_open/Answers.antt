@@ -16,7 +16,7 @@ use Rattle.hs_rules.specs.Filling.{fixed_of}
 use Rattle.hs_rules.specs.Shut.{AreShut, IsBodyShut}
 use Rattle.hs_rules.proofs.KeepLemmas.{as_before, lists_keep}
 use Rattle.hs_rules.proofs.PartLemmas.{can_search_later}
-use Rattle.hs_rules.proofs.ArrowLemmas.{arrows_long, arrows_first}
+use Rattle.hs_rules.proofs.ArrowLemmas.{arrows_short, arrows_first}
 use Rattle.hs_rules.proofs.nonterminals.is_body_open.Goals as goal
 
 pub returns-then-row-body_of-clause-shut : goal.returns-then-row-body_of-clause-shut
@@ -39,7 +39,7 @@ returns-then-sets-count-clause-shut c = λ sets rest from long args es picked.
     let same : from.entry ≡ e0 = same_Some from.entry e0 (sym from.holds.at ∙ to_take limit log c.args.place e0 c.requires.place c.row-row.ensures.entry) in
     let env_is : map (set_of_id ids) full ≡ e0.env = subst (λ (I : InternerData). map (set_of_id I) full ≡ env_of_id I c.row-row.result.env) (c.interner.ensures ∙ ap (λ (q : ReplicaData). q.ids) c.in_ok-list_args.ensures.kept.same) c.sets-sets.ensures.sets in
     let is : arrows (map (set_of_id ids) full) (state from.q) ≡ arrows sets rest = ap (λ (e : Env). arrows e (state from.q)) env_is ∙ (ap (λ (e : EntryData). arrows e.env (state from.q)) (sym same) ∙ sym from.is) in
-    omega (arith, arrows_long (map (set_of_id ids) full) sets from.q rest is, long, c.if-sets-count.true, length-map full (set_of_id ids))
+    arrows_short (map (set_of_id ids) full) sets from.q rest (length full) (length c.args.search.now.args.now) is (length-map full (set_of_id ids)) long c.if-sets-count.true
 
 pub returns-clause-shut : goal.returns-clause-shut
 returns-clause-shut c = OnFalse_from c.is_open.result (IsBodyShut c.args.spot.now.problem.now (take c.args.search.now.limit c.args.replica.now.log) (fixed_of c.args.replica.now.log c.args.search.now.fixed) c.args.search.now.args.now c.args.nonterminal c.args.place) (λ no sets rest from long args es picked.

@@ -1,5 +1,5 @@
-use Rattle.std.proofs.Common.{◌≡◌, sym, ◌∙◌, ◌<◌, ap, subst, ℕ, [], true, false, length, take, Contains, ◌↔◌}
-use Rattle.std.proofs.lemmas.Bool.{eq-eqb}
+use Rattle.std.proofs.Common.{◌≡◌, sym, ◌∙◌, ◌<◌, ap, subst, ℕ, [], true, false, length, take, Contains, ◌↔◌, List, Option, ◌∷◌, ◌++◌}
+use Rattle.std.proofs.lemmas.Bool.{eq-eqb, eqb-true}
 use Rattle.std.proofs.lemmas.Result.{IfOk-weaker}
 use Rattle.std.proofs.lemmas.Option.{get_or_from_slice_get}
 use Rattle.hs_table.specs.Types.{state}
@@ -7,11 +7,12 @@ use Rattle.hs_table.specs.Entries.{EntryData}
 use Rattle.hs_types.specs.Interned.{InternerData, type_of_id, entry_of, IsInterner}
 use Rattle.hs_types.proofs.Numbers.{same_type}
 use Rattle.hs_rules.specs.Slots.{Respects, IsCandidate}
-use Rattle.hs_rules.specs.Filling.{fixed_of}
+use Rattle.hs_rules.specs.Filling.{fixed_of, IsWithin}
 use Rattle.hs_replica.specs.Places.{typed, ArePlaces}
 use Rattle.hs_replica.specs.Replica.{ReplicaData, typed_to}
 use Rattle.hs_rules.proofs.KeepLemmas.{as_before}
-use Rattle.hs_rules.proofs.FillLemmas.{free_none, free_arg, free_type, free_candidates}
+use Rattle.hs_rules.proofs.FillLemmas.{free_none, free_arg, free_type, free_candidates, fixed_candidates}
+use Rattle.hs_rules.specs.declared.search.Fixed.{Fixed}
 use Rattle.hs_rules.proofs.search.places_for.Goals as goal
 use Rattle.hs_rules.proofs.search.places_for.Goals.{in-Some+else-fixed-arg, else-fixed-arg-via-then-fixed-arg+else-eq, else-fixed-arg-via-else-fixed-arg, in_default}
 
@@ -40,3 +41,15 @@ returns-clause-candidates c =
     IfOk-weaker c.below.result (λ out. (place : ℕ) → Contains out.items place ↔ (Contains c.with_type.result.now place × (place < limit)))
     (λ out. (place : ℕ) → Contains out.items place ↔ ((e : EntryData) × IsCandidate (take limit log) (fixed_of log c.args.search.now.fixed) (record { arg = c.args.arg; point = c.args.point; ty = ty }) place e))
     (λ out h. free_candidates log (typed_to then c.args.point) limit c.args.arg c.args.point ty (fixed_of log c.args.search.now.fixed) c.with_type.result.now out.items told c.requires.search.limited free are h) c.below.ensures
+
+pub returns-then-eq-clause-candidates : goal.returns-then-eq-clause-candidates
+returns-then-eq-clause-candidates c = λ place.
+    let log = c.args.replica.now.log in
+    let ids = c.args.replica.now.ids in
+    let s = c.args.search.now in
+    let f = c.in-Some.fixed in
+    let same : c.row.result.ty ≡ c.args.ty = eqb-true c.row.result.ty c.args.ty (sym c.eq.ensures ∙ c.if-eq.true) in
+    let within = subst (λ (o : Option Fixed). IsWithin log s.args.now s.limit o) c.in-Some.is c.requires.search.fixed_within in
+    let items : c.push.new.self.items ≡ f.place ∷ [] = c.in_ok-push.ensures.ok ∙ ap (λ (ps : List ℕ). ps ++ f.place ∷ []) c.new-only.ensures.items in
+    subst (λ (o : Option Fixed). Contains c.push.new.self.items place ↔ ((x : EntryData) × IsCandidate (take s.limit log) (fixed_of log o) (record { arg = c.args.arg; point = c.args.point; ty = type_of_id ids c.args.ty }) place x)) (sym c.in-Some.is)
+    (fixed_candidates log s.limit c.args.arg c.args.point (type_of_id ids c.args.ty) f s.args.now (entry_of ids c.row.result) c.push.new.self.items c.row.ensures.entry (ap (type_of_id ids) same) c.if-fixed-arg.true c.requires.point within items place)

@@ -39,3 +39,6 @@ returns-clause-least c = record {
   supported = c.loop-log.invariant.supported;
   closed = found_none c.args.problem.now c.as_slice.result.now c.loop-log.log.items c.in_ok-entry.field-0 c.as_slice.ensures.value c.in_default.not-Some c.in_ok-entry.ensures;
 }
+
+pub returns-clause-within : goal.returns-clause-within
+returns-clause-within c = c.loop-log.invariant.within

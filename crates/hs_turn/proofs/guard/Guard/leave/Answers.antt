@@ -1,10 +1,15 @@
-use Rattle.std.proofs.Common.{rules, ◌≡◌, ap, ◌∙◌, sym, true, Option, Some, ◌∷◌, List, ℕ}
+use Rattle.std.proofs.Common.{rules, ◌≡◌, ap, ◌∙◌, sym, true, Option, Some, None, ◌∷◌, List, ℕ}
 use Rattle.atomic_table.specs.Table.{rest}
 use Rattle.hs_turn.specs.declared.known.Known.{Known}
 use Rattle.hs_turn.specs.AtomicSteps.{Holding}
 use Rattle.hs_turn.proofs.SeatLemmas.{seen_of}
 use Rattle.hs_turn.proofs.KindLemmas.{may_leave}
 use Rattle.hs_turn.proofs.guard.Guard.leave.Goals as goal
+
+pub exchange-out-requires : goal.exchange-out-requires
+exchange-out-requires g c = let V : Type 0 = Known g.row.T-Base.Denot g.row.T-Event.Denot in let P : V → Type 0 = λ v. v.holds ≡ true in
+    let out = c.seat.invariant.busy (seen_of P c.seat.inside.inner.table_id c.seat.inside.inner.me.0 c.args.seat.now c.seat.view_is c.requires.holds) in
+    (search rules, (None, out ∙ ap (λ (l : List (ℕ × Option g.row.T.Denot)). (0, None) ∷ rest l) (sym out)))
 
 pub store-requires : goal.store-requires
 store-requires g c = let M : Type 0 = Holding g.row.T.Denot g.row.T-Base.Denot g.row.T-Event.Denot in let V : Type 0 = Known g.row.T-Base.Denot g.row.T-Event.Denot in

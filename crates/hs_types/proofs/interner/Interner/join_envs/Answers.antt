@@ -1,8 +1,8 @@
-use Rattle.std.proofs.Common.{◌<◌, ap, subst, sym, length, arith, All, List, ℕ, map, slice_get, ◌≡◌, Some}
+use Rattle.std.proofs.Common.{◌<◌, ap, subst, sym, length, arith, All, List, ℕ, map, slice_get, ◌≡◌, Some, rules}
 use Rattle.std.proofs.lemmas.List.{length_push}
 use Rattle.std.proofs.lemmas.Result.{IfOk-weaker}
 use Rattle.hs_types.specs.Interned.{set_of_id, env_of_id, IsUnionEnv}
-use Rattle.hs_types.proofs.Numbers.{Grows-trans, env_within}
+use Rattle.hs_types.proofs.Numbers.{Grows-refl, Grows-trans, env_within}
 use Rattle.hs_types.proofs.JoinLemmas.{sets_long, still_long, joined_range, joined_each, joined_all}
 use Rattle.hs_types.proofs.interner.Interner.join_envs.Goals as goal
 
@@ -61,3 +61,11 @@ returns-clause-ok c =
 
 pub returns-clause-grows : goal.returns-clause-grows
 returns-clause-grows c = Grows-trans c.args.self.now c.loop-place.self c.env.new.self c.loop-place.invariant.grows c.env.ensures.grows
+
+pub loop-place-init : goal.loop-place-init
+loop-place-init c = record {
+  grows = Grows-refl c.args.self.now;
+  long = search rules;
+  range = search rules;
+  each = λ k lt. absurd (omega (arith, lt));
+}

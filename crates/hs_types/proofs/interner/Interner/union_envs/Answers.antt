@@ -1,3 +1,6 @@
+use Rattle.std.proofs.Common.{◌<◌, sym, subst, length}
+use Rattle.hs_types.specs.Interned.{InternerData, env_of_id, IsUnionEnv, Grows}
+use Rattle.hs_types.proofs.Numbers.{Grows-refl}
 use Rattle.hs_types.proofs.UnionLemmas.{kept_env}
 use Rattle.hs_types.proofs.interner.Interner.union_envs.Goals as goal
 
@@ -12,3 +15,24 @@ invariant_of-self-2 c =
     kept_env c.args.self.now c.self.inside.nodes c.join_envs.new.self c.self.inside.set_unions.known.entries c.self.inside.env_unions.known.entries c.keep.new.self.known.entries c.self.invariant c.self.view_is
     c.in_ok-union.ensures.grows c.args.a c.args.b c.in_ok-union.union c.stored.result c.stored-2.result c.stored-3.result c.stored.ensures c.stored-2.ensures c.stored-3.ensures
     c.requires.a c.requires.b c.requires.long c.in_ok-union.ensures.ok c.keep.ensures
+
+pub returns-in-Some-clause-ok : goal.returns-in-Some-clause-ok
+returns-in-Some-clause-ok c = (c.in-Some.ensures.within, c.in-Some.ensures.is)
+
+pub returns-in-Some-clause-grows : goal.returns-in-Some-clause-grows
+returns-in-Some-clause-grows c = Grows-refl c.args.self.now
+
+pub returns-in_err-union-clause-grows : goal.returns-in_err-union-clause-grows
+returns-in_err-union-clause-grows c = c.join_envs.ensures.grows
+
+pub returns-in_err-keep-clause-grows : goal.returns-in_err-keep-clause-grows
+returns-in_err-keep-clause-grows c = subst (λ (I : InternerData). Grows c.args.self.now I) (sym c.self.view_is) c.join_envs.ensures.grows
+
+pub returns-clause-ok : goal.returns-clause-ok
+returns-clause-ok c =
+    let old = c.args.self.now in
+    let u = c.in_ok-union.union in
+    subst (λ (I : InternerData). (u < length I.envs) × IsUnionEnv (env_of_id old c.args.a) (env_of_id old c.args.b) (env_of_id I u)) (sym c.self.view_is) c.in_ok-union.ensures.ok
+
+pub returns-clause-grows : goal.returns-clause-grows
+returns-clause-grows c = subst (λ (I : InternerData). Grows c.args.self.now I) (sym c.self.view_is) c.join_envs.ensures.grows

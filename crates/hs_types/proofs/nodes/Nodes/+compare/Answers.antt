@@ -2,12 +2,16 @@ use Rattle.std.proofs.Common.{sym, ap, ◌<◌, length, arith}
 use Rattle.std.proofs.lemmas.Bool.{eqb-true}
 use Rattle.hs_table.proofs.OrderLemmas.{index_of_equal}
 use Rattle.hs_types.specs.Interned.{type_of_id, set_of_id}
-use Rattle.hs_types.proofs.OrderLemmas.{cmp_itself, cmp_by_sets, member_lower, member_within, sets_at_end}
+use Rattle.hs_types.proofs.OrderLemmas.{cmp_itself, cmp_states, cmp_by_sets, member_lower, member_within, sets_at_end}
 use Rattle.hs_types.proofs.nodes.Nodes.+compare.Goals as goal
 
 pub compare-returns-then-eq : goal.compare-returns-then-eq
 compare-returns-then-eq t c =
     cmp_itself (type_of_id c.args.self.now c.args.a) (type_of_id c.args.self.now c.args.b) (ap (type_of_id c.args.self.now) (eqb-true c.args.a c.args.b (sym c.if-eq.ensures)))
+
+pub compare-returns-in-State-view : goal.compare-returns-in-State-view
+compare-returns-in-State-view t c = let I = c.args.self.now in
+    cmp_states (type_of_id I c.args.a) (type_of_id I c.args.b) _ _ c.cmp.result c.in-State.ensures c.in-State-view.ensures c.cmp.ensures
 
 pub compare-returns-else-ne : goal.compare-returns-else-ne
 compare-returns-else-ne t c =

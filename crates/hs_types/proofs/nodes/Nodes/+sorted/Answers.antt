@@ -1,9 +1,36 @@
-use Rattle.std.proofs.Common.{◌<◌, map, subst, sym, All, List, ℕ, length, ◌/◌}
+use Rattle.std.proofs.Common.{◌<◌, ◌-◌, map, subst, sym, All, List, ℕ, length, drop, length-take, length-drop, ◌/◌, arith}
+use Rattle.std.proofs.lemmas.List.Elements.{All-take, All-drop}
 use Rattle.hs_table.specs.Types.{IsSet}
 use Rattle.std.proofs.lemmas.Result.{IfOk-weaker}
 use Rattle.hs_types.specs.Interned.{type_of_id, IsSetOf, IsUnion}
+use Rattle.hs_types.proofs.MakeLemmas.{few_ascend, set_itself}
 use Rattle.hs_types.proofs.MergeLemmas.{sorted_parts}
 use Rattle.hs_types.proofs.nodes.Nodes.+sorted.Goals as goal
+
+pub returns-then-ids-le1-clause-range : goal.returns-then-ids-le1-clause-range
+returns-then-ids-le1-clause-range t c =
+    subst (λ (zs : List ℕ). All (λ i. i < length c.args.self.now.types) zs) (sym (c.in_ok-to_vec.ensures.items_if_clones_equal (λ x y e. e))) c.requires
+
+pub returns-then-ids-le1-clause-set : goal.returns-then-ids-le1-clause-set
+returns-then-ids-le1-clause-set t c =
+    let f = type_of_id c.args.self.now in
+    let ids = c.args.ids.now in
+    subst (λ (zs : List ℕ). IsSetOf (map f ids) (map f zs)) (sym (c.in_ok-to_vec.ensures.items_if_clones_equal (λ x y e. e)))
+    (set_itself (map f ids) (few_ascend f ids (omega (arith, c.if-ids-le1.true))))
+
+-- the two halves are shorter
+pub sorted-requires : goal.sorted-requires
+sorted-requires t c =
+    let ids = c.args.ids.now in
+    let half = length ids / 2 in
+    (omega (arith, length-take half ids, c.if-ids-le1.false), All-take (λ i. i < length c.args.self.now.types) half ids c.requires)
+
+pub sorted-requires-2 : goal.sorted-requires-2
+sorted-requires-2 t c =
+    let ids = c.args.ids.now in
+    let half = length ids / 2 in
+    let P : ℕ → Type 0 = λ i. i < length c.args.self.now.types in
+    (omega (arith, length-take (length ids - half) (drop half ids), length-drop half ids, c.if-ids-le1.false), All-take P (length ids - half) (drop half ids) (All-drop P half ids c.requires))
 
 pub returns-clause-set : goal.returns-clause-set
 returns-clause-set t c =

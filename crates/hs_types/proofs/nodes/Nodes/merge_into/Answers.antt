@@ -54,3 +54,12 @@ compare-requires-clause-a c = member_within (length c.args.self.now.types) c.arg
 
 pub compare-requires-clause-b : goal.compare-requires-clause-b
 compare-requires-clause-b c = member_within (length c.args.self.now.types) c.args.ys.now c.loop-i.j c.index-ys-j.result c.requires.ys_range c.if-j-ys.true c.index-ys-j.is
+
+pub loop-i-smaller-in-Less : goal.loop-i-smaller-in-Less
+loop-i-smaller-in-Less c = omega (arith, c.loop-i-test.true)
+
+pub loop-i-smaller-in-Equal : goal.loop-i-smaller-in-Equal
+loop-i-smaller-in-Equal c = omega (arith, c.loop-i-test.true, c.if-j-ys.true)
+
+pub loop-i-smaller : goal.loop-i-smaller
+loop-i-smaller c = omega (arith, c.if-j-ys.true)

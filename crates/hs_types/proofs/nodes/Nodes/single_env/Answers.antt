@@ -1,5 +1,6 @@
-use Rattle.std.proofs.Common.{◌≡◌, ap, ◌∙◌, Some, ◌∷◌, [], map, replicate, slice_get, slice_set, length, arith}
+use Rattle.std.proofs.Common.{◌≡◌, ◌<◌, ℕ, ap, ◌∙◌, Some, ◌∷◌, [], map, replicate, slice_get, slice_set, length, arith}
 use Rattle.std.proofs.lemmas.List.{length-replicate}
+use Rattle.std.proofs.lemmas.List.Elements.{All-nil, All-cons}
 use Rattle.std.proofs.lemmas.Result.{IfOk-weaker}
 use Rattle.hs_table.specs.Entries.{Env}
 use Rattle.hs_table_laws.proofs.Sets.{no_set, one_set}
@@ -45,3 +46,9 @@ returns-clause-grows c =
     let J = c.latest_set.new.self in
     let K = c.latest_set-2.new.self in
     Grows-trans c.args.self.now K c.latest_env.new.self (Grows-trans c.args.self.now J K c.latest_set.ensures.grows c.latest_set-2.ensures.grows) c.latest_env.ensures.grows
+
+pub latest_set-requires-clause-range : goal.latest_set-requires-clause-range
+latest_set-requires-clause-range c = let P : ℕ → Type 0 = λ t. t < length c.args.self.now.types in All-cons P c.args.ty [] c.requires.ty (All-nil P)
+
+pub latest_set-requires-2-clause-range : goal.latest_set-requires-2-clause-range
+latest_set-requires-2-clause-range c = All-nil (λ t. t < length c.latest_set.new.self.types)

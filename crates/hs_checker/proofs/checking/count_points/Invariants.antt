@@ -3,7 +3,7 @@ use Rattle.std.proofs.Common.{◌<◌, Contains}
 use Rattle.hs_table.specs.Entries.{EntryData}
 use Rattle.hs_table.specs.Follows.{Follows}
 use Rattle.hs_checker.proofs.CountLemmas.{CountedBelow}
-use Rattle.hs_checker.proofs.checking.count_closed.Given as goal
+use Rattle.hs_checker.proofs.checking.count_points.Given as goal
 
 abbrev pub invariant-loop-point : goal.invariant-loop-point
 invariant-loop-point l = record {
