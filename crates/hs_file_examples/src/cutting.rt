@@ -1,5 +1,6 @@
 //! Replacement, cuts and what an automaton reads of them, by the plain programs.
 
+use crate::seeing::see;
 use hs_fixtures::{name_of, unsorted_of};
 use hs_scheme::{
     Automaton, Head, Name, OutOfMemory, Term, Unsorted, ValueTree, accepts_cut, cut, run,
@@ -56,7 +57,7 @@ fn see_cut(
     expected: &str,
 ) -> Result<(), Fail> {
     let text = cut_of(alloc, rules, head, n)?;
-    assert_eq!(rt; text.as_str(), expected, "{rules} {n}");
+    see(rt, (n, text.as_str()), (n, expected), rules);
     Ok(())
 }
 
@@ -82,7 +83,7 @@ fn see_accepted(
     expected: bool,
 ) -> Result<(), Fail> {
     let accepted = is_accepted(alloc, rules, n)?;
-    assert_eq!(rt; accepted, expected, "{rules} {n}");
+    see(rt, (n, accepted), (n, expected), rules);
     Ok(())
 }
 
@@ -157,7 +158,7 @@ fn arguments_of_a_parameter_come_behind_those_of_its_term(rt: HostRuntime) -> Re
     let unsorted = unsorted_of(rt.alloc(), rules, "q0 a -> q0.")?;
     let text = replaced(rt.alloc(), &unsorted);
     forget(unsorted);
-    assert_eq!(rt; text?.as_str(), "a(b()c()a(b()b()))");
+    see(&rt, text?.as_str(), "a(b()c()a(b()b()))", rules);
     Ok(())
 }
 
@@ -172,9 +173,9 @@ const NEXT: [(u32, u32, Option<&[u32]>); 4] = [
 
 /// Looks at its transitions.
 fn see_transitions(rt: &impl Abort, automaton: &Automaton) {
-    assert_eq!(rt; automaton.states(), 2);
+    see(rt, automaton.states(), 2, "states");
     for (state, terminal, expected) in &NEXT {
-        assert_eq!(rt; automaton.next(*state, *terminal), *expected);
+        see(rt, automaton.next(*state, *terminal), *expected, "next");
     }
 }
 
@@ -188,15 +189,30 @@ const READINGS: [(u32, usize, u32, &[u32]); 3] = [
 /// Looks at the states in which children are read.
 fn see_readings(rt: &impl Abort, automaton: &Automaton) {
     for (terminal, child, state, expected) in &READINGS {
-        assert_eq!(rt; automaton.reading(*terminal, *child, *state), *expected);
+        see(
+            rt,
+            automaton.reading(*terminal, *child, *state),
+            *expected,
+            "reading",
+        );
     }
 }
 
 /// Looks at the places of its transitions.
 fn see_places(rt: &impl Abort, automaton: &Automaton) {
-    assert_eq!(rt; automaton.transitions().len(), 2);
-    assert_eq!(rt; automaton.with_terminal(3), [0, 1].as_slice());
-    assert_eq!(rt; automaton.with_terminal(0).len(), 0);
+    see(rt, automaton.transitions().len(), 2, "transitions");
+    see(
+        rt,
+        automaton.with_terminal(3),
+        [0, 1].as_slice(),
+        "with terminal 3",
+    );
+    see(
+        rt,
+        automaton.with_terminal(0),
+        [].as_slice(),
+        "with terminal 0",
+    );
 }
 
 /// Looks at all of these.
@@ -218,7 +234,7 @@ fn see_automaton(rt: &impl Abort, alloc: Global, automaton: &Automaton) -> Resul
     };
     let accepted = run(automaton, 2, &tree);
     forget(tree);
-    assert!(rt; !accepted);
+    see(rt, accepted, false, "a state without a transition");
     Ok(())
 }
 
@@ -235,7 +251,7 @@ fn transitions_by_state_by_terminal_and_by_child(rt: HostRuntime) -> Result<(), 
 /// Looks at the name of these bytes.
 fn see_name(rt: &impl Abort, alloc: Global, bytes: &[u8]) -> Result<(), Fail> {
     let name = Name::of(alloc, bytes)?;
-    assert_eq!(rt; name.bytes(), bytes);
+    see(rt, name.bytes(), bytes, "bytes");
     Ok(())
 }
 

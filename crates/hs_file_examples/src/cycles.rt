@@ -1,5 +1,6 @@
 //! Generated files, byte for byte for the shortest cycles, and the number of lines of the longest.
 
+use crate::seeing::see;
 use hs_gen::{MAX_CYCLE, cycle_file};
 use std::mem::forget;
 use std::process::Abort;
@@ -7,7 +8,7 @@ use std::test::Fail;
 
 /// Looks at a file.
 fn see_file(rt: &impl Abort, file: &[u8], expected: &[u8]) {
-    assert_eq!(rt; file, expected);
+    see(rt, file, expected, "the file");
 }
 
 #[test]
@@ -43,11 +44,11 @@ fn lines_of(bytes: &[u8]) -> u32 {
 #[test]
 fn lines_of_the_longest_cycle(rt: HostRuntime) -> Result<(), Fail> {
     let bytes = cycle_file(rt.alloc(), MAX_CYCLE)?;
-    assert_eq!(rt; lines_of(bytes.as_slice()), 905);
-    assert!(rt;
-        bytes
-            .as_slice()
-            .ends_with(b"s299 br -> s299 s299.\ns299 a -> s0.\n%ENDA\n")
-    );
+    see(&rt, lines_of(bytes.as_slice()), 905, "lines");
+    let ends = bytes
+        .as_slice()
+        .ends_with(b"s299 br -> s299 s299.\ns299 a -> s0.\n%ENDA\n");
+    forget(bytes);
+    see(&rt, ends, true, "the end");
     Ok(())
 }

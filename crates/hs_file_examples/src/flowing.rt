@@ -1,5 +1,6 @@
 //! The flow of small schemes, and the dependents of their points.
 
+use crate::seeing::see;
 use hs_fixtures::{problem_of, sorted_of};
 use hs_flow::{Dependents, FlowFault, analyse};
 use hs_scheme::{FlowPair, FlowTable, OutOfMemory, Points, Problem, Scheme};
@@ -72,29 +73,29 @@ const FLOWS: [(&str, u32, &str); 5] = [
 fn flow_up_to_a_number_of_pairs(rt: HostRuntime) -> Result<(), Fail> {
     for (rules, max, expected) in &FLOWS {
         let text = analysed(rt.alloc(), rules, *max)?;
-        assert_eq!(rt; text.as_str(), *expected, "{rules} {max}");
+        see(&rt, (*max, text.as_str()), (*max, *expected), rules);
     }
     Ok(())
 }
 
 /// Looks at the pairs of a partial application.
 fn see_pairs(rt: &impl Abort, flow: &FlowTable) {
-    assert!(rt; flow.holds(2, 1, 5));
-    assert!(rt; !flow.holds(2, 1, 2));
+    let held = (flow.holds(2, 1, 5), flow.holds(2, 1, 2));
+    see(rt, held, (true, false), "holds");
     let pair = FlowPair {
         rule: 2,
         param: 0,
         point: 2,
     };
-    assert_eq!(rt; flow.flow_of(2, 0), [pair].as_slice());
-    assert_eq!(rt; flow.flow_of(0, 0).len(), 0);
+    see(rt, flow.flow_of(2, 0), [pair].as_slice(), "one pair");
+    see(rt, flow.flow_of(0, 0), [].as_slice(), "no pair");
 }
 
 /// Looks at a problem whose scheme has no parameter.
 fn see_no_pairs(rt: &impl Abort, none: &Problem) {
-    assert_eq!(rt; none.points.params().count(), 0);
-    assert_eq!(rt; none.flow.flow_of(0, 0).len(), 0);
-    assert!(rt; !none.flow.holds(0, 0, 0));
+    see(rt, none.points.params().count(), 0, "parameters");
+    see(rt, none.flow.flow_of(0, 0), [].as_slice(), "no pair");
+    see(rt, none.flow.holds(0, 0, 0), false, "holds");
 }
 
 #[test]
@@ -112,9 +113,9 @@ fn pairs_of_a_parameter(rt: HostRuntime) -> Result<(), Fail> {
 fn see_dependents(rt: &impl Abort, alloc: Global, problem: &Problem) -> Result<(), OutOfMemory> {
     assert_eq!(rt; problem.points.count(), 8);
     let dependents = Dependents::of(alloc, problem)?;
-    assert_eq!(rt; dependents.list(0).len(), 0);
-    assert_eq!(rt; dependents.list(2), [0, 5].as_slice());
-    assert_eq!(rt; dependents.list(6), [3, 5, 7].as_slice());
+    see(rt, dependents.list(0), [].as_slice(), "of 0");
+    see(rt, dependents.list(2), [0, 5].as_slice(), "of 2");
+    see(rt, dependents.list(6), [3, 5, 7].as_slice(), "of 6");
     forget(dependents);
     Ok(())
 }
@@ -129,14 +130,17 @@ fn dependents_of_a_branching_scheme(rt: HostRuntime) -> Result<(), Fail> {
     Ok(())
 }
 
+/// Faults and their texts.
+const FAULTS: [(FlowFault, &str); 2] = [
+    (FlowFault::FlowLimit, "too many flow pairs"),
+    (FlowFault::OutOfMemory, "out of memory"),
+];
+
 #[test]
 fn faults_are_printed(rt: HostRuntime) -> Result<(), Fail> {
-    let rows = [
-        (FlowFault::FlowLimit, "too many flow pairs"),
-        (FlowFault::OutOfMemory, "out of memory"),
-    ];
-    for (fault, expected) in rows {
-        assert_eq!(rt; format!(in rt.alloc(); "{fault}")?.as_str(), expected);
+    for (fault, expected) in &FAULTS {
+        let text = format!(in rt.alloc(); "{fault}")?;
+        see(&rt, text.as_str(), *expected, "a fault");
     }
     Ok(())
 }

@@ -1,5 +1,6 @@
 //! The system's files and standard streams.
 
+use crate::seeing::see;
 use hs_edge::{Failed, FileSource, ReadAll, Source, StdSink, read_all, write_all};
 use std::alloc::Global;
 use std::fs;
@@ -8,19 +9,19 @@ use std::test::Fail;
 
 /// Looks at a start under this name.
 fn see_start(rt: &impl Abort, source: &mut FileSource, name: &str, expected: Result<(), Failed>) {
-    assert_eq!(rt; source.start(name), expected, "{name}");
+    see(rt, source.start(name), expected, name);
 }
 
 /// Looks at a read of at most two bytes.
 fn see_read(rt: &impl Abort, source: &mut FileSource, expected: Result<usize, Failed>, note: &str) {
     let mut buf = [0; 2];
-    assert_eq!(rt; source.read(&mut buf), expected, "{note}");
+    see(rt, source.read(&mut buf), expected, note);
 }
 
 /// Looks at the rest of the file.
 fn see_rest(rt: &impl Abort, alloc: Global, source: &mut FileSource) -> Result<(), Fail> {
     let rest = read_all(alloc, source, 1_000)?;
-    assert_eq!(rt; rest.as_slice(), b"c\n".as_slice());
+    see(rt, rest.as_slice(), b"c\n".as_slice(), "the rest");
     Ok(())
 }
 
@@ -33,7 +34,7 @@ fn see_refused(
     expected: ReadAll,
 ) {
     let refused = read_all(alloc, source, limit).err();
-    assert_eq!(rt; refused, Some(expected));
+    see(rt, refused, Some(expected), "refused");
 }
 
 /// Looks at the file.

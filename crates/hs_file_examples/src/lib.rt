@@ -18,6 +18,8 @@ mod pointing;
 #[cfg(test)]
 mod reducing;
 #[cfg(test)]
+mod seeing;
+#[cfg(test)]
 mod sinks;
 #[cfg(test)]
 mod sorting;

@@ -2,6 +2,7 @@
 
 ghost use Rattle.std.specs.Prelude.{◌≡◌, All, IfOk};
 
+use crate::seeing::see;
 use hs_fixtures::{name_of, sorted_of};
 use hs_passes::{DropUnreachable, DropUnused, FoldAliases, Pass, add, simplify};
 use hs_scheme::{Head, Names, OutOfMemory, Sorted, Term};
@@ -238,7 +239,7 @@ const EACH: [(Which, &str, &str); 8] = [
 fn each_pass_by_itself(rt: HostRuntime) -> Result<(), Fail> {
     for (which, rules, expected) in &EACH {
         let text = simplified(rt.alloc(), *which, rules)?;
-        assert_eq!(rt; text.as_str(), *expected, "{rules}");
+        see(&rt, text.as_str(), *expected, rules);
     }
     Ok(())
 }
@@ -264,7 +265,7 @@ const TOGETHER: [(Which, &str, &str); 3] = [
 fn passes_are_applied_in_their_order(rt: HostRuntime) -> Result<(), Fail> {
     for (which, rules, expected) in &TOGETHER {
         let text = simplified(rt.alloc(), *which, rules)?;
-        assert_eq!(rt; text.as_str(), *expected, "{rules}");
+        see(&rt, text.as_str(), *expected, rules);
     }
     Ok(())
 }

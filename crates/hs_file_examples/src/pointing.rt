@@ -1,5 +1,8 @@
 //! The points of a scheme in preorder, and its parameters.
 
+ghost use Rattle.std.specs.Prelude.{◌≡◌, length};
+
+use crate::seeing::see;
 use hs_fixtures::{problem_of, unsorted_of};
 use hs_scheme::{Argument, Head, OutOfMemory, Points, PointsFault, Rule, Unsorted, scheme_of};
 use std::alloc::Global;
@@ -8,8 +11,9 @@ use std::process::Abort;
 use std::test::Fail;
 
 /// Looks at the points of the branching scheme. Its terminals are c, br, a and b.
-fn see_points(rt: &impl Abort, points: &Points) {
-    assert_eq!(rt; points.count(), 8);
+fn see_points(rt: &impl Abort, points: &Points)
+    requires { length points.now.points ≡ 8 }
+{
     assert_eq!(rt; points.params().rules(), 2);
     let numbers = [
         points.body_of(0),
@@ -17,50 +21,58 @@ fn see_points(rt: &impl Abort, points: &Points) {
         points.rule_of(1),
         points.rule_of(7),
     ];
-    assert_eq!(rt; numbers.as_slice(), [0, 2, 0, 1].as_slice());
+    see(
+        rt,
+        numbers.as_slice(),
+        [0, 2, 0, 1].as_slice(),
+        "bodies and rules",
+    );
 }
 
 /// Looks at their arguments.
-fn see_args(rt: &impl Abort, points: &Points) {
-    assert_eq!(rt; points.count(), 8);
-    let rows: [(&[u32], &[u32]); 4] = [
-        (points.args_of(0), &[1]),
-        (points.args_of(2), &[3, 4]),
-        (points.args_of(4), &[5]),
-        (points.args_of(7), &[]),
-    ];
-    for (found, expected) in rows {
-        assert_eq!(rt; found, expected);
-    }
+fn see_args(rt: &impl Abort, points: &Points)
+    requires { length points.now.points ≡ 8 }
+{
+    see(rt, points.args_of(0), [1].as_slice(), "of 0");
+    see(rt, points.args_of(2), [3, 4].as_slice(), "of 2");
+    see(rt, points.args_of(4), [5].as_slice(), "of 4");
+    see(rt, points.args_of(7), [].as_slice(), "of 7");
 }
 
 /// Looks at their heads, and at the parameters.
-fn see_heads(rt: &impl Abort, points: &Points) {
-    assert_eq!(rt; points.count(), 8);
-    assert!(rt; points.head_of(5) == Head::Nt(1));
-    assert!(rt; points.head_of(6) == Head::Tm(3));
-    assert_eq!(rt; points.params().number(1, 0), Some(0));
-    assert_eq!(rt; points.params().number(0, 0), None);
+fn see_heads(rt: &impl Abort, points: &Points)
+    requires { length points.now.points ≡ 8 }
+{
+    see(rt, points.head_of(5), Head::Nt(1), "of 5");
+    see(rt, points.head_of(6), Head::Tm(3), "of 6");
+    let params = points.params();
+    let numbers = [params.number(1, 0), params.number(0, 0)];
+    see(rt, numbers, [Some(0), None], "parameters");
 }
 
 /// Looks at whose arguments they are.
-fn see_arguments(rt: &impl Abort, points: &Points) {
+fn see_arguments(rt: &impl Abort, points: &Points)
+    requires { length points.now.points ≡ 8 }
+{
+    see(rt, points.argument_of(2), None, "of 2");
+    let second = Argument { point: 2, place: 1 };
+    see(rt, points.argument_of(4), Some(second), "of 4");
+}
+
+/// Looks at all of these.
+fn see_all(rt: &impl Abort, points: &Points) {
     assert_eq!(rt; points.count(), 8);
-    assert_eq!(rt; points.argument_of(2), None);
-    assert_eq!(rt;
-        points.argument_of(4),
-        Some(Argument { point: 2, place: 1 })
-    );
+    see_points(rt, points);
+    see_args(rt, points);
+    see_heads(rt, points);
+    see_arguments(rt, points);
 }
 
 #[test]
 fn points_in_preorder(rt: HostRuntime) -> Result<(), Fail> {
     let rules = "S -> F c. F x -> br x (a (F (b x))).";
     let problem = problem_of(rt.alloc(), rules, "q0 c -> .")?;
-    see_points(&rt, &problem.points);
-    see_args(&rt, &problem.points);
-    see_heads(&rt, &problem.points);
-    see_arguments(&rt, &problem.points);
+    see_all(&rt, &problem.points);
     forget(problem);
     Ok(())
 }
@@ -91,24 +103,28 @@ fn rules_of_a_file(alloc: Global) -> Result<Vec<Rule>, Fail> {
     Ok(rules)
 }
 
+/// Looks at whether the rules of a small file are those of a scheme with terminals of these ranks.
+fn see_ranks(rt: &impl Abort, alloc: Global, ranks: &[u32], expected: bool) -> Result<(), Fail> {
+    let rules = rules_of_a_file(alloc)?;
+    let found = are_of_a_scheme(alloc, rules, ranks)?;
+    see(rt, found, expected, "a rule");
+    Ok(())
+}
+
 #[test]
 fn rules_that_are_no_scheme(rt: HostRuntime) -> Result<(), Fail> {
     let alloc = rt.alloc();
     let of_none = are_of_a_scheme(alloc, Vec::new(alloc), &[])?;
-    assert!(rt; !of_none);
-    let rows: [(&[u32], bool); 2] = [(&[], false), (&[0], true)];
-    for (ranks, expected) in rows {
-        let rules = rules_of_a_file(alloc)?;
-        assert_eq!(rt; are_of_a_scheme(alloc, rules, ranks)?, expected);
-    }
-    Ok(())
+    see(&rt, of_none, false, "no rule");
+    see_ranks(&rt, alloc, &[], false)?;
+    see_ranks(&rt, alloc, &[0], true)
 }
 
 /// Looks at the text of a refusal of memory.
 fn see_refused(rt: &impl Abort, alloc: Global) -> Result<(), Fail> {
     let refused = OutOfMemory;
     let text = format!(in alloc; "{refused}")?;
-    assert_eq!(rt; text.as_str(), "out of memory");
+    see(rt, text.as_str(), "out of memory", "a fault");
     Ok(())
 }
 
@@ -122,7 +138,7 @@ const FAULTS: [(PointsFault, &str); 2] = [
 fn faults_are_printed(rt: HostRuntime) -> Result<(), Fail> {
     for (fault, expected) in &FAULTS {
         let text = format!(in rt.alloc(); "{fault}")?;
-        assert_eq!(rt; text.as_str(), *expected);
+        see(&rt, text.as_str(), *expected, "a fault");
     }
     see_refused(&rt, rt.alloc())
 }

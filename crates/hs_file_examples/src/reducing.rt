@@ -1,5 +1,6 @@
 //! Reduction of small files, along paths and up to a number of steps, each worked out by hand.
 
+use crate::seeing::see;
 use hs_fixtures::{name_of, sorted_of};
 use hs_reduce::{Bounded, MAX_CUT, MAX_STEPS, Replay, bounded, replay};
 use hs_scheme::{OutOfMemory, Sorted};
@@ -121,7 +122,7 @@ fn see_replayed(
     expected: &str,
 ) -> Result<(), Fail> {
     let found = replayed(alloc, rules, transitions, path, steps)?;
-    assert_eq!(rt; found.as_str(), expected, "{steps}");
+    see(rt, (steps, found.as_str()), (steps, expected), rules);
     Ok(())
 }
 
@@ -135,7 +136,7 @@ fn see_searched(
     expected: &str,
 ) -> Result<(), Fail> {
     let found = searched(alloc, rules, transitions, n)?;
-    assert_eq!(rt; found.as_str(), expected, "{n}");
+    see(rt, (n, found.as_str()), (n, expected), rules);
     Ok(())
 }
 

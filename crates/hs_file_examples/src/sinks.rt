@@ -2,6 +2,7 @@
 
 ghost use Rattle.std.specs.Prelude.{◌-◌, ◌^◌};
 
+use crate::seeing::see;
 use hs_edge::{Failed, MemSink, Sink, WriteFault, Writing, write_all};
 use std::mem::{forget, size_of};
 use std::process::Abort;
@@ -20,9 +21,9 @@ const CALLS: [(&[u8], Result<usize, Failed>, &str); 5] = [
 /// Looks at such a sink.
 fn see_room(rt: &impl Abort, sink: &mut MemSink) {
     for (piece, expected, note) in &CALLS {
-        assert_eq!(rt; sink.write(piece), *expected, "{note}");
+        see(rt, sink.write(piece), *expected, note);
     }
-    assert_eq!(rt; sink.bytes(), b"accepte".as_slice());
+    see(rt, sink.bytes(), b"accepte".as_slice(), "bytes");
 }
 
 #[test]
@@ -40,8 +41,8 @@ fn see_written(
     expected: Result<(), WriteFault>,
     written: &[u8],
 ) {
-    assert_eq!(rt; write_all(sink, b"accepted\n"), expected);
-    assert_eq!(rt; sink.bytes(), written);
+    see(rt, write_all(sink, b"accepted\n"), expected, "write_all");
+    see(rt, sink.bytes(), written, "bytes");
 }
 
 #[test]
@@ -85,12 +86,17 @@ fn each_write_is_handed_all_that_is_not_taken_yet(rt: HostRuntime) {
         lengths: Vec::new(rt.alloc()),
         writing: Writing::new(),
     };
-    assert_eq!(rt; write_all(&mut sink, b"12345"), Ok(()));
-    assert_eq!(rt; sink.lengths.as_slice(), [5, 3, 1].as_slice());
+    see(&rt, write_all(&mut sink, b"12345"), Ok(()), "write_all");
+    see(
+        &rt,
+        sink.lengths.as_slice(),
+        [5, 3, 1].as_slice(),
+        "lengths",
+    );
     forget(sink);
 }
 
 #[test]
 fn the_record_takes_no_memory(rt: HostRuntime) {
-    assert_eq!(rt; size_of::<Writing>(), 0);
+    see(&rt, size_of::<Writing>(), 0, "size");
 }

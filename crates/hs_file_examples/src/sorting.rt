@@ -1,5 +1,6 @@
 //! What inference answers: sizes of sorts, lengthened rules, and the first fault.
 
+use crate::seeing::see;
 use hs_fixtures::{name_of, sorted_of, unsorted_of};
 use hs_scheme::{OutOfMemory, Sort, Sorted};
 use hs_sorts::{SortFault, infer};
@@ -48,7 +49,7 @@ const UNSORTED: [(&str, &str); 5] = [
 fn schemes_without_a_sorting(rt: HostRuntime) -> Result<(), Fail> {
     for (rules, expected) in &UNSORTED {
         let text = inferred(rt.alloc(), rules)?;
-        assert_eq!(rt; text.as_str(), *expected, "{rules}");
+        see(&rt, text.as_str(), *expected, rules);
     }
     Ok(())
 }
@@ -94,7 +95,7 @@ fn chain(alloc: Global, last: u32) -> Result<String, OutOfMemory> {
 /// Looks at the sizes of a small file.
 fn see_sizes(rt: &impl Abort, alloc: Global) -> Result<(), Fail> {
     let text = sizes(alloc, "S -> G b. G x -> c.")?;
-    assert_eq!(rt; text.as_str(), " 1 3");
+    see(rt, text.as_str(), " 1 3", "sizes");
     Ok(())
 }
 
@@ -110,8 +111,12 @@ fn sizes_of_a_chain(alloc: Global) -> Result<String, Fail> {
 fn sorts_have_their_least_sizes(rt: HostRuntime) -> Result<(), Fail> {
     see_sizes(&rt, rt.alloc())?;
     let text = sizes_of_a_chain(rt.alloc())?;
-    assert!(rt; text.starts_with(" 1 3 7 11 15"));
-    assert!(rt; text.ends_with(" 991 995 999"));
+    let ends = (
+        text.starts_with(" 1 3 7 11 15"),
+        text.ends_with(" 991 995 999"),
+    );
+    forget(text);
+    see(&rt, ends, (true, true), "the first and the last sizes");
     Ok(())
 }
 
@@ -140,14 +145,14 @@ fn parameters(alloc: Global, rules: &str) -> Result<String, Fail> {
 fn see_inferred(rt: &impl Abort, alloc: Global, short: &str, full: &str) -> Result<(), Fail> {
     let expected = inferred(alloc, full)?;
     let found = inferred(alloc, short)?;
-    assert_eq!(rt; found.as_str(), expected.as_str(), "{short}");
+    see(rt, found.as_str(), expected.as_str(), short);
     Ok(())
 }
 
 /// Looks at their parameters.
 fn see_parameters(rt: &impl Abort, alloc: Global, short: &str, names: &str) -> Result<(), Fail> {
     let found = parameters(alloc, short)?;
-    assert_eq!(rt; found.as_str(), names, "{short}");
+    see(rt, found.as_str(), names, short);
     Ok(())
 }
 
@@ -201,7 +206,7 @@ const FAULTS: [(SortFault, &str); 5] = [
 fn faults_are_printed(rt: HostRuntime) -> Result<(), Fail> {
     for (fault, expected) in &FAULTS {
         let text = format!(in rt.alloc(); "{fault}")?;
-        assert_eq!(rt; text.as_str(), *expected);
+        see(&rt, text.as_str(), *expected, "a fault");
     }
     Ok(())
 }

@@ -1,5 +1,6 @@
 //! Sources in memory, and one without an end, read to the end or up to a limit.
 
+use crate::seeing::see;
 use hs_edge::{Failed, MemSource, ReadAll, Reading, Source, read_all};
 use std::alloc::Global;
 use std::marker::Model;
@@ -20,7 +21,7 @@ fn see_start(
     expected: Result<(), Failed>,
     note: &str,
 ) {
-    assert_eq!(rt; source.start(name), expected, "{note}");
+    see(rt, source.start(name), expected, note);
 }
 
 /// Looks at a read of at most eight bytes, and at what it leaves in them.
@@ -32,8 +33,8 @@ fn see_read(
     note: &str,
 ) {
     let mut buf = [b'-'; 8];
-    assert_eq!(rt; source.read(&mut buf), expected, "{note}");
-    assert_eq!(rt; buf.as_slice(), left, "{note}");
+    see(rt, source.read(&mut buf), expected, note);
+    see(rt, buf.as_slice(), left, note);
 }
 
 /// Looks at a source whose first and fourth call fail.
@@ -44,7 +45,7 @@ fn see_calls(rt: &impl Abort, source: &mut MemSource) {
     see_read(rt, source, Err(Failed), b"--------", "the fourth call");
     see_read(rt, source, Ok(4), b"abcd----", "the first piece");
     let mut one = [b'-'];
-    assert_eq!(rt; source.read(&mut one), Ok(1));
+    see(rt, source.read(&mut one), Ok(1), "one byte");
     see_read(rt, source, Ok(1), b"f-------", "the last one");
     see_read(rt, source, Ok(0), b"--------", "the end");
     see_start(rt, source, "f", Ok(()), "anew");
@@ -76,9 +77,19 @@ fn read_of(alloc: Global, bytes: &[u8], step: usize, limit: usize) -> Result<Vec
 /// Looks at a whole read of 20,000 bytes, and at one with a lower limit.
 fn see_steps(rt: &impl Abort, alloc: Global, bytes: &[u8], step: usize) -> Result<(), Fail> {
     let refused = read_of(alloc, bytes, step, 19_999).err();
-    assert_eq!(rt; refused, Some(ReadAll::TooLong), "in steps of {step}");
+    see(
+        rt,
+        (step, refused),
+        (step, Some(ReadAll::TooLong)),
+        "a lower limit",
+    );
     let read = read_of(alloc, bytes, step, 20_000)?;
-    assert!(rt; read.as_slice() == bytes, "in steps of {step}");
+    see(
+        rt,
+        (step, read.as_slice() == bytes),
+        (step, true),
+        "all bytes",
+    );
     Ok(())
 }
 
@@ -95,9 +106,9 @@ fn all_is_read_within_the_limit(rt: HostRuntime) -> Result<(), Fail> {
 fn see_fault(rt: &impl Abort, alloc: Global, source: &mut MemSource) -> Result<(), Fail> {
     source.start("f")?;
     let refused = read_all(alloc, source, 1_000).err();
-    assert_eq!(rt; refused, Some(ReadAll::ReadFault));
+    see(rt, refused, Some(ReadAll::ReadFault), "the third call");
     let rest = read_all(alloc, source, 1_000)?;
-    assert_eq!(rt; rest.as_slice(), b"ef".as_slice());
+    see(rt, rest.as_slice(), b"ef".as_slice(), "the rest");
     Ok(())
 }
 
@@ -157,12 +168,12 @@ fn a_source_without_an_end_is_too_long(rt: HostRuntime) {
         begun: false,
         reading: Reading::new(),
     };
-    assert_eq!(rt; source.start("f"), Ok(()));
+    see(&rt, source.start("f"), Ok(()), "start");
     let refused = read_all(rt.alloc(), &mut source, 100).err();
-    assert_eq!(rt; refused, Some(ReadAll::TooLong));
+    see(&rt, refused, Some(ReadAll::TooLong), "read_all");
 }
 
 #[test]
 fn the_record_takes_no_memory(rt: HostRuntime) {
-    assert_eq!(rt; size_of::<Reading>(), 0);
+    see(&rt, size_of::<Reading>(), 0, "size");
 }
