@@ -111,10 +111,10 @@ fn end_of(core: &Core) -> End
     if core.past().is_some() {
         return End::Over;
     }
-    if core.quiet() {
-        return End::Least;
+    if !core.quiet() {
+        return End::Unfinished;
     }
-    End::Unfinished
+    End::Least
 }
 
 /// The answer that the core of the workers gives, or that memory was refused where works are left.

@@ -21,3 +21,15 @@ returns-clause-found c =
     (subst (λ xs. slice_get xs c.args.place ≡ Some at) (sym c.form_at.ensures.log) c.row.ensures.entry)
     c.requires.dependents (sym (ap (λ o. unwrap_or o []) c.list-points.ensures)) are)
     c.form_at.ensures.found
+
+pub form_at-requires-clause-place : goal.form_at-requires-clause-place
+form_at-requires-clause-place c = c.requires.place
+
+pub form_at-requires-clause-shape : goal.form_at-requires-clause-shape
+form_at-requires-clause-shape c = c.requires.shape
+
+pub returns-clause-log : goal.returns-clause-log
+returns-clause-log c = c.form_at.ensures.log
+
+pub returns-clause-grows : goal.returns-clause-grows
+returns-clause-grows c = c.form_at.ensures.grows

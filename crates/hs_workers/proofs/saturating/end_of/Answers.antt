@@ -13,7 +13,10 @@ pub returns-then-is_some : goal.returns-then-is_some
 returns-then-is_some c = over_answer c.args.core.now c.is_core.ensures.legal (λ place found. c.in_default.not-Some place ((c.found.ensures place).1 found))
     (subst (λ k. IsSome k) (sym c.past.ensures.kept) (mapped_some (deduction_of c.args.core.now.ids) c.past.result (sym c.if-is_some.ensures)))
 
-pub returns-then-quiet : goal.returns-then-quiet
-returns-then-quiet c =
-    let rest = c.quiet.ensures.0 c.if-quiet.true in
+pub returns-then-not-quiet : goal.returns-then-not-quiet
+returns-then-not-quiet c = tt
+
+pub returns : goal.returns
+returns c =
+    let rest = c.quiet.ensures.0 c.if-not-quiet.false in
     least_answer c.args.core.now c.is_core.ensures.legal (λ place found. c.in_default.not-Some place ((c.found.ensures place).1 found)) (λ none on. rest) rest.kept

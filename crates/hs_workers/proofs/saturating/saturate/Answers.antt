@@ -24,3 +24,24 @@ returns-clause-verdict g c =
     verdict_of c.args.problem.now core (ap (λ (b : Base). b.problem) same)
     (λ least. c.least_tables_decide.ensures c.args.problem.now (log_of core) c.is_sorted_problem.ensures closed least) done h)
     c.answer.ensures
+
+pub new-requires-clause-least : goal.new-requires-clause-least
+new-requires-clause-least g c = c.requires.least
+
+pub new-requires-clause-greatest : goal.new-requires-clause-greatest
+new-requires-clause-greatest g c = c.requires.greatest
+
+pub work-requires-clause-some : goal.work-requires-clause-some
+work-requires-clause-some g c κs within = c.requires.some
+
+pub work-requires-clause-few : goal.work-requires-clause-few
+work-requires-clause-few g c κs within = c.requires.few
+
+pub work-requires-clause-dependents : goal.work-requires-clause-dependents
+work-requires-clause-dependents g c κs within = c.requires.dependents
+
+pub work-requires-clause-problem : goal.work-requires-clause-problem
+work-requires-clause-problem g c κs within = ap (λ (x : CoreData). x.base.problem) c.in_ok-core.ensures
+
+pub work-requires-clause-story : goal.work-requires-clause-story
+work-requires-clause-story g c κs within = ap (λ (x : CoreData). x.story) c.in_ok-core.ensures
