@@ -1,8 +1,8 @@
 -- What the answers of saturation say of a problem.
-use Rattle.std.proofs.Common.{◌≡◌, sym, ◌∙◌, ap, subst, ℕ, Bool, true, false, List, Option, Some, None}
+use Rattle.std.proofs.Common.{◌≡◌, sym, ◌∙◌, ap, subst, ℕ, Bool, true, false, List, Option, Some, None, IfNone}
 use Rattle.std.specs.Prelude.{if◌then◌else◌}
 use Rattle.hs_scheme.specs.declared.term.Rule.{Rule}
-use Rattle.std.specs.Option.{IsSome, IfSome}
+use Rattle.std.specs.Option.{IfSome}
 use Rattle.hs_scheme.specs.Problem.{ProblemData}
 use Rattle.hs_scheme.specs.Run.{Accepts}
 use Rattle.hs_scheme.proofs.Lists.{Contains-at}
@@ -28,9 +28,15 @@ pub either_way : (b : Bool) (P : List Rule → Type 0) (rules : List Rule) → P
 either_way true P rules h = h
 either_way false P rules h = h
 
-pub starts : (p : ProblemData) (log : List EntryData) (place : Option ℕ) → IsSome place → IfSome place (StartsAt p log) → HasStart p log
-starts p log None some h = absurd (cc)
-starts p log (Some place) some h = (h.entry, (h.is_start, Contains-at log place h.entry h.at))
+-- the start entry, where its place is known, or that there is none
+pub begins : (p q : ProblemData) (log : List EntryData) (place : Option ℕ) (n : ℕ) → p ≡ q → place ≡ Some n → IfSome place (StartsAt q log) → HasStart p log
+begins p q log place n same is h =
+    let there = subst (λ (o : Option ℕ). IfSome o (StartsAt q log)) is h in
+    subst (λ (x : ProblemData). HasStart x log) (sym same) (there.entry, (there.is_start, Contains-at log n there.entry there.at))
+
+pub lacks_start : (p q : ProblemData) (log : List EntryData) (place : Option ℕ) → p ≡ q → place ≡ None → IfNone place (HasStart q log → ⊥) → HasStart p log → ⊥
+lacks_start p q log place same is h start =
+    let none = subst (λ (o : Option ℕ). IfNone o (HasStart q log → ⊥)) is h in none (subst (λ (x : ProblemData). HasStart x log) same start)
 
 module _ (p : ProblemData) (settings : Settings) (core : CoreData) (is : IsCore core) (sorted : IsSortedProblem p) (shared : IsShared (base_of p settings) settings.workers core) where
   abbrev log : List EntryData
