@@ -17,8 +17,8 @@ use std::mem::forget;
 /// The most entries of a table; further ones are left out.
 const MOST_ENTRIES: u32 = 1_000_000;
 
-/// Adds those of the entries that the log lacks.
-fn add_new(problem: &Problem, replica: &mut Replica, found: &[Deduced]) -> Result<(), OutOfMemory>
+/// Adds those of the entries that the log lacks, and answers how many all are.
+fn add_new(problem: &Problem, replica: &mut Replica, found: &[Deduced]) -> Result<u64, OutOfMemory>
     requires shape { All (InShape problem.now) replica.old.log }
     requires found { All (IsShaped problem.now replica.old.ids) found.now }
     ensures shape { OnOk result (All (InShape problem.now) replica.new.log) }
@@ -30,7 +30,7 @@ fn add_new(problem: &Problem, replica: &mut Replica, found: &[Deduced]) -> Resul
             replica.add(deduced.row);
         }
     }
-    Ok(())
+    Ok(found.len() as u64)
 }
 
 /// Adds what follows at the point from no entry, and answers how many conclusions these were.
@@ -46,8 +46,9 @@ fn add_seed(
 {
     let found = seed_conclusions(alloc, problem, replica, point)?;
     deduced_entries_are_in_shape(problem, replica, found.as_slice());
-    add_new(problem, replica, found.as_slice())?;
-    Ok(found.len() as u64)
+    let count = add_new(problem, replica, found.as_slice());
+    drop(found);
+    count
 }
 
 /// Adds what follows at the point with the entry at this place, and answers how many conclusions
@@ -67,8 +68,9 @@ fn add_at(
 {
     let found = conclusions_with(alloc, problem, replica, point, place)?;
     deduced_entries_are_in_shape(problem, replica, found.as_slice());
-    add_new(problem, replica, found.as_slice())?;
-    Ok(found.len() as u64)
+    let count = add_new(problem, replica, found.as_slice());
+    drop(found);
+    count
 }
 
 /// Adds what follows with the entry at this place, and answers how many conclusions these were.

@@ -36,18 +36,28 @@ enum Part {
     Turn,
 }
 
+/// What this word says.
+fn part_named(word: &str) -> Option<Part> {
+    match word {
+        "flow" => Some(Part::Flow),
+        "core" => Some(Part::Core),
+        "turn" => Some(Part::Turn),
+        _ => None,
+    }
+}
+
 /// What the word behind the program's name says.
-fn part_of(alloc: Global, words: io::Result<Args>) -> Option<Part> {
-    let words = words.ok()?.collect::<Vec<String>>(alloc).ok()?;
+fn part_behind(words: &[String]) -> Option<Part> {
     match words.get(1) {
         None => Some(Part::Loop),
-        Some(word) => match word.as_str() {
-            "flow" => Some(Part::Flow),
-            "core" => Some(Part::Core),
-            "turn" => Some(Part::Turn),
-            _ => None,
-        },
+        Some(word) => part_named(word.as_str()),
     }
+}
+
+/// What the command line says.
+fn part_of(alloc: Global, words: io::Result<Args>) -> Option<Part> {
+    let words = words.ok()?.collect::<Vec<String>>(alloc).ok()?;
+    part_behind(words.as_slice())
 }
 
 /// The line of the core's table.
@@ -95,10 +105,12 @@ fn loop_line(
 /// The line of the problem's table.
 fn table_line(alloc: Global, problem: &Problem, part: Part) -> Result<String, OutOfMemory> {
     let dependents = Dependents::of(alloc, problem)?;
-    match part {
+    let line = match part {
         Part::Core => core_line(alloc, problem, &dependents),
         _ => loop_line(alloc, problem, &dependents),
-    }
+    };
+    drop(dependents);
+    line
 }
 
 /// The lines of the problem.
@@ -115,7 +127,11 @@ fn lines_with(alloc: Global, problem: &Problem, part: Part) -> Result<String, Ou
 /// The lines that are printed, or `None` where there is no problem or not enough memory.
 fn lines_of(alloc: Global, source: &mut FileSource, part: Part) -> Option<String> {
     match problem_of(alloc, source) {
-        Ok(problem) => lines_with(alloc, &problem, part).ok(),
+        Ok(problem) => {
+            let lines = lines_with(alloc, &problem, part);
+            drop(problem);
+            lines.ok()
+        }
         Err(Fault::TooManyPairs) => format!(in alloc; "more than {MOST_PAIRS} pairs\n").ok(),
         Err(Fault::NoScheme) => None,
     }

@@ -1,10 +1,12 @@
 //! The problem of a file on standard input.
 
+ghost use Rattle.std.specs.Prelude.{◌≤◌, length};
+
 use hs_edge::{FileSource, Source, read_all};
 use hs_flow::{FlowFault, analyse};
 use hs_reader::{MAX_BYTES, read_file};
-use hs_resolve::resolve;
-use hs_scheme::{Points, Problem, Sorted};
+use hs_resolve::resolve_owned;
+use hs_scheme::{Points, Problem, Sorted, Unsorted};
 use hs_sorts::infer;
 use std::alloc::Global;
 
@@ -18,6 +20,14 @@ pub(crate) enum Fault {
     TooManyPairs,
 }
 
+/// The scheme of a file, without sorts.
+fn unsorted_of(alloc: Global, bytes: &[u8]) -> Option<Unsorted>
+    requires { length bytes.now ≤ 16777216 }
+{
+    let raw = read_file(alloc, bytes).ok()?;
+    resolve_owned(alloc, raw).ok()
+}
+
 /// The scheme of the file on standard input.
 fn scheme_of(alloc: Global, source: &mut FileSource) -> Option<Sorted> {
     let Ok(()) = source.start("-") else {
@@ -26,15 +36,16 @@ fn scheme_of(alloc: Global, source: &mut FileSource) -> Option<Sorted> {
     let Ok(bytes) = read_all(alloc, source, MAX_BYTES) else {
         return None;
     };
-    let Ok(raw) = read_file(alloc, bytes.as_slice()) else {
-        return None;
-    };
-    let Ok(unsorted) = resolve(alloc, &raw) else {
-        return None;
-    };
-    match infer(alloc, unsorted) {
-        Ok(sorted) => Some(sorted),
-        Err(_) => None,
+    let unsorted = unsorted_of(alloc, bytes.as_slice());
+    drop(bytes);
+    infer(alloc, unsorted?).ok()
+}
+
+/// Why there is no flow.
+fn fault_of(fault: FlowFault) -> Fault {
+    match fault {
+        FlowFault::FlowLimit => Fault::TooManyPairs,
+        FlowFault::OutOfMemory => Fault::NoScheme,
     }
 }
 
@@ -44,11 +55,15 @@ pub(crate) fn problem_of(alloc: Global, source: &mut FileSource) -> Result<Probl
         return Err(Fault::NoScheme);
     };
     let Ok(points) = Points::of(alloc, &sorted.scheme) else {
+        drop(sorted);
         return Err(Fault::NoScheme);
     };
     match analyse(alloc, &sorted.scheme, &points, MOST_PAIRS) {
         Ok(flow) => Ok(Problem::new(sorted, points, flow)),
-        Err(FlowFault::FlowLimit) => Err(Fault::TooManyPairs),
-        Err(FlowFault::OutOfMemory) => Err(Fault::NoScheme),
+        Err(fault) => {
+            drop(points);
+            drop(sorted);
+            Err(fault_of(fault))
+        }
     }
 }

@@ -97,6 +97,11 @@ fn four_turns<R: Threads + Wait + Sync>(
     );
 }
 
+/// How many nanoseconds passed since then.
+fn nanos_since<R: Clock>(rt: &R, start: io::Result<Instant>) -> io::Result<u128> {
+    Ok(start?.elapsed(rt)?.as_nanos())
+}
+
 /// What the turn costs.
 fn turn_cost<R: Threads + Wait + Clock + Sync>(
     rt: &R,
@@ -110,13 +115,17 @@ fn turn_cost<R: Threads + Wait + Clock + Sync>(
     let b = turn.split(&mut first);
     let c = turn.split(&mut first);
     let d = turn.split(&mut first);
-    let start = Instant::now(rt)?;
+    let start = Instant::now(rt);
     turns(rt, &turn, first, rounds);
-    let alone = start.elapsed(rt)?.as_nanos();
-    let start = Instant::now(rt)?;
+    let alone = nanos_since(rt, start);
+    let start = Instant::now(rt);
     four_turns(rt, &turn, a, b, c, d, rounds);
-    let among_four = start.elapsed(rt)?.as_nanos();
-    Ok(Some(Cost { alone, among_four }))
+    let among_four = nanos_since(rt, start);
+    drop(turn);
+    Ok(Some(Cost {
+        alone: alone?,
+        among_four: among_four?,
+    }))
 }
 
 /// Takes and leaves the lock this often.
@@ -134,17 +143,21 @@ fn two_locks<R: Threads + Wait + Sync>(rt: &R, lock: &Mutex<Idle>, rounds: u32) 
 /// What the `Mutex` costs.
 fn lock_cost<R: Threads + Wait + Clock + Sync>(rt: &R, rounds: u32) -> io::Result<Cost> {
     let lock = Mutex::new(Idle { number: 0 });
-    let start = Instant::now(rt)?;
+    let start = Instant::now(rt);
     locks(rt, &lock, rounds);
-    let alone = start.elapsed(rt)?.as_nanos();
-    let start = Instant::now(rt)?;
+    let alone = nanos_since(rt, start);
+    let start = Instant::now(rt);
     join(
         rt,
         || two_locks(rt, &lock, rounds),
         || two_locks(rt, &lock, rounds),
     );
-    let among_four = start.elapsed(rt)?.as_nanos();
-    Ok(Cost { alone, among_four })
+    let among_four = nanos_since(rt, start);
+    drop(lock);
+    Ok(Cost {
+        alone: alone?,
+        among_four: among_four?,
+    })
 }
 
 /// Prints a line of the table: nanoseconds for one taking and leaving.
@@ -157,17 +170,20 @@ fn show<R: Print>(rt: &R, name: &str, cost: &Cost, rounds: u32) -> io::Result<()
     println!(rt; "{name}: {alone} ns alone, {among_four} ns among four")
 }
 
+/// The number on standard input, 0 where there is none.
+fn rounds_of<R: Input>(rt: &R, alloc: Global) -> io::Result<u32> {
+    let mut line = String::new(alloc);
+    rt.read_line(&mut line)?;
+    Ok(line.trim().parse::<u32>().unwrap_or(0))
+}
+
 /// Prints the table, with as many rounds of each thread as the number on standard input says; without
 /// a number there, nothing is done.
 pub(crate) fn show_turn<R: Threads + Wait + Clock + Input + Print + Sync>(
     rt: &R,
     alloc: Global,
 ) -> io::Result<()> {
-    let mut line = String::new(alloc);
-    rt.read_line(&mut line)?;
-    let Ok(rounds) = line.trim().parse::<u32>() else {
-        return Ok(());
-    };
+    let rounds = rounds_of(rt, alloc)?;
     if rounds == 0 {
         return Ok(());
     }

@@ -1,8 +1,7 @@
 -- What points demand, pair by pair.
 use Rattle.std.proofs.Common.{◌≡◌, refl, sym, ◌∙◌, ap, subst, ℕ, ◌+◌, ◌<◌, ◌≤◌, Bool, ◌&&◌, nat_eq, filter, take, List, [], ◌∷◌, length, map, get_or, slice_get, Option, Some, None, MatchOption, arith, inl, inr, Contains, ◌↔◌, ◌⊎◌}
 use Rattle.std.proofs.Math.Nat.{eq-or-lt_of_le}
-use Rattle.std.specs.Ordering.{nat_cmp, ordering_index}
-use Rattle.std.specs.List.Sorted.{IsNonDecreasingBy}
+use Rattle.std.specs.Ordering.{nat_cmp}
 use Rattle.std.specs.declared.cmp.Ordering.TheVariants.{Less, Equal}
 use Rattle.std.proofs.lemmas.Bool.Decides.{nat_tests}
 use Rattle.std.proofs.lemmas.List.Elements.{Contains-append_left, Contains-append_right, Contains-append_cases, Contains-get_or}
@@ -33,15 +32,6 @@ use Rattle.hs_checker.specs.Order.{IsStartBy}
 use Rattle.hs_checker.specs.Gaps.{held, IsDemanded, IsOfKind}
 use Rattle.hs_checker.specs.PassedOn.{base_of, PassesArgument, PassesFlow, PassesHead, PassesBy, HoldsBy, LacksBy, DemandsAt}
 use Rattle.hs_checker.proofs.Between.{filter_passes}
-
-point_le : (t : ℕ) (a b : HeadPair) → head_cmp a b ≡ Less → ordering_index (nat_cmp a.point t) ≤ ordering_index (nat_cmp b.point t)
-point_le t a b h = grind (arith, nat_tests)
-
-pub points_rise : (heads : List HeadPair) (t : ℕ) → IsAscending head_cmp heads → IsNonDecreasingBy (λ (h : HeadPair). ordering_index (nat_cmp h.point t)) heads
-points_rise heads t up i j d le lt = elim (eq-or-lt_of_le le) [
-  | inl same ↦ let e : ordering_index (nat_cmp (get_or heads i d).point t) ≡ ordering_index (nat_cmp (get_or heads j d).point t) = ap (λ k. ordering_index (nat_cmp (get_or heads k d).point t)) same in omega arith
-  | inr less ↦ point_le t (get_or heads i d) (get_or heads j d) (up i j d less lt)
-]
 
 point_up : (a b : HeadPair) → head_cmp a b ≡ Less → a.point ≤ b.point
 point_up a b h = grind (arith, nat_tests)

@@ -1,13 +1,11 @@
 -- Where the entries of a point begin in an index, and its head pairs among all.
 use Rattle.std.proofs.Common.{◌≡◌, refl, sym, ◌∙◌, ap, subst, ℕ, ◌+◌, ◌-◌, ◌<◌, ◌≤◌, true, false, List, [], ◌∷◌, ◌++◌, length, map, take, drop, get_or, arith, inl, inr, Contains, ◌↔◌, Bor}
-use Rattle.std.specs.Cmp.{nat_cmp_is}
 use Rattle.std.specs.Ordering.{nat_cmp, is_lt, is_eq, ordering_index}
 use Rattle.std.specs.declared.cmp.Ordering.{Ordering}
-use Rattle.std.specs.declared.cmp.Ordering.TheVariants.{Equal, Greater}
+use Rattle.std.specs.declared.cmp.Ordering.TheVariants.{Equal}
 use Rattle.std.specs.List.Sorted.{IsPartitionPoint, IsPartitionedBy}
 use Rattle.std.proofs.Math.ListN.{get_or-append}
 use Rattle.std.proofs.Math.Seq.{get_or-append_seam}
-use Rattle.std.proofs.lemmas.Map.Keys.{ge_from_not_lt}
 use Rattle.std.proofs.lemmas.Bool.{cases_lt}
 use Rattle.std.proofs.lemmas.Bool.Decides.{nat_tests}
 use Rattle.std.proofs.lemmas.List.{get_or-take, get_or-drop, length-drop, length-take, length-append, drop-map, take-map, get_or_default}
@@ -18,15 +16,6 @@ use Rattle.hs_table.specs.Entries.{EntryData}
 use Rattle.hs_checker.specs.Order.{IsInIndexOrder, IsStartOfPoint, AreStartsOfPoints, IsStartBy, AreStartsBy, IsEmptyAt, index_cmp}
 use Rattle.hs_checker.proofs.IndexLemmas.{get_or-map, length-map, points_up}
 
-lt_from : (a b : ℕ) → is_lt (nat_cmp a b) ≡ true → a < b
-lt_from a b h = elim (cases_lt a b) [
-  | inl low ↦ low
-  | inr high ↦ elim (cases_lt b a) [
-    | inl more ↦ let e : Greater ≡ nat_cmp a b = nat_cmp_is a b Greater more in let f : false ≡ true = ap is_lt e ∙ h in absurd (cc)
-    | inr less ↦ let same : a ≡ b = omega arith in let e : Equal ≡ nat_cmp a b = nat_cmp_is a b Equal same in let f : false ≡ true = ap is_lt e ∙ h in absurd (cc)
-  ]
-]
-
 abbrev entries : List (Bor EntryData) → List EntryData
 entries rows = map (λ (r : Bor EntryData). r.now) rows
 
@@ -35,18 +24,6 @@ read_row : (rows : List (Bor EntryData)) (k : ℕ) (d : EntryData) (r : Bor Entr
 read_row rows k d r lt =
     let f : Bor EntryData → EntryData = λ x. x.now in
     get_or_default (entries rows) k d r.now (omega (arith, length-map f rows)) ∙ get_or-map f rows k r
-
-pub start_of : (rows : List (Bor EntryData)) (t n : ℕ) → IsPartitionPoint (λ (y : Bor EntryData). is_lt (nat_cmp y.now.point t) ≡ true) (λ (y : Bor EntryData). is_lt (nat_cmp y.now.point t) ≡ false) rows n → n ≤ length rows → IsStartOfPoint (entries rows) t n
-start_of [] t n point within = record { within = within; before = λ k d lt. absurd (omega arith); behind = λ k d le lt. absurd (omega arith) }
-start_of (r ∷ rs) t n point within =
-    let rows = r ∷ rs in
-    let f : Bor EntryData → EntryData = λ x. x.now in
-    let long = length-map f rows in
-    record {
-      within = omega (arith, long);
-      before = λ k d lt. subst (λ (e : EntryData). e.point < t) (sym (read_row rows k d r (omega arith))) (lt_from (get_or rows k r).now.point t (point.0 k r (omega arith) lt));
-      behind = λ k d le lt. subst (λ (e : EntryData). t ≤ e.point) (sym (read_row rows k d r (omega (arith, long)))) (ge_from_not_lt (get_or rows k r).now.point t (point.1 k r le (omega (arith, long))));
-    }
 
 not_below : (a b t : ℕ) → t ≤ a → ordering_index (nat_cmp a t) ≤ ordering_index (nat_cmp b t) → t ≤ b
 not_below a b t h le = grind (arith, nat_tests)
@@ -66,14 +43,6 @@ start_kept_rows (r ∷ rs) t n up within before next =
           let there : k < length rows = omega (arith, long) in
           subst (λ (e : EntryData). t ≤ e.point) (sym (read_row rows k d r there)) (not_below (get_or rows n r).now.point (get_or rows k r).now.point t (next r (omega arith)) (points_up rows up t n k r le there));
     }
-
--- items behind no references
-pub start_by : {X : Type 0} (at : X → ℕ) (xs : List X) (t n : ℕ) → IsPartitionPoint (λ (y : X). is_lt (nat_cmp (at y) t) ≡ true) (λ (y : X). is_lt (nat_cmp (at y) t) ≡ false) xs n → n ≤ length xs → IsStartBy at xs t n
-start_by at xs t n point within = record {
-  within = within;
-  before = λ k d lt. lt_from (at (get_or xs k d)) t (point.0 k d (omega arith) lt);
-  behind = λ k d le lt. ge_from_not_lt (at (get_or xs k d)) t (point.1 k d le lt);
-}
 
 module _ {X : Type 0} (at : X → ℕ) where
   -- a start for one point more

@@ -1,6 +1,6 @@
 //! The head pairs of a flow by their points.
 
-ghost use Rattle.std.specs.Prelude.{◌≡◌, ◌↔◌, ◌⊎◌, ◌+◌, ◌<◌, ◌≤◌, ℕ, Contains, IfOk, IsTrue, MatchOption, length, slice_index_or};
+ghost use Rattle.std.specs.Prelude.{◌≡◌, ◌↔◌, ◌⊎◌, ◌+◌, ◌<◌, ◌≤◌, ℕ, false, Contains, IfOk, IsTrue, MatchOption, length, slice_index_or};
 ghost use Rattle.hs_scheme.specs.declared.flow.FlowPair.{FlowPair as AnyFlow};
 ghost use Rattle.hs_scheme.specs.declared.flow.HeadPair.{HeadPair as AnyHead};
 ghost use Rattle.hs_scheme.specs.Flow.{IsAscending, head_cmp};
@@ -41,8 +41,10 @@ impl<'a> Model for HeadPairs<'a> {
 
 /// Whether the pairs from this place on are of no lesser points than this one.
 fn are_behind(pairs: &[HeadPair], place: usize, point: u32) -> bool
-    ensures { IsTrue result → (d : AnyHead) → place < length pairs.now
+    ensures behind { IsTrue result → (d : AnyHead) → place < length pairs.now
         → point ≤ (slice_index_or pairs.now place d).point }
+    ensures before { result ≡ false → (d : AnyHead) → place < length pairs.now
+        → (slice_index_or pairs.now place d).point < point }
 {
     match pairs.get(place) {
         None => true,
@@ -57,10 +59,12 @@ fn start_at(pairs: &[HeadPair], point: u32, known: usize) -> usize
     requires before { (k : ℕ) (d : AnyHead) → k < known → (slice_index_or pairs.now k d).point < point }
     ensures { IsStartBy (λ (h : AnyHead). h.point) pairs.now point result }
 {
-    if are_behind(pairs, known, point) {
-        return known;
+    for start in known..pairs.len() {
+        if are_behind(pairs, start, point) {
+            return start;
+        }
     }
-    pairs.partition_point(|pair| pair.point.cmp(&point).is_lt())
+    pairs.len()
 }
 
 /// For each of so many points, and for one past them, how many of the pairs are of lesser points. The
@@ -74,9 +78,9 @@ fn starts_of(alloc: Global, pairs: &[HeadPair], points: u32) -> Result<Vec<usize
     let mut known = 0;
     for point in 0..points {
         known = start_at(pairs, point, known);
-        starts.push(known)?;
+        starts.push_reserved(known);
     }
-    starts.push(pairs.len())?;
+    starts.push_reserved(pairs.len());
     Ok(starts)
 }
 
@@ -134,7 +138,7 @@ pub(crate) fn not_in_turn<'b>(
 
 impl<'a> HeadPairs<'a> {
     /// The head pairs of the problem's flow. Memory is for a number for each point, and time is in
-    /// their number by the logarithm of that of the pairs.
+    /// their number and in that of the pairs.
     pub(crate) fn of(alloc: Global, problem: &'a Problem) -> Result<HeadPairs<'a>, OutOfMemory>
         ensures { IfOk result (λ heads. heads ≡ problem.now.flow.heads) }
     {

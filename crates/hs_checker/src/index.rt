@@ -1,6 +1,6 @@
 //! The entries of a table in order, so that those of a point and a type stand together.
 
-ghost use Rattle.std.specs.Prelude.{◌≡◌, ◌↔◌, ◌<◌, ◌≤◌, ℕ, slice_index_or, length, map};
+ghost use Rattle.std.specs.Prelude.{◌≡◌, ◌↔◌, ◌<◌, ◌≤◌, ℕ, false, slice_index_or, length, map};
 ghost use Rattle.std.specs.Prelude.{Contains, IsTrue, IfOk, IfSome, OnOk, MatchOption};
 ghost use Rattle.std.specs.Borrow.{Bor};
 ghost use Rattle.std.specs.declared.cmp.Ordering.TheVariants.{Equal};
@@ -163,8 +163,10 @@ fn ordered<'a>(rows: Vec<&'a Entry>) -> Result<Vec<&'a Entry>, OutOfMemory>
 
 /// Whether the rows from this place on are of no lesser points than this one.
 fn are_behind(rows: &[&Entry], place: usize, point: u32) -> bool
-    ensures { IsTrue result → (d : Bor EntryData) → place < length rows.now
+    ensures behind { IsTrue result → (d : Bor EntryData) → place < length rows.now
         → point ≤ (slice_index_or rows.now place d).now.point }
+    ensures before { result ≡ false → (d : Bor EntryData) → place < length rows.now
+        → (slice_index_or rows.now place d).now.point < point }
 {
     match rows.get(place) {
         None => true,
@@ -180,10 +182,12 @@ fn start_at(rows: &[&Entry], point: u32, known: usize) -> usize
         → (slice_index_or rows.now k d).now.point < point }
     ensures { IsStartOfPoint (map (λ r. r.now) rows.now) point result }
 {
-    if are_behind(rows, known, point) {
-        return known;
+    for start in known..rows.len() {
+        if are_behind(rows, start, point) {
+            return start;
+        }
     }
-    rows.partition_point(|row| row.point.cmp(&point).is_lt())
+    rows.len()
 }
 
 /// For each of so many points, and for one past them, how many of the rows are of lesser points. The
@@ -197,9 +201,9 @@ fn starts_of(alloc: Global, rows: &[&Entry], points: u32) -> Result<Vec<usize>, 
     let mut known = 0;
     for point in 0..points {
         known = start_at(rows, point, known);
-        starts.push(known)?;
+        starts.push_reserved(known);
     }
-    starts.push(rows.len())?;
+    starts.push_reserved(rows.len());
     Ok(starts)
 }
 
@@ -231,7 +235,7 @@ fn is_at(rows: &[&Entry], place: usize, entry: &Entry) -> bool
 
 impl<'a> EntryIndex<'a> {
     /// The index of those of the table's entries that are in shape. Time is in the number of entries
-    /// and in that of points by the logarithm of the number of entries.
+    /// by its logarithm, and in that of points.
     pub(crate) fn of(
         alloc: Global,
         problem: &Problem,

@@ -31,7 +31,7 @@ fn silent_points(
 {
     let mut marks = Vec::with_capacity(alloc, points as usize)?;
     for point in 0..points {
-        marks.push(is_silent(index, heads, point))?;
+        marks.push_reserved(is_silent(index, heads, point));
     }
     Ok(marks)
 }
@@ -84,7 +84,7 @@ pub(crate) fn inert_points(
     let silent = silent_points(alloc, index, heads, count)?;
     let mut marks = Vec::with_capacity(alloc, count as usize)?;
     for point in 0..count {
-        marks.push(is_inert(problem, silent.as_slice(), point))?;
+        marks.push_reserved(is_inert(problem, silent.as_slice(), point));
     }
     Ok(marks)
 }

@@ -16,6 +16,8 @@ mod passing;
 #[cfg(test)]
 mod pointing;
 #[cfg(test)]
+mod printing;
+#[cfg(test)]
 mod reducing;
 #[cfg(test)]
 mod seeing;
@@ -25,5 +27,7 @@ mod sinks;
 mod sorting;
 #[cfg(test)]
 mod sources;
+#[cfg(test)]
+mod told;
 #[cfg(test)]
 mod words;

@@ -1,109 +1,44 @@
 //! Reduction of small files, along paths and up to a number of steps, each worked out by hand.
 
-use crate::seeing::see;
-use hs_fixtures::{name_of, sorted_of};
-use hs_reduce::{Bounded, MAX_CUT, MAX_STEPS, Replay, bounded, replay};
-use hs_scheme::{OutOfMemory, Sorted};
-use hs_trace::Path;
+use crate::told::{Asked, see_told};
+use hs_reduce::{MAX_CUT, MAX_STEPS, bounded, replay};
+use hs_scheme::Sorted;
 use std::alloc::Global;
 use std::mem::forget;
-use std::process::Abort;
 use std::test::Fail;
 
-/// Adds the answer of `replay` as `stuck b q0 at 1 used 2`.
-fn push_replay(out: &mut String, sorted: &Sorted, answer: Replay) -> Result<(), OutOfMemory> {
-    match answer {
-        Replay::Stuck {
-            terminal,
-            state,
-            at,
-            used,
-        } => {
-            let last = name_of(sorted.names.terminals.as_slice(), terminal as usize);
-            let state = name_of(sorted.names.states.as_slice(), state as usize);
-            write!(out, "stuck {last} {state} at {at} used {used}")?;
-        }
-        Replay::Ended { used } => write!(out, "ended used {used}")?,
-        Replay::NoChild { at } => write!(out, "no child at {at}")?,
-        Replay::Runs => out.push_str("runs")?,
-    }
-    Ok(())
-}
-
-/// The answer of `replay`, with names for numbers.
-fn replay_text(alloc: Global, sorted: &Sorted, path: &[u32], steps: u64) -> Result<String, Fail> {
+/// Adds the answer of `replay` along the path.
+pub(crate) fn push_replayed(
+    out: &mut String,
+    alloc: Global,
+    sorted: &Sorted,
+    path: &[u32],
+    steps: u64,
+) -> Result<(), Fail> {
     if path.len() > 100 || steps > MAX_STEPS {
         return Err("a longer path")?;
     }
     let answer = replay(alloc, sorted, path, steps)?;
-    let mut out = String::new(alloc);
-    push_replay(&mut out, sorted, answer)?;
-    Ok(out)
+    Ok(write!(out, "{answer:?}")?)
 }
 
-/// That for a file with these rules and transitions.
-fn replayed(
+/// Adds the answer of `bounded`.
+pub(crate) fn push_first_error(
+    out: &mut String,
     alloc: Global,
-    rules: &str,
-    transitions: &str,
-    path: &[u32],
-    steps: u64,
-) -> Result<String, Fail> {
-    let sorted = sorted_of(alloc, rules, transitions)?;
-    let text = replay_text(alloc, &sorted, path, steps);
-    forget(sorted);
-    text
-}
-
-/// Adds the steps of the path as `a/1 a/2 `.
-fn push_steps(out: &mut String, sorted: &Sorted, path: &Path) -> Result<(), OutOfMemory> {
-    for (terminal, number) in &path.steps {
-        let name = name_of(sorted.names.terminals.as_slice(), *terminal as usize);
-        write!(out, "{name}/{number} ")?;
-    }
-    Ok(())
-}
-
-/// Adds the path as `a/1 b q0 used 2`.
-fn push_path(out: &mut String, sorted: &Sorted, path: &Path) -> Result<(), OutOfMemory> {
-    push_steps(out, sorted, path)?;
-    let last = name_of(sorted.names.terminals.as_slice(), path.last as usize);
-    let state = name_of(sorted.names.states.as_slice(), path.state as usize);
-    let used = path.used;
-    write!(out, "{last} {state} used {used}")?;
-    Ok(())
-}
-
-/// The same as text.
-fn path_text(alloc: Global, sorted: &Sorted, path: &Path) -> Result<String, OutOfMemory> {
-    let mut out = String::new(alloc);
-    push_path(&mut out, sorted, path)?;
-    Ok(out)
-}
-
-/// The answer of `bounded`, with names for numbers.
-fn bounded_text(alloc: Global, sorted: &Sorted, n: u32) -> Result<String, Fail> {
+    sorted: &Sorted,
+    n: u32,
+) -> Result<(), Fail> {
     if n > MAX_CUT {
         return Err("more steps")?;
     }
-    match bounded(alloc, sorted, n)? {
-        Bounded::NoError => Ok(String::from_str(alloc, "no error")?),
-        Bounded::Error(path) => {
-            let text = path_text(alloc, sorted, &path);
-            forget(path);
-            Ok(text?)
-        }
-    }
+    let answer = bounded(alloc, sorted, n)?;
+    let pushed = write!(out, "{answer:?}");
+    forget(answer);
+    Ok(pushed?)
 }
 
-/// That for a file with these rules and transitions.
-fn searched(alloc: Global, rules: &str, transitions: &str, n: u32) -> Result<String, Fail> {
-    let sorted = sorted_of(alloc, rules, transitions)?;
-    let text = bounded_text(alloc, &sorted, n);
-    forget(sorted);
-    text
-}
-
+/// Its terminals are c, br, a and b.
 const BRANCHING: &str = "S -> F c. F x -> br x (a (F (b x))).";
 
 const BRANCHING_REJECTED: &str = "q0 br -> q0 q0. q0 a -> q0. q0 b -> q1. q0 c -> . q1 c -> .";
@@ -111,85 +46,89 @@ const BRANCHING_REJECTED: &str = "q0 br -> q0 q0. q0 a -> q0. q0 b -> q1. q0 c -
 const BRANCHING_ACCEPTED: &str =
     "q0 br -> q0 q0. q0 a -> q0. q0 b -> q1. q1 b -> q1. q0 c -> . q1 c -> .";
 
-/// Looks at the answer of `replay`.
-fn see_replayed(
-    rt: &impl Abort,
-    alloc: Global,
-    rules: &str,
-    transitions: &str,
-    path: &[u32],
-    steps: u64,
-    expected: &str,
-) -> Result<(), Fail> {
-    let found = replayed(alloc, rules, transitions, path, steps)?;
-    see(rt, (steps, found.as_str()), (steps, expected), rules);
-    Ok(())
-}
-
-/// Looks at the answer of `bounded`.
-fn see_searched(
-    rt: &impl Abort,
-    alloc: Global,
-    rules: &str,
-    transitions: &str,
-    n: u32,
-    expected: &str,
-) -> Result<(), Fail> {
-    let found = searched(alloc, rules, transitions, n)?;
-    see(rt, (n, found.as_str()), (n, expected), rules);
-    Ok(())
-}
-
 /// A path in the branching scheme.
 const FAILING: [u32; 6] = [2, 1, 2, 1, 1, 1];
 
 #[test]
-fn replays_along_a_failing_path(rt: HostRuntime) -> Result<(), Fail> {
+fn replays_along_paths_that_fail_and_end(rt: HostRuntime) -> Result<(), Fail> {
     let alloc = rt.alloc();
-    let (rules, transitions) = (BRANCHING, BRANCHING_REJECTED);
-    see_replayed(
+    let (rules, failing) = (BRANCHING, BRANCHING_REJECTED);
+    let stuck = "Stuck { terminal: 3, state: 1, at: 6, used: 10 }";
+    see_told(
         &rt,
         alloc,
         rules,
-        transitions,
-        &FAILING,
-        10,
-        "stuck b q1 at 6 used 10",
+        failing,
+        Asked::Along(&FAILING, 10),
+        stuck,
     )?;
-    see_replayed(&rt, alloc, rules, transitions, &FAILING, 9, "runs")
+    see_told(
+        &rt,
+        alloc,
+        rules,
+        failing,
+        Asked::Along(&FAILING, 9),
+        "Runs",
+    )?;
+    let ending = BRANCHING_ACCEPTED;
+    see_told(
+        &rt,
+        alloc,
+        rules,
+        ending,
+        Asked::Along(&[], 5),
+        "Ended { used: 2 }",
+    )?;
+    see_told(
+        &rt,
+        alloc,
+        rules,
+        ending,
+        Asked::Along(&[3], 5),
+        "NoChild { at: 0 }",
+    )
 }
 
+/// The terms of the second reduction are as deep as it is long.
 #[test]
-fn replays_to_the_end_off_the_path_and_on(rt: HostRuntime) -> Result<(), Fail> {
+fn replays_that_run_on(rt: HostRuntime) -> Result<(), Fail> {
     let alloc = rt.alloc();
-    let (rules, transitions) = (BRANCHING, BRANCHING_ACCEPTED);
-    see_replayed(&rt, alloc, rules, transitions, &[], 5, "ended used 2")?;
-    see_replayed(&rt, alloc, rules, transitions, &[3], 5, "no child at 0")?;
-    see_replayed(&rt, alloc, "S -> S.", "q0 a -> .", &[], 5, "runs")
+    see_told(
+        &rt,
+        alloc,
+        "S -> S.",
+        "q0 a -> .",
+        Asked::Along(&[], 5),
+        "Runs",
+    )?;
+    let growing = "S -> F c. F x -> F (a x).";
+    let asked = Asked::Along(&[], 400_000);
+    see_told(&rt, alloc, growing, "q0 a -> q0.", asked, "Runs")
 }
+
+/// Rules, transitions, a number of steps, and the first error of the cut after them.
+const CUTS: [(&str, &str, u32, &str); 4] = [
+    ("S -> a b.", "q0 a -> q0.", 2, "NoError"),
+    (
+        "S -> a b.",
+        "q0 a -> q0.",
+        3,
+        "Error(Path { steps: [(0, 1)], last: 1, state: 0, used: 2 })",
+    ),
+    (BRANCHING, BRANCHING_REJECTED, 10, "NoError"),
+    (
+        BRANCHING,
+        BRANCHING_REJECTED,
+        11,
+        "Error(Path { steps: [(1, 2), (2, 1), (1, 2), (2, 1), (1, 1), (3, 1)], last: 3, state: 1, used: 10 })",
+    ),
+];
 
 #[test]
 fn finds_the_first_error_of_a_cut(rt: HostRuntime) -> Result<(), Fail> {
-    let alloc = rt.alloc();
-    see_searched(&rt, alloc, "S -> a b.", "q0 a -> q0.", 2, "no error")?;
-    see_searched(&rt, alloc, "S -> a b.", "q0 a -> q0.", 3, "a/1 b q0 used 2")?;
-    let (rules, transitions) = (BRANCHING, BRANCHING_REJECTED);
-    see_searched(&rt, alloc, rules, transitions, 10, "no error")?;
-    let path = "br/2 a/1 br/2 a/1 br/1 b/1 b q1 used 10";
-    see_searched(&rt, alloc, rules, transitions, 11, path)
-}
-
-/// The terms of this reduction are as deep as it is long.
-#[test]
-fn replays_a_long_reduction(rt: HostRuntime) -> Result<(), Fail> {
-    let alloc = rt.alloc();
-    see_replayed(
-        &rt,
-        alloc,
-        "S -> F c. F x -> F (a x).",
-        "q0 a -> q0.",
-        &[],
-        400_000,
-        "runs",
-    )
+    for (rules, transitions, n, expected) in &CUTS {
+        let asked = Asked::Within(*n);
+        see_told(&rt, rt.alloc(), rules, transitions, asked, expected)?;
+    }
+    Ok(())
 }

@@ -3,7 +3,7 @@
 ghost use Rattle.std.specs.Prelude.{◌-◌, ◌^◌};
 
 use crate::seeing::see;
-use hs_edge::{Failed, MemSink, Sink, WriteFault, Writing, write_all};
+use hs_edge::{Failed, MemSink, Reading, Sink, WriteFault, Writing, write_all};
 use std::mem::{forget, size_of};
 use std::process::Abort;
 use std::test::Fail;
@@ -26,14 +26,6 @@ fn see_room(rt: &impl Abort, sink: &mut MemSink) {
     see(rt, sink.bytes(), b"accepte".as_slice(), "bytes");
 }
 
-#[test]
-fn a_sink_in_memory_takes_up_to_its_room(rt: HostRuntime) -> Result<(), Fail> {
-    let mut sink = MemSink::new(rt.alloc(), 7, 5, &[2])?;
-    see_room(&rt, &mut sink);
-    forget(sink);
-    Ok(())
-}
-
 /// Looks at what is written of these bytes.
 fn see_written(
     rt: &impl Abort,
@@ -46,10 +38,13 @@ fn see_written(
 }
 
 #[test]
-fn all_is_written_or_a_part_beside_a_fault(rt: HostRuntime) -> Result<(), Fail> {
-    let mut sink = MemSink::new(rt.alloc(), 9, 1, &[])?;
-    see_written(&rt, &mut sink, Ok(()), b"accepted\n");
+fn sinks_in_memory_take_up_to_their_room_and_calls(rt: HostRuntime) -> Result<(), Fail> {
+    let mut sink = MemSink::new(rt.alloc(), 7, 5, &[2])?;
+    see_room(&rt, &mut sink);
     forget(sink);
+    let mut whole = MemSink::new(rt.alloc(), 9, 1, &[])?;
+    see_written(&rt, &mut whole, Ok(()), b"accepted\n");
+    forget(whole);
     let mut failing = MemSink::new(rt.alloc(), 100, 5, &[2])?;
     see_written(&rt, &mut failing, Err(WriteFault), b"accep");
     forget(failing);
@@ -97,6 +92,7 @@ fn each_write_is_handed_all_that_is_not_taken_yet(rt: HostRuntime) {
 }
 
 #[test]
-fn the_record_takes_no_memory(rt: HostRuntime) {
-    see(&rt, size_of::<Writing>(), 0, "size");
+fn the_records_take_no_memory(rt: HostRuntime) {
+    let sizes = (size_of::<Reading>(), size_of::<Writing>());
+    see(&rt, sizes, (0, 0), "sizes");
 }

@@ -5,8 +5,8 @@ ghost use Rattle.hs_scheme.specs.Automaton.{IsAutomaton};
 
 use hs_flow::analyse;
 use hs_gen::{MAX_CYCLE, cycle_file};
-use hs_reader::{MAX_BYTES, RawFile, read_file};
-use hs_resolve::{resolve, resolve_owned};
+use hs_reader::{MAX_BYTES, read_file};
+use hs_resolve::resolve_owned;
 use hs_scheme::{Points, Problem, Sorted, Unsorted};
 use hs_sorts::infer;
 use std::alloc::Global;
@@ -28,20 +28,19 @@ fn text_of(alloc: Global, rules: &str, transitions: &str) -> Result<String, Fail
     Ok(format!(in alloc; "%BEGING\n{rules}\n%ENDG\n%BEGINA\n{transitions}\n%ENDA\n")?)
 }
 
-/// What a text says, with its names as they stand.
-fn raw_of(alloc: Global, text: &[u8]) -> Result<RawFile<'_>, Fail> {
+/// The scheme of a text, before its sorts are known.
+fn unsorted_of_text(alloc: Global, text: &[u8]) -> Result<Unsorted, Fail> {
     if text.len() > MAX_BYTES {
         return Err("a longer text")?;
     }
-    Ok(read_file(alloc, text)?)
+    let raw = read_file(alloc, text)?;
+    Ok(resolve_owned(alloc, raw)?)
 }
 
-/// The scheme of a text, before its sorts are known.
-fn unsorted_of_text(alloc: Global, text: &[u8]) -> Result<Unsorted, Fail> {
-    let raw = raw_of(alloc, text)?;
-    let unsorted = resolve(alloc, &raw);
-    forget(raw);
-    Ok(unsorted?)
+/// The same scheme with its sorts.
+fn sorted_of_text(alloc: Global, text: &[u8]) -> Result<Sorted, Fail> {
+    let unsorted = unsorted_of_text(alloc, text)?;
+    Ok(infer(alloc, unsorted)?)
 }
 
 /// The scheme of a file with these rules and transitions, before its sorts are known.
@@ -52,31 +51,41 @@ pub fn unsorted_of(alloc: Global, rules: &str, transitions: &str) -> Result<Unso
     unsorted
 }
 
-/// The same scheme with its sorts.
+/// The scheme of such a file with its sorts.
 pub fn sorted_of(alloc: Global, rules: &str, transitions: &str) -> Result<Sorted, Fail> {
-    let unsorted = unsorted_of(alloc, rules, transitions)?;
-    Ok(infer(alloc, unsorted)?)
+    let text = text_of(alloc, rules, transitions)?;
+    let sorted = sorted_of_text(alloc, text.as_bytes());
+    forget(text);
+    sorted
 }
 
 /// The problem of a scheme that has at most 10,000 pairs in its flow.
 fn of_sorted(alloc: Global, sorted: Sorted) -> Result<Problem, Fail> {
-    let points = Points::of(alloc, &sorted.scheme)?;
-    let flow = analyse(alloc, &sorted.scheme, &points, MOST_PAIRS)?;
-    Ok(Problem::new(sorted, points, flow))
+    let points = match Points::of(alloc, &sorted.scheme) {
+        Ok(points) => points,
+        Err(fault) => {
+            forget(sorted);
+            return Err(fault)?;
+        }
+    };
+    match analyse(alloc, &sorted.scheme, &points, MOST_PAIRS) {
+        Ok(flow) => Ok(Problem::new(sorted, points, flow)),
+        Err(fault) => {
+            forget(points);
+            forget(sorted);
+            Err(fault)?
+        }
+    }
 }
 
 /// The problem of a file with these rules and transitions, which has at most 10,000 pairs in its flow.
 pub fn problem_of(alloc: Global, rules: &str, transitions: &str) -> Result<Problem, Fail> {
-    let sorted = sorted_of(alloc, rules, transitions)?;
-    of_sorted(alloc, sorted)
+    of_sorted(alloc, sorted_of(alloc, rules, transitions)?)
 }
 
 /// The problem of a whole file, which has at most 10,000 pairs in its flow.
 pub fn problem_of_text(alloc: Global, text: &[u8]) -> Result<Problem, Fail> {
-    let raw = raw_of(alloc, text)?;
-    let unsorted = resolve_owned(alloc, raw)?;
-    let sorted = infer(alloc, unsorted)?;
-    of_sorted(alloc, sorted)
+    of_sorted(alloc, sorted_of_text(alloc, text)?)
 }
 
 /// The problem of the generated file of this number, from 1 to `MAX_CYCLE`.

@@ -79,7 +79,7 @@ fn own_links(alloc: Global, count: u32) -> Result<Vec<u32>, OutOfMemory>
 {
     let mut links = Vec::with_capacity(alloc, count as usize)?;
     for number in 0..count {
-        links.push(number)?;
+        links.push_reserved(number);
     }
     Ok(links)
 }
@@ -130,7 +130,7 @@ fn roots(alloc: Global, links: &mut [u32]) -> Result<Vec<u32>, OutOfMemory>
     let count = links.len() as u32;
     let mut roots = Vec::with_capacity(alloc, links.len())?;
     for number in 0..count {
-        roots.push(root(links, number))?;
+        roots.push_reserved(root(links, number));
     }
     Ok(roots)
 }

@@ -8,6 +8,7 @@ ghost use Rattle.hs_passes.specs.Passing.{KeepsRest, composed, raised, RaisedUpT
 use crate::pass::Pass;
 use hs_scheme::{OutOfMemory, Sorted};
 use std::alloc::Global;
+use std::mem::replace;
 
 /// One pass.
 fn apply_boxed(
@@ -64,7 +65,13 @@ pub fn simplify(
 {
     let mut simplified = sorted;
     for pass in passes.iter_mut() {
-        simplified = apply_boxed(alloc, pass, &simplified)?;
+        match apply_boxed(alloc, pass, &simplified) {
+            Ok(next) => drop(replace(&mut simplified, next)),
+            Err(refused) => {
+                drop(simplified);
+                return Err(refused);
+            }
+        }
     }
     Ok(simplified)
 }

@@ -19,7 +19,7 @@ fn own(alloc: Global, reps: &[u32]) -> Result<Vec<bool>, OutOfMemory>
 {
     let mut kept = Vec::with_capacity(alloc, reps.len())?;
     for (number, rep) in reps.iter().enumerate() {
-        kept.push(*rep as usize == number)?;
+        kept.push_reserved(*rep as usize == number);
     }
     Ok(kept)
 }
@@ -32,7 +32,7 @@ fn new_numbers(alloc: Global, reps: &[u32], places: &[u32]) -> Result<Vec<u32>, 
 {
     let mut numbers = Vec::with_capacity(alloc, reps.len())?;
     for rep in reps {
-        numbers.push(number_at(places, *rep))?;
+        numbers.push_reserved(number_at(places, *rep));
     }
     Ok(numbers)
 }

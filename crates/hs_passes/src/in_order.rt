@@ -117,7 +117,7 @@ fn staying(alloc: Global, ranks: &[u32]) -> Result<Vec<bool>, OutOfMemory>
 {
     let mut flags = Vec::with_capacity(alloc, ranks.len())?;
     for rank in ranks {
-        flags.push(*rank >= NEVER)?;
+        flags.push_reserved(*rank >= NEVER);
     }
     Ok(flags)
 }

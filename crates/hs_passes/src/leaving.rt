@@ -60,7 +60,7 @@ fn rules_left(
     for (i, rule) in rules.iter().enumerate() {
         let params = place_of(parameters, flags, i as u32, rule.params);
         let body = term_left(alloc, parameters, flags, i as u32, &rule.body)?;
-        out.push(Rule { params, body })?;
+        out.push_reserved(Rule { params, body });
     }
     Ok(out)
 }
@@ -97,7 +97,7 @@ fn params_left(
 {
     let mut out = Vec::with_capacity(alloc, params.len())?;
     for (i, names) in params.iter().enumerate() {
-        out.push(names_left(alloc, parameters, flags, i as u32, names.as_slice())?)?;
+        out.push_reserved(names_left(alloc, parameters, flags, i as u32, names.as_slice())?);
     }
     Ok(out)
 }
@@ -134,7 +134,7 @@ fn sorts_left(
 {
     let mut out = Vec::with_capacity(alloc, sorts.len())?;
     for (i, sort) in sorts.iter().enumerate() {
-        out.push(sort_left(alloc, parameters, flags, i as u32, sort)?)?;
+        out.push_reserved(sort_left(alloc, parameters, flags, i as u32, sort)?);
     }
     Ok(out)
 }
@@ -190,10 +190,10 @@ pub fn with_parameters(
     ensures { IfOk result (λ s. s ≡ without_unused sorted.now) }
 {
     is_sorted(sorted);
-    let scheme = scheme_left(alloc, parameters, flags, &sorted.scheme)?;
-    let automaton = sorted.automaton.copy(alloc)?;
-    let names = all_names_left(alloc, parameters, flags, &sorted.names)?;
     let sorts = sorts_left(alloc, parameters, flags, sorted.sorts.as_slice())?;
+    let scheme = scheme_left(alloc, parameters, flags, &sorted.scheme)?;
+    let names = all_names_left(alloc, parameters, flags, &sorted.names)?;
+    let automaton = sorted.automaton.copy(alloc)?;
     Ok(Sorted {
         scheme,
         automaton,

@@ -3,14 +3,12 @@
 ghost use Rattle.hs_flow.specs.Dependents.{HasDependents};
 ghost use Rattle.hs_core.specs.Draining.{NothingFlies};
 
-use crate::telling::{are_supported, entries_text, is_alone, is_for_two, is_quiet};
+use crate::telling::{are_supported, has_log, is_alone, is_for_two, is_quiet};
 use hs_core::{Core, Drained, Open, drain, work_alone};
-use hs_fixtures::problem_of;
 use hs_flow::Dependents;
 use hs_scheme::{OutOfMemory, Problem};
 use std::alloc::Global;
 use std::mem::forget;
-use std::test::Fail;
 
 /// Whether the core is new: nothing is done, and the seeds of two points are pending.
 fn is_new(core: &Core) -> bool {
@@ -27,36 +25,43 @@ fn is_done(core: &Core, worker: u32) -> bool {
     is_quiet(core) && are_supported(core) && is_alone(core, worker) && core.start() == Some(1)
 }
 
-/// Whether the log has the two entries, in this order.
-fn has_both(alloc: Global, core: &Core) -> Result<bool, OutOfMemory> {
-    let text = entries_text(alloc, core)?;
-    Ok(text.as_str() == "1 0 q0\n0 0 q0\n")
-}
-
-/// Whether a core for two points tells what it should before it is drained and after that.
-fn is_drained(alloc: Global, core: &mut Core, dependents: &Dependents) -> Result<bool, OutOfMemory>
-    requires { HasDependents core.old.base.problem.points core.old.base.problem.flow.pairs dependents.now }
-{
-    if !is_new(core) || drain(alloc, core, dependents)? != Drained::Quiet || !is_done(core, 0) {
-        return Ok(false);
-    }
-    has_both(alloc, core)
-}
-
-/// The same where worker 7 does it.
-fn is_worked(alloc: Global, core: &mut Core, dependents: &Dependents) -> Result<bool, OutOfMemory>
+/// Does all works: as this worker, or by `drain`. Answers whether nothing is left then.
+fn does_all(
+    alloc: Global,
+    core: &mut Core,
+    dependents: &Dependents,
+    worker: Option<u32>,
+) -> Result<bool, OutOfMemory>
     requires flight { NothingFlies core.old }
     requires dependents { HasDependents core.old.base.problem.points core.old.base.problem.flow.pairs
         dependents.now }
 {
-    if !is_new(core) {
+    match worker {
+        None => Ok(drain(alloc, core, dependents)? == Drained::Quiet),
+        Some(worker) => {
+            work_alone(alloc, core, dependents, worker, &Open)?;
+            Ok(core.quiet())
+        }
+    }
+}
+
+/// Whether a new core for two points tells what it should before this worker, or 0 by `drain`, does all
+/// of it and after that, and has the two entries then, in this order.
+fn is_worked(
+    alloc: Global,
+    core: &mut Core,
+    dependents: &Dependents,
+    worker: Option<u32>,
+) -> Result<bool, OutOfMemory>
+    requires flight { NothingFlies core.old }
+    requires dependents { HasDependents core.old.base.problem.points core.old.base.problem.flow.pairs
+        dependents.now }
+{
+    if !is_new(core) || !does_all(alloc, core, dependents, worker)? {
         return Ok(false);
     }
-    work_alone(alloc, core, dependents, 7, &Open)?;
-    if !is_done(core, 7) {
-        return Ok(false);
-    }
-    has_both(alloc, core)
+    let has_both = has_log(alloc, core, &[(1, 0, Some(0)), (0, 0, Some(0))])?;
+    Ok(has_both && core.past().is_none() && is_done(core, worker.unwrap_or(0)))
 }
 
 /// Whether a core in which only the start entry is sought stops at it.
@@ -73,30 +78,17 @@ fn stops(alloc: Global, core: &mut Core, dependents: &Dependents) -> Result<bool
     )
 }
 
-/// Whether a new core is drained so.
-fn new_is_drained(
-    alloc: Global,
-    problem: &Problem,
-    dependents: &Dependents,
-) -> Result<bool, OutOfMemory>
-    requires { HasDependents problem.now.points problem.now.flow.pairs dependents.now }
-{
-    let mut core = Core::new(alloc, problem, 2, false)?;
-    let told = is_drained(alloc, &mut core, dependents);
-    forget(core);
-    told
-}
-
-/// Whether the works of a new core are done so by worker 7.
+/// Whether a new core is worked on so.
 fn new_is_worked(
     alloc: Global,
     problem: &Problem,
     dependents: &Dependents,
+    worker: Option<u32>,
 ) -> Result<bool, OutOfMemory>
     requires { HasDependents problem.now.points problem.now.flow.pairs dependents.now }
 {
     let mut core = Core::new(alloc, problem, 2, false)?;
-    let told = is_worked(alloc, &mut core, dependents);
+    let told = is_worked(alloc, &mut core, dependents, worker);
     forget(core);
     told
 }
@@ -111,27 +103,25 @@ fn new_stops(alloc: Global, problem: &Problem, dependents: &Dependents) -> Resul
     told
 }
 
-/// Whether new cores are drained so, are worked on so, and stop so.
-fn tell(alloc: Global, problem: &Problem) -> Result<[bool; 3], OutOfMemory> {
-    let dependents = Dependents::of(alloc, problem)?;
+/// Whether new cores are drained so, are worked on so by worker 7, and stop so.
+fn tell_with(
+    alloc: Global,
+    problem: &Problem,
+    dependents: &Dependents,
+) -> Result<[bool; 3], OutOfMemory>
+    requires { HasDependents problem.now.points problem.now.flow.pairs dependents.now }
+{
     Ok([
-        new_is_drained(alloc, problem, &dependents)?,
-        new_is_worked(alloc, problem, &dependents)?,
-        new_stops(alloc, problem, &dependents)?,
+        new_is_worked(alloc, problem, dependents, None)?,
+        new_is_worked(alloc, problem, dependents, Some(7))?,
+        new_stops(alloc, problem, dependents)?,
     ])
 }
 
-/// The same on the problem of this file.
-fn told(alloc: Global, rules: &str, transitions: &str) -> Result<[bool; 3], Fail> {
-    let problem = problem_of(alloc, rules, transitions)?;
-    let told = tell(alloc, &problem);
-    forget(problem);
-    Ok(told?)
-}
-
-#[test]
-fn what_a_core_tells(rt: HostRuntime) -> Result<(), Fail> {
-    let told = told(rt.alloc(), "S -> a b.", "q0 a -> q0.")?;
-    assert_eq!(rt; told, [true, true, true]);
-    Ok(())
+/// The same, of the problem of `S -> a b.`.
+pub(crate) fn tell(alloc: Global, problem: &Problem) -> Result<[bool; 3], OutOfMemory> {
+    let dependents = Dependents::of(alloc, problem)?;
+    let told = tell_with(alloc, problem, &dependents);
+    drop(dependents);
+    told
 }

@@ -1,7 +1,9 @@
-//! Answers on the least tables of small files, which `hs_workers_examples` compares with worked ones, and
+//! Answers on the least tables of small files, which `.ci/rows` compares with worked ones, and
 //! on the same with one entry less, more or changed, and over flows with a pair less.
 
-use crate::making::{changed, elsewhere, entry_of, table_of, without, without_head, without_pair};
+use crate::entries::{Row, entry_of};
+use crate::making::{Left, LeftOut, others, push_changed, table_of, without_pair};
+use crate::seeing::see;
 use crate::worked::{
     BRANCHING, BRANCHING_ACCEPTED, BRANCHING_REJECTED, PARTIAL, RESOURCE, RESOURCE_TRANSITIONS,
     TWICE, TWICE_TRANSITIONS,
@@ -16,145 +18,144 @@ use std::mem::forget;
 use std::process::Abort;
 use std::test::Fail;
 
-/// What the checker answers where nothing is missing.
-#[derive(Clone, Copy, Debug, PartialEq, Eq)]
-enum Answer {
+/// What the checker is to answer.
+#[derive(Clone, Copy)]
+enum Expected<'a> {
+    /// Nothing is missing, and there are so many instances.
     Instances(u64),
+    /// The table has the start entry.
     Start,
-    Other,
+    /// The table lacks this entry.
+    Missing(&'a Entry),
+    /// The flow lacks this pair.
+    Pair(FlowPair),
+    /// The flow lacks this head pair.
+    Head(HeadPair),
 }
 
-/// The answer for the table.
-fn answer_for(alloc: Global, problem: &Problem, table: &[Entry]) -> Answer {
-    match check(alloc, problem, table) {
-        Ok(count) => Answer::Instances(count),
-        Err(CheckFault::HasStart) => Answer::Start,
-        Err(_) => Answer::Other,
+/// So many instances, or the start entry.
+fn expected_of(instances: Option<u64>) -> Expected<'static> {
+    match instances {
+        Some(count) => Expected::Instances(count),
+        None => Expected::Start,
     }
 }
 
-/// Whether the checker says of the table that it lacks this entry.
-fn misses(alloc: Global, problem: &Problem, table: &[Entry], entry: &Entry) -> bool {
-    match check(alloc, problem, table) {
-        Err(CheckFault::Missing { entry: missing }) => missing.compare(entry) == Ordering::Equal,
+/// Whether the table lacks this entry.
+fn is_missing(fault: &CheckFault, other: &Entry) -> bool {
+    match fault {
+        CheckFault::Missing { entry } => entry.compare(other) == Ordering::Equal,
         _ => false,
     }
 }
 
-/// Whether the checker says of the flow that it lacks this pair.
-fn lacks_pair(alloc: Global, problem: &Problem, table: &[Entry], pair: FlowPair) -> bool {
-    match check(alloc, problem, table) {
-        Err(CheckFault::FlowOpen { rule, param, point }) => {
-            pair.rule == rule && pair.param == param && pair.point == point
+/// Whether the flow lacks this pair.
+fn is_pair(fault: &CheckFault, pair: FlowPair) -> bool {
+    match fault {
+        CheckFault::FlowOpen { rule, param, point } => {
+            pair.rule == *rule && pair.param == *param && pair.point == *point
         }
         _ => false,
     }
 }
 
 /// The same of a head pair.
-fn lacks_head(alloc: Global, problem: &Problem, table: &[Entry], pair: HeadPair) -> bool {
-    match check(alloc, problem, table) {
-        Err(CheckFault::HeadOpen { point, rule, given }) => {
-            pair.point == point && pair.rule == rule && pair.given == given
+fn is_head(fault: &CheckFault, pair: HeadPair) -> bool {
+    match fault {
+        CheckFault::HeadOpen { point, rule, given } => {
+            pair.point == *point && pair.rule == *rule && pair.given == *given
         }
         _ => false,
     }
 }
 
-/// Whether each entry is missing where it is left out.
-fn each_left_out(alloc: Global, problem: &Problem, table: &[Entry]) -> Result<bool, OutOfMemory> {
+/// Whether the fault is the one that is expected.
+fn is_fault(fault: &CheckFault, expected: Expected<'_>) -> bool {
+    match expected {
+        Expected::Instances(_) => false,
+        Expected::Start => matches!(fault, CheckFault::HasStart),
+        Expected::Missing(other) => is_missing(fault, other),
+        Expected::Pair(pair) => is_pair(fault, pair),
+        Expected::Head(pair) => is_head(fault, pair),
+    }
+}
+
+/// Whether the checker answers so for the table.
+fn answers(alloc: Global, problem: &Problem, table: &[Entry], expected: Expected<'_>) -> bool {
+    match check(alloc, problem, table) {
+        Ok(count) => match expected {
+            Expected::Instances(instances) => instances == count,
+            _ => false,
+        },
+        Err(fault) => {
+            let is_so = is_fault(&fault, expected);
+            drop(fault);
+            is_so
+        }
+    }
+}
+
+/// Whether the entry at the place is missing where it is left out, or changed.
+fn is_missed(
+    alloc: Global,
+    problem: &Problem,
+    table: &[Entry],
+    place: usize,
+    entry: &Entry,
+    is_changed: bool,
+) -> Result<bool, OutOfMemory> {
+    let mut rest = others(alloc, table, LeftOut::Place(place))?;
+    if is_changed {
+        push_changed(alloc, entry, &mut rest)?;
+    }
+    Ok(answers(alloc, problem, rest.as_slice(), Expected::Missing(entry)))
+}
+
+/// Whether each entry is so.
+fn each_is_missed(
+    alloc: Global,
+    problem: &Problem,
+    table: &[Entry],
+    is_changed: bool,
+) -> Result<bool, OutOfMemory> {
     for (place, entry) in table.iter().enumerate() {
-        let rest = without(alloc, table, place)?;
-        if !misses(alloc, problem, rest.as_slice(), entry) {
+        if !is_missed(alloc, problem, table, place, entry, is_changed)? {
             return Ok(false);
         }
     }
     Ok(true)
 }
 
-/// Whether each entry is missing where it is changed.
-fn each_changed(alloc: Global, problem: &Problem, table: &[Entry]) -> Result<bool, OutOfMemory> {
-    for (place, entry) in table.iter().enumerate() {
-        let other = changed(alloc, table, place)?;
-        if !misses(alloc, problem, other.as_slice(), entry) {
-            return Ok(false);
-        }
-    }
-    Ok(true)
-}
-
-/// The answer on the least table.
-fn answer_on_least(alloc: Global, problem: &Problem) -> Result<Answer, Fail> {
-    let table = table_of(alloc, problem)?;
-    let answer = answer_for(alloc, problem, table.as_slice());
-    forget(table);
-    Ok(answer)
-}
-
-/// The same of a file.
-fn least_answer(alloc: Global, rules: &str, transitions: &str) -> Result<Answer, Fail> {
-    let problem = problem_of(alloc, rules, transitions)?;
-    let answer = answer_on_least(alloc, &problem);
-    forget(problem);
-    answer
-}
-
-/// Whether each entry of the least table is missing where it is left out, and where it is changed.
-fn each_entry_is_missed(alloc: Global, problem: &Problem) -> Result<(bool, bool), Fail> {
-    let table = table_of(alloc, problem)?;
-    let left_out = each_left_out(alloc, problem, table.as_slice());
-    let changed = each_changed(alloc, problem, table.as_slice());
-    forget(table);
-    Ok((left_out?, changed?))
-}
-
-/// The same of a file.
-fn each_entry_of_a_file_is_missed(
+/// Whether the checker answers so for the table over the flow of a file without this pair.
+fn answers_over(
     alloc: Global,
     rules: &str,
     transitions: &str,
-) -> Result<(bool, bool), Fail> {
+    table: &[Entry],
+    left: Left,
+    expected: Expected<'_>,
+) -> Result<bool, Fail> {
     let problem = problem_of(alloc, rules, transitions)?;
-    let missed = each_entry_is_missed(alloc, &problem);
-    forget(problem);
-    missed
+    let open = without_pair(alloc, problem, left)?;
+    let is_so = answers(alloc, &open, table, expected);
+    forget(open);
+    Ok(is_so)
 }
 
-/// Whether the flow pair at this place is demanded where it is left out.
-fn is_pair_demanded(
-    alloc: Global,
-    problem: Problem,
-    table: &[Entry],
-    place: usize,
-    pair: FlowPair,
-) -> Result<bool, Fail> {
-    let open = without_pair(alloc, problem, place)?;
-    Ok(lacks_pair(alloc, &open, table, pair))
-}
+/// Rules and transitions, and the number of instances over their least table, or `None` where it has the
+/// start entry.
+type Checked = (&'static str, &'static str, Option<u64>);
 
-/// Whether the head pair at this place is demanded where it is left out.
-fn is_head_demanded(
-    alloc: Global,
-    problem: Problem,
-    table: &[Entry],
-    place: usize,
-    pair: HeadPair,
-) -> Result<bool, Fail> {
-    let open = without_head(alloc, problem, place)?;
-    Ok(lacks_head(alloc, &open, table, pair))
-}
-
-/// Whether each of these flow pairs of a file, which are all, is demanded where it is left out.
+/// Whether each of these flow pairs of the file, which are all, is demanded where it is left out.
 fn are_pairs_demanded(
     alloc: Global,
-    rules: &str,
-    transitions: &str,
+    row: &Checked,
     table: &[Entry],
     pairs: &[FlowPair],
 ) -> Result<bool, Fail> {
     for (place, pair) in pairs.iter().enumerate() {
-        let problem = problem_of(alloc, rules, transitions)?;
-        if !is_pair_demanded(alloc, problem, table, place, *pair)? {
+        let expected = Expected::Pair(*pair);
+        if !answers_over(alloc, row.0, row.1, table, Left::Pair(place), expected)? {
             return Ok(false);
         }
     }
@@ -164,264 +165,226 @@ fn are_pairs_demanded(
 /// So for head pairs.
 fn are_heads_demanded(
     alloc: Global,
-    rules: &str,
-    transitions: &str,
+    row: &Checked,
     table: &[Entry],
     pairs: &[HeadPair],
 ) -> Result<bool, Fail> {
     for (place, pair) in pairs.iter().enumerate() {
-        let problem = problem_of(alloc, rules, transitions)?;
-        if !is_head_demanded(alloc, problem, table, place, *pair)? {
+        let expected = Expected::Head(*pair);
+        if !answers_over(alloc, row.0, row.1, table, Left::Head(place), expected)? {
             return Ok(false);
         }
     }
     Ok(true)
 }
 
-/// Whether each flow pair and each head pair of the file, whose problem this is, is demanded where it is
-/// left out.
-fn are_demanded_over(
+/// Whether the answer for the least table is that of the row; each entry is missing where it is left out,
+/// and where it is changed; and each flow pair and each head pair is demanded where it is left out.
+fn told(
     alloc: Global,
-    rules: &str,
-    transitions: &str,
+    row: &Checked,
     problem: &Problem,
     table: &[Entry],
-) -> Result<(bool, bool), Fail> {
-    let pairs = problem.flow.pairs.as_slice();
-    let flow = are_pairs_demanded(alloc, rules, transitions, table, pairs)?;
-    let heads = problem.flow.heads.as_slice();
-    let head = are_heads_demanded(alloc, rules, transitions, table, heads)?;
-    Ok((flow, head))
+) -> Result<[bool; 5], Fail> {
+    let is_answer = answers(alloc, problem, table, expected_of(row.2));
+    Ok([
+        is_answer,
+        each_is_missed(alloc, problem, table, false)?,
+        each_is_missed(alloc, problem, table, true)?,
+        are_pairs_demanded(alloc, row, table, problem.flow.pairs.as_slice())?,
+        are_heads_demanded(alloc, row, table, problem.flow.heads.as_slice())?,
+    ])
 }
 
-/// The same over the least table.
-fn are_all_demanded(
-    alloc: Global,
-    rules: &str,
-    transitions: &str,
-    problem: &Problem,
-) -> Result<(bool, bool), Fail> {
+/// The same, of the problem.
+fn told_of_least(alloc: Global, row: &Checked, problem: &Problem) -> Result<[bool; 5], Fail> {
     let table = table_of(alloc, problem)?;
-    let demanded = are_demanded_over(alloc, rules, transitions, problem, table.as_slice());
+    let told = told(alloc, row, problem, table.as_slice());
     forget(table);
-    demanded
+    told
 }
 
-/// The same of a file.
-fn each_pair_is_demanded(
-    alloc: Global,
-    rules: &str,
-    transitions: &str,
-) -> Result<(bool, bool), Fail> {
-    let problem = problem_of(alloc, rules, transitions)?;
-    let demanded = are_all_demanded(alloc, rules, transitions, &problem);
+/// The same, of the file.
+fn told_of_file(alloc: Global, row: &Checked) -> Result<[bool; 5], Fail> {
+    let problem = problem_of(alloc, row.0, row.1)?;
+    let told = told_of_least(alloc, row, &problem);
     forget(problem);
-    demanded
+    told
 }
 
-/// The answer for the table with an entry more.
-fn answer_with(
+/// The worked examples.
+const CHECKED: &[Checked] = &[
+    ("S -> a S.", "q0 a -> q0.", Some(0)),
+    ("S -> S.", "q0 a -> .", Some(0)),
+    ("S -> G b. G x -> c.", "q0 c -> .", Some(1)),
+    (BRANCHING, BRANCHING_ACCEPTED, Some(4)),
+    (RESOURCE, RESOURCE_TRANSITIONS, Some(8)),
+    ("S -> a b.", "q0 a -> q0.", None),
+    (BRANCHING, BRANCHING_REJECTED, None),
+    (TWICE, TWICE_TRANSITIONS, None),
+    (PARTIAL, "q0 d -> .", None),
+    ("S -> F c. F -> a.", "q0 a -> q0.", None),
+    ("S -> br a b.", "q0 br -> q0 q0.", None),
+];
+
+/// Each entry of a least table follows from the others, so it alone is missing where it is left out. One
+/// with a state out of range as its type doesn't count, so the entry in whose place it stands is missing.
+/// Each flow pair and each head pair of a least flow is demanded by the others, so it alone is missing
+/// where it is left out.
+#[test]
+fn answers_on_least_tables_and_without_an_entry_or_a_pair(rt: HostRuntime) -> Result<(), Fail> {
+    for row in CHECKED {
+        see(&rt, told_of_file(rt.alloc(), row)?, [true; 5], row.0);
+    }
+    Ok(())
+}
+
+/// Adds the entry of the row.
+fn push_row(alloc: Global, row: &Row, out: &mut Vec<Entry>) -> Result<(), OutOfMemory> {
+    out.push(entry_of(alloc, row)?)?;
+    Ok(())
+}
+
+/// Whether the checker answers so for the table without some entries and with another one.
+fn answers_with(
     alloc: Global,
     problem: &Problem,
     table: &[Entry],
-    entry: Entry,
-) -> Result<Answer, OutOfMemory> {
-    let mut longer = without(alloc, table, table.len())?;
-    longer.push(entry)?;
-    Ok(answer_for(alloc, problem, longer.as_slice()))
+    left_out: LeftOut,
+    more: &Row,
+    expected: Expected<'_>,
+) -> Result<bool, OutOfMemory> {
+    let mut longer = others(alloc, table, left_out)?;
+    let pushed = push_row(alloc, more, &mut longer);
+    let is_so = answers(alloc, problem, longer.as_slice(), expected);
+    drop(longer);
+    pushed?;
+    Ok(is_so)
 }
 
-/// Whether this entry is missing in the table with another entry more.
+/// Whether the first entry is missing in it.
 fn misses_with(
     alloc: Global,
     problem: &Problem,
     table: &[Entry],
-    other: Entry,
-    entry: &Entry,
+    left_out: LeftOut,
+    missing: &Row,
+    more: &Row,
 ) -> Result<bool, OutOfMemory> {
-    let mut longer = without(alloc, table, table.len())?;
-    longer.push(other)?;
-    Ok(misses(alloc, problem, longer.as_slice(), entry))
+    let entry = entry_of(alloc, missing)?;
+    let expected = Expected::Missing(&entry);
+    let is_missed = answers_with(alloc, problem, table, left_out, more, expected);
+    drop(entry);
+    is_missed
 }
 
-/// Rules and transitions of the worked examples, and the answer on their least tables.
-const CHECKED: &[(&str, &str, Answer)] = &[
-    ("S -> a S.", "q0 a -> q0.", Answer::Instances(0)),
-    ("S -> S.", "q0 a -> .", Answer::Instances(0)),
-    ("S -> G b. G x -> c.", "q0 c -> .", Answer::Instances(1)),
-    (BRANCHING, BRANCHING_ACCEPTED, Answer::Instances(4)),
-    (RESOURCE, RESOURCE_TRANSITIONS, Answer::Instances(8)),
-    ("S -> a b.", "q0 a -> q0.", Answer::Start),
-    (BRANCHING, BRANCHING_REJECTED, Answer::Start),
-    (TWICE, TWICE_TRANSITIONS, Answer::Start),
-    (PARTIAL, "q0 d -> .", Answer::Start),
-    ("S -> F c. F -> a.", "q0 a -> q0.", Answer::Start),
-    ("S -> br a b.", "q0 br -> q0 q0.", Answer::Start),
+/// Entries of the branching scheme, which has the states 0 and 1 and the points 0 to 7: those that are left
+/// out of its table, one that is missing then, and one that is added. Another environment or another type
+/// makes another entry, and from a further type of point 5 an entry of point 4 follows.
+const CHANGES: &[(LeftOut, Row, Row)] = &[
+    (LeftOut::Point(0), (0, &[], None, 1), (0, &[], None, 0)),
+    (
+        LeftOut::Point(2),
+        (2, &[&[]], None, 1),
+        (2, &[&[1]], None, 1),
+    ),
+    (
+        LeftOut::Point(4),
+        (4, &[&[]], None, 1),
+        (4, &[&[1]], None, 1),
+    ),
+    (
+        LeftOut::Point(5),
+        (5, &[&[]], None, 1),
+        (5, &[&[0]], None, 1),
+    ),
+    (
+        LeftOut::Nothing,
+        (4, &[&[0]], None, 0),
+        (5, &[&[0]], None, 0),
+    ),
 ];
 
-#[test]
-fn answers_on_least_tables(rt: HostRuntime) -> Result<(), Fail> {
-    for (rules, transitions, expected) in CHECKED {
-        let answer = least_answer(rt.alloc(), rules, transitions)?;
-        assert_eq!(rt; answer, *expected, "{rules}");
-    }
-    Ok(())
-}
-
-/// Each entry of a least table follows from the others, so it alone is missing where it is left out. One
-/// with a state out of range as its type doesn't count, so the entry in whose place it stands is missing.
-#[test]
-fn an_entry_less_or_changed_is_missing(rt: HostRuntime) -> Result<(), Fail> {
-    for (rules, transitions, _) in CHECKED {
-        let missed = each_entry_of_a_file_is_missed(rt.alloc(), rules, transitions)?;
-        assert_eq!(rt; missed, (true, true), "{rules}");
-    }
-    Ok(())
-}
-
-/// Each flow pair and each head pair of a least flow is demanded by the others, so it alone is missing
-/// where it is left out.
-#[test]
-fn a_pair_less_is_demanded(rt: HostRuntime) -> Result<(), Fail> {
-    for (rules, transitions, _) in CHECKED {
-        let demanded = each_pair_is_demanded(rt.alloc(), rules, transitions)?;
-        assert_eq!(rt; demanded, (true, true), "{rules}");
-    }
-    Ok(())
-}
-
-/// An entry of the branching scheme, which has the states 0 and 1 and the points 0 to 7.
-type Row = (u32, &'static [Option<u32>], u32);
-
-/// Whether the first entry is missing where the second stands in place of those of its point.
-fn is_missed_beside(
-    alloc: Global,
-    problem: &Problem,
-    table: &[Entry],
-    missing: Row,
-    beside: Row,
-) -> Result<bool, OutOfMemory> {
-    let rest = elsewhere(alloc, table, beside.0)?;
-    let entry = entry_of(alloc, missing.0, missing.1, missing.2)?;
-    let other = entry_of(alloc, beside.0, beside.1, beside.2)?;
-    misses_with(alloc, problem, rest.as_slice(), other, &entry)
-}
-
-/// Whether the first entry is missing where the second is added.
-fn is_missed_with(
-    alloc: Global,
-    problem: &Problem,
-    table: &[Entry],
-    missing: Row,
-    more: Row,
-) -> Result<bool, OutOfMemory> {
-    let entry = entry_of(alloc, missing.0, missing.1, missing.2)?;
-    let other = entry_of(alloc, more.0, more.1, more.2)?;
-    misses_with(alloc, problem, table, other, &entry)
-}
-
-/// Another environment or another type makes another entry.
+/// Looks at its table with entries changed.
 fn see_changes(
     rt: &impl Abort,
     alloc: Global,
     problem: &Problem,
     table: &[Entry],
 ) -> Result<(), OutOfMemory> {
-    let rows: [(Row, Row); 4] = [
-        ((0, &[], 1), (0, &[], 0)),
-        ((2, &[None], 1), (2, &[Some(1)], 1)),
-        ((4, &[None], 1), (4, &[Some(1)], 1)),
-        ((5, &[None], 1), (5, &[Some(0)], 1)),
-    ];
-    for (missing, beside) in rows {
-        let is_missed = is_missed_beside(alloc, problem, table, missing, beside)?;
-        assert!(rt; is_missed, "{}", missing.0);
+    for (left_out, missing, more) in CHANGES {
+        let is_missed = misses_with(alloc, problem, table, *left_out, missing, more)?;
+        see(rt, (missing.0, is_missed), (missing.0, true), "changed");
     }
     Ok(())
 }
 
-/// The answer where this entry is added.
-fn answer_beside(
-    alloc: Global,
-    problem: &Problem,
-    table: &[Entry],
-    row: Row,
-) -> Result<Answer, OutOfMemory> {
-    let entry = entry_of(alloc, row.0, row.1, row.2)?;
-    answer_with(alloc, problem, table, entry)
-}
+/// Entries that are added to the table, and the number of instances, or `None` where it then has the start
+/// entry: repeats and entries out of shape change nothing, and from the start entry nothing follows.
+const MORE: &[(Row, Option<u64>, &str)] = &[
+    ((0, &[], None, 1), Some(4), "a repeat"),
+    ((8, &[], None, 0), Some(4), "a point out of range"),
+    ((0, &[], None, 2), Some(4), "a state out of range"),
+    ((0, &[&[]], None, 0), Some(4), "a set more"),
+    ((2, &[], None, 0), Some(4), "a set less"),
+    (
+        (3, &[&[2]], None, 0),
+        Some(4),
+        "a state out of range in a set",
+    ),
+    ((3, &[&[1]], None, 1), Some(4), "a repeat with a set"),
+    ((0, &[], None, 0), None, "the start entry"),
+];
 
-/// Repeats and entries out of shape change nothing, and from the start entry nothing follows.
-fn see_entries_more(
+/// Looks at its table with entries more.
+fn see_more(
     rt: &impl Abort,
     alloc: Global,
     problem: &Problem,
     table: &[Entry],
 ) -> Result<(), OutOfMemory> {
-    let rows: [(Row, Answer); 8] = [
-        ((0, &[], 1), Answer::Instances(4)),
-        ((8, &[], 0), Answer::Instances(4)),
-        ((0, &[], 2), Answer::Instances(4)),
-        ((0, &[None], 0), Answer::Instances(4)),
-        ((2, &[], 0), Answer::Instances(4)),
-        ((3, &[Some(2)], 0), Answer::Instances(4)),
-        ((3, &[Some(1)], 1), Answer::Instances(4)),
-        ((0, &[], 0), Answer::Start),
-    ];
-    for (row, expected) in rows {
-        let answer = answer_beside(alloc, problem, table, row)?;
-        assert_eq!(rt; answer, expected, "{}", row.0);
+    for (more, instances, note) in MORE {
+        let expected = expected_of(*instances);
+        let is_so = answers_with(alloc, problem, table, LeftOut::Nothing, more, expected)?;
+        see(rt, is_so, true, note);
     }
     Ok(())
 }
 
-/// From a further type of point 5 an entry of point 4 follows.
-fn see_a_type_more(
-    rt: &impl Abort,
-    alloc: Global,
-    problem: &Problem,
-    table: &[Entry],
-) -> Result<(), OutOfMemory> {
-    let missing: Row = (4, &[Some(0)], 0);
-    let more: Row = (5, &[Some(0)], 0);
-    assert!(rt; is_missed_with(alloc, problem, table, missing, more)?);
-    Ok(())
-}
-
-/// Looks at the least table of the branching scheme that is accepted.
+/// Looks at its least table.
 fn see_branching(rt: &impl Abort, alloc: Global, problem: &Problem) -> Result<(), Fail> {
     let table = table_of(alloc, problem)?;
     let changes = see_changes(rt, alloc, problem, table.as_slice());
-    let more = see_entries_more(rt, alloc, problem, table.as_slice());
-    let types = see_a_type_more(rt, alloc, problem, table.as_slice());
+    let more = see_more(rt, alloc, problem, table.as_slice());
     forget(table);
     changes?;
     more?;
-    types?;
     Ok(())
 }
 
+/// Of the worked flow.
+const PAIR: FlowPair = FlowPair {
+    rule: 1,
+    param: 0,
+    point: 6,
+};
+
+/// Whether the worked flow lacks its pair of the parameter x with point 6 where it is left out. The entries
+/// that are missing, since the table is empty, come behind.
+fn lacks_a_pair(alloc: Global) -> Result<bool, Fail> {
+    let expected = Expected::Pair(PAIR);
+    let left = Left::Pair(1);
+    answers_over(alloc, BRANCHING, BRANCHING_ACCEPTED, &[], left, expected)
+}
+
 #[test]
-fn entries_of_the_branching_scheme_changed_and_more(rt: HostRuntime) -> Result<(), Fail> {
+fn the_branching_scheme_with_entries_changed_and_more_and_a_pair_less(
+    rt: HostRuntime,
+) -> Result<(), Fail> {
     let problem = problem_of(rt.alloc(), BRANCHING, BRANCHING_ACCEPTED)?;
     let seen = see_branching(&rt, rt.alloc(), &problem);
     forget(problem);
-    seen
-}
-
-/// The worked flow without its pair of the parameter x with point 6. The entries that are missing, since
-/// the table is empty, come behind.
-#[test]
-fn a_worked_flow_with_a_pair_less(rt: HostRuntime) -> Result<(), Fail> {
-    let alloc = rt.alloc();
-    let problem = problem_of(alloc, BRANCHING, BRANCHING_ACCEPTED)?;
-    let pair = FlowPair {
-        rule: 1,
-        param: 0,
-        point: 6,
-    };
-    let open = without_pair(alloc, problem, 1)?;
-    assert!(rt; lacks_pair(alloc, &open, &[], pair));
-    forget(open);
+    seen?;
+    see(&rt, lacks_a_pair(rt.alloc())?, true, "point 6 for x");
     Ok(())
 }

@@ -1,13 +1,14 @@
 //! What follows from a log by the indexed programs, beside what follows by the plain one.
 
-ghost use Rattle.std.specs.Prelude.{◌≡◌, ◌<◌, length, All, OnOk};
+ghost use Rattle.std.specs.Prelude.{◌≡◌, ◌<◌, length, All};
 ghost use Rattle.hs_table.specs.Entries.{InShape};
 
 use crate::growing::{at_once, by_places, grow, trees};
+use crate::making::table_within;
 use hs_rules::Replica;
 use hs_scheme::{OutOfMemory, Problem};
 use hs_table::Entry;
-use hs_table_plain::{conclusions, leads_within, least_table};
+use hs_table_plain::conclusions;
 use std::alloc::Global;
 use std::cmp::Ordering;
 use std::mem::forget;
@@ -37,6 +38,25 @@ pub(crate) fn are_same(entries: &[Entry], others: &[Entry]) -> bool {
     are_among(entries, others) && are_among(others, entries)
 }
 
+/// Whether both calls find at the point what is expected.
+fn both_find(
+    alloc: Global,
+    problem: &Problem,
+    replica: &mut Replica,
+    point: u32,
+    expected: &[Entry],
+) -> Result<bool, OutOfMemory>
+    requires point { point < length problem.now.points.points }
+    requires shape { All (InShape problem.now) replica.old.log }
+    ensures { replica.new.log ≡ replica.old.log }
+{
+    let found = at_once(alloc, problem, replica, point)?;
+    let is_found = found.len() == expected.len() && are_same(found.as_slice(), expected);
+    drop(found);
+    let parts = by_places(alloc, problem, replica, point)?;
+    Ok(is_found && are_same(parts.as_slice(), expected))
+}
+
 /// Whether both calls find at the point what the plain program finds from the log.
 fn point_agrees(
     alloc: Global,
@@ -50,17 +70,32 @@ fn point_agrees(
     requires log { All (InShape problem.now) log.now }
     ensures { replica.new.log ≡ replica.old.log }
 {
-    let found = at_once(alloc, problem, replica, point)?;
-    let parts = by_places(alloc, problem, replica, point)?;
     let expected = conclusions(alloc, problem, log, point)?;
-    Ok(
-        found.len() == expected.len()
-            && are_same(found.as_slice(), expected.as_slice())
-            && are_same(parts.as_slice(), expected.as_slice()),
-    )
+    let agrees = both_find(alloc, problem, replica, point, expected.as_slice());
+    drop(expected);
+    agrees
 }
 
 /// Whether they do so at each point.
+fn points_agree_on(
+    alloc: Global,
+    problem: &Problem,
+    replica: &mut Replica,
+    log: &[Entry],
+) -> Result<bool, OutOfMemory>
+    requires shape { All (InShape problem.now) replica.old.log }
+    requires log { All (InShape problem.now) log.now }
+    ensures { replica.new.log ≡ replica.old.log }
+{
+    for point in 0..problem.points.count() {
+        if !point_agrees(alloc, problem, replica, log, point)? {
+            return Ok(false);
+        }
+    }
+    Ok(true)
+}
+
+/// Whether they do so on the log as it stands.
 fn points_agree(
     alloc: Global,
     problem: &Problem,
@@ -70,12 +105,9 @@ fn points_agree(
     ensures { replica.new.log ≡ replica.old.log }
 {
     let log = trees(alloc, replica)?;
-    for point in 0..problem.points.count() {
-        if !point_agrees(alloc, problem, replica, log.as_slice(), point)? {
-            return Ok(false);
-        }
-    }
-    Ok(true)
+    let agree = points_agree_on(alloc, problem, replica, log.as_slice());
+    drop(log);
+    agree
 }
 
 /// Grows the log until nothing more follows, or it has 1,000 entries. Answers whether all calls agree
@@ -100,14 +132,18 @@ fn all_agree(
     Ok(false)
 }
 
-/// Whether the entries are those of the least table by the plain program.
-fn is_least(alloc: Global, problem: &Problem, log: &[Entry]) -> Result<bool, OutOfMemory> {
-    if !leads_within(problem) {
-        return Ok(false);
-    }
-    match least_table(alloc, problem, 1_000)? {
-        None => Ok(false),
-        Some(table) => Ok(table.len() == log.len() && are_same(log, table.as_slice())),
+/// The number of these entries where they are those of the least table by the plain program.
+pub(crate) fn least_entries(
+    alloc: Global,
+    problem: &Problem,
+    log: &[Entry],
+) -> Result<Option<usize>, OutOfMemory> {
+    match table_within(alloc, problem, 1_000)? {
+        None => Ok(None),
+        Some(table) => {
+            let is_least = table.len() == log.len() && are_same(log, table.as_slice());
+            Ok(if is_least { Some(log.len()) } else { None })
+        }
     }
 }
 
@@ -125,10 +161,9 @@ fn entries_from(
         return Ok(None);
     }
     let log = trees(alloc, replica)?;
-    if !is_least(alloc, problem, log.as_slice())? {
-        return Ok(None);
-    }
-    Ok(Some(log.len()))
+    let entries = least_entries(alloc, problem, log.as_slice());
+    drop(log);
+    entries
 }
 
 /// The number of entries of the least table, or `None` where the programs don't agree on the way to

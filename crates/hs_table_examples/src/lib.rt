@@ -12,6 +12,8 @@ mod comparing;
 #[cfg(test)]
 mod concluding;
 #[cfg(test)]
+mod entries;
+#[cfg(test)]
 mod following;
 #[cfg(test)]
 mod growing;
@@ -30,9 +32,11 @@ mod saturating;
 #[cfg(test)]
 mod scripts;
 #[cfg(test)]
-mod tables;
+mod seeing;
 #[cfg(test)]
 mod telling;
+#[cfg(test)]
+mod two_points;
 #[cfg(test)]
 mod worked;
 #[cfg(test)]

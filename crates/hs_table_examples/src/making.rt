@@ -5,18 +5,29 @@ ghost use Rattle.hs_scheme.specs.Flow.{IsAscending, flow_cmp, head_cmp};
 ghost use Rattle.hs_scheme.specs.Problem.{IsProblem};
 
 use hs_scheme::{FlowPair, FlowTable, HeadPair, OutOfMemory, Problem};
-use hs_table::{Entry, Ty, TypeSet};
+use hs_table::{Entry, Ty};
 use hs_table_plain::{leads_within, least_table};
 use std::alloc::Global;
+use std::mem::forget;
 use std::test::Fail;
 
-/// The least table, by its plain definition.
-pub(crate) fn table_of(alloc: Global, problem: &Problem) -> Result<Vec<Entry>, Fail> {
+/// The least table, by its plain definition, where it is within the budget and no transition leads to a
+/// state out of range.
+pub(crate) fn table_within(
+    alloc: Global,
+    problem: &Problem,
+    budget: u32,
+) -> Result<Option<Vec<Entry>>, OutOfMemory> {
     if !leads_within(problem) {
-        return Err("a state out of range")?;
+        return Ok(None);
     }
-    match least_table(alloc, problem, 100)? {
-        None => Err("a longer table")?,
+    least_table(alloc, problem, budget)
+}
+
+/// The least table, which has at most 100 entries.
+pub(crate) fn table_of(alloc: Global, problem: &Problem) -> Result<Vec<Entry>, Fail> {
+    match table_within(alloc, problem, 100)? {
+        None => Err("a longer table or a state out of range")?,
         Some(table) => Ok(table),
     }
 }
@@ -69,95 +80,89 @@ fn fewer_heads(alloc: Global, problem: &Problem, place: usize) -> Result<FlowTab
     Ok(FlowTable::of(alloc, points.params(), pairs, heads)?)
 }
 
-/// The problem over another flow.
-fn over(problem: Problem, flow: FlowTable) -> Problem
-    requires { IsProblem (record { sorted = problem.sorted; points = problem.points; flow = flow }) }
+/// A pair of a flow, by its place.
+#[derive(Clone, Copy)]
+pub(crate) enum Left {
+    Pair(usize),
+    Head(usize),
+}
+
+/// The flow without this pair.
+fn fewer(alloc: Global, problem: &Problem, left: Left) -> Result<FlowTable, Fail>
+    ensures { IfOk result (λ flow.
+        IsProblem (record { sorted = problem.now.sorted; points = problem.now.points; flow = flow })) }
 {
-    let Problem { sorted, points, .. } = problem;
-    Problem::new(sorted, points, flow)
+    match left {
+        Left::Pair(place) => fewer_pairs(alloc, problem, place),
+        Left::Head(place) => fewer_heads(alloc, problem, place),
+    }
 }
 
-/// The problem over the flow without the flow pair at this place.
-pub(crate) fn without_pair(alloc: Global, problem: Problem, place: usize) -> Result<Problem, Fail> {
-    let flow = fewer_pairs(alloc, &problem, place)?;
-    Ok(over(problem, flow))
+/// The problem over another flow, where one was made.
+fn over(problem: Problem, made: Result<FlowTable, Fail>) -> Result<Problem, Fail>
+    requires { IfOk made (λ flow.
+        IsProblem (record { sorted = problem.sorted; points = problem.points; flow = flow })) }
+{
+    match made {
+        Ok(flow) => {
+            let Problem { sorted, points, .. } = problem;
+            Ok(Problem::new(sorted, points, flow))
+        }
+        Err(fault) => {
+            forget(problem);
+            Err(fault)
+        }
+    }
 }
 
-/// The problem over the flow without the head pair at this place.
-pub(crate) fn without_head(alloc: Global, problem: Problem, place: usize) -> Result<Problem, Fail> {
-    let flow = fewer_heads(alloc, &problem, place)?;
-    Ok(over(problem, flow))
+/// The problem over its flow without this pair.
+pub(crate) fn without_pair(alloc: Global, problem: Problem, left: Left) -> Result<Problem, Fail> {
+    let made = fewer(alloc, &problem, left);
+    over(problem, made)
 }
 
-/// The table without the entry at this place.
-pub(crate) fn without(
+/// Entries of a table that are left out.
+#[derive(Clone, Copy)]
+pub(crate) enum LeftOut {
+    Nothing,
+    /// The one at this place.
+    Place(usize),
+    /// Those at this point.
+    Point(u32),
+}
+
+/// Whether the entry at the place is left out.
+fn is_left_out(left_out: LeftOut, place: usize, entry: &Entry) -> bool {
+    match left_out {
+        LeftOut::Nothing => false,
+        LeftOut::Place(at) => at == place,
+        LeftOut::Point(point) => entry.point == point,
+    }
+}
+
+/// The other entries.
+pub(crate) fn others(
     alloc: Global,
     table: &[Entry],
-    left_out: usize,
+    left_out: LeftOut,
 ) -> Result<Vec<Entry>, OutOfMemory> {
     let mut rest = Vec::new(alloc);
     for (place, entry) in table.iter().enumerate() {
-        if place != left_out {
+        if !is_left_out(left_out, place, entry) {
             rest.push(entry.copy(alloc)?)?;
         }
     }
     Ok(rest)
 }
 
-/// The table with a state out of range as the type of the entry at this place.
-pub(crate) fn changed(
+/// Adds the entry with a state out of range as its type.
+pub(crate) fn push_changed(
     alloc: Global,
-    table: &[Entry],
-    place: usize,
-) -> Result<Vec<Entry>, OutOfMemory> {
-    let mut other = without(alloc, table, place)?;
-    if let Some(entry) = table.get(place) {
-        let mut entry = entry.copy(alloc)?;
-        entry.ty = Ty::state(9);
-        other.push(entry)?;
-    }
-    Ok(other)
-}
-
-/// A set with this state, or an empty one.
-fn set_of(alloc: Global, asked: Option<u32>) -> Result<TypeSet, OutOfMemory> {
-    let mut types = Vec::new(alloc);
-    if let Some(q) = asked {
-        types.push(Ty::state(q))?;
-    }
-    Ok(TypeSet { types })
-}
-
-/// The entry at this point with a state as its type, where each parameter is asked for at most one
-/// state.
-pub(crate) fn entry_of(
-    alloc: Global,
-    point: u32,
-    env: &[Option<u32>],
-    q: u32,
-) -> Result<Entry, OutOfMemory> {
-    let mut sets = Vec::new(alloc);
-    for asked in env {
-        sets.push(set_of(alloc, *asked)?)?;
-    }
-    Ok(Entry {
-        point,
-        env: sets,
-        ty: Ty::state(q),
-    })
-}
-
-/// The entries of the table at other points.
-pub(crate) fn elsewhere(
-    alloc: Global,
-    table: &[Entry],
-    point: u32,
-) -> Result<Vec<Entry>, OutOfMemory> {
-    let mut rest = Vec::new(alloc);
-    for entry in table {
-        if entry.point != point {
-            rest.push(entry.copy(alloc)?)?;
-        }
-    }
-    Ok(rest)
+    entry: &Entry,
+    out: &mut Vec<Entry>,
+) -> Result<(), OutOfMemory> {
+    let mut changed = entry.copy(alloc)?;
+    changed.ty = Ty::state(9);
+    out.push(changed)?;
+    Ok(())
 }

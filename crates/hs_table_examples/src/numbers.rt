@@ -4,13 +4,13 @@
 ghost use Rattle.std.specs.Prelude.{◌<◌, All, IfOk, length};
 ghost use Rattle.hs_types.specs.Interned.{Grows, IsRow};
 
+use crate::seeing::see;
 use hs_scheme::OutOfMemory;
 use hs_table::{Entry, Shape};
 use hs_types::{EnvId, Interner, Row, SetId, TyId, View};
 use std::alloc::Global;
 use std::cmp::Ordering;
 use std::mem::forget;
-use std::process::Abort;
 use std::test::Fail;
 
 /// The set of these states, which get their numbers in this order, and which are given to the set
@@ -24,37 +24,20 @@ fn set_of_two(interner: &mut Interner, first: u32, second: u32) -> Result<SetId,
     Ok(set)
 }
 
-/// Sees that the set has just states 0 and 1, in this order.
-fn see_two(rt: &impl Abort, interner: &Interner, set: SetId)
+/// Whether the set has just states 0 and 1, in this order.
+fn is_two(interner: &Interner, set: SetId) -> bool
     requires { set < length interner.now.sets }
 {
     let members = interner.members(set);
-    assert_eq!(rt; members.len(), 2);
-    let states = (interner.view(members[0]), interner.view(members[1]));
-    assert_eq!(rt; states, (View::State(0), View::State(1)));
+    members.len() == 2
+        && interner.view(members[0]) == View::State(0)
+        && interner.view(members[1]) == View::State(1)
 }
 
-/// Looks at that set.
-fn see_set(
-    rt: &impl Abort,
-    interner: &mut Interner,
-    first: u32,
-    second: u32,
-) -> Result<(), OutOfMemory> {
+/// Whether that set is so.
+fn is_set(interner: &mut Interner, first: u32, second: u32) -> Result<bool, OutOfMemory> {
     let set = set_of_two(interner, first, second)?;
-    see_two(rt, interner, set);
-    Ok(())
-}
-
-#[test]
-fn sets_are_in_order_and_without_repeats(rt: HostRuntime) -> Result<(), Fail> {
-    for (first, second) in [(0, 1), (1, 0)] {
-        let mut interner = Interner::new(rt.alloc());
-        let seen = see_set(&rt, &mut interner, first, second);
-        forget(interner);
-        seen?;
-    }
-    Ok(())
+    Ok(is_two(interner, set))
 }
 
 /// Three types.
@@ -95,30 +78,19 @@ fn three_arrows(interner: &mut Interner) -> Result<Three, OutOfMemory>
     })
 }
 
-/// Looks at their order.
-fn see_order(rt: &impl Abort, interner: &mut Interner) -> Result<(), OutOfMemory> {
+/// Whether arrows are ordered by result and then by set.
+fn are_ordered(interner: &mut Interner) -> Result<bool, OutOfMemory> {
     let t = three_arrows(interner)?;
-    let orders = [
-        interner.compare(t.first, t.second),
-        interner.compare(t.second, t.third),
-        interner.compare(t.third, t.first),
-    ];
-    assert_eq!(rt; orders, [Ordering::Less, Ordering::Less, Ordering::Greater]);
-    Ok(())
+    Ok(
+        interner.compare(t.first, t.second) == Ordering::Less
+            && interner.compare(t.second, t.third) == Ordering::Less
+            && interner.compare(t.third, t.first) == Ordering::Greater,
+    )
 }
 
-#[test]
-fn arrows_are_ordered_by_result_and_then_by_set(rt: HostRuntime) -> Result<(), Fail> {
-    let mut interner = Interner::new(rt.alloc());
-    let seen = see_order(&rt, &mut interner);
-    forget(interner);
-    seen?;
-    Ok(())
-}
-
-/// The first of the three arrows, another one, and the first made again.
+/// An arrow from nothing to state 2, another one, and the first made again.
 fn made_again(interner: &mut Interner) -> Result<Three, OutOfMemory> {
-    let a = interner.base(0)?;
+    let a = interner.base(2)?;
     let first = arrow_of(interner, &[], a)?;
     let second = arrow_of(interner, &[a], a)?;
     let third = arrow_of(interner, &[], a)?;
@@ -129,21 +101,10 @@ fn made_again(interner: &mut Interner) -> Result<Three, OutOfMemory> {
     })
 }
 
-/// Looks at their numbers.
-fn see_again(rt: &impl Abort, interner: &mut Interner) -> Result<(), OutOfMemory> {
+/// Whether what is made again has its number, and another one another.
+fn has_its_number(interner: &mut Interner) -> Result<bool, OutOfMemory> {
     let t = made_again(interner)?;
-    let same = (t.third == t.first, t.second == t.first);
-    assert_eq!(rt; same, (true, false));
-    Ok(())
-}
-
-#[test]
-fn what_is_made_again_has_its_number(rt: HostRuntime) -> Result<(), Fail> {
-    let mut interner = Interner::new(rt.alloc());
-    let seen = see_again(&rt, &mut interner);
-    forget(interner);
-    seen?;
-    Ok(())
+    Ok(t.third == t.first && t.second != t.first)
 }
 
 /// The row of the entry at point 0 without sets whose type is state 0.
@@ -163,7 +124,6 @@ fn imported(
     interner: &mut Interner,
 ) -> Result<Entry, OutOfMemory> {
     let row = start_row(from)?;
-    let _other = interner.base(1)?;
     let own = interner.import(from, row)?;
     interner.tree(alloc, own)
 }
@@ -173,27 +133,14 @@ fn is_start_entry(entry: &Entry) -> bool {
     entry.point == 0 && entry.env.is_empty() && matches!(&entry.ty.shape, Shape::State(0))
 }
 
-/// Looks at the imported entry.
-fn see_imported(
-    rt: &impl Abort,
+/// Whether an entry goes from one interner to another.
+fn is_imported(
     alloc: Global,
     from: &mut Interner,
     interner: &mut Interner,
-) -> Result<(), OutOfMemory> {
+) -> Result<bool, OutOfMemory> {
     let entry = imported(alloc, from, interner)?;
-    assert!(rt; is_start_entry(&entry));
-    Ok(())
-}
-
-#[test]
-fn an_entry_goes_from_one_interner_to_another(rt: HostRuntime) -> Result<(), Fail> {
-    let mut from = Interner::new(rt.alloc());
-    let mut interner = Interner::new(rt.alloc());
-    let seen = see_imported(&rt, rt.alloc(), &mut from, &mut interner);
-    forget(from);
-    forget(interner);
-    seen?;
-    Ok(())
+    Ok(is_start_entry(&entry))
 }
 
 /// The union of environments of two sets, of which the first has a state.
@@ -208,21 +155,38 @@ fn union_of_two(interner: &mut Interner) -> Result<EnvId, OutOfMemory>
     Ok(env)
 }
 
-/// Looks at that union.
-fn see_union(rt: &impl Abort, interner: &mut Interner) -> Result<(), OutOfMemory> {
+/// Whether that union is made set by set.
+fn is_union(interner: &mut Interner) -> Result<bool, OutOfMemory> {
     let env = union_of_two(interner)?;
     let sets = interner.sets(env);
-    assert_eq!(rt; sets.len(), 2);
-    see_two(rt, interner, sets[0]);
-    assert_eq!(rt; interner.members(sets[1]).len(), 0);
-    Ok(())
+    Ok(sets.len() == 2 && is_two(interner, sets[0]) && interner.members(sets[1]).is_empty())
+}
+
+/// What is so in two new interners: a set is in order and without repeats, whichever of its states came
+/// first; arrows are ordered by result and then by set; what is made again has its number; an entry goes
+/// from one interner to the other; and unions are made set by set.
+fn told(
+    alloc: Global,
+    from: &mut Interner,
+    interner: &mut Interner,
+) -> Result<[bool; 6], OutOfMemory> {
+    Ok([
+        is_set(from, 0, 1)?,
+        is_set(interner, 1, 0)?,
+        are_ordered(interner)?,
+        has_its_number(interner)?,
+        is_imported(alloc, from, interner)?,
+        is_union(interner)?,
+    ])
 }
 
 #[test]
-fn unions_are_made_set_by_set(rt: HostRuntime) -> Result<(), Fail> {
+fn types_sets_and_entries_as_numbers(rt: HostRuntime) -> Result<(), Fail> {
+    let mut from = Interner::new(rt.alloc());
     let mut interner = Interner::new(rt.alloc());
-    let seen = see_union(&rt, &mut interner);
+    let told = told(rt.alloc(), &mut from, &mut interner);
+    forget(from);
     forget(interner);
-    seen?;
+    see(&rt, told?, [true; 6], "numbers");
     Ok(())
 }

@@ -3,11 +3,12 @@
 ghost use Rattle.std.specs.Prelude.{◌≡◌, ◌<◌, length, IfOk};
 ghost use Rattle.hs_types.specs.Interned.{IsRow};
 
+use crate::seeing::see;
 use hs_replica::Replica;
 use hs_scheme::OutOfMemory;
 use hs_types::{Interner, Row, TyId};
 use std::mem::forget;
-use std::process::Abort;
+use std::test::Fail;
 
 /// The row of the entry of this point with state 0 and no parameters.
 fn plain_row(interner: &mut Interner, point: u32) -> Result<Row, OutOfMemory>
@@ -64,48 +65,19 @@ fn has_plain_alone(replica: &mut Replica) -> Result<bool, OutOfMemory> {
     Ok(found == Some(0) && replica.len() == 1)
 }
 
-/// Appends, imports and adds the plain row, and sees it there once.
-fn see_plain(
-    rt: &impl Abort,
+/// Whether one new log has the plain row once after it is appended, and after it is imported and added,
+/// too, and the other one after it is imported and added.
+fn plain_rows(
     from: &mut Interner,
-    replica: &mut Replica,
-) -> Result<(), OutOfMemory> {
-    append_plain(from, replica)?;
-    assert!(rt; has_plain_alone(replica)?);
-    add_plain(from, replica)?;
-    assert!(rt; has_plain_alone(replica)?);
-    Ok(())
-}
-
-/// Imports and adds it, and sees it there once.
-fn see_added(
-    rt: &impl Abort,
-    from: &mut Interner,
-    replica: &mut Replica,
-) -> Result<(), OutOfMemory> {
-    add_plain(from, replica)?;
-    assert!(rt; has_plain_alone(replica)?);
-    Ok(())
-}
-
-#[test]
-fn an_appended_entry_is_there_once(rt: HostRuntime) -> Result<(), OutOfMemory> {
-    let mut from = Interner::new(rt.alloc());
-    let mut replica = Replica::new(rt.alloc());
-    let seen = see_plain(&rt, &mut from, &mut replica);
-    forget(from);
-    forget(replica);
-    seen
-}
-
-#[test]
-fn an_imported_row_is_added(rt: HostRuntime) -> Result<(), OutOfMemory> {
-    let mut from = Interner::new(rt.alloc());
-    let mut replica = Replica::new(rt.alloc());
-    let seen = see_added(&rt, &mut from, &mut replica);
-    forget(from);
-    forget(replica);
-    seen
+    appended: &mut Replica,
+    added: &mut Replica,
+) -> Result<[bool; 3], OutOfMemory> {
+    append_plain(from, appended)?;
+    let once = has_plain_alone(appended)?;
+    add_plain(from, appended)?;
+    let again = has_plain_alone(appended)?;
+    add_plain(from, added)?;
+    Ok([once, again, has_plain_alone(added)?])
 }
 
 /// The type that takes an argument with state `taken` and then is state 0.
@@ -149,63 +121,65 @@ fn fill(replica: &mut Replica) -> Result<(), OutOfMemory> {
     add_asking(replica, 3, 1, 5)
 }
 
-/// Looks which places ask for state 1 at this parameter of point 3.
-fn see_asking(
-    rt: &impl Abort,
-    replica: &mut Replica,
-    param: u32,
-    expected: &[u32],
-) -> Result<(), OutOfMemory> {
+/// Whether just these places ask for state 1 at this parameter of point 3.
+fn are_asking(replica: &mut Replica, param: u32, expected: &[u32]) -> Result<bool, OutOfMemory> {
     let one = replica.base(1)?;
     let asked = replica.asking(3, param, one)?;
-    assert_eq!(rt; asked.as_slice(), expected);
-    Ok(())
+    Ok(asked.as_slice() == expected)
 }
 
-fn see_who_asks(rt: &impl Abort, replica: &mut Replica) -> Result<(), OutOfMemory> {
-    assert_eq!(rt; replica.at_point(3), [0, 3].as_slice());
-    see_asking(rt, replica, 0, &[0, 3])?;
-    see_asking(rt, replica, 1, &[])?;
+/// Whether the right places are at point 3, and ask at its parameters before the last is indexed and
+/// after that.
+fn who_asks(replica: &mut Replica) -> Result<[bool; 4], OutOfMemory> {
+    let at_point = replica.at_point(3) == [0, 3].as_slice();
+    let first = are_asking(replica, 0, &[0, 3])?;
+    let other = are_asking(replica, 1, &[])?;
     replica.index()?;
-    see_asking(rt, replica, 0, &[0, 3, 4])
+    Ok([at_point, first, other, are_asking(replica, 0, &[0, 3, 4])?])
 }
 
-/// Looks which places of point 4 have the type that takes an argument with state 1.
-fn see_with_type(rt: &impl Abort, replica: &mut Replica) -> Result<(), OutOfMemory> {
+/// Whether just these places of point 4 have the type that takes an argument with state 1.
+fn have_type(replica: &mut Replica, expected: &[u32]) -> Result<bool, OutOfMemory> {
     let ty = arrow_type(replica, 1)?;
-    assert_eq!(rt; replica.with_type(4, ty), [1, 2].as_slice());
-    Ok(())
+    Ok(replica.with_type(4, ty) == expected)
 }
 
-/// Looks which places of point 4 with so many parameters take an argument with state 1.
-fn see_taking(
-    rt: &impl Abort,
-    replica: &mut Replica,
-    params: u32,
-    expected: &[u32],
-) -> Result<(), OutOfMemory> {
+/// Whether just these places of point 4 take as this argument one with state 1.
+fn are_taking(replica: &mut Replica, arg: u32, expected: &[u32]) -> Result<bool, OutOfMemory> {
     let one = replica.base(1)?;
-    assert_eq!(rt; replica.taking(4, params, one), expected);
-    Ok(())
+    Ok(replica.taking(4, arg, one) == expected)
 }
 
-fn see_who_takes(rt: &impl Abort, replica: &mut Replica) -> Result<(), OutOfMemory> {
+/// Whether the right places of point 4 have the type, and take arguments.
+fn who_takes(replica: &mut Replica) -> Result<[bool; 3], OutOfMemory> {
     replica.list_types(4)?;
-    see_with_type(rt, replica)?;
-    see_taking(rt, replica, 0, &[1])?;
-    see_taking(rt, replica, 1, &[])
+    Ok([
+        have_type(replica, &[1, 2])?,
+        are_taking(replica, 0, &[1])?,
+        are_taking(replica, 1, &[])?,
+    ])
 }
 
-fn see_places(rt: &impl Abort, replica: &mut Replica) -> Result<(), OutOfMemory> {
+/// Both of a new log that is filled.
+fn places(replica: &mut Replica) -> Result<([bool; 4], [bool; 3]), OutOfMemory> {
     fill(replica)?;
-    see_who_asks(rt, replica)?;
-    see_who_takes(rt, replica)
+    let asks = who_asks(replica)?;
+    Ok((asks, who_takes(replica)?))
 }
 
 #[test]
-fn places_by_what_entries_ask_and_take(rt: HostRuntime) -> Result<(), OutOfMemory> {
+fn rows_are_added_once_and_found_by_what_they_ask_and_take(rt: HostRuntime) -> Result<(), Fail> {
+    let mut from = Interner::new(rt.alloc());
+    let mut appended = Replica::new(rt.alloc());
+    let mut added = Replica::new(rt.alloc());
+    let rows = plain_rows(&mut from, &mut appended, &mut added);
+    forget(from);
+    forget(appended);
+    forget(added);
     let mut replica = Replica::new(rt.alloc());
-    let seen = see_places(&rt, &mut replica);
+    let places = places(&mut replica);
     forget(replica);
-    seen
+    see(&rt, rows?, [true; 3], "once, again, added");
+    see(&rt, places?, ([true; 4], [true; 3]), "places");
+    Ok(())
 }

@@ -1,57 +1,31 @@
 //! The plain program at the edge of its budget, and from an empty log.
 
-use crate::worked::{TWICE, TWICE_TRANSITIONS};
+use crate::making::table_within;
+use crate::seeing::see;
+use crate::worked::{BRANCHING, BRANCHING_REJECTED, TWICE, TWICE_TRANSITIONS};
 use hs_fixtures::problem_of;
 use hs_scheme::{OutOfMemory, Problem};
 use hs_table::{Entry, Shape};
-use hs_table_plain::{conclusions, leads_within, least_table};
+use hs_table_plain::conclusions;
 use std::alloc::Global;
 use std::mem::forget;
-use std::process::Abort;
 use std::test::Fail;
+
+/// What is counted.
+#[derive(Clone, Copy)]
+enum Counted {
+    /// The entries of the least table within this budget.
+    Within(u32),
+    /// The entries that follow at this point from nothing.
+    Seeds(u32),
+}
 
 /// The number of entries of the least table, or `None` past the budget.
 fn entries_of(alloc: Global, problem: &Problem, budget: u32) -> Result<Option<usize>, OutOfMemory> {
-    if !leads_within(problem) {
-        return Ok(None);
-    }
-    match least_table(alloc, problem, budget)? {
+    match table_within(alloc, problem, budget)? {
         None => Ok(None),
         Some(table) => Ok(Some(table.len())),
     }
-}
-
-/// That of a file with these rules and transitions.
-fn entries_within(
-    alloc: Global,
-    rules: &str,
-    transitions: &str,
-    budget: u32,
-) -> Result<Option<usize>, Fail> {
-    let problem = problem_of(alloc, rules, transitions)?;
-    let entries = entries_of(alloc, &problem, budget);
-    forget(problem);
-    Ok(entries?)
-}
-
-/// Rules, transitions and budgets, with the number of entries where they are within the budget.
-const BUDGETS: &[(&str, &str, u32, Option<usize>)] = &[
-    ("S -> c.", "q0 c -> .", 0, Some(0)),
-    ("S -> c.", "q0 d -> .", 0, None),
-    ("S -> c.", "q0 d -> .", 1, Some(1)),
-    (TWICE, TWICE_TRANSITIONS, 13, Some(13)),
-    (TWICE, TWICE_TRANSITIONS, 12, None),
-    ("S -> F c. F -> a.", "q0 a -> q0.", 4, Some(4)),
-    ("S -> F c. F x -> a x.", "q0 a -> q0.", 4, Some(4)),
-];
-
-#[test]
-fn tables_within_the_budget_and_past_it(rt: HostRuntime) -> Result<(), Fail> {
-    for (rules, transitions, budget, expected) in BUDGETS {
-        let entries = entries_within(rt.alloc(), rules, transitions, *budget)?;
-        assert_eq!(rt; entries, *expected, "{rules} {budget}");
-    }
-    Ok(())
 }
 
 /// Whether the entry has this state as its type and asks for nothing.
@@ -75,21 +49,57 @@ fn seeds_at(alloc: Global, problem: &Problem, point: u32) -> Result<Option<usize
     Ok(Some(found.len()))
 }
 
-/// Looks at some points of the branching scheme.
-fn see_seeds(rt: &impl Abort, alloc: Global, problem: &Problem) -> Result<(), OutOfMemory> {
-    for (point, expected) in [(0, 0), (2, 1), (4, 1), (6, 1)] {
-        assert_eq!(rt; seeds_at(alloc, problem, point)?, Some(expected), "{point}");
+/// How many there are.
+fn count(alloc: Global, problem: &Problem, counted: Counted) -> Result<Option<usize>, OutOfMemory> {
+    match counted {
+        Counted::Within(budget) => entries_of(alloc, problem, budget),
+        Counted::Seeds(point) => seeds_at(alloc, problem, point),
     }
-    Ok(())
 }
 
-#[test]
-fn what_follows_from_nothing(rt: HostRuntime) -> Result<(), Fail> {
-    let rules = "S -> F c. F x -> br x (a (F (b x))).";
-    let transitions = "q0 br -> q0 q0. q0 a -> q0. q0 b -> q1. q0 c -> . q1 c -> .";
-    let problem = problem_of(rt.alloc(), rules, transitions)?;
-    let seen = see_seeds(&rt, rt.alloc(), &problem);
+/// The same of a file with these rules and transitions.
+fn count_of_file(
+    alloc: Global,
+    rules: &str,
+    transitions: &str,
+    counted: Counted,
+) -> Result<Option<usize>, Fail> {
+    let problem = problem_of(alloc, rules, transitions)?;
+    let count = count(alloc, &problem, counted);
     forget(problem);
-    seen?;
+    Ok(count?)
+}
+
+/// Rules, transitions and what is counted, with its number.
+const COUNTS: &[(&str, &str, Counted, Option<usize>)] = &[
+    ("S -> c.", "q0 c -> .", Counted::Within(0), Some(0)),
+    ("S -> c.", "q0 d -> .", Counted::Within(0), None),
+    ("S -> c.", "q0 d -> .", Counted::Within(1), Some(1)),
+    (TWICE, TWICE_TRANSITIONS, Counted::Within(13), Some(13)),
+    (TWICE, TWICE_TRANSITIONS, Counted::Within(12), None),
+    (
+        "S -> F c. F -> a.",
+        "q0 a -> q0.",
+        Counted::Within(4),
+        Some(4),
+    ),
+    (
+        "S -> F c. F x -> a x.",
+        "q0 a -> q0.",
+        Counted::Within(4),
+        Some(4),
+    ),
+    (BRANCHING, BRANCHING_REJECTED, Counted::Seeds(0), Some(0)),
+    (BRANCHING, BRANCHING_REJECTED, Counted::Seeds(2), Some(1)),
+    (BRANCHING, BRANCHING_REJECTED, Counted::Seeds(4), Some(1)),
+    (BRANCHING, BRANCHING_REJECTED, Counted::Seeds(6), Some(1)),
+];
+
+#[test]
+fn tables_within_the_budget_and_what_follows_from_nothing(rt: HostRuntime) -> Result<(), Fail> {
+    for (rules, transitions, counted, expected) in COUNTS {
+        let count = count_of_file(rt.alloc(), rules, transitions, *counted)?;
+        see(&rt, count, *expected, rules);
+    }
     Ok(())
 }

@@ -1,8 +1,11 @@
-//! Saturation by one worker: the edge of the budget, the start entry alone, and generated files.
+//! Saturation by one worker: least tables, the edge of the budget, the start entry alone, and generated
+//! files.
 
 ghost use Rattle.std.specs.Prelude.{◌≤◌};
 ghost use Rattle.hs_flow.specs.Dependents.{HasDependents};
 
+use crate::comparing::least_entries;
+use crate::seeing::see;
 use crate::worked::{BRANCHING, BRANCHING_ACCEPTED, TWICE, TWICE_TRANSITIONS};
 use hs_core::{Core, Done, Drained, drain, saturate_alone};
 use hs_fixtures::{cycle, problem_of};
@@ -11,6 +14,48 @@ use hs_scheme::{OutOfMemory, Problem};
 use std::alloc::Global;
 use std::mem::forget;
 use std::test::Fail;
+
+/// The number of the core's entries where they are those of the least table by the plain program.
+fn entries_in(alloc: Global, problem: &Problem, core: &Core) -> Result<Option<u32>, OutOfMemory> {
+    let table = core.table(alloc)?;
+    let entries = least_entries(alloc, problem, table.as_slice());
+    drop(table);
+    match entries? {
+        None => Ok(None),
+        Some(_) => Ok(Some(core.len())),
+    }
+}
+
+/// The same of an answer with the least table.
+fn entries_done(alloc: Global, problem: &Problem, done: &Done) -> Result<Option<u32>, OutOfMemory> {
+    match done {
+        Done::Least(core) => entries_in(alloc, problem, core),
+        _ => Ok(None),
+    }
+}
+
+/// The same of the answer of `saturate_alone`.
+fn entries_saturated(
+    alloc: Global,
+    problem: &Problem,
+    dependents: &Dependents,
+) -> Result<Option<u32>, OutOfMemory>
+    requires { HasDependents problem.now.points problem.now.flow.pairs dependents.now }
+{
+    let done = saturate_alone(alloc, problem, dependents, 1_000, false)?;
+    let entries = entries_done(alloc, problem, &done);
+    forget(done);
+    entries
+}
+
+/// The number of entries of the least table by one worker, or `None` where the plain program finds
+/// another one.
+pub(crate) fn entries_alone(alloc: Global, problem: &Problem) -> Result<Option<u32>, OutOfMemory> {
+    let dependents = Dependents::of(alloc, problem)?;
+    let entries = entries_saturated(alloc, problem, &dependents);
+    drop(dependents);
+    entries
+}
 
 /// What is answered, in short: `least`, `over` or `first`, the number of entries, and whether one is
 /// kept past the budget.
@@ -92,81 +137,101 @@ fn drained(
     said
 }
 
-/// The answer of one of both calls, where the budget is 1 to 1,000,000.
-fn answered(alloc: Global, problem: &Problem, asked: Asked, drains: bool) -> Result<Said, Fail> {
-    if asked.budget < 1 || asked.budget > 1_000_000 {
-        return Err("another budget")?;
-    }
-    let dependents = Dependents::of(alloc, problem)?;
-    if drains {
-        Ok(drained(alloc, problem, &dependents, asked)?)
-    } else {
-        Ok(saturated(alloc, problem, &dependents, asked)?)
-    }
-}
-
-/// The same on the problem of this file.
-fn of_file(
+/// Both answers, where the budget is 1 to 1,000,000; else none.
+fn both(
     alloc: Global,
-    rules: &str,
-    transitions: &str,
+    problem: &Problem,
+    dependents: &Dependents,
     asked: Asked,
-    drains: bool,
-) -> Result<Said, Fail> {
-    let problem = problem_of(alloc, rules, transitions)?;
-    let said = answered(alloc, &problem, asked, drains);
+) -> Result<Option<(Said, Said)>, OutOfMemory>
+    requires { HasDependents problem.now.points problem.now.flow.pairs dependents.now }
+{
+    if asked.budget < 1 || asked.budget > 1_000_000 {
+        return Ok(None);
+    }
+    let saturated = saturated(alloc, problem, dependents, asked)?;
+    let drained = drained(alloc, problem, dependents, asked)?;
+    Ok(Some((saturated, drained)))
+}
+
+/// The same, of the problem.
+fn answered(
+    alloc: Global,
+    problem: &Problem,
+    asked: Asked,
+) -> Result<Option<(Said, Said)>, OutOfMemory> {
+    let dependents = Dependents::of(alloc, problem)?;
+    let both = both(alloc, problem, &dependents, asked);
+    drop(dependents);
+    both
+}
+
+/// Where a problem comes from.
+#[derive(Clone, Copy)]
+enum Source {
+    /// From rules and transitions.
+    File(&'static str, &'static str),
+    /// From the generated file of this number.
+    Generated(u32),
+}
+
+/// The problem of the source.
+fn problem_from(alloc: Global, source: Source) -> Result<Problem, Fail> {
+    match source {
+        Source::File(rules, transitions) => problem_of(alloc, rules, transitions),
+        Source::Generated(k) => cycle(alloc, k),
+    }
+}
+
+/// The same, of the source.
+fn of_source(
+    alloc: Global,
+    source: Source,
+    budget: u32,
+    first: bool,
+) -> Result<Option<(Said, Said)>, Fail> {
+    let problem = problem_from(alloc, source)?;
+    let said = answered(alloc, &problem, Asked { budget, first });
     forget(problem);
-    said
+    Ok(said?)
 }
 
-/// Rules and transitions, what is asked, and what is answered.
-const ANSWERS: &[(&str, &str, u32, bool, Said)] = &[
-    (TWICE, TWICE_TRANSITIONS, 13, false, ("least", 13, false)),
-    (TWICE, TWICE_TRANSITIONS, 12, false, ("over", 12, true)),
-    (BRANCHING, BRANCHING_ACCEPTED, 4, true, ("least", 4, false)),
-    ("S -> a b.", "q0 a -> q0.", 2, true, ("first", 2, false)),
+/// A function that is applied twice.
+const APPLIED_TWICE: Source = Source::File(TWICE, TWICE_TRANSITIONS);
+
+/// The branching scheme that is accepted.
+const ACCEPTED: Source = Source::File(BRANCHING, BRANCHING_ACCEPTED);
+
+/// The scheme whose table has two entries.
+const TWO_POINTS: Source = Source::File("S -> a b.", "q0 a -> q0.");
+
+/// Sources, what is asked, and what is answered.
+const ANSWERS: &[(Source, u32, bool, Said)] = &[
+    (APPLIED_TWICE, 13, false, ("least", 13, false)),
+    (APPLIED_TWICE, 12, false, ("over", 12, true)),
+    (ACCEPTED, 4, true, ("least", 4, false)),
+    (TWO_POINTS, 2, true, ("first", 2, false)),
+    (Source::Generated(1), 1_000_000, false, ("least", 7, false)),
+    (Source::Generated(2), 1_000_000, false, ("least", 17, false)),
+    (
+        Source::Generated(20),
+        1_000_000,
+        false,
+        ("least", 881, false),
+    ),
+    (
+        Source::Generated(100),
+        1_000_000,
+        false,
+        ("least", 20_401, false),
+    ),
 ];
-
-/// The answers of both calls, first that of `saturate_alone`.
-fn both(alloc: Global, rules: &str, transitions: &str, asked: Asked) -> Result<(Said, Said), Fail> {
-    let saturated = of_file(alloc, rules, transitions, asked, false)?;
-    let drained = of_file(alloc, rules, transitions, asked, true)?;
-    Ok((saturated, drained))
-}
 
 #[test]
 fn both_calls_answer_the_same(rt: HostRuntime) -> Result<(), Fail> {
-    for (rules, transitions, budget, first, expected) in ANSWERS {
-        let asked = Asked {
-            budget: *budget,
-            first: *first,
-        };
-        let said = both(rt.alloc(), rules, transitions, asked)?;
-        assert_eq!(rt; said, (*expected, *expected), "{rules}, {budget}");
-    }
-    Ok(())
-}
-
-/// The answer of `saturate_alone` on the problem of the generated file of this number.
-fn of_cycle(alloc: Global, k: u32) -> Result<Said, Fail> {
-    let problem = cycle(alloc, k)?;
-    let asked = Asked {
-        budget: 1_000_000,
-        first: false,
-    };
-    let said = answered(alloc, &problem, asked, false);
-    forget(problem);
-    said
-}
-
-/// Numbers of generated files, and the numbers of entries of their least tables.
-const GENERATED: &[(u32, u32)] = &[(1, 7), (2, 17), (20, 881), (100, 20_401)];
-
-#[test]
-fn generated_files(rt: HostRuntime) -> Result<(), Fail> {
-    for (k, entries) in GENERATED {
-        let said = of_cycle(rt.alloc(), *k)?;
-        assert_eq!(rt; said, ("least", *entries, false));
+    for (source, budget, first, expected) in ANSWERS {
+        let said = of_source(rt.alloc(), *source, *budget, *first)?;
+        see(&rt, said, Some((*expected, *expected)), "both calls");
     }
     Ok(())
 }

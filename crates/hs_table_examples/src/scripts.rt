@@ -1,17 +1,14 @@
 //! Scripts of workers on the core of `S -> a b.`, in whose table the entry at point 1 comes first and
 //! that at point 0 follows with it.
 
-ghost use Rattle.std.specs.Prelude.{◌≤◌};
-
-use crate::telling::entries_text;
+use crate::seeing::see;
+use crate::telling::{Line, has_log, past_line};
 use crate::working::{finished, given_back, published, taken};
 use hs_core::{Core, Published, Taken, Work};
-use hs_fixtures::problem_of;
 use hs_scheme::{OutOfMemory, Problem};
 use std::alloc::Global;
 use std::mem::forget;
 use std::process::Abort;
-use std::test::Fail;
 
 /// What is done. But for taking it is done in the name of the worker who holds the work.
 #[derive(Clone, Copy)]
@@ -141,84 +138,67 @@ const FOUND: &[(Command, Answer)] = &[
     (Command::Take(1), Answer::Found(1)),
 ];
 
-/// How many commands of the beginning and of the rest were as expected, and the core's entries then.
-#[derive(Drop)]
-struct Outcome {
-    begun: usize,
-    ended: usize,
-    entries: String,
-}
+/// The entries of the table.
+const BOTH: &[Line] = &[(1, 0, Some(0)), (0, 0, Some(0))];
 
-/// Carries the beginning out and then these commands.
-fn play(
-    alloc: Global,
-    core: &mut Core,
-    rows: &[(Command, Answer)],
-) -> Result<Outcome, OutOfMemory> {
-    let begun = agreeing(alloc, core, BEGINNING)?;
-    let ended = agreeing(alloc, core, rows)?;
-    let entries = entries_text(alloc, core)?;
-    Ok(Outcome {
-        begun,
-        ended,
-        entries,
-    })
-}
+/// Just the first of them.
+const ONE: &[Line] = &[(1, 0, Some(0))];
 
-/// The same on a new core.
-fn of_new(
-    alloc: Global,
-    problem: &Problem,
-    budget: u32,
-    first: bool,
-    rows: &[(Command, Answer)],
-) -> Result<Outcome, OutOfMemory>
-    requires least { 1 ≤ budget }
-    requires greatest { budget ≤ 1000000 }
-{
-    let mut core = Core::new(alloc, problem, budget, first)?;
-    let outcome = play(alloc, &mut core, rows);
-    forget(core);
-    outcome
-}
+/// A budget, whether only the start entry is sought, commands after the beginning, and then the entries
+/// and the one past the budget.
+type Script = (
+    u32,
+    bool,
+    &'static [(Command, Answer)],
+    &'static [Line],
+    Option<Line>,
+);
 
-/// The same for a budget of 1 to 1,000,000.
-fn script(
-    alloc: Global,
-    budget: u32,
-    first: bool,
-    rows: &[(Command, Answer)],
-) -> Result<Outcome, Fail> {
-    if budget < 1 || budget > 1_000_000 {
-        return Err("another budget")?;
-    }
-    let problem = problem_of(alloc, "S -> a b.", "q0 a -> q0.")?;
-    let outcome = of_new(alloc, &problem, budget, first, rows);
-    forget(problem);
-    Ok(outcome?)
-}
-
-/// Budgets, whether only the start entry is sought, commands after the beginning, and the entries then.
-const SCRIPTS: &[(u32, bool, &[(Command, Answer)], &str)] = &[
-    (2, false, GOING_ON, "1 0 q0\n0 0 q0\n"),
-    (1, false, PAST_THE_BUDGET, "1 0 q0\npast 0 0 q0\n"),
-    (2, true, FOUND, "1 0 q0\n0 0 q0\n"),
+/// The scripts.
+const SCRIPTS: &[Script] = &[
+    (2, false, GOING_ON, BOTH, None),
+    (1, false, PAST_THE_BUDGET, ONE, Some((0, 0, Some(0)))),
+    (2, true, FOUND, BOTH, None),
 ];
 
-/// Sees that all commands, of which so many come after the beginning, were as expected, and so are the
-/// entries.
-fn see_outcome(rt: &impl Abort, outcome: &Outcome, commands: usize, entries: &str) {
-    assert_eq!(rt;
-        (outcome.begun, outcome.ended, outcome.entries.as_str()),
-        (BEGINNING.len(), commands, entries)
-    );
+/// How many commands of the beginning and of the rest were as expected, whether the core's entries are
+/// then, and the one past the budget.
+type Outcome = (usize, usize, bool, Option<Line>);
+
+/// Carries the beginning out and then the commands of the script.
+fn play(alloc: Global, core: &mut Core, script: &Script) -> Result<Outcome, OutOfMemory> {
+    let begun = agreeing(alloc, core, BEGINNING)?;
+    let ended = agreeing(alloc, core, script.2)?;
+    let has_entries = has_log(alloc, core, script.3)?;
+    let past = past_line(alloc, core)?;
+    Ok((begun, ended, has_entries, past))
 }
 
-#[test]
-fn three_workers_step_by_step(rt: HostRuntime) -> Result<(), Fail> {
-    for (budget, first, commands, expected) in SCRIPTS {
-        let outcome = script(rt.alloc(), *budget, *first, commands)?;
-        see_outcome(&rt, &outcome, commands.len(), expected);
+/// The same on a new core, for a budget of 1 to 1,000,000; else nothing.
+fn played(
+    alloc: Global,
+    problem: &Problem,
+    script: &Script,
+) -> Result<Option<Outcome>, OutOfMemory> {
+    if script.0 < 1 || script.0 > 1_000_000 {
+        return Ok(None);
+    }
+    let mut core = Core::new(alloc, problem, script.0, script.1)?;
+    let outcome = play(alloc, &mut core, script);
+    forget(core);
+    Ok(Some(outcome?))
+}
+
+/// Sees that all commands were as expected, and so are the entries.
+pub(crate) fn see_scripts(
+    rt: &impl Abort,
+    alloc: Global,
+    problem: &Problem,
+) -> Result<(), OutOfMemory> {
+    for script in SCRIPTS {
+        let outcome = played(alloc, problem, script)?;
+        let expected = (BEGINNING.len(), script.2.len(), true, script.4);
+        see(rt, outcome, Some(expected), "three workers");
     }
     Ok(())
 }

@@ -5,52 +5,45 @@ use hs_scheme::OutOfMemory;
 use hs_table::{Entry, HeadBy, Shape};
 use std::alloc::Global;
 
-/// A type that is a state, or `arrow`.
-fn type_text(alloc: Global, entry: &Entry) -> Result<String, OutOfMemory> {
-    match &entry.ty.shape {
-        Shape::State(q) => Ok(format!(in alloc; "q{q}")?),
-        Shape::Arrow(..) => Ok(String::from_str(alloc, "arrow")?),
-    }
-}
+/// An entry in short: its point, the number of its sets, and its type where that is a state.
+pub(crate) type Line = (u32, usize, Option<u32>);
 
-/// Puts the line of the entry at the end: its point, the number of its sets and its type.
-fn push_entry(alloc: Global, entry: &Entry, text: &mut String) -> Result<(), OutOfMemory> {
-    let point = entry.point;
-    let sets = entry.env.len();
-    let ty = type_text(alloc, entry)?;
-    write!(text, "{point} {sets} {ty}\n")?;
-    Ok(())
-}
-
-/// Puts the lines of the entries at the end.
-fn push_entries(alloc: Global, entries: &[Entry], text: &mut String) -> Result<(), OutOfMemory> {
-    for entry in entries {
-        push_entry(alloc, entry, text)?;
-    }
-    Ok(())
-}
-
-/// Puts the line of the entry past the budget at the end, where one is kept.
-fn push_past(alloc: Global, core: &Core, text: &mut String) -> Result<(), OutOfMemory> {
-    let Some(past) = core.past() else {
-        return Ok(());
+/// The entry in short.
+fn line_of(entry: &Entry) -> Line {
+    let state = match &entry.ty.shape {
+        Shape::State(q) => Some(*q),
+        Shape::Arrow(..) => None,
     };
-    text.push_str("past ")?;
-    let entry = core.replica().interner().tree(alloc, past.row)?;
-    push_entry(alloc, &entry, text)
+    (entry.point, entry.env.len(), state)
 }
 
-/// The lines of the entries in the log's order, and then of the one past the budget.
-pub(crate) fn entries_text(alloc: Global, core: &Core) -> Result<String, OutOfMemory> {
-    let mut text = String::new(alloc);
+/// Whether these are the entries, in this order.
+fn are_lines(entries: &[Entry], lines: &[Line]) -> bool {
+    for (entry, line) in entries.iter().zip(lines) {
+        if line_of(entry) != *line {
+            return false;
+        }
+    }
+    entries.len() == lines.len()
+}
+
+/// Whether these are the entries in the log's order.
+pub(crate) fn has_log(alloc: Global, core: &Core, lines: &[Line]) -> Result<bool, OutOfMemory> {
     let table = core.table(alloc)?;
-    push_entries(alloc, table.as_slice(), &mut text)?;
-    push_past(alloc, core, &mut text)?;
-    Ok(text)
+    Ok(are_lines(table.as_slice(), lines))
+}
+
+/// The entry past the budget, where one is kept.
+pub(crate) fn past_line(alloc: Global, core: &Core) -> Result<Option<Line>, OutOfMemory> {
+    let Some(past) = core.past() else {
+        return Ok(None);
+    };
+    let entry = core.replica().interner().tree(alloc, past.row)?;
+    Ok(Some(line_of(&entry)))
 }
 
 /// The head of a terminal that is read in state 0.
-fn terminal(child: Option<u32>) -> HeadBy {
+pub(crate) fn terminal(child: Option<u32>) -> HeadBy {
     HeadBy::Terminal { state: 0, child }
 }
 

@@ -17,14 +17,10 @@ join_by-push {X} f sep (y ∷ ys) x =
     ∙ (sym (append_assoc (f y) (flat_map g ys) (sep ++ f x)) ∙ ap (λ b. join_by f sep (y ∷ ys) ++ ((if b then [] else sep) ++ f x)) (sym some))
 
 -- one more item stands behind the separator
-pub joined-more : {X : Type 0} (f : X → List ℕ) (sep : List ℕ) (xs zs : List X) (x : X) (n : ℕ) (first old put new : List ℕ) → zs ≡ xs ++ x ∷ [] → length xs ≡ n
-    → old ≡ first ++ join_by f sep xs → put ≡ old ++ (if nat_eq n 0 then [] else sep) → new ≡ put ++ f x → new ≡ first ++ join_by f sep zs
-joined-more f sep xs zs x n first old put new are long was p e =
-    let before = if nat_eq n 0 then [] else sep in
-    let next : new ≡ old ++ (before ++ f x) = e ∙ (ap (λ r. r ++ f x) p ∙ append_assoc old before (f x)) in
-    let pushed : join_by f sep zs ≡ join_by f sep xs ++ (before ++ f x) =
-    ap (join_by f sep) are ∙ (join_by-push f sep xs x ∙ ap (λ m. join_by f sep xs ++ ((if nat_eq m 0 then [] else sep) ++ f x)) long) in
-    next ∙ (ap (λ r. r ++ (before ++ f x)) was ∙ (append_assoc first (join_by f sep xs) (before ++ f x) ∙ ap (λ r. first ++ r) (sym pushed)))
+pub joined-more : {X : Type 0} (f : X → List ℕ) (sep : List ℕ) (xs zs : List X) (x : X) (n : ℕ) → zs ≡ xs ++ x ∷ [] → length xs ≡ n
+    → join_by f sep xs ++ ((if nat_eq n 0 then [] else sep) ++ f x) ≡ join_by f sep zs
+joined-more f sep xs zs x n are long =
+    sym (ap (join_by f sep) are ∙ (join_by-push f sep xs x ∙ ap (λ m. join_by f sep xs ++ ((if nat_eq m 0 then [] else sep) ++ f x)) long))
 
 module _ {A : Type 0} (xs : List A) (n : ℕ) (x : A) (at : slice_get xs n ≡ Some x) where
   within : n < length xs
@@ -50,10 +46,3 @@ module _ {A : Type 0} (xs : List A) (n : ℕ) (x : A) (at : slice_get xs n ≡ S
 
   pub numbered-long : length (enumerate_from 0 (take n xs)) ≡ n
   numbered-long = length-enumerate_from 0 (take n xs) ∙ long
-
--- pieces that are put one behind the other
-pub two_put : (old a b t u : List ℕ) → t ≡ old ++ a → u ≡ t ++ b → u ≡ old ++ (a ++ b)
-two_put old a b t u e f = f ∙ (ap (λ r. r ++ b) e ∙ append_assoc old a b)
-
-pub four_put : (old a b c d t u v w : List ℕ) → t ≡ old ++ a → u ≡ t ++ b → v ≡ u ++ c → w ≡ v ++ d → w ≡ old ++ (a ++ (b ++ (c ++ d)))
-four_put old a b c d t u v w p q r s = two_put old a (b ++ (c ++ d)) t w p (two_put t b (c ++ d) u w q (two_put u c d v w r s))

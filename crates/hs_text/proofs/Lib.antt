@@ -2,3 +2,4 @@ pub mod Texts
 pub mod Joins
 pub mod Types
 pub mod Ascending
+pub mod Puts

@@ -1,14 +1,15 @@
 //! The report of a run.
 
-ghost use Rattle.std.specs.Prelude.{◌≡◌, ◌≢◌, ◌++◌, All, AllPairs, IfOk, OnOk, option_map};
+ghost use Rattle.std.specs.Prelude.{◌≢◌, All, AllPairs, IfOk, option_map};
 ghost use Rattle.std.specs.List.{flat_map};
 ghost use Rattle.std.specs.Option.{ForSome};
 ghost use Rattle.hs_table.specs.Entries.{InShape};
+ghost use Rattle.hs_text.specs.Pieces.{Puts};
 ghost use Rattle.hs_text.specs.Report as lines;
 ghost use Rattle.hs_text.specs.Report.{IsReport};
 
-use crate::pieces::{push_name, push_number};
-use crate::table::table_text;
+use crate::pieces::{Text, names_of, push_number, state_name, terminal_name};
+use crate::table::push_table;
 use crate::verdict::Verdict;
 use hs_scheme::{Names, OutOfMemory, Problem};
 use hs_table::Entry;
@@ -16,83 +17,83 @@ use hs_trace::Path;
 use std::alloc::Global;
 
 /// Puts a line of these words and a number at the end.
-fn push_line(before: &[u8], number: u64, text: &mut Vec<u8>) -> Result<(), OutOfMemory>
-    ensures { OnOk result (text.new.items ≡ text.old.items ++ lines.number_line before.now number) }
+fn push_line(words: &[u8], number: u64, text: &mut Text)
+    ensures { Puts text.old text.new (lines.number_line words.now number) }
 {
-    text.extend_from_slice(before)?;
-    push_number(number, text)?;
-    text.extend_from_slice(b"\n")?;
-    Ok(())
+    text.push(words);
+    push_number(number, text);
+    text.push(b"\n");
 }
 
 /// Puts such a line at the end where there is a number.
-fn push_line_if(before: &[u8], number: Option<u64>, text: &mut Vec<u8>) -> Result<(), OutOfMemory>
-    ensures { OnOk result (text.new.items ≡ text.old.items ++ lines.number_line_if before.now number) }
+fn push_line_if(words: &[u8], number: Option<u64>, text: &mut Text)
+    ensures { Puts text.old text.new (lines.number_line_if words.now number) }
 {
-    match number {
-        Some(number) => push_line(before, number, text),
-        None => Ok(()),
+    if let Some(number) = number {
+        push_line(words, number, text);
     }
 }
 
 /// Puts the terminals of these steps, each with its child, at the end.
-fn push_steps(names: &Names, steps: &[(u32, u32)], text: &mut Vec<u8>) -> Result<(), OutOfMemory>
-    ensures { OnOk result (text.new.items
-        ≡ text.old.items ++ flat_map (lines.step_text names.now) steps.now) }
+fn push_steps(names: &Names, steps: &[(u32, u32)], text: &mut Text)
+    ensures { Puts text.old text.new (flat_map (lines.step_text names.now) steps.now) }
 {
     for (terminal, child) in steps {
-        push_name(names.terminals.as_slice(), *terminal as usize, text)?;
-        text.extend_from_slice(b"/")?;
-        push_number(u64::from(*child), text)?;
-        text.extend_from_slice(b" ")?;
+        text.push(terminal_name(names, *terminal));
+        text.push(b"/");
+        push_number(u64::from(*child), text);
+        text.push(b" ");
     }
-    Ok(())
 }
 
 /// Puts the lines of a path at the end.
-fn push_path(names: &Names, path: &Path, text: &mut Vec<u8>) -> Result<(), OutOfMemory>
-    ensures { OnOk result (text.new.items ≡ text.old.items ++ lines.path_lines names.now path.now) }
+fn push_path(names: &Names, path: &Path, text: &mut Text)
+    ensures { Puts text.old text.new (lines.path_lines names.now path.now) }
 {
-    text.extend_from_slice(b"path ")?;
-    push_steps(names, path.steps.as_slice(), text)?;
-    push_name(names.terminals.as_slice(), path.last as usize, text)?;
-    text.extend_from_slice(b"\nstate ")?;
-    push_name(names.states.as_slice(), path.state as usize, text)?;
-    text.extend_from_slice(b"\n")?;
-    Ok(())
+    text.push(b"path ");
+    push_steps(names, path.steps.as_slice(), text);
+    text.push(terminal_name(names, path.last));
+    text.push(b"\nstate ");
+    text.push(state_name(names, path.state));
+    text.push(b"\n");
 }
 
 /// Puts an answer and the number of entries at the end.
-fn push_head(answer: &[u8], entries: u32, text: &mut Vec<u8>) -> Result<(), OutOfMemory>
-    ensures { OnOk result (text.new.items ≡ text.old.items ++ lines.head_lines answer.now entries) }
+fn push_head(answer: &[u8], entries: u32, text: &mut Text)
+    ensures { Puts text.old text.new (lines.head_lines answer.now entries) }
 {
-    text.extend_from_slice(answer)?;
-    push_line(b"entries ", u64::from(entries), text)
+    text.push(answer);
+    push_line(b"entries ", u64::from(entries), text);
 }
 
 /// Puts the lines of a verdict at the end.
-fn push_verdict(names: &Names, verdict: &Verdict, text: &mut Vec<u8>) -> Result<(), OutOfMemory>
-    ensures { OnOk result (text.new.items ≡ text.old.items ++ lines.verdict_lines names.now verdict.now) }
+fn push_verdict(names: &Names, verdict: &Verdict, text: &mut Text)
+    ensures { Puts text.old text.new (lines.verdict_lines names.now verdict.now) }
 {
     match verdict {
         Verdict::Accepted { entries, checked } => {
-            push_head(b"accepted\n", *entries, text)?;
-            push_line(b"checked ", *checked, text)?;
-            Ok(())
+            push_head(b"accepted\n", *entries, text);
+            push_line(b"checked ", *checked, text);
         }
         Verdict::Rejected { entries, path } => {
-            push_head(b"rejected\n", *entries, text)?;
-            push_path(names, path, text)?;
-            Ok(())
+            push_head(b"rejected\n", *entries, text);
+            push_path(names, path, text);
         }
         Verdict::Long { entries, steps } => {
-            push_head(b"rejected\n", *entries, text)?;
-            text.extend_from_slice(b"path longer than ")?;
-            push_number(*steps, text)?;
-            text.extend_from_slice(b" steps\n")?;
-            Ok(())
+            push_head(b"rejected\n", *entries, text);
+            text.push(b"path longer than ");
+            push_number(*steps, text);
+            text.push(b" steps\n");
         }
     }
+}
+
+/// Puts the lines of a verdict at the end, and the weight that was removed where there was one.
+fn push_summary(problem: &Problem, verdict: &Verdict, removed: Option<u64>, text: &mut Text)
+    ensures { Puts text.old text.new (lines.summary problem.now verdict.now removed) }
+{
+    push_verdict(names_of(problem), verdict, text);
+    push_line_if(b"simplified ", removed, text);
 }
 
 /// The report of a run: the verdict, the weight that simplification removed where there was one,
@@ -113,12 +114,10 @@ pub fn report(
     ensures { IfOk result (λ text.
         IsReport problem.now verdict.now (option_map (λ t. t.now) table.entry) removed text.items) }
 {
-    let mut text = Vec::new(alloc);
-    push_verdict(&problem.sorted.names, verdict, &mut text)?;
-    push_line_if(b"simplified ", removed, &mut text)?;
+    let mut text = Text::new(alloc);
+    push_summary(problem, verdict, removed, &mut text);
     if let Some(table) = table {
-        let lines = table_text(alloc, problem, table)?;
-        text.extend_from_slice(lines.as_slice())?;
+        push_table(alloc, problem, table, &mut text);
     }
-    Ok(text)
+    text.finish()
 }

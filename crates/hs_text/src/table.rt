@@ -1,119 +1,96 @@
 //! The lines of a table.
 
-ghost use Rattle.std.specs.Prelude.{◌≡◌, ◌≢◌, ◌<◌, ℕ, ◌++◌, length, map, All, AllPairs, Contains, ◌↔◌, IfOk, OnOk};
+ghost use Rattle.std.specs.Prelude.{◌≡◌, ◌≢◌, ◌<◌, ℕ, List, length, map, true, All, AllPairs, Contains, ◌↔◌, IfOk};
 ghost use Rattle.std.specs.List.{flat_map};
 ghost use Rattle.hs_scheme.specs.Flow.{IsAscending};
 ghost use Rattle.hs_table.specs.Entries.{EntryData, InShape, entry_cmp};
+ghost use Rattle.hs_text.specs.Pieces.{Puts};
 ghost use Rattle.hs_text.specs.Report as lines;
 ghost use Rattle.hs_text.specs.Report.{IsTableText};
 
-use crate::pieces::{params_of, push_name, push_number, push_separator};
+use crate::pieces::{Text, name_of, params_of, push_number, rule_name, separator_before};
 use hs_scheme::{Name, Names, OutOfMemory, Problem};
 use hs_table::{Entry, Shape, Ty, TypeSet};
 use std::alloc::Global;
 
 /// Puts a type at the end. Recurses as deep as the type.
 #[cycle(types)]
-fn push_type(states: &[Name], ty: &Ty, text: &mut Vec<u8>) -> Result<(), OutOfMemory>
-    ensures { OnOk result (text.new.items ≡ text.old.items ++ lines.type_text states.now ty.now) }
+fn push_type(states: &[Name], ty: &Ty, text: &mut Text)
+    ensures { Puts text.old text.new (lines.type_text states.now ty.now) }
 {
     match &ty.shape {
-        Shape::State(q) => push_name(states, *q as usize, text),
+        Shape::State(q) => text.push(name_of(states, *q as usize)),
         Shape::Arrow(set, rest) => {
-            push_set(states, set.as_slice(), text)?;
-            text.extend_from_slice(b" -> ")?;
-            push_type(states, rest, text)?;
-            Ok(())
+            push_set(states, set.as_slice(), text);
+            text.push(b" -> ");
+            push_type(states, rest, text);
         }
     }
 }
 
 /// Puts the types of a set, in their order, at the end. Recurses as deep as the types.
 #[cycle(types)]
-fn push_set(states: &[Name], set: &[Ty], text: &mut Vec<u8>) -> Result<(), OutOfMemory>
-    ensures { OnOk result (text.new.items ≡ text.old.items ++ lines.set_text states.now set.now) }
+fn push_set(states: &[Name], set: &[Ty], text: &mut Text)
+    ensures { Puts text.old text.new (lines.set_text states.now set.now) }
 {
-    text.extend_from_slice(b"{")?;
+    text.push(b"{");
     for (place, ty) in set.iter().enumerate() {
-        push_separator(place, b",", text)?;
-        push_type(states, ty, text)?;
+        text.push(separator_before(place, b","));
+        push_type(states, ty, text);
     }
-    text.extend_from_slice(b"}")?;
-    Ok(())
+    text.push(b"}");
 }
 
 /// Puts the parameter with this number, and its set, at the end.
-fn push_binding(
-    states: &[Name],
-    params: &[Name],
-    number: usize,
-    set: &TypeSet,
-    text: &mut Vec<u8>,
-) -> Result<(), OutOfMemory>
-    ensures { OnOk result (text.new.items
-        ≡ text.old.items ++ lines.binding_text states.now params.now (number, set.now)) }
+fn push_binding(states: &[Name], params: &[Name], number: usize, set: &TypeSet, text: &mut Text)
+    ensures { Puts text.old text.new (lines.binding_text states.now params.now (number, set.now)) }
 {
-    push_name(params, number, text)?;
-    text.extend_from_slice(b":")?;
-    push_set(states, set.types.as_slice(), text)
+    text.push(name_of(params, number));
+    text.push(b":");
+    push_set(states, set.types.as_slice(), text);
 }
 
 /// Puts an environment at the end, where these are the names of the parameters.
-fn push_env(
-    states: &[Name],
-    params: &[Name],
-    env: &[TypeSet],
-    text: &mut Vec<u8>,
-) -> Result<(), OutOfMemory>
-    ensures { OnOk result (text.new.items
-        ≡ text.old.items ++ lines.env_text states.now params.now env.now) }
+fn push_env(states: &[Name], params: &[Name], env: &[TypeSet], text: &mut Text)
+    ensures { Puts text.old text.new (lines.env_text states.now params.now env.now) }
 {
-    text.extend_from_slice(b"[")?;
+    text.push(b"[");
     for (number, set) in env.iter().enumerate() {
-        push_separator(number, b"; ", text)?;
-        push_binding(states, params, number, set, text)?;
+        text.push(separator_before(number, b"; "));
+        push_binding(states, params, number, set, text);
     }
-    text.extend_from_slice(b"]")?;
-    Ok(())
+    text.push(b"]");
 }
 
 /// Puts the number of a point and the name of its rule at the end.
-fn push_place(names: &Names, rule: usize, point: u32, text: &mut Vec<u8>) -> Result<(), OutOfMemory>
-    ensures { OnOk result (text.new.items ≡ text.old.items ++ lines.place_text names.now rule point) }
+fn push_place(names: &Names, rule: usize, point: u32, text: &mut Text)
+    ensures { Puts text.old text.new (lines.place_text names.now rule point) }
 {
-    push_number(u64::from(point), text)?;
-    text.extend_from_slice(b" ")?;
-    push_name(names.rules.as_slice(), rule, text)?;
-    text.extend_from_slice(b" ")?;
-    Ok(())
+    push_number(u64::from(point), text);
+    text.push(b" ");
+    text.push(rule_name(names, rule));
+    text.push(b" ");
 }
 
 /// Puts an entry at the end, whose point stands in this rule.
-fn push_entry(
-    names: &Names,
-    rule: usize,
-    entry: &Entry,
-    text: &mut Vec<u8>,
-) -> Result<(), OutOfMemory>
-    ensures { OnOk result (text.new.items ≡ text.old.items ++ lines.entry_text names.now rule entry.now) }
+fn push_entry(names: &Names, rule: usize, entry: &Entry, text: &mut Text)
+    ensures { Puts text.old text.new (lines.entry_text names.now rule entry.now) }
 {
     let states = names.states.as_slice();
-    push_place(names, rule, entry.point, text)?;
-    push_env(states, params_of(names, rule), entry.env.as_slice(), text)?;
-    text.extend_from_slice(b" ")?;
-    push_type(states, &entry.ty, text)?;
-    Ok(())
+    push_place(names, rule, entry.point, text);
+    push_env(states, params_of(names, rule), entry.env.as_slice(), text);
+    text.push(b" ");
+    push_type(states, &entry.ty, text);
 }
 
 /// Puts the line of an entry at the end.
-fn push_entry_line(problem: &Problem, entry: &Entry, text: &mut Vec<u8>) -> Result<(), OutOfMemory>
+fn push_entry_line(problem: &Problem, entry: &Entry, text: &mut Text)
     requires { entry.now.point < length problem.now.points.points }
-    ensures { OnOk result (text.new.items ≡ text.old.items ++ lines.entry_line problem.now entry.now) }
+    ensures { Puts text.old text.new (lines.entry_line problem.now entry.now) }
 {
     let rule = problem.points.rule_of(entry.point) as usize;
-    push_entry(&problem.sorted.names, rule, entry, text)?;
-    text.extend_from_slice(b"\n")?;
-    Ok(())
+    push_entry(&problem.sorted.names, rule, entry, text);
+    text.push(b"\n");
 }
 
 /// The entries in ascending order.
@@ -129,19 +106,26 @@ fn in_order(alloc: Global, table: &[Entry]) -> Result<Vec<&Entry>, OutOfMemory>
 }
 
 /// Puts the lines of these entries at the end.
-fn push_entries(
-    problem: &Problem,
-    entries: &[&Entry],
-    text: &mut Vec<u8>,
-) -> Result<(), OutOfMemory>
+fn push_entries(problem: &Problem, entries: &[&Entry], text: &mut Text)
     requires { All (λ e. e.now.point < length problem.now.points.points) entries.now }
-    ensures { OnOk result (text.new.items
-        ≡ text.old.items ++ flat_map (λ e. lines.entry_line problem.now e.now) entries.now) }
+    ensures { Puts text.old text.new (flat_map (λ e. lines.entry_line problem.now e.now) entries.now) }
 {
     for entry in entries {
-        push_entry_line(problem, entry, text)?;
+        push_entry_line(problem, entry, text);
     }
-    Ok(())
+}
+
+/// Puts the lines of a table at the end.
+pub(crate) fn push_table(alloc: Global, problem: &Problem, table: &[Entry], text: &mut Text)
+    requires shape { All (InShape problem.now) table.now }
+    requires distinct { AllPairs (λ a b. a ≢ b) table.now }
+    ensures { text.new.is_whole ≡ true → (written : List ℕ)
+        × IsTableText problem.now table.now written × Puts text.old text.new written }
+{
+    match in_order(alloc, table) {
+        Ok(entries) => push_entries(problem, entries.as_slice(), text),
+        Err(OutOfMemory) => text.refuse(),
+    }
 }
 
 /// The lines of a table: its entries in ascending order, each on a line.
@@ -153,8 +137,7 @@ pub fn table_text(alloc: Global, problem: &Problem, table: &[Entry]) -> Result<V
     requires distinct { AllPairs (λ a b. a ≢ b) table.now }
     ensures { IfOk result (λ text. IsTableText problem.now table.now text.items) }
 {
-    let mut text = Vec::new(alloc);
-    let entries = in_order(alloc, table)?;
-    push_entries(problem, entries.as_slice(), &mut text)?;
-    Ok(text)
+    let mut text = Text::new(alloc);
+    push_table(alloc, problem, table, &mut text);
+    text.finish()
 }

@@ -168,6 +168,7 @@ fn hand_in<'p>(
     let mut going = true;
     for job in jobs {
         going = settle(hold, seat, replica, &job, going);
+        drop(job);
     }
     going
 }
@@ -219,6 +220,7 @@ fn do_each<'p>(
     let mut going = true;
     for job in jobs {
         going = do_one(alloc, hold, seat, dependents, &job, going, tally);
+        drop(job);
     }
     going
 }

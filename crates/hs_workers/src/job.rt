@@ -44,6 +44,7 @@ fn formed(
 {
     let work = job.work;
     let ticket = job.ticket;
+    drop(job);
     match form(alloc, problem, dependents, replica, work, tally) {
         Ok(found) => Job {
             work,

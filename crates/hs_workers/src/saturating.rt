@@ -40,7 +40,7 @@ fn seats_for<'p>(
 {
     let mut seats = Vec::with_capacity(alloc, workers as usize)?;
     for _ in 0..workers {
-        seats.push(table.split(first).into_rested())?;
+        seats.push_reserved(table.split(first).into_rested());
     }
     Ok(seats)
 }
@@ -174,7 +174,11 @@ fn work_together<'p, R: Threads + Wait + Sync, G: Gate + Sync>(
     ensures core { IfOk result IsCore }
 {
     let mut first = first;
-    let mut seats = seats_for(alloc, &table, problem, &mut first, workers)?;
+    let Ok(mut seats) = seats_for(alloc, &table, problem, &mut first, workers) else {
+        drop(first);
+        drop(table);
+        return Err(OutOfMemory);
+    };
     work_each(
         rt,
         alloc,

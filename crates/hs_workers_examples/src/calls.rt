@@ -3,6 +3,7 @@
 ghost use Rattle.hs_workers_examples.specs.Working.{IsWorker, IsHolder, IsSameSeat};
 
 use crate::holder;
+use crate::seeing::see;
 use crate::worker::{Worker, finish, give_back, publish, take};
 use hs_scheme::Problem;
 use hs_shared::{Hold, Published, SharedTable, Taken, Work};
@@ -137,7 +138,7 @@ pub(crate) fn make_calls<'p, R: Abort + Wait>(
             1 => make_call(rt, alloc, table, problem, one, call),
             _ => make_call(rt, alloc, table, problem, two, call),
         };
-        assert_eq!(rt; found, expected, "call {row}");
+        see(rt, (row, found), (row, expected), "a call");
     }
 }
 
@@ -160,6 +161,11 @@ pub(crate) fn make_held_calls<'p, R: Abort>(
     for row in 0..rows.len() {
         let (call, expected, pending) = rows[row];
         let found = make_held_call(rt, alloc, table, problem, hold, worker, call);
-        assert_eq!(rt; (found, hold.pending()), (expected, pending), "call {row}");
+        see(
+            rt,
+            (row, found, hold.pending()),
+            (row, expected, pending),
+            "a held call",
+        );
     }
 }

@@ -24,7 +24,7 @@ mod saturating;
 #[cfg(test)]
 mod scripts;
 #[cfg(test)]
-mod tables;
+mod seeing;
 #[cfg(test)]
 mod verdicts;
 #[cfg(test)]

@@ -2,6 +2,7 @@
 
 ghost use Rattle.hs_flow.specs.Dependents.{HasDependents};
 
+use crate::seeing::see;
 use hs_core::{Core, Done, Event};
 use hs_fixtures::cycle;
 use hs_flow::Dependents;
@@ -126,7 +127,7 @@ fn saturated_cycle<R: Threads + Wait + Sync>(
 fn two_workers_meet(rt: HostRuntime) -> Result<(), Fail> {
     let gate = Meeting::new();
     let answer = saturated_cycle(&rt, rt.alloc(), 5, &gate)?;
-    assert_eq!(rt; gate.alone.load(SeqCst), 0);
-    assert_eq!(rt; answer, Some((71, [false, true, true])));
+    see(&rt, gate.alone.load(SeqCst), 0, "alone");
+    see(&rt, answer, Some((71, [false, true, true])), "met");
     Ok(())
 }

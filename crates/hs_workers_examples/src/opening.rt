@@ -1,9 +1,10 @@
 //! A new table with its workers, how it ends, and what its log has then.
 
-ghost use Rattle.std.specs.Prelude.{◌≡◌, ◌≤◌};
+ghost use Rattle.std.specs.Prelude.{◌≡◌, ◌<◌, ◌≤◌, length};
 ghost use Rattle.hs_shared.specs.Seats.{IsSeatOf};
 ghost use Rattle.hs_workers_examples.specs.Working.{IsWorker, IsFresh, IsFirstSeat};
 
+use crate::seeing::see;
 use crate::worker::Worker;
 use hs_scheme::Problem;
 use hs_shared::{Core, Held, Replica, Seat, SharedTable};
@@ -25,10 +26,13 @@ pub(crate) fn share<'p, R: Abort>(
     ensures first { IsFirstSeat 0 0 result.1 }
 {
     let core = Core::new(alloc, problem, budget, false).expect(rt, "memory");
-    let Ok(made) = SharedTable::new(alloc, core) else {
-        panic!(rt; "memory");
-    };
-    made
+    match SharedTable::new(alloc, core) {
+        Ok(made) => made,
+        Err(refused) => {
+            forget(refused);
+            panic!(rt; "memory")
+        }
+    }
 }
 
 /// A worker at a seat that has seen nothing.
@@ -109,15 +113,21 @@ fn is_plain(entry: &Entry, point: u32) -> bool {
     entry.point == point && entry.env.is_empty() && matches!(entry.ty.shape, Shape::State(0))
 }
 
+/// Whether the entry at the place of the log is such an entry.
+fn is_plain_at(rt: &impl Abort, alloc: Global, replica: &Replica, place: u32, point: u32) -> bool
+    requires { place < length replica.now.log }
+{
+    let row = replica.row(place);
+    let entry = replica.interner().tree(alloc, row).expect(rt, "memory");
+    is_plain(&entry, point)
+}
+
 /// Sees that the log has just entries at these points, in this order. Each has an empty environment
 /// and the initial state.
 pub(crate) fn see_log(rt: &impl Abort, alloc: Global, replica: &Replica, points: &[u32]) {
     assert_eq!(rt; replica.len() as usize, points.len());
     for place in 0..replica.len() {
-        let entry = replica
-            .interner()
-            .tree(alloc, replica.row(place))
-            .expect(rt, "memory");
-        assert!(rt; is_plain(&entry, points[place as usize]), "place {place}");
+        let is_plain = is_plain_at(rt, alloc, replica, place, points[place as usize]);
+        see(rt, (place, is_plain), (place, true), "an entry");
     }
 }

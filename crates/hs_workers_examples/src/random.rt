@@ -100,14 +100,15 @@ fn put(file: &mut String, word: &str) -> Result<(), OutOfMemory> {
     Ok(())
 }
 
-/// The file of a scheme of order 2 with four rules, and of an automaton with two states.
-pub(crate) fn random_file(alloc: Global, number: u32) -> Result<String, OutOfMemory> {
-    let mut numbers = Pcg32::new(u64::from(number), 0);
+/// Puts the words that are left at the end, each as what it stands for.
+fn put_words(
+    numbers: &mut Pcg32,
+    left: &mut Vec<&'static str>,
+    file: &mut String,
+) -> Result<(), OutOfMemory> {
     let mut free = FREE;
-    let mut file = String::new(alloc);
-    let mut left = vec![in alloc; "file"]?;
     for _ in 0..MANY {
-        let Some(word) = next_word(&mut left)? else {
+        let Some(word) = next_word(left)? else {
             break;
         };
         let number = if free > 0 { numbers.next_word() } else { 0 };
@@ -116,8 +117,17 @@ pub(crate) fn random_file(alloc: Global, number: u32) -> Result<String, OutOfMem
                 free = free.saturating_sub(1);
                 left.push(chosen)?;
             }
-            None => put(&mut file, word)?,
+            None => put(file, word)?,
         }
     }
+    Ok(())
+}
+
+/// The file of a scheme of order 2 with four rules, and of an automaton with two states.
+pub(crate) fn random_file(alloc: Global, number: u32) -> Result<String, OutOfMemory> {
+    let mut numbers = Pcg32::new(u64::from(number), 0);
+    let mut left = vec![in alloc; "file"]?;
+    let mut file = String::new(alloc);
+    put_words(&mut numbers, &mut left, &mut file)?;
     Ok(file)
 }

@@ -1,13 +1,14 @@
 //! Seats that add events to a list, side by side and one after another.
 
-ghost use Rattle.std.specs.Prelude.{◌≡◌, ◌+◌, ◌<◌, ◌^◌, false, [], IfOk};
+ghost use Rattle.std.specs.Prelude.{◌≡◌, ◌+◌, ◌<◌, ◌^◌, false};
 
+use crate::seeing::see;
 use hs_turn::{Seat, Storied, Turn};
-use std::alloc::{AllocError, Global};
+use std::alloc::Global;
+use std::marker::Model;
 use std::mem::forget;
 use std::process::Abort;
 use std::sync::Wait;
-use std::test::Fail;
 use std::thread::{Threads, join};
 
 /// What a seat did, and when.
@@ -17,18 +18,30 @@ pub(crate) struct Event {
     pub(crate) step: u32,
 }
 
-/// A list of events, upon a list of numbers and a budget that stay.
+/// A problem, which contracts see as its numbers.
+#[derive(Drop)]
+pub(crate) struct Problem {
+    pub(crate) numbers: [u32; 2],
+}
+
+impl Model for Problem {
+    ghost use Rattle.std.specs.Prelude.{List, ℕ};
+
+    ghost Value = { List ℕ };
+
+    ghost view = { λ p. p.numbers };
+}
+
+/// A list of events, upon a problem and a budget that stay.
 #[derive(Drop)]
 struct Log {
-    problem: Vec<u32>,
+    problem: Problem,
     budget: u32,
     events: Vec<Event>,
 }
 
 impl Storied for Log {
-    ghost use Rattle.std.specs.Prelude.{◌≡◌};
-
-    type Base = (Vec<u32>, u32);
+    type Base = (Problem, u32);
 
     type Event = Event;
 
@@ -42,33 +55,33 @@ impl Storied for Log {
 /// The most events of a log.
 pub(crate) const MANY: usize = 1 << 20;
 
-/// A log without events.
-fn empty(alloc: Global, problem: &[u32], budget: u32) -> Result<Log, AllocError>
-    ensures { IfOk result (λ log. log.events.items ≡ []) }
+/// A turn over a log without events, and its first seat.
+fn begun<R: Abort>(rt: &R, alloc: Global, budget: u32) -> (Turn<Log>, Seat<Log>)
+    ensures turn { result.1.turn ≡ result.0 }
+    ensures free { (result.1.known.holds ≡ false) × (result.1.known.number ≡ 0) }
+    ensures counts { (result.1.known.splits ≡ 0) × (result.1.known.joins ≡ 0) }
 {
-    Ok(Log {
-        problem: Vec::from_slice(alloc, problem)?,
+    let log = Log {
+        problem: Problem { numbers: [4, 2] },
         budget,
         events: Vec::new(alloc),
-    })
+    };
+    let Ok(made) = Turn::new(alloc, log) else {
+        panic!(rt; "memory");
+    };
+    made
 }
 
-/// A turn over a log without events, and its first seat.
-fn begun(alloc: Global, problem: &[u32], budget: u32) -> Result<(Turn<Log>, Seat<Log>), Fail>
-    ensures turn { IfOk result (λ made. made.1.turn ≡ made.0) }
-    ensures seat { IfOk result (λ made. (made.1.known.holds ≡ false) × (made.1.known.number ≡ 0)
-        × (made.1.known.splits ≡ 0) × (made.1.known.joins ≡ 0)) }
-{
-    let log = empty(alloc, problem, budget)?;
-    match Turn::new(alloc, log) {
-        Ok(made) => Ok(made),
-        Err(_) => Err("memory")?,
-    }
+/// Looks at the problem.
+fn see_problem(rt: &impl Abort, problem: &Problem) {
+    see(rt, problem.numbers.as_slice(), [4, 2].as_slice(), "problem");
 }
 
-/// Looks at the events of a log.
-fn see_events(rt: &impl Abort, log: &Log, wanted: &[Event]) {
-    assert_eq!(rt; log.events.as_slice(), wanted);
+/// Looks at the problem, the budget and the events of a log.
+fn see_log(rt: &impl Abort, log: &Log, budget: u32, events: &[Event]) {
+    see_problem(rt, &log.problem);
+    see(rt, log.budget, budget, "budget");
+    see(rt, log.events.as_slice(), events, "events");
 }
 
 /// Adds an event of this seat, and says whether it went in.
@@ -128,21 +141,22 @@ fn record_both<R: Wait>(
     recorded
 }
 
+/// What a seat tells at once, and then.
+const TOLD_AT_ONCE: [Event; 3] = [
+    Event { number: 0, step: 7 },
+    Event { number: 0, step: 8 },
+    Event { number: 0, step: 9 },
+];
+
 #[test]
-fn two_events_are_told_at_once(rt: HostRuntime) -> Result<(), Fail> {
-    let (turn, mut seat) = begun(rt.alloc(), &[], 0)?;
+fn two_events_are_told_at_once(rt: HostRuntime) {
+    let (turn, mut seat) = begun(&rt, rt.alloc(), 0);
     let first = record_both(&rt, &turn, &mut seat, 7, 8);
     let last = record(&rt, &turn, &mut seat, 9);
     let log = turn.close(seat);
-    let wanted = [
-        Event { number: 0, step: 7 },
-        Event { number: 0, step: 8 },
-        Event { number: 0, step: 9 },
-    ];
-    see_events(&rt, &log, &wanted);
+    see_log(&rt, &log, 0, &TOLD_AT_ONCE);
     forget(log);
-    assert!(rt; first && last);
-    Ok(())
+    see(&rt, (first, last), (true, true), "recorded");
 }
 
 /// How many events there are.
@@ -161,24 +175,15 @@ fn count_of<R: Wait>(rt: &R, turn: &Turn<Log>, seat: &mut Seat<Log>) -> usize
     found
 }
 
-/// Looks at what lies below the events.
-fn see_base(rt: &impl Abort, log: &Log) {
-    assert_eq!(rt; log.problem.as_slice(), [4, 2].as_slice());
-    assert_eq!(rt; log.budget, 9);
-}
-
 #[test]
-fn a_state_is_found_as_it_was_left(rt: HostRuntime) -> Result<(), Fail> {
-    let (turn, mut seat) = begun(rt.alloc(), &[4, 2], 9)?;
+fn a_state_is_found_as_it_was_left(rt: HostRuntime) {
+    let (turn, mut seat) = begun(&rt, rt.alloc(), 9);
     let recorded = record(&rt, &turn, &mut seat, 7);
     let found = count_of(&rt, &turn, &mut seat);
     let log = turn.close(seat);
-    see_events(&rt, &log, &[Event { number: 0, step: 7 }]);
-    see_base(&rt, &log);
+    see_log(&rt, &log, 9, &TOLD_AT_ONCE[..1]);
     forget(log);
-    assert!(rt; recorded);
-    assert_eq!(rt; found, 1);
-    Ok(())
+    see(&rt, (recorded, found), (true, 1), "recorded");
 }
 
 /// Adds these many events of this seat, step by step, and says whether all went in.
@@ -242,7 +247,13 @@ fn steps_of(events: &[Event], number: u32) -> (u32, bool) {
 
 /// Looks at the events of this seat: so many, its steps from 0 on, in order.
 pub(crate) fn see_steps(rt: &impl Abort, events: &[Event], number: u32, wanted: u32) {
-    assert_eq!(rt; steps_of(events, number), (wanted, true), "seat {number}");
+    let (found, in_order) = steps_of(events, number);
+    see(
+        rt,
+        (number, found, in_order),
+        (number, wanted, true),
+        "a seat's steps",
+    );
 }
 
 /// The same by four threads.
@@ -314,7 +325,7 @@ fn join_two(turn: &Turn<Log>, first: &mut Seat<Log>, a: Seat<Log>, b: Seat<Log>)
 
 /// Looks at the events of four seats, each with a thousand, and of the first one, with none.
 fn see_thousands(rt: &impl Abort, events: &[Event]) {
-    assert_eq!(rt; events.len(), 4000);
+    see(rt, events.len(), 4000, "events");
     see_steps(rt, events, 0, 0);
     for number in 1..5 {
         see_steps(rt, events, number, 1000);
@@ -322,8 +333,8 @@ fn see_thousands(rt: &impl Abort, events: &[Event]) {
 }
 
 #[test]
-fn four_threads_tell_each_event_once_and_in_order(rt: HostRuntime) -> Result<(), Fail> {
-    let (turn, mut first) = begun(rt.alloc(), &[], 0)?;
+fn four_threads_tell_each_event_once_and_in_order(rt: HostRuntime) {
+    let (turn, mut first) = begun(&rt, rt.alloc(), 0);
     let (a, b) = split_two(&turn, &mut first);
     let (c, d) = split_two(&turn, &mut first);
     let (a, b, c, d, all) = record_by_four(&rt, &turn, (a, b, c, d), 1000);
@@ -332,8 +343,7 @@ fn four_threads_tell_each_event_once_and_in_order(rt: HostRuntime) -> Result<(),
     let log = turn.close(first);
     see_thousands(&rt, log.events.as_slice());
     forget(log);
-    assert!(rt; all);
-    Ok(())
+    see(&rt, all, true, "recorded");
 }
 
 /// Two seats add three events; the second one is joined, and one that is idle is left. Gives it, their
@@ -388,32 +398,33 @@ fn record_by_a_last<R: Wait>(
     (number, three && four)
 }
 
+/// What the first seat, the second and the last one tell.
+const TOLD_BY_THREE: [Event; 5] = [
+    Event { number: 0, step: 0 },
+    Event { number: 1, step: 1 },
+    Event { number: 0, step: 2 },
+    Event { number: 0, step: 3 },
+    Event { number: 3, step: 4 },
+];
+
 #[test]
-fn seats_are_split_and_joined_in_the_middle(rt: HostRuntime) -> Result<(), Fail> {
-    let (turn, mut first) = begun(rt.alloc(), &[], 0)?;
+fn seats_are_split_and_joined_in_the_middle(rt: HostRuntime) {
+    let (turn, mut first) = begun(&rt, rt.alloc(), 0);
     let (idle, numbers, all) = record_by_a_second(&rt, &turn, &mut first);
     let (last_number, rest) = record_by_a_last(&rt, &turn, &mut first, idle);
     let log = turn.close(first);
-    let wanted = [
-        Event { number: 0, step: 0 },
-        Event { number: 1, step: 1 },
-        Event { number: 0, step: 2 },
-        Event { number: 0, step: 3 },
-        Event { number: 3, step: 4 },
-    ];
-    see_events(&rt, &log, &wanted);
+    see_log(&rt, &log, 0, &TOLD_BY_THREE);
     forget(log);
-    assert!(rt; all && rest);
-    assert_eq!(rt; (numbers, last_number), ((0, 1, 2), 3));
-    Ok(())
+    see(&rt, (all, rest), (true, true), "recorded");
+    see(&rt, (numbers, last_number), ((0, 1, 2), 3), "numbers");
 }
 
 #[test]
-fn a_seat_that_never_entered_is_joined(rt: HostRuntime) -> Result<(), Fail> {
-    let (turn, mut first) = begun(rt.alloc(), &[], 0)?;
+fn a_seat_that_never_entered_is_joined(rt: HostRuntime) {
+    let (turn, mut first) = begun(&rt, rt.alloc(), 0);
     let other = turn.split(&mut first);
     turn.join(&mut first, other);
     let log = turn.close(first);
-    assert_eq!(rt; log.events.len(), 0);
-    Ok(())
+    see_log(&rt, &log, 0, &[]);
+    forget(log);
 }

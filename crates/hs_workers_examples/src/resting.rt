@@ -1,31 +1,16 @@
 //! Seats that rest between threads, under a turn over a problem that is borrowed.
 
-ghost use Rattle.std.specs.Prelude.{◌≡◌, ◌+◌, ◌<◌, ◌^◌, ℕ, false, length, slice_index_or, All, IfOk};
+ghost use Rattle.std.specs.Prelude.{◌≡◌, ◌+◌, ◌<◌, ◌^◌, ℕ, false, length, slice_index_or, All};
 ghost use Rattle.hs_turn.specs.Seats.{RestsIn};
 
-use crate::recording::{Event, MANY, see_steps};
+use crate::recording::{Event, MANY, Problem, see_steps};
+use crate::seeing::see;
 use hs_turn::{Rested, Seat, Storied, Turn};
 use std::alloc::Global;
-use std::marker::Model;
-use std::mem::replace;
+use std::mem::{forget, replace};
 use std::process::Abort;
 use std::sync::Wait;
-use std::test::Fail;
 use std::thread::{Threads, for_each_mut};
-
-/// A problem, which contracts see as its numbers.
-#[derive(Drop)]
-struct Problem {
-    numbers: Vec<u32>,
-}
-
-impl Model for Problem {
-    ghost use Rattle.std.specs.Prelude.{List, ℕ};
-
-    ghost Value = { List ℕ };
-
-    ghost view = { λ p. p.numbers.items };
-}
 
 /// A list of events, upon a problem that is borrowed and a budget.
 #[derive(Drop)]
@@ -50,20 +35,30 @@ impl<'p> Storied for Work<'p> {
 /// Where a worker keeps its seat.
 type Resting = Rested<(Problem, u32), Event>;
 
+/// Adds an event of this seat, where there is room for it.
+fn record<'p, R: Wait>(rt: &R, turn: &Turn<Work<'p>>, seat: &mut Seat<Work<'p>>)
+    requires turn { seat.old.turn ≡ turn.now }
+    requires free { seat.old.known.holds ≡ false }
+    ensures turn { seat.new.turn ≡ turn.now }
+    ensures free { seat.new.known.holds ≡ false }
+{
+    let number = seat.number();
+    let mut guard = turn.enter(rt, seat);
+    if guard.state.events.len() < MANY {
+        if guard.state.events.push(Event { number, step: 0 }).is_ok() {
+            guard.tell(seat);
+        }
+    }
+    guard.leave(seat);
+}
+
 /// Adds an event of the seat that rests here.
 fn record_rested<'p, R: Wait>(rt: &R, turn: &Turn<Work<'p>>, rested: &mut Resting)
     requires { RestsIn turn.now rested.old }
     ensures { RestsIn turn.now rested.new }
 {
     let mut seat = replace(rested, Rested::blank()).into_seat::<Work<'p>>();
-    let number = seat.number();
-    let mut guard = turn.enter(rt, &mut seat);
-    if guard.state.events.len() < MANY {
-        if guard.state.events.push(Event { number, step: 0 }).is_ok() {
-            guard.tell(&mut seat);
-        }
-    }
-    guard.leave(&mut seat);
+    record(rt, turn, &mut seat);
     *rested = seat.into_rested();
 }
 
@@ -115,52 +110,43 @@ fn record_by_three<'p, R: Threads + Wait + Sync>(
 }
 
 /// Looks at work upon a budget of 9, with an event of each of the three.
-fn see_work<'p>(rt: &impl Abort, work: &Work<'p>) {
-    assert_eq!(rt; work.events.len(), 3);
-    assert_eq!(rt; work.budget, 9);
+fn see_work(rt: &impl Abort, work: &Work<'_>) {
+    see(rt, work.events.len(), 3, "events");
+    see(rt, work.budget, 9, "budget");
     see_steps(rt, work.events.as_slice(), 1, 1);
     see_steps(rt, work.events.as_slice(), 3, 1);
 }
 
 /// A turn over such work, and its first seat.
-fn begun<'p>(
+fn begun<'p, R: Abort>(
+    rt: &R,
     alloc: Global,
     problem: &'p Problem,
     budget: u32,
-) -> Result<(Turn<Work<'p>>, Seat<Work<'p>>), Fail>
-    ensures turn { IfOk result (λ made. made.1.turn ≡ made.0) }
-    ensures seat { IfOk result (λ made. (made.1.known.holds ≡ false) × (made.1.known.number ≡ 0)
-        × (made.1.known.splits ≡ 0)) }
+) -> (Turn<Work<'p>>, Seat<Work<'p>>)
+    ensures turn { result.1.turn ≡ result.0 }
+    ensures free { (result.1.known.holds ≡ false) × (result.1.known.number ≡ 0) }
+    ensures splits { result.1.known.splits ≡ 0 }
 {
-    let events = Vec::new(alloc);
     let work = Work {
         problem,
         budget,
-        events,
+        events: Vec::new(alloc),
     };
-    match Turn::new(alloc, work) {
-        Ok(made) => Ok(made),
-        Err(_) => Err("memory")?,
-    }
-}
-
-/// Three seats add events to work upon this problem, and the first one looks at it.
-fn see_three<R: Threads + Wait + Sync + Abort>(
-    rt: &R,
-    alloc: Global,
-    problem: &Problem,
-) -> Result<(), Fail> {
-    let (turn, mut first) = begun(alloc, problem, 9)?;
-    record_by_three(rt, &turn, &mut first);
-    let guard = turn.enter(rt, &mut first);
-    see_work(rt, &guard.state);
-    guard.leave(&mut first);
-    Ok(())
+    let Ok(made) = Turn::new(alloc, work) else {
+        panic!(rt; "memory");
+    };
+    made
 }
 
 #[test]
-fn seats_rest_between_threads(rt: HostRuntime) -> Result<(), Fail> {
-    let numbers = vec![in rt.alloc(); 4u32, 2]?;
-    let problem = Problem { numbers };
-    see_three(&rt, rt.alloc(), &problem)
+fn seats_rest_between_threads(rt: HostRuntime) {
+    let problem = Problem { numbers: [4, 2] };
+    let (turn, mut first) = begun(&rt, rt.alloc(), &problem, 9);
+    record_by_three(&rt, &turn, &mut first);
+    let guard = turn.enter(&rt, &mut first);
+    see_work(&rt, &guard.state);
+    guard.leave(&mut first);
+    forget(first);
+    forget(turn);
 }

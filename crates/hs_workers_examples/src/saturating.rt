@@ -1,4 +1,4 @@
-//! What workers answer, in short.
+//! The least table that workers form, in short.
 
 ghost use Rattle.std.specs.Prelude.{◌≤◌};
 ghost use Rattle.hs_flow.specs.Dependents.{HasDependents};
@@ -12,33 +12,22 @@ use hs_workers::{Open, saturate};
 use std::alloc::Global;
 use std::mem::forget;
 use std::sync::Wait;
-use std::test::Fail;
 use std::thread::Threads;
 
-/// How many workers, how many entries, and whether only the start entry is sought.
-#[derive(Clone, Copy)]
-pub(crate) struct Asked {
-    pub workers: u32,
-    pub budget: u32,
-    pub first: bool,
-}
+/// The most entries of a table.
+pub(crate) const BUDGET: u32 = 100_000;
 
-/// What a core says of itself.
+/// The least table.
 #[derive(Drop)]
-pub(crate) struct Summary {
-    /// `least`, `over` or `first`.
-    pub answer: &'static str,
-    pub entries: u32,
-    /// Whether an entry is kept past the budget.
-    pub kept: bool,
-    /// Whether the log has the start entry.
+pub(crate) struct Least {
+    /// Whether it has the start entry.
     pub start: bool,
-    /// The lines of the log's entries, in ascending order.
-    pub table: Vec<u8>,
+    /// The lines of its entries, in ascending order.
+    pub lines: Vec<u8>,
 }
 
 /// The lines of the core's log.
-pub(crate) fn lines_of(alloc: Global, core: &Core) -> Result<Vec<u8>, OutOfMemory> {
+fn lines_of(alloc: Global, core: &Core) -> Result<Vec<u8>, OutOfMemory> {
     core.is_core();
     let problem = core.problem();
     know(problem);
@@ -46,64 +35,48 @@ pub(crate) fn lines_of(alloc: Global, core: &Core) -> Result<Vec<u8>, OutOfMemor
     table_text(alloc, problem, table.as_slice())
 }
 
-/// What the core of this answer says of itself.
-fn summarize(alloc: Global, answer: &'static str, core: &Core) -> Result<Summary, OutOfMemory> {
-    let table = lines_of(alloc, core)?;
-    Ok(Summary {
-        answer,
-        entries: core.len(),
-        kept: core.past().is_some(),
-        start: core.start().is_some(),
-        table,
-    })
-}
-
-/// What the answer says.
-fn summary_of(alloc: Global, done: &Done) -> Result<Summary, OutOfMemory> {
+/// The least table, where the answer has it.
+fn least_of(alloc: Global, done: &Done) -> Result<Option<Least>, OutOfMemory> {
     match done {
-        Done::Least(core) => summarize(alloc, "least", core),
-        Done::Over(core) => summarize(alloc, "over", core),
-        Done::First(core) => summarize(alloc, "first", core),
+        Done::Least(core) => {
+            let lines = lines_of(alloc, core)?;
+            let start = core.start().is_some();
+            Ok(Some(Least { start, lines }))
+        }
+        _ => Ok(None),
     }
 }
 
-/// What workers answer.
-fn answered<R: Threads + Wait + Sync>(
+/// The least table that so many workers form, where it is within the budget.
+fn least_within<R: Threads + Wait + Sync>(
     rt: &R,
     alloc: Global,
     problem: &Problem,
     dependents: &Dependents,
-    asked: Asked,
-) -> Result<Summary, OutOfMemory>
+    workers: u32,
+) -> Result<Option<Least>, OutOfMemory>
     requires dependents { HasDependents problem.now.points problem.now.flow.pairs dependents.now }
-    requires some { 1 ≤ asked.workers }
-    requires few { asked.workers ≤ 16 }
-    requires least { 1 ≤ asked.budget }
-    requires greatest { asked.budget ≤ 1000000 }
+    requires some { 1 ≤ workers }
+    requires few { workers ≤ 16 }
 {
-    let Asked {
-        workers,
-        budget,
-        first,
-    } = asked;
     let done = saturate(
-        rt, alloc, problem, dependents, workers, budget, first, &Open,
+        rt, alloc, problem, dependents, workers, BUDGET, false, &Open,
     )?;
-    let summary = summary_of(alloc, &done);
+    let least = least_of(alloc, &done);
     forget(done);
-    summary
+    least
 }
 
-/// What workers answer. There are 1 to 16, and the budget is 1 to 1,000,000.
+/// The same.
 pub(crate) fn saturated<R: Threads + Wait + Sync>(
     rt: &R,
     alloc: Global,
     problem: &Problem,
-    asked: Asked,
-) -> Result<Summary, Fail> {
-    if asked.workers < 1 || asked.workers > 16 || asked.budget < 1 || asked.budget > 1_000_000 {
-        return Err("another number")?;
-    }
+    workers: u32,
+) -> Result<Option<Least>, OutOfMemory>
+    requires some { 1 ≤ workers }
+    requires few { workers ≤ 16 }
+{
     let dependents = Dependents::of(alloc, problem)?;
-    Ok(answered(rt, alloc, problem, &dependents, asked)?)
+    least_within(rt, alloc, problem, &dependents, workers)
 }

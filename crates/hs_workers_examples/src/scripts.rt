@@ -4,6 +4,7 @@ ghost use Rattle.std.specs.Prelude.{◌≤◌};
 
 use crate::calls::{Answer, Call, make_calls, make_held_calls, taken};
 use crate::opening::{close, seat_of, see_log, share, three_workers, worker_at};
+use crate::seeing::see;
 use crate::worker::{catch_up, take};
 use hs_fixtures::problem_of;
 use hs_scheme::Problem;
@@ -50,14 +51,14 @@ fn play_held<R: Abort + Wait>(
     let (table, first) = share(rt, alloc, problem, 2);
     let mut worker = worker_at(alloc, &table, problem, first);
     let mut hold = table.enter(rt, &mut worker.seat);
-    assert_eq!(rt; hold.pending(), 2);
+    see(rt, hold.pending(), 2, "pending works");
     make_held_calls(rt, alloc, &table, problem, &mut hold, &mut worker, rows);
     hold.leave(&mut worker.seat);
     see_log(rt, alloc, &worker.replica, points);
     let last = taken(take(rt, &table, problem, &mut worker));
     forget(worker);
     forget(table);
-    assert_eq!(rt; last, Answer::Quiet);
+    see(rt, last, Answer::Quiet, "the last call");
 }
 
 /// Seats 1 and 2 take the two seeds, one entry follows from nothing, and its place is taken. The other

@@ -1,11 +1,13 @@
-//! The verdict of the table beside that of plain reduction.
+//! The verdict of the table beside that of plain reduction, and the table of one worker beside that of
+//! four.
 
 ghost use Rattle.hs_flow.specs.Dependents.{HasDependents};
 
 use crate::random::random_file;
-use crate::saturating::{Asked, saturated};
+use crate::saturating::{BUDGET, Least, saturated};
+use crate::seeing::see;
 use hs_core::{Done, saturate_alone};
-use hs_fixtures::{problem_of, problem_of_text};
+use hs_fixtures::problem_of_text;
 use hs_flow::Dependents;
 use hs_reduce::{Bounded, bounded};
 use hs_scheme::{OutOfMemory, Problem, Sorted};
@@ -18,8 +20,6 @@ use std::thread::Threads;
 
 /// So many steps on each branch are made by plain reduction.
 const STEPS: u32 = 12;
-
-const BUDGET: u32 = 100_000;
 
 /// Whether plain reduction meets an error.
 fn has_error(alloc: Global, sorted: &Sorted) -> Result<bool, OutOfMemory> {
@@ -55,31 +55,47 @@ fn rejects_alone(alloc: Global, problem: &Problem) -> Result<Option<bool>, OutOf
     Ok(rejects_with(alloc, problem, &dependents))
 }
 
-/// Whether the table that four workers form rejects.
+/// Whether the table of four workers rejects, and whether it is this one.
+fn beside(four: &Option<Least>, one: &Option<Least>) -> (Option<bool>, bool) {
+    match (four, one) {
+        (Some(four), Some(one)) => {
+            let same = four.lines.as_slice() == one.lines.as_slice();
+            (Some(four.start), same)
+        }
+        _ => (None, false),
+    }
+}
+
+/// Whether the table that four workers form rejects, and whether it is this one, which one worker
+/// formed.
+fn rejects_beside<R: Threads + Wait + Sync>(
+    rt: &R,
+    alloc: Global,
+    problem: &Problem,
+    one: &Option<Least>,
+) -> Result<(Option<bool>, bool), OutOfMemory> {
+    let four = saturated(rt, alloc, problem, 4)?;
+    Ok(beside(&four, one))
+}
+
+/// Whether the table that four workers form rejects, and whether it is that of one.
 fn rejects<R: Threads + Wait + Sync>(
     rt: &R,
     alloc: Global,
     problem: &Problem,
-) -> Result<Option<bool>, Fail> {
-    let asked = Asked {
-        workers: 4,
-        budget: BUDGET,
-        first: false,
-    };
-    let told = saturated(rt, alloc, problem, asked)?;
-    if told.answer == "least" {
-        Ok(Some(told.start))
-    } else {
-        Ok(None)
-    }
+) -> Result<(Option<bool>, bool), OutOfMemory> {
+    let one = saturated(rt, alloc, problem, 1)?;
+    rejects_beside(rt, alloc, problem, &one)
 }
 
-/// Whether the scheme is rejected: by reduction, by one worker and by four.
+/// Whether the scheme is rejected: by reduction, by one worker and by four; and whether the tables of
+/// one and of four are the same.
 #[derive(Clone, Copy)]
 struct Verdicts {
     reduction: bool,
     alone: Option<bool>,
     four: Option<bool>,
+    same: bool,
 }
 
 /// The verdicts on a problem.
@@ -87,29 +103,20 @@ fn compare<R: Threads + Wait + Sync>(
     rt: &R,
     alloc: Global,
     problem: &Problem,
-) -> Result<Verdicts, Fail> {
+) -> Result<Verdicts, OutOfMemory> {
+    let reduction = has_error(alloc, &problem.sorted)?;
+    let alone = rejects_alone(alloc, problem)?;
+    let (four, same) = rejects(rt, alloc, problem)?;
     Ok(Verdicts {
-        reduction: has_error(alloc, &problem.sorted)?,
-        alone: rejects_alone(alloc, problem)?,
-        four: rejects(rt, alloc, problem)?,
+        reduction,
+        alone,
+        four,
+        same,
     })
 }
 
-/// The verdicts on the problem of these rules and transitions.
-fn compare_worked<R: Threads + Wait + Sync>(
-    rt: &R,
-    alloc: Global,
-    rules: &str,
-    transitions: &str,
-) -> Result<Verdicts, Fail> {
-    let problem = problem_of(alloc, rules, transitions)?;
-    let verdicts = compare(rt, alloc, &problem);
-    forget(problem);
-    verdicts
-}
-
-/// The verdicts on the problem of a random file.
-fn compare_random<R: Threads + Wait + Sync>(
+/// The verdicts on the problem of a file.
+fn verdicts_on<R: Threads + Wait + Sync>(
     rt: &R,
     alloc: Global,
     file: &str,
@@ -117,73 +124,97 @@ fn compare_random<R: Threads + Wait + Sync>(
     let problem = problem_of_text(alloc, file.as_bytes())?;
     let verdicts = compare(rt, alloc, &problem);
     forget(problem);
-    verdicts
+    Ok(verdicts?)
 }
 
-const BRANCHING: &str = "S -> F c. F x -> br x (a (F (b x))).";
-
-/// Rules and transitions, and whether the scheme is rejected.
-const WORKED: &[(&str, &str, bool)] = &[
-    ("S -> a S.", "q0 a -> q0.", false),
-    ("S -> a b.", "q0 a -> q0.", true),
-    ("S -> S.", "q0 a -> .", false),
+/// Files, and whether the scheme is rejected.
+const WORKED: &[(&str, bool)] = &[
+    ("%BEGING S -> a S. %ENDG %BEGINA q0 a -> q0. %ENDA", false),
+    ("%BEGING S -> a b. %ENDG %BEGINA q0 a -> q0. %ENDA", true),
+    ("%BEGING S -> S. %ENDG %BEGINA q0 a -> . %ENDA", false),
     (
-        BRANCHING,
-        "q0 br -> q0 q0. q0 a -> q0. q0 b -> q1. q1 b -> q1. q0 c -> . q1 c -> .",
+        "%BEGING S -> F c. F x -> br x (a (F (b x))). %ENDG \
+         %BEGINA q0 br -> q0 q0. q0 a -> q0. q0 b -> q1. q1 b -> q1. q0 c -> . q1 c -> . %ENDA",
         false,
     ),
     (
-        BRANCHING,
-        "q0 br -> q0 q0. q0 a -> q0. q0 b -> q1. q0 c -> . q1 c -> .",
+        "%BEGING S -> F c. F x -> br x (a (F (b x))). %ENDG \
+         %BEGINA q0 br -> q0 q0. q0 a -> q0. q0 b -> q1. q0 c -> . q1 c -> . %ENDA",
         true,
     ),
     (
-        "S -> Tw a c. Tw f x -> f (f x).",
-        "q0 a -> q1. q1 a -> q2. q2 a -> q2. q0 c -> . q1 c -> .",
+        "%BEGING S -> Tw a c. Tw f x -> f (f x). %ENDG \
+         %BEGINA q0 a -> q1. q1 a -> q2. q2 a -> q2. q0 c -> . q1 c -> . %ENDA",
         true,
     ),
     (
-        "S -> Loop end. Loop k -> br (close k) (read (Loop k)).",
-        "q0 br -> q0 q0. q0 read -> q0. q0 close -> q1. q1 end -> .",
+        "%BEGING S -> Loop end. Loop k -> br (close k) (read (Loop k)). %ENDG \
+         %BEGINA q0 br -> q0 q0. q0 read -> q0. q0 close -> q1. q1 end -> . %ENDA",
         false,
     ),
 ];
 
+/// Sees that all verdicts on the file are this one.
+fn see_verdict<R: Abort + Threads + Wait + Sync>(
+    rt: &R,
+    alloc: Global,
+    file: &str,
+    rejected: bool,
+) -> Result<(), Fail> {
+    let found = verdicts_on(rt, alloc, file)?;
+    see(
+        rt,
+        (found.reduction, found.alone, found.four, found.same),
+        (rejected, Some(rejected), Some(rejected), true),
+        file,
+    );
+    Ok(())
+}
+
 #[test]
 fn worked_verdicts_are_those_of_reduction(rt: HostRuntime) -> Result<(), Fail> {
-    for (rules, transitions, rejected) in WORKED {
-        let found = compare_worked(&rt, rt.alloc(), rules, transitions)?;
-        assert_eq!(rt;
-            (found.reduction, found.alone, found.four),
-            (*rejected, Some(*rejected), Some(*rejected)),
-            "{rules}"
-        );
+    for (file, rejected) in WORKED {
+        see_verdict(&rt, rt.alloc(), file, *rejected)?;
     }
     Ok(())
 }
 
-/// Sees that the verdicts agree. Where reduction finds no error in so few steps and the table rejects,
-/// the path is longer.
-fn see_agreeing(rt: &impl Abort, found: Verdicts, file: &str) {
-    assert!(rt;
-        found.alone.is_some() && found.alone == found.four,
-        "{file}"
+/// The verdicts on the file, which agree, as do the tables. Where reduction finds no error in so few
+/// steps and the table rejects, the path is longer.
+fn agreeing_on<R: Abort + Threads + Wait + Sync>(
+    rt: &R,
+    alloc: Global,
+    file: &str,
+) -> Result<Verdicts, Fail> {
+    let found = verdicts_on(rt, alloc, file)?;
+    see(
+        rt,
+        (found.alone.is_some(), found.four, found.same),
+        (true, found.alone, true),
+        file,
     );
     if found.reduction {
-        assert_eq!(rt; found.alone, Some(true), "{file}");
+        see(rt, found.alone, Some(true), file);
     }
+    Ok(found)
 }
 
-/// The verdicts on the random file of this number, which agree.
+/// The verdicts on the random file of this number, which agree, as do the tables.
 fn agreeing<R: Abort + Threads + Wait + Sync>(
     rt: &R,
     alloc: Global,
     number: u32,
 ) -> Result<Verdicts, Fail> {
     let file = random_file(alloc, number)?;
-    let found = compare_random(rt, alloc, file.as_str())?;
-    see_agreeing(rt, found, file.as_str());
-    Ok(found)
+    agreeing_on(rt, alloc, file.as_str())
+}
+
+#[test]
+fn tables_of_random_schemes_by_one_worker_and_by_four(rt: HostRuntime) -> Result<(), Fail> {
+    for number in 0..100 {
+        let _agreed = agreeing(&rt, rt.alloc(), number)?;
+    }
+    Ok(())
 }
 
 #[test]
@@ -199,6 +230,11 @@ fn verdicts_on_random_schemes_agree_with_reduction(rt: HostRuntime) -> Result<()
             accepted = accepted.wrapping_add(1);
         }
     }
-    assert!(rt; accepted >= 50 && rejected >= 50);
+    see(
+        &rt,
+        (accepted >= 50, rejected >= 50),
+        (true, true),
+        "some of both",
+    );
     Ok(())
 }

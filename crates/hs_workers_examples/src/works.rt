@@ -7,6 +7,7 @@ ghost use Rattle.hs_workers_examples.specs.Working.{IsHolder};
 use crate::calls::{Answer, taken};
 use crate::holder;
 use crate::opening::{share, worker_at};
+use crate::seeing::see;
 use crate::worker::{Worker, take};
 use hs_fixtures::problem_of;
 use hs_flow::Dependents;
@@ -39,12 +40,13 @@ fn do_works<'p, R: Abort>(
     for row in 0..rows.len() {
         let (expected, closed, entries, pending) = rows[row];
         let took = taken(holder::take(rt, table, problem, hold, worker));
-        assert_eq!(rt; took, Answer::Took(expected), "work {row}");
+        see(rt, (row, took), (row, Answer::Took(expected)), "a work");
         let done = holder::work(rt, alloc, table, problem, dependents, hold, worker);
-        assert_eq!(rt;
-            (done, hold.entries(), hold.pending()),
-            (closed, entries, pending),
-            "work {row}"
+        see(
+            rt,
+            (row, done, hold.entries(), hold.pending()),
+            (row, closed, entries, pending),
+            "a work that was done",
         );
     }
 }
@@ -81,7 +83,7 @@ fn play_works<R: Abort + Wait>(
     forget(worker);
     forget(table);
     forget(dependents);
-    assert_eq!(rt; found, last);
+    see(rt, found, last, "the last call");
 }
 
 /// The works in their order, each done at once.

@@ -1,18 +1,22 @@
-use Rattle.std.proofs.Common.{Bor, rules}
-use Rattle.std.specs.Ordering.{nat_cmp, is_lt}
-use Rattle.std.proofs.lemmas.List.Sorted.{IsPartitionPoint-from_clause}
+use Rattle.std.proofs.Common.{ℕ, ◌<◌, length, get_or, arith, Bor}
+use borrow.Author.Count.{below_more}
 use Rattle.hs_table.specs.Entries.{EntryData}
-use Rattle.hs_checker.proofs.Between.{parted_less}
-use Rattle.hs_checker.proofs.IndexLemmas.{points_up}
-use Rattle.hs_checker.proofs.StartLemmas.{start_of, start_kept_rows}
+use Rattle.hs_checker.proofs.StartLemmas.{start_kept_rows}
 use Rattle.hs_checker.proofs.index.start_at.Goals as goal
 
+pub loop-start-init : goal.loop-start-init
+loop-start-init c = c.requires.before
+
 pub returns-then-are_behind : goal.returns-then-are_behind
-returns-then-are_behind c = start_kept_rows c.args.rows.now c.args.point c.args.known c.requires.sorted c.requires.within c.requires.before (c.are_behind.ensures c.if-are_behind.true)
+returns-then-are_behind c =
+    start_kept_rows c.args.rows.now c.args.point c.loop-start.start c.requires.sorted (omega (arith, c.loop-start-test.true)) c.loop-start.invariant (c.are_behind.ensures.behind c.if-are_behind.true)
+
+pub loop-start-preserved : goal.loop-start-preserved
+loop-start-preserved c =
+    let rows = c.args.rows.now in
+    λ k d lt. below_more (λ (n : ℕ). (e : Bor EntryData) → (get_or rows n e).now.point < c.args.point) c.loop-start.start (λ n l e. c.loop-start.invariant n e l)
+    (λ e. c.are_behind.ensures.before c.if-are_behind.false e c.loop-start-test.true) k lt d
 
 pub returns : goal.returns
 returns c =
-    let rows = c.args.rows.now in
-    let t = c.args.point in
-    let point = IsPartitionPoint-from_clause (λ (r : Bor EntryData). is_lt (nat_cmp r.now.point t)) _ _ c.partition_point.ensures.partitioned (parted_less (λ (r : Bor EntryData). nat_cmp r.now.point t) rows (points_up rows c.requires.sorted t)) (λ a r q k. search rules) in
-    start_of rows t c.partition_point.result point c.partition_point.ensures.bound
+    start_kept_rows c.args.rows.now c.args.point (length c.args.rows.now) c.requires.sorted (omega arith) (λ k d lt. c.loop-start.invariant k d (omega (arith, lt, c.loop-start-test.false))) (λ d lt. absurd (omega (arith, lt)))

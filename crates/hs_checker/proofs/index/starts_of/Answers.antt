@@ -14,9 +14,10 @@ loop-point-preserved c =
     record {
       within = omega (arith, c.start_at-known.ensures.within, length-map f rows);
       before = λ k d lt. omega (arith, subst (λ (e : EntryData). e.point < t) (get_or-map f rows k d) (c.start_at-known.ensures.before k d.now lt));
-      long = omega (arith, c.loop-point.invariant.long, ap length c.in_ok-push.ensures.items, length-append c.loop-point.starts.items (n ∷ []));
-      each = starts_more (λ (e : EntryData). e.point) (map f rows) c.loop-point.starts.items c.push.new.self.items t n c.in_ok-push.ensures.items c.loop-point.invariant.long
+      long = omega (arith, c.loop-point.invariant.long, ap length c.push_reserved.ensures.items, length-append c.loop-point.starts.items (n ∷ []));
+      each = starts_more (λ (e : EntryData). e.point) (map f rows) c.loop-point.starts.items c.push_reserved.new.self.items t n c.push_reserved.ensures.items c.loop-point.invariant.long
           c.start_at-known.ensures c.loop-point.invariant.each;
+      room = omega (arith, c.push_reserved.ensures.capacity, c.loop-point.invariant.room);
     }
 
 pub returns : goal.returns
@@ -24,11 +25,17 @@ returns c =
     let rows = c.args.rows.now in
     let f : Bor EntryData → EntryData = λ r. r.now in
     let es = map f rows in
-    let news = c.push-2.new.self.items in
+    let news = c.push_reserved-2.new.self.items in
     let e : c.loop-point.point ≡ c.args.points = omega arith in
-    let long : length news ≡ c.args.points + 1 = omega (arith, e, c.loop-point.invariant.long, ap length c.in_ok-push-2.ensures.items, length-append c.loop-point.starts.items (length rows ∷ [])) in
+    let long : length news ≡ c.args.points + 1 = omega (arith, e, c.loop-point.invariant.long, ap length c.push_reserved-2.ensures.items, length-append c.loop-point.starts.items (length rows ∷ [])) in
     let own = subst (λ n. IsStartOfPoint es c.args.points n) (length-map f rows) (start_past (λ (e : EntryData). e.point) es c.args.points c.requires.within) in
     record {
-      each = starts_more (λ (e : EntryData). e.point) es c.loop-point.starts.items news c.args.points (length rows) c.in_ok-push-2.ensures.items (c.loop-point.invariant.long ∙ e) own c.loop-point.invariant.each;
+      each = starts_more (λ (e : EntryData). e.point) es c.loop-point.starts.items news c.args.points (length rows) c.push_reserved-2.ensures.items (c.loop-point.invariant.long ∙ e) own c.loop-point.invariant.each;
       within = λ x k. omega (arith, long, c.requires.within x k);
     }
+
+pub push_reserved-requires : goal.push_reserved-requires
+push_reserved-requires c = omega (arith, c.loop-point.starts.ok, c.loop-point.invariant.long, c.loop-point.invariant.room, c.loop-point-test.true)
+
+pub push_reserved-requires-2 : goal.push_reserved-requires-2
+push_reserved-requires-2 c = omega (arith, c.loop-point.starts.ok, c.loop-point.invariant.long, c.loop-point.invariant.room)

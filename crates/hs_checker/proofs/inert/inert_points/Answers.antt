@@ -11,9 +11,13 @@ loop-point-preserved c =
     let E = c.args.index.now in
     let silent = subst (λ (hs : List HeadPair). AreSilent hs E c.as_slice.result.now) c.requires (subst (λ (ms : List Bool). AreSilent c.args.heads.now E ms) (sym c.as_slice.ensures.value) c.in_ok-silent.ensures.silent) in
     record {
-      long = omega (arith, c.loop-point.invariant.long, ap length c.in_ok-push.ensures.items, length-append olds (b ∷ []));
-      inert = λ u h. elim (marks_push olds b u (subst (λ (ms : List Bool). slice_get ms u ≡ Some true) c.in_ok-push.ensures.items h)) [
+      long = omega (arith, c.loop-point.invariant.long, ap length c.push_reserved.ensures.items, length-append olds (b ∷ []));
+      inert = λ u h. elim (marks_push olds b u (subst (λ (ms : List Bool). slice_get ms u ≡ Some true) c.push_reserved.ensures.items h)) [
         | inl before ↦ c.loop-point.invariant.inert u before
         | inr own ↦ subst (λ (n : ℕ). IsInert c.args.problem.now c.args.index.now n) (sym (own.0 ∙ c.loop-point.invariant.long)) (c.is_inert.ensures c.args.index.now silent own.1)
       ];
+      room = omega (arith, c.push_reserved.ensures.capacity, c.loop-point.invariant.room);
     }
+
+pub push_reserved-requires : goal.push_reserved-requires
+push_reserved-requires c = omega (arith, c.loop-point.marks.ok, c.loop-point.invariant.long, c.loop-point.invariant.room, c.loop-point-test.true)

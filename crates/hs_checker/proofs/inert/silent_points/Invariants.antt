@@ -1,5 +1,5 @@
 -- the points so far
-use Rattle.std.proofs.Common.{◌≡◌, length}
+use Rattle.std.proofs.Common.{◌≡◌, length, ◌≤◌, vec_capacity}
 use Rattle.hs_checker.specs.Inert.{AreSilent}
 use Rattle.hs_checker.proofs.inert.silent_points.Given as goal
 
@@ -7,4 +7,5 @@ abbrev pub invariant-loop-point : goal.invariant-loop-point
 invariant-loop-point l = record {
   long : length l.marks.items ≡ l.point;
   silent : AreSilent l.heads l.index l.marks.items;
+  room : l.points ≤ vec_capacity l.marks;
 }

@@ -9,7 +9,7 @@ pub new-requires : goal.new-requires
 new-requires c =
     let same = ap (λ (s : SortedData). s.scheme.rules) c.sorted.view_is in
     record {
-      points = subst (λ (rules : List Rule). c.in_ok-points.points ≡ points_of rules) same c.in_ok-points.ensures.points;
-      flows = subst (λ (rules : List Rule). All (FlowWithin rules (length c.in_ok-points.points.points)) c.in_ok-flow.flow.pairs) same c.in_ok-flow.ensures.pairs;
-      heads = subst (λ (rules : List Rule). All (HeadWithin rules (length c.in_ok-points.points.points)) c.in_ok-flow.flow.heads) same c.in_ok-flow.ensures.heads;
+      points = subst (λ (rules : List Rule). c.in-Ok.points ≡ points_of rules) same c.in-Ok.ensures.points;
+      flows = subst (λ (rules : List Rule). All (FlowWithin rules (length c.in-Ok.points.points)) c.in-Ok-analyse.flow.pairs) same c.in-Ok-analyse.ensures.pairs;
+      heads = subst (λ (rules : List Rule). All (HeadWithin rules (length c.in-Ok.points.points)) c.in-Ok-analyse.flow.heads) same c.in-Ok-analyse.ensures.heads;
     }

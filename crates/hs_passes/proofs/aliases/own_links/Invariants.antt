@@ -1,4 +1,4 @@
-use Rattle.std.proofs.Common.{◌≡◌, ◌<◌, ℕ, vec_len}
+use Rattle.std.proofs.Common.{◌≡◌, ◌<◌, ℕ, vec_len, ◌≤◌, length, vec_capacity}
 use Rattle.hs_passes.specs.Selection.{number_in}
 use Rattle.hs_passes.proofs.aliases.own_links.Given as goal
 
@@ -6,4 +6,5 @@ abbrev pub invariant-loop-number : goal.invariant-loop-number
 invariant-loop-number l = record {
   long : vec_len l.links ≡ l.number;
   each : (h : ℕ) → h < l.number → number_in l.links.items h ≡ h;
+  room : l.count ≤ vec_capacity l.links;
 }

@@ -1,4 +1,4 @@
-use Rattle.std.proofs.Common.{◌≡◌, ◌<◌, ℕ, vec_len}
+use Rattle.std.proofs.Common.{◌≡◌, ◌<◌, ℕ, vec_len, ◌≤◌, length, vec_capacity}
 use Rattle.hs_passes.specs.Links.{AreLinks, Follow}
 use Rattle.hs_passes.specs.Selection.{number_in}
 use Rattle.hs_passes.proofs.aliases.roots.Given as goal
@@ -9,4 +9,5 @@ invariant-loop-number l = record {
   links : AreLinks l.links;
   follow : (rep : ℕ → ℕ) → Follow rep l.initial.links → Follow rep l.links;
   each : (rep : ℕ → ℕ) → Follow rep l.initial.links → (h : ℕ) → h < l.number → number_in l.roots.items h ≡ rep h;
+  room : l.count ≤ vec_capacity l.roots;
 }

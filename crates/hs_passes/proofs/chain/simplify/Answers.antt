@@ -1,5 +1,8 @@
-use Rattle.std.proofs.Common.{◌^◌, add-one, ◌∙◌, ap, length, arith}
-use Rattle.hs_scheme.proofs.Lists.{on_err}
+use Rattle.std.proofs.Common.{◌≡◌, ◌^◌, add-one, sym, ◌∙◌, ap, subst, length, arith}
+use Rattle.hs_scheme.specs.Sorted.{SortedData}
+use Rattle.hs_scheme.specs.SameTree.{HaveSameTree}
+use Rattle.hs_passes.specs.Weight.{weight}
+use Rattle.hs_passes.specs.Passing.{KeepsRest}
 use Rattle.hs_passes.proofs.Chaining.{none_applied, tally_below, one_applied, stopped, stopped_images, made_by_all, same_images, all_raised, sum_rose}
 use Rattle.hs_passes.proofs.chain.simplify.Goals as goal
 
@@ -10,23 +13,30 @@ pub apply_boxed-requires : goal.apply_boxed-requires
 apply_boxed-requires g c =
     tally_below _ _ _ _ _ _ _ c.loop-pass.invariant c.pass-item.result (omega (arith, c.loop-pass-test.true, ap length c.deref_mut-pass-items.ensures.value)) (2 ^ 63) c.requires
 
-pub returns-in_err-simplified-clause-same_images :
-    goal.returns-in_err-simplified-clause-same_images
-returns-in_err-simplified-clause-same_images g c =
+pub returns-in-Err-clause-same_images : goal.returns-in-Err-clause-same_images
+returns-in-Err-clause-same_images g c =
     stopped_images _ _ _ _ _ _ _ c.loop-pass.invariant c.pass-item.result (omega (arith, c.loop-pass-test.true, ap length c.deref_mut-pass-items.ensures.value))
-    c.apply_boxed.new.pass _ (omega (arith, c.deref_mut-pass-items.ensures.len, ap length c.deref_mut-pass-items.ensures.value)) c.in_err-simplified.ensures.same_image
+    c.apply_boxed.new.pass _ (omega (arith, c.deref_mut-pass-items.ensures.len, ap length c.deref_mut-pass-items.ensures.value)) c.in-Err.ensures.same_image
 
-pub returns-in_err-simplified-clause-refused : goal.returns-in_err-simplified-clause-refused
-returns-in_err-simplified-clause-refused g c =
-    on_err c.from_residual.result _
-    (stopped _ _ _ _ _ _ _ c.loop-pass.invariant c.pass-item.result (omega (arith, c.loop-pass-test.true, ap length c.deref_mut-pass-items.ensures.value))
-    c.apply_boxed.new.pass c.args.passes.now.len (omega (arith, c.deref_mut-pass-items.ensures.len, ap length c.deref_mut-pass-items.ensures.value)) c.in_err-simplified.ensures.same_image c.in_err-simplified.ensures.refused)
+pub returns-in-Err-clause-refused : goal.returns-in-Err-clause-refused
+returns-in-Err-clause-refused g c =
+    stopped _ _ _ _ _ _ _ c.loop-pass.invariant c.pass-item.result (omega (arith, c.loop-pass-test.true, ap length c.deref_mut-pass-items.ensures.value))
+    c.apply_boxed.new.pass c.args.passes.now.len (omega (arith, c.deref_mut-pass-items.ensures.len, ap length c.deref_mut-pass-items.ensures.value)) c.in-Err.ensures.same_image c.in-Err.ensures.refused
 
 pub loop-pass-preserved : goal.loop-pass-preserved
 loop-pass-preserved g c =
-    let e = c.in_ok-simplified.ensures in
-    rw add-one (one_applied _ _ _ _ _ _ _ c.loop-pass.invariant c.pass-item.result (omega (arith, c.loop-pass-test.true, ap length c.deref_mut-pass-items.ensures.value)) c.apply_boxed.new.pass c.in_ok-simplified.simplified
-    (record { made = e.made; same_image = e.same_image; rest = e.rest; tree = e.same_tree; lighter = e.lighter; rose = e.rose }))
+    let e = c.in-Ok.ensures in
+    let t = c.loop-pass.simplified in
+    let is : c.replace.new.dest ≡ c.in-Ok.next = c.replace.ensures.after in
+    rw add-one (one_applied _ _ _ _ _ _ _ c.loop-pass.invariant c.pass-item.result (omega (arith, c.loop-pass-test.true, ap length c.deref_mut-pass-items.ensures.value)) c.apply_boxed.new.pass c.replace.new.dest
+    (record {
+      made = is ∙ e.made;
+      same_image = e.same_image;
+      rest = subst (λ (s : SortedData). KeepsRest t s) (sym is) e.rest;
+      tree = subst (λ (s : SortedData). HaveSameTree t.scheme.ranks t.scheme.rules s.scheme.rules) (sym is) e.same_tree;
+      lighter = omega (arith, e.lighter, ap weight is);
+      rose = omega (arith, e.rose, ap weight is);
+    }))
 
 pub returns-clause-made : goal.returns-clause-made
 returns-clause-made g c =

@@ -11,7 +11,11 @@ loop-rep-preserved c =
     let P : ℕ → ℕ = λ h. number_in c.args.places.now (number_in c.args.reps.now h) in
     let long : length xs ≡ n = omega (arith, c.loop-rep.numbers.ok, inv.long) in
     record {
-      long = omega (arith, c.in_ok-push.ensures.len, inv.long);
-      each = λ f lt. ap (λ ys. get_or ys f 0) c.in_ok-push.ensures.items
+      long = omega (arith, c.push_reserved.ensures.len, inv.long);
+      each = λ f lt. ap (λ ys. get_or ys f 0) c.push_reserved.ensures.items
           ∙ told_more xs _ P (λ k l. inv.each k (omega (arith, l, long))) (c.number_at.ensures ∙ ap P (sym long)) f (omega (arith, lt, long));
+      room = omega (arith, c.push_reserved.ensures.capacity, inv.room);
     }
+
+pub push_reserved-requires : goal.push_reserved-requires
+push_reserved-requires c = omega (arith, c.loop-rep.invariant.long, c.loop-rep.invariant.room, c.loop-rep-test.true)

@@ -12,7 +12,11 @@ loop-number-preserved c =
     let P : ℕ → Bool = λ h. nat_eq (number_in c.args.reps.now h) h in
     let long : length xs ≡ n = omega (arith, c.loop-number.kept.ok, inv.long) in
     record {
-      long = omega (arith, c.in_ok-push.ensures.len, inv.long);
-      each = λ f lt. ap (λ ys. get_or ys f false) c.in_ok-push.ensures.items
+      long = omega (arith, c.push_reserved.ensures.len, inv.long);
+      each = λ f lt. ap (λ ys. get_or ys f false) c.push_reserved.ensures.items
           ∙ read_more false xs _ P (λ k l. inv.each k (omega (arith, l, long))) (ap P (sym long)) f (omega (arith, lt, long));
+      room = omega (arith, c.push_reserved.ensures.capacity, inv.room);
     }
+
+pub push_reserved-requires : goal.push_reserved-requires
+push_reserved-requires c = omega (arith, c.loop-number.invariant.long, c.loop-number.invariant.room, c.loop-number-test.true)

@@ -1,4 +1,4 @@
-use Rattle.std.proofs.Common.{ℕ, ◌<◌, length, [], ◌∷◌}
+use Rattle.std.proofs.Common.{ℕ, ◌<◌, length, []}
 use Rattle.std.proofs.lemmas.List.Elements.{All-nil, All-cons}
 use Rattle.hs_types.proofs.Numbers.{type_within}
 use Rattle.hs_table_examples.proofs.NumberLemmas.{given}

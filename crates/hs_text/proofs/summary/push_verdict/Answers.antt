@@ -1,17 +1,15 @@
-use Rattle.std.proofs.Common.{◌∙◌, ap, sym, ◌++◌}
+use Rattle.std.proofs.Common.{sym, ap}
 use Rattle.hs_text.specs.Report.{verdict_lines}
-use Rattle.hs_text.proofs.Joins.{two_put, four_put}
+use Rattle.hs_text.proofs.Puts.{puts_then, puts_as}
 use Rattle.hs_text.proofs.summary.push_verdict.Goals as goal
 
-pub returns-in_ok-push_line-in-Accepted : goal.returns-in_ok-push_line-in-Accepted
-returns-in_ok-push_line-in-Accepted c =
-    two_put _ _ _ _ _ c.in_ok-push_head-in-Accepted.ensures c.in_ok-push_line-in-Accepted.ensures ∙ ap (λ v. c.args.text.now.items ++ verdict_lines c.args.names.now v) (sym c.in-Accepted.is)
+pub returns-in-Accepted : goal.returns-in-Accepted
+returns-in-Accepted c = puts_as (ap (verdict_lines c.args.names.now) (sym c.in-Accepted.is)) (puts_then c.push_head.ensures c.push_line.ensures)
 
-pub returns-in_ok-push_path-in-Rejected : goal.returns-in_ok-push_path-in-Rejected
-returns-in_ok-push_path-in-Rejected c =
-    two_put _ _ _ _ _ c.in_ok-push_head-in-Rejected.ensures c.in_ok-push_path-in-Rejected.ensures ∙ ap (λ v. c.args.text.now.items ++ verdict_lines c.args.names.now v) (sym c.in-Rejected.is)
+pub returns-in-Rejected : goal.returns-in-Rejected
+returns-in-Rejected c = puts_as (ap (verdict_lines c.args.names.now) (sym c.in-Rejected.is)) (puts_then c.push_head-in-Rejected.ensures c.push_path.ensures)
 
-pub returns-in_ok-extend_from_slice-in-Long-2 : goal.returns-in_ok-extend_from_slice-in-Long-2
-returns-in_ok-extend_from_slice-in-Long-2 c =
-    four_put _ _ _ _ _ _ _ _ _ c.in_ok-push_head-in-Long.ensures c.in_ok-extend_from_slice-in-Long.ensures.items c.in_ok-push_number-in-Long.ensures c.in_ok-extend_from_slice-in-Long-2.ensures.items
-    ∙ ap (λ v. c.args.text.now.items ++ verdict_lines c.args.names.now v) (sym c.in-Long.is)
+pub returns-in-Long : goal.returns-in-Long
+returns-in-Long c =
+    puts_as (ap (verdict_lines c.args.names.now) (sym c.in-Long.is))
+    (puts_then c.push_head-in-Long.ensures (puts_then c.push.ensures (puts_then c.push_number.ensures c.push-in-Long.ensures)))

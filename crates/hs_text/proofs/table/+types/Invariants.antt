@@ -1,8 +1,9 @@
 -- the types so far stand behind the brace
-use Rattle.std.proofs.Common.{◌≡◌, ◌++◌, ◌+◌, ◌*◌, take, map, codes}
+use Rattle.std.proofs.Common.{◌+◌, ◌*◌, take, map, codes}
 use Rattle.std.specs.List.{join_by}
 use Rattle.hs_scheme.specs.Tree.{height, heights, forest}
 use Rattle.hs_text.specs.Report.{type_text}
+use Rattle.hs_text.specs.Pieces.{Puts}
 use Rattle.hs_text.proofs.table.+types.Given as goal
 
 abbrev pub decreases-push_type : goal.decreases-push_type
@@ -12,4 +13,4 @@ abbrev pub decreases-push_set : goal.decreases-push_set
 decreases-push_set l = 2 * heights (forest l.set.now)
 
 abbrev pub invariant-push_set-loop-place : goal.invariant-push_set-loop-place
-invariant-push_set-loop-place l = l.text.items ≡ l.initial.text.items ++ join_by (λ t. t) (codes ",") (map (type_text l.states) (take l.place l.set))
+invariant-push_set-loop-place l = Puts l.initial.text l.text (join_by (λ t. t) (codes ",") (map (type_text l.states) (take l.place l.set)))

@@ -11,7 +11,7 @@ loop-preserved c =
     let old = c.loop.first in
     let new = c.split.new.seat in
     let before = c.loop.invariant in
-    let pushed = c.in_ok-push.ensures.items in
+    let pushed = c.push_reserved.ensures.items in
     record {
       first = first_split table old new c.loop.counter before.first c.split.ensures.seat;
       base = ap (λ (s : SeatData). s.known.base) c.split.ensures.seat ∙ before.base;
@@ -20,7 +20,12 @@ loop-preserved c =
       seats = subst (λ xs. All (RestsSeated table c.args.problem.now) xs) (sym pushed)
           (All-push (RestsSeated table c.args.problem.now) c.loop.seats.items c.into_rested.result before.seats
           (split_rests table c.args.problem.now c.args.first.now old c.loop.counter before.first before.nothing before.base c.requires.based c.split.result c.into_rested.result c.split.ensures.new c.into_rested.ensures));
+      long = omega (arith, c.push_reserved.ensures.len, before.long);
+      room = omega (arith, c.push_reserved.ensures.capacity, before.room);
     }
+
+pub push_reserved-requires : goal.push_reserved-requires
+push_reserved-requires c = omega (arith, c.loop.invariant.long, c.loop.invariant.room, c.loop-test.true)
 
 pub split-requires-clause-seat : goal.split-requires-clause-seat
 split-requires-clause-seat c = c.loop.invariant.first.seat
@@ -30,9 +35,6 @@ split-requires-clause-first c = c.loop.invariant.first.number
 
 pub split-requires-clause-room : goal.split-requires-clause-room
 split-requires-clause-room c = omega (arith, c.loop-test.true, c.requires.few, c.loop.invariant.first.splits_are)
-
-pub returns-in_err-push-clause-base : goal.returns-in_err-push-clause-base
-returns-in_err-push-clause-base c = ap (λ (s : SeatData). s.known.base) c.split.ensures.seat ∙ c.loop.invariant.base
 
 pub returns-clause-first : goal.returns-clause-first
 returns-clause-first c =

@@ -1,5 +1,5 @@
 -- so many seats are split off
-use Rattle.std.proofs.Common.{◌≡◌, length, All}
+use Rattle.std.proofs.Common.{◌≡◌, ◌≤◌, length, All, vec_len, vec_capacity}
 use Rattle.hs_workers.specs.Working.{IsFirstSeat, HasSeenNothing, RestsSeated}
 use Rattle.hs_workers.proofs.saturating.seats_for.Given as goal
 
@@ -10,4 +10,6 @@ invariant-loop l = record {
   nothing : HasSeenNothing l.first;
   count : length l.seats.items ≡ l.counter;
   seats : All (RestsSeated l.table l.problem) l.seats.items;
+  long : vec_len l.seats ≡ l.counter;
+  room : l.workers ≤ vec_capacity l.seats;
 }

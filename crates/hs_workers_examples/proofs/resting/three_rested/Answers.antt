@@ -1,7 +1,7 @@
 use Rattle.std.proofs.Common.{◌∙◌, [], ◌∷◌, List, ℕ}
 use Rattle.std.proofs.lemmas.List.Elements.{All-nil, All-cons}
 use Rattle.hs_workers_examples.specs.declared.recording.Event.{Event}
-use Rattle.hs_workers_examples.specs.declared.resting.Problem.{Problem}
+use Rattle.hs_workers_examples.specs.declared.recording.Problem.{Problem}
 use Rattle.hs_turn.specs.Seats.{RestsIn, SeatView}
 use Rattle.hs_workers_examples.proofs.resting.three_rested.Goals as goal
 

@@ -1,0 +1,39 @@
+use Rattle.std.proofs.Common.{sym, ◌∙◌, ap, ◌≡◌, true, subst as along, ◌++◌, ℕ, List, [], Option, Some, None, option_map, Bor}
+use Rattle.std.proofs.lemmas.Result.{IfOk-weaker}
+use Rattle.hs_scheme.specs.Problem.{ProblemData}
+use Rattle.hs_table.specs.Entries.{EntryData}
+use Rattle.hs_text.specs.Report.{IsReport, IsTableText, summary}
+use Rattle.hs_text.specs.declared.pieces.Text.{Text}
+use Rattle.hs_text.specs.declared.verdict.Verdict.{Verdict}
+use Rattle.hs_text.specs.Pieces.{Puts}
+use Rattle.hs_text.proofs.summary.report.Goals.{in-Some, in_default}
+use Rattle.hs_text.proofs.summary.report.Goals as goal
+
+module _ (p : ProblemData) (verdict : Verdict) (removed : Option ℕ) (empty first last : Text) (none : empty.bytes.items ≡ []) (summed : Puts empty first (summary p verdict removed)) (text : List ℕ)
+    (whole : last.is_whole ≡ true) (is : text ≡ last.bytes.items) where
+  with_table : (table : List EntryData) (after : Text) → last ≡ after → (after.is_whole ≡ true → (written : List ℕ) × IsTableText p table written × Puts first after written)
+      → IsReport p verdict (Some table) removed text
+  with_table table after same put =
+      let t = put (along (λ (x : Text). x.is_whole ≡ true) same whole) in
+      let before = t.2.before (along (λ (x : Text). x.is_whole ≡ true) same whole) in
+      let lines : text ≡ summary p verdict removed ++ t.0 =
+      is ∙ (ap (λ (x : Text). x.bytes.items) same ∙ (t.2.bytes (along (λ (x : Text). x.is_whole ≡ true) same whole)
+      ∙ ap (λ r. r ++ t.0) (summed.bytes before ∙ ap (λ r. r ++ summary p verdict removed) none))) in
+      (t.0, (t.1, lines))
+
+  without_table : last ≡ first → IsReport p verdict None removed text
+  without_table same =
+      is ∙ (ap (λ (x : Text). x.bytes.items) same ∙ (summed.bytes (along (λ (x : Text). x.is_whole ≡ true) same whole) ∙ ap (λ r. r ++ summary p verdict removed) none))
+
+pub returns : goal.returns
+returns c =
+    let p = c.args.problem.now in
+    let verdict = c.args.verdict.now in
+    let removed = c.args.removed in
+    IfOk-weaker c.finish.result _ _ (λ text h. elim c.match-table.branch [
+      | in-Some w ↦ along (λ (o : Option (Bor (List EntryData))). IsReport p verdict (option_map (λ t. t.now) o) removed text.items) (sym w.in-Some.is)
+          (with_table p verdict removed c.new-text.result c.push_summary.new.text c.match-table.text c.new-text.ensures c.push_summary.ensures text.items h.0 h.1 w.in-Some.table.now w.push_table.new.text w.text-is
+          w.push_table.ensures)
+      | in_default w ↦ along (λ (o : Option (Bor (List EntryData))). IsReport p verdict (option_map (λ t. t.now) o) removed text.items) (sym w.in_default.is)
+          (without_table p verdict removed c.new-text.result c.push_summary.new.text c.match-table.text c.new-text.ensures c.push_summary.ensures text.items h.0 h.1 w.text-is)
+    ]) c.finish.ensures
