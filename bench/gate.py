@@ -76,16 +76,17 @@ def watch(run):
         for number in now:
             folder = f"/proc/{number}"
             try:
-                if number not in running:
-                    running[number] = Process(folder)
-                if running[number].is_watched:
-                    running[number].look(folder)
+                # Between its start and the call of the prover a process has the words of its parent.
+                process = running.get(number) or Process(folder)
+                if process.is_watched:
+                    process.look(folder)
+                    running[number] = process
             except (OSError, ValueError):
                 pass
         for number in [it for it in running if it not in now]:
             ended.append(running.pop(number))
         time.sleep(EVERY)
-    return [it for it in [*ended, *running.values()] if it.is_watched]
+    return [*ended, *running.values()]
 
 
 def edits_of(crate):
