@@ -2,13 +2,12 @@
 --     file_pieces     the pieces of a file
 --     spelled         their bytes
 --     AllWhole        each takes its whole run of name bytes, and knows its line
-use Rattle.std.proofs.Common.{◌≡◌, refl, sym, ◌∙◌, ap, subst, ℕ, suc, ◌+◌, true, false, ◌==◌, List, [], ◌∷◌, ◌++◌, length, map, add-zero, arith}
+use Rattle.std.proofs.Common.{◌≡◌, refl, sym, ◌∙◌, ap, subst, ℕ, suc, ◌+◌, List, [], ◌∷◌, ◌++◌, length, map, add-zero, arith}
 use Rattle.std.specs.List.{flat_map, AllByRecursion}
-use Rattle.std.proofs.lemmas.Bool.{eqb-true}
 use Rattle.hs_scheme.specs.Tree.{Tree, Trees, node, none, more}
 use Rattle.hs_reader.specs.declared.raw.RawName.{RawName}
 use Rattle.hs_reader.specs.Raw.{Rule, Transition, File}
-use Rattle.hs_reader.specs.Tokens.{is_name_byte, word, rules_begin, rules_end, automaton_begin, automaton_end, arrow, dot, left, right, end_of_file, Piece, blank, token, piece_bytes, line_ends, EndsRun, IsName, IsWhole, IsCut}
+use Rattle.hs_reader.specs.Tokens.{word, rules_begin, rules_end, automaton_begin, automaton_end, arrow, dot, left, right, end_of_file, Piece, blank, token, piece_bytes, line_ends, EndsRun, IsName, IsWhole, IsCut}
 use Rattle.hs_reader.specs.Limits.{term_names, terms_names, rule_names, transition_names, names}
 use Rattle.hs_reader.proofs.Lexing.{name_lines}
 use Rattle.hs_resolve.proofs.Members.{all-append}
@@ -84,13 +83,6 @@ cut-of line (p ∷ ps) h = (spelled ps, record { spelled = refl; whole = h.0 }, 
 -- a piece without LF
 on-line : (line : ℕ) (p : Piece) (ps : List Piece) → IsWhole p line (spelled ps) → line_ends (piece_bytes p) ≡ 0 → AllWhole line ps → AllWhole line (p ∷ ps)
 on-line line p ps w e h = (w, subst (λ n. AllWhole n ps) (sym (ap (λ k. line + k) e ∙ add-zero line)) h)
-
-name-byte : (b : ℕ) → is_name_byte b ≡ true → (b == 10) ≡ false
-name-byte b h =
-    elim (b == 10) as (λ c. (b == 10) ≡ c → c ≡ false) [
-      | true ↦ λ e. absurd (let f : is_name_byte 10 ≡ true = ap is_name_byte (sym (eqb-true b 10 e)) ∙ h in (cc))
-      | false ↦ λ e. refl
-    ] refl
 
 word-whole : (line : ℕ) (n : RawName) (ps : List Piece) → IsName n → EndsRun (spelled ps) → AllWhole line ps → AllWhole line (token (word (reline line n)) ∷ ps)
 word-whole line n ps name ends h = on-line line (token (word (reline line n))) ps (name, ends, refl) (name_lines n.text name.1) h

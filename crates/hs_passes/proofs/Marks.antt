@@ -1,10 +1,10 @@
 -- Marks of parameters, by their numbers.
-use Rattle.std.proofs.Common.{◌≡◌, refl, sym, ◌∙◌, ap, subst, ℕ, zero, suc, ◌+◌, ◌<◌, ◌≤◌, Bool, true, false, List, [], ◌∷◌, ◌++◌, length, take, get_or, sum, inl, inr, arith, add-one}
-use Rattle.std.specs.Prelude.{◌||◌, ◌&&◌, nat_eq, nat_le, nat_lt, slice_set, slice_index}
-use Rattle.std.proofs.lemmas.Bool.{eq-eqb, eqb-true, lt-ltb, ltb-true, le-leb, leb-true, and_from, or_left, or_right, cases_lt, and_parts, or_cases, false_from_ne_true}
+use Rattle.std.proofs.Common.{◌≡◌, refl, sym, ◌∙◌, ap, ℕ, zero, suc, ◌+◌, ◌<◌, ◌≤◌, Bool, true, false, List, [], ◌∷◌, ◌++◌, length, take, get_or, sum, arith, add-one}
+use Rattle.std.specs.Prelude.{◌||◌, ◌&&◌, nat_eq, nat_le, nat_lt, slice_set}
+use Rattle.std.proofs.lemmas.Bool.{eq-eqb, eqb-true, lt-ltb, ltb-true, le-leb, leb-true, and_from, and_parts, false_from_ne_true}
 use Rattle.std.proofs.Math.Seq.{take-suc}
 use Rattle.std.specs.Cmp.{both_ways}
-use Rattle.std.proofs.Math.Bool.{or-false, and-false}
+use Rattle.std.proofs.Math.Bool.{or-false}
 use Rattle.hs_scheme.specs.Parameters.{IsParameter, parameter_of}
 use Rattle.hs_scheme.proofs.ParameterLemmas.{number_once, number_within}
 use Rattle.hs_scheme.specs.declared.term.Head.{Head}
@@ -70,14 +70,6 @@ module _ (counts : List ℕ) where
         stays-set old (parameter_of counts rule param) (parameter_of counts f j) (omega (arith, long, number_within counts rule param p))
         ∙ ap (λ b. stays old (parameter_of counts f j) || b) (same_number f j p q)
 
-    pub marked_none : (old : List Bool) → (IsParameter counts rule param → ⊥) → GainsFlags counts old old (λ f j. nat_eq rule f && nat_eq param j)
-    marked_none old lacks =
-        gains_same old old (λ f j. false) (λ f j. nat_eq rule f && nat_eq param j)
-        (λ f j q. sym (false_from_ne_true (nat_eq rule f && nat_eq param j) (λ e.
-        let b = and_parts (nat_eq rule f) (nat_eq param j) e in
-        lacks (subst (λ k. IsParameter counts rule k) (sym (eqb-true param j b.1)) (subst (λ g. IsParameter counts g j) (sym (eqb-true rule f b.0)) q)))))
-        (gains_nothing old)
-
   -- the parameters of a rule behind the given ones, up to one of them
   module _ (rule given : ℕ) where
     abbrev pub Missing : ℕ → ℕ → ℕ → Bool
@@ -85,11 +77,6 @@ module _ (counts : List ℕ) where
 
     no_less : (j : ℕ) → nat_lt j 0 ≡ false
     no_less j = false_from_ne_true (nat_lt j 0) (λ e. absurd (omega (arith, ltb-true j 0 e)))
-
-    pub missing_none : (old : List Bool) → GainsFlags counts old old (Missing 0)
-    missing_none old =
-        gains_same old old (λ f j. false) (Missing 0)
-        (λ f j q. sym (ap (λ b. nat_eq rule f && (nat_le given j && b)) (no_less j) ∙ (ap (λ b. nat_eq rule f && b) (and-false (nat_le given j)) ∙ and-false (nat_eq rule f)))) (gains_nothing old)
 
     parts : (f j k : ℕ) → Missing k f j ≡ true → (rule ≡ f) × (given ≤ j) × (j < k)
     parts f j k e =
@@ -99,43 +86,6 @@ module _ (counts : List ℕ) where
 
     is_missing : (f j k : ℕ) → rule ≡ f → given ≤ j → j < k → Missing k f j ≡ true
     is_missing f j k p q r = and_from (nat_eq rule f) (nat_le given j && nat_lt j k) (eq-eqb rule f p) (and_from (nat_le given j) (nat_lt j k) (le-leb given j q) (lt-ltb j k r))
-
-    -- the next one is marked, where it isn't given
-    pub missing_more : (old mid new : List Bool) (k : ℕ) → given ≤ k → GainsFlags counts old mid (Missing k) → GainsFlags counts mid new (λ f j. nat_eq rule f && nat_eq k j) → GainsFlags counts old new (Missing (k + 1))
-    missing_more old mid new k le g h =
-        gains_same old new (λ f j. Missing k f j || (nat_eq rule f && nat_eq k j)) (Missing (k + 1))
-        (λ f j q. both_ways (Missing k f j || (nat_eq rule f && nat_eq k j)) (Missing (k + 1) f j)
-        (λ e. elim (or_cases (Missing k f j) (nat_eq rule f && nat_eq k j) e) [
-          | inl a ↦ let p = parts f j k a in is_missing f j (k + 1) p.0 p.1 (omega (arith, p.2))
-          | inr a ↦ let b = and_parts (nat_eq rule f) (nat_eq k j) a in let is : k ≡ j = eqb-true k j b.1 in is_missing f j (k + 1) (eqb-true rule f b.0) (omega (arith, is, le)) (omega (arith, is))
-        ])
-        (λ e.
-        let p = parts f j (k + 1) e in
-        elim (cases_lt j k) [
-          | inl lt ↦ or_left (Missing k f j) (nat_eq rule f && nat_eq k j) (is_missing f j k p.0 p.1 lt)
-          | inr ge ↦ or_right (Missing k f j) (nat_eq rule f && nat_eq k j) (and_from (nat_eq rule f) (nat_eq k j) (eq-eqb rule f p.0) (eq-eqb k j (omega (arith, ge, p.2))))
-        ]))
-        (gains_both old mid new (Missing k) (λ f j. nat_eq rule f && nat_eq k j) g h)
-
-    pub missing_skipped : (old new : List Bool) (k : ℕ) → k < given → GainsFlags counts old new (Missing k) → GainsFlags counts old new (Missing (k + 1))
-    missing_skipped old new k lt g =
-        gains_same old new (Missing k) (Missing (k + 1))
-        (λ f j q. both_ways (Missing k f j) (Missing (k + 1) f j)
-        (λ e. let p = parts f j k e in is_missing f j (k + 1) p.0 p.1 (omega (arith, p.2)))
-        (λ e. let p = parts f j (k + 1) e in is_missing f j k p.0 p.1 (omega (arith, p.1, p.2, lt))))
-        g
-
-    pub missing_all : (old new : List Bool) (k : ℕ) → slice_index counts rule ≤ k → GainsFlags counts old new (Missing k) → GainsFlags counts old new (λ f j. nat_eq rule f && nat_le given j)
-    missing_all old new k all g =
-        gains_same old new (Missing k) (λ f j. nat_eq rule f && nat_le given j)
-        (λ f j q. both_ways (Missing k f j) (nat_eq rule f && nat_le given j)
-        (λ e. let p = parts f j k e in and_from (nat_eq rule f) (nat_le given j) (eq-eqb rule f p.0) (le-leb given j p.1))
-        (λ e.
-        let b = and_parts (nat_eq rule f) (nat_le given j) e in
-        let is : rule ≡ f = eqb-true rule f b.0 in
-        let lt : j < slice_index counts rule = subst (λ h. j < slice_index counts h) (sym is) q in
-        is_missing f j k is (leb-true given j b.1) (omega (arith, lt, all))))
-        g
 
 -- arguments one after another
 live_in-append : (keep : Keep) (g f j : ℕ) (p : ℕ → Bool) (us : List (Tree Head)) (u : Tree Head) → live_in keep g f j p (forest (us ++ u ∷ [])) ≡ (live_in keep g f j p (forest us) || (p (length us) && live keep g f j u))

@@ -252,12 +252,6 @@ one_file_is ts a b p q = let e : finished a ≡ finished b = same_stage ts (fini
 
 -- ---- what the functions say
 
-pub goes_answer : (bytes : List ℕ) (r : Result File ReadFault) → Goes (λ f. Ok f) r (read start 1 bytes) → (r ≡ Err OutOfMemory) ⊎ IsAnswer bytes r
-goes_answer bytes (Ok f) h = inr (subst (IsAnswer bytes) h (read_answer bytes))
-goes_answer bytes (Err OutOfMemory) h = inl refl
-goes_answer bytes (Err (Syntax line)) h = inr (subst (IsAnswer bytes) h (read_answer bytes))
-goes_answer bytes (Err (Limit w)) h = inr (subst (IsAnswer bytes) h (read_answer bytes))
-
 pub file_of : (bytes : List ℕ) (r : Result File ReadFault) → Goes (λ f. Ok f) r (read start 1 bytes) → IfOk r (λ raw. IsFileWithin bytes raw)
 file_of bytes (Ok f) h = subst (IsAnswer bytes) h (read_answer bytes)
 file_of bytes (Err e) h = tt

@@ -1,12 +1,11 @@
 -- A list that gains a place at its end.
-use Rattle.std.proofs.Common.{◌≡◌, ◌≢◌, refl, ◌∙◌, ap, ℕ, zero, suc, ◌+◌, ◌-◌, ◌≤◌, List, [], ◌∷◌, ◌++◌, length, get_or, slice_get, Some, length-append, arith, inl, inr}
+use Rattle.std.proofs.Common.{◌≡◌, ◌≢◌, refl, ◌∙◌, ap, ℕ, ◌+◌, ◌-◌, ◌≤◌, List, [], ◌∷◌, ◌++◌, length, get_or, slice_get, Some, length-append, arith, inl, inr}
 use Rattle.std.proofs.lemmas.Bool.{cases_lt}
 use Rattle.std.proofs.lemmas.Option.{slice_get-get_or}
 use Rattle.std.proofs.lemmas.List.{get_or_append_left, get_or_push}
 use Rattle.std.proofs.lemmas.List.Elements.{All-append, All-cons, Contains-append_left, Contains-append_cases}
 use Rattle.hs_scheme.proofs.Lists.{only}
-use Rattle.smallvec.specs.SmallVec.{SmallVec}
-use Rattle.hs_replica.specs.Index.{RisesTo, AddsTo, row_at}
+use Rattle.hs_replica.specs.Index.{RisesTo, AddsTo}
 
 last_at : (xs : List ℕ) (k : ℕ) → length xs ≡ k + 1 → slice_get xs (length xs - 1) ≡ Some (get_or xs k 0)
 last_at xs k long = let e : length xs - 1 ≡ k = omega arith in ap (slice_get xs) e ∙ slice_get-get_or xs k 0 (omega arith)
@@ -35,13 +34,3 @@ pushed place xs apart = record {
   keeps = λ i h. Contains-append_left xs (place ∷ []) i h;
   rises = rises_push place xs (λ x at e. apart (at ∙ ap (λ y. Some y) e));
 }
-
-pub not_pushed : (place : ℕ) (xs : List ℕ) → AddsTo place xs xs
-not_pushed place xs = record { only = λ i h. inl h; keeps = λ i h. h; rises = λ r. r }
-
--- an empty list behind the others
-pub row_empty : (rows : List (SmallVec ℕ)) (v : SmallVec ℕ) → v.items ≡ [] → (p : ℕ) → row_at (rows ++ v ∷ []) p ≡ row_at rows p
-row_empty [] v none zero = none
-row_empty [] v none (suc p) = refl
-row_empty (r ∷ rows) v none zero = refl
-row_empty (r ∷ rows) v none (suc p) = row_empty rows v none p

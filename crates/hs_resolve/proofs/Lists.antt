@@ -41,9 +41,6 @@ position-cons p x xs =
       | false ↦ shift (position_or_len p xs) (length xs)
     ]
 
-pub position-nil : {A : Type 0} (p : A → Bool) → position p [] ≡ None
-position-nil p = refl
-
 pub pushed-map : {A B : Type 0} (f : A → B) (b c : Bool) (xs : List A) (x : A) → b ≡ c → map f (cond b xs (xs ++ x ∷ [])) ≡ cond c (map f xs) (map f xs ++ f x ∷ [])
 pushed-map f b c xs x e =
     ap (λ d. map f (cond d xs (xs ++ x ∷ []))) e ∙ elim c as (λ d. map f (cond d xs (xs ++ x ∷ [])) ≡ cond d (map f xs) (map f xs ++ f x ∷ [])) [

@@ -1,15 +1,12 @@
 -- Ascending flow pairs, and what a binary search finds in them.
-use Rattle.std.proofs.Common.{◌≡◌, refl, sym, ◌∙◌, ap, subst, ℕ, zero, suc, ◌+◌, ◌-◌, ◌<◌, ◌≤◌, Bool, true, false, ◌&&◌, ◌||◌, nat_eq, nat_lt, List, [], ◌∷◌, length, get_or, take, drop, filter, cond, arith, inl, inr, Contains, Result, Ok, Err, is_ok}
-use Rattle.std.proofs.Math.Nat.{eq-or-lt_of_le}
+use Rattle.std.proofs.Common.{◌≡◌, refl, sym, ◌∙◌, ap, ℕ, zero, suc, ◌+◌, ◌-◌, ◌<◌, ◌≤◌, Bool, true, false, ◌&&◌, nat_eq, List, [], ◌∷◌, length, get_or, take, drop, filter, cond, arith, inl, inr, Contains, Result, Ok, Err, is_ok}
 use Rattle.std.proofs.lemmas.Bool.{cases_lt}
 use Rattle.std.specs.Cmp.{IsTotalOrder}
 use Rattle.std.specs.Ordering.{nat_cmp, ordering_then, ordering_reverse, is_lt, ordering_index}
 use Rattle.std.specs.declared.cmp.Ordering.{Ordering}
 use Rattle.std.specs.declared.cmp.Ordering.TheVariants.{Less, Equal, Greater}
-use Rattle.std.specs.List.Sorted.{IsPartitionedBy, IsPartitionPoint, IsSearchInRange, IsBinarySearchResult, IsNonDecreasingBy}
+use Rattle.std.specs.List.Sorted.{IsSearchInRange, IsBinarySearchResult, IsNonDecreasingBy}
 use Rattle.std.proofs.lemmas.Cmp.{then_total, on_total, nat_cmp_total, tied_itself}
-use Rattle.std.proofs.lemmas.Bool.Decides.{nat_tests}
-use Rattle.std.proofs.lemmas.List.{get_or-drop, length-drop}
 use Rattle.std.proofs.lemmas.List.Sorted.{searchable_from_sorted}
 use Rattle.hs_scheme.specs.declared.flow.FlowPair.{FlowPair}
 use Rattle.hs_scheme.specs.declared.flow.HeadPair.{HeadPair}
@@ -76,45 +73,6 @@ module _ {X : Type 0} (cmp : X → X → Ordering) (total : IsTotalOrder cmp) (e
         | inr high ↦ let e : cmp (get_or xs k x) x ≡ Greater = sides.1 k x high within in absurd (cc)
       ]
 
--- the pair comes before those of this parameter; the pair is one of them
-abbrev pub is_before : ℕ → ℕ → FlowPair → Bool
-is_before rule param p = nat_lt p.rule rule || (nat_eq p.rule rule && nat_lt p.param param)
-
+-- the pair is one of those of this parameter
 abbrev pub is_of : ℕ → ℕ → FlowPair → Bool
 is_of rule param p = nat_eq p.rule rule && nat_eq p.param param
-
-before_less : (rule param : ℕ) (a b : FlowPair) → flow_cmp a b ≡ Less → is_before rule param b ≡ true → is_before rule param a ≡ true
-before_less rule param a b less h = grind (arith, nat_tests)
-
-of_between : (rule param : ℕ) (a b : FlowPair) → flow_cmp a b ≡ Less → is_before rule param a ≡ false → is_of rule param b ≡ true → is_of rule param a ≡ true
-of_between rule param a b less h e = grind (arith, nat_tests)
-
-of_not_before : (rule param : ℕ) (a : FlowPair) → is_before rule param a ≡ true → is_of rule param a ≡ false
-of_not_before rule param a h = grind (arith, nat_tests)
-
-module _ (rule param : ℕ) (xs : List FlowPair) (up : IsAscending flow_cmp xs) where
-  pub parted_before : IsPartitionedBy (is_before rule param) xs
-  parted_before i j d le lt h = elim (eq-or-lt_of_le le) [
-    | inl same ↦ ap (λ k. is_before rule param (get_or xs k d)) same ∙ h
-    | inr less ↦ before_less rule param (get_or xs i d) (get_or xs j d) (up i j d less lt) h
-  ]
-
-  -- past the first low pairs, which alone come before those of the parameter
-  module _ (low : ℕ) (point : IsPartitionPoint (λ y. is_before rule param y ≡ true) (λ y. is_before rule param y ≡ false) xs low) (within : low ≤ length xs) where
-    pub parted_of : IsPartitionedBy (is_of rule param) (drop low xs)
-    parted_of i j d le lt h = elim (eq-or-lt_of_le le) [
-      | inl same ↦ ap (λ k. is_of rule param (get_or (drop low xs) k d)) same ∙ h
-      | inr less ↦
-          let there : j + low < length xs = omega (arith, length-drop low xs) in
-          ap (is_of rule param) (get_or-drop low xs i d) ∙ of_between rule param (get_or xs (low + i) d) (get_or xs (low + j) d) (up (low + i) (low + j) d (omega arith) (omega arith))
-          (point.1 (low + i) d (omega arith) (omega arith)) (ap (is_of rule param) (sym (get_or-drop low xs j d)) ∙ h)
-    ]
-
-    pub filter-of : (high : ℕ) → IsPartitionPoint (λ y. is_of rule param y ≡ true) (λ y. is_of rule param y ≡ false) (drop low xs) high → high ≤ length (drop low xs) → take high (drop low xs) ≡ filter (is_of rule param) xs
-    filter-of high split short = filter-middle (is_of rule param) xs low high
-        (λ i d h l. of_not_before rule param (get_or xs i d) (point.0 i d (omega arith) h))
-        (λ i d h k l. subst (λ n. is_of rule param (get_or xs n d) ≡ true) (back i h) (ap (is_of rule param) (sym (get_or-drop low xs (i - low) d)) ∙ split.0 (i - low) d (omega arith) (omega arith)))
-        (λ i d h l. subst (λ n. is_of rule param (get_or xs n d) ≡ false) (back i (omega arith)) (ap (is_of rule param) (sym (get_or-drop low xs (i - low) d)) ∙ split.1 (i - low) d (omega arith) (omega (arith, length-drop low xs))))
-      where
-        back : (i : ℕ) → low ≤ i → low + (i - low) ≡ i
-        back i h = omega arith

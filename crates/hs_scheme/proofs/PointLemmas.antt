@@ -22,10 +22,6 @@ mutual
 zero_more : (n : ℕ) → n + 0 ≡ n
 zero_more n = omega arith
 
-sizes-push : (us : List (Tree Head)) (u : Tree Head) → sizes (forest (us ++ u ∷ [])) ≡ sizes (forest us) + size u
-sizes-push [] u = omega arith
-sizes-push (v ∷ us) u = omega (arith, sizes-push us u)
-
 terms_points-push : (rule n : ℕ) (us : List (Tree Head)) (u : Tree Head)
     → terms_points rule n (forest (us ++ u ∷ [])) ≡ terms_points rule n (forest us) ++ term_points rule (n + sizes (forest us)) u
 terms_points-push rule n [] u = append-nil (term_points rule n u) ∙ ap (λ m. term_points rule m u) (sym (zero_more n))

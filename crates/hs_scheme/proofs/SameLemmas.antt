@@ -26,9 +26,6 @@ below (node a ts) = children ts
 
 -- a tree that is read as its label and the list of its children
 module _ {A : Type 0} (s t : Tree A) (a b : A) (us vs : List (Tree A)) (is_s : node a (forest us) ≡ s) (is_t : node b (forest vs) ≡ t) where
-  pub tree_same : a ≡ b → us ≡ vs → s ≡ t
-  tree_same e f = sym is_s ∙ ((λ i. node (e i) (forest (f i))) ∙ is_t)
-
   pub label_same : s ≡ t → a ≡ b
   label_same e = ap label (is_s ∙ (e ∙ sym is_t))
 

@@ -8,9 +8,6 @@ abbrev pub SoFar : {X : Type 0} → (X → Type 0) → List X → ℕ → Type 0
 SoFar {X} P xs n = (k : ℕ) (d : X) → k < n → P (get_or xs k d)
 
 module _ {X : Type 0} (P : X → Type 0) (xs : List X) where
-  pub none_yet : SoFar P xs 0
-  none_yet k d lt = absurd (omega arith)
-
   pub one_more : (n : ℕ) (x : X) → n < length xs → x ≡ get_or xs n x → SoFar P xs n → P x → SoFar P xs (n + 1)
   one_more n x below is before h k d lt = elim (cases_lt k n) [
     | inl less ↦ before k d less
