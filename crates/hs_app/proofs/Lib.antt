@@ -3,6 +3,7 @@ pub mod OneScheme
 pub mod ReportedTables
 pub mod DecidingLemmas
 pub mod OrderLemmas
+pub mod ReadLemmas
 pub mod AnswerLemmas
 pub mod OutcomeLemmas
 pub mod VerdictLemmas

@@ -23,8 +23,14 @@ fn with_flow(alloc: Global, sorted: Sorted, points: Points) -> Result<Problem, R
 {
     match analyse(alloc, &sorted.scheme, &points, MAX_PAIRS) {
         Ok(flow) => Ok(Problem::new(sorted, points, flow)),
-        Err(FlowFault::FlowLimit) => Err(Refusal::FlowLimit),
-        Err(FlowFault::OutOfMemory) => Err(Refusal::OutOfMemory),
+        Err(FlowFault::FlowLimit) => {
+            drop((sorted, points));
+            Err(Refusal::FlowLimit)
+        }
+        Err(FlowFault::OutOfMemory) => {
+            drop((sorted, points));
+            Err(Refusal::OutOfMemory)
+        }
     }
 }
 

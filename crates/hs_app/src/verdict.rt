@@ -133,8 +133,14 @@ fn decide_form<R: Threads + Wait + Sync, G: Gate + Sync>(
     requires settings { AreWithin settings }
     ensures { DecidesForm settings form removed result }
 {
-    let problem = problem_of(alloc, form)?;
-    decide_problem(rt, alloc, &problem, removed, settings, gate)
+    match problem_of(alloc, form) {
+        Ok(problem) => {
+            let decided = decide_problem(rt, alloc, &problem, removed, settings, gate);
+            drop(problem);
+            decided
+        }
+        Err(refusal) => Err(refusal),
+    }
 }
 
 /// The verdict on a scheme that the passes make smaller before.

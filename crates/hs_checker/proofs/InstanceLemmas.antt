@@ -1,5 +1,5 @@
 -- Instances, and what follows by them.
-use Rattle.std.proofs.Common.{◌≡◌, refl, sym, ◌∙◌, ap, subst, ℕ, zero, suc, ◌+◌, ◌<◌, Option, Some, None, MatchOption, List, [], ◌∷◌, ◌++◌, length, set, replicate, slice_index, take, drop, get_or, slice_get, option_map, arith, Contains, inl, inr, ◌↔◌, ◌≤◌}
+use Rattle.std.proofs.Common.{◌≡◌, refl, sym, ◌∙◌, ap, subst, ℕ, zero, suc, ◌+◌, ◌<◌, Option, Some, None, MatchOption, List, [], ◌∷◌, ◌++◌, length, set, replicate, slice_index, take, drop, get_or, slice_get, option_map, arith, Contains, ◌⊎◌, inl, inr, ◌↔◌, ◌≤◌}
 use Rattle.hs_scheme.specs.declared.term.Head.{Head}
 use Rattle.hs_scheme.specs.Tree.{node, none, more, children, children-forest, forest-children}
 use Rattle.hs_scheme.specs.declared.term.Head.TheVariants.{Tm}
@@ -17,7 +17,7 @@ use Rattle.std.proofs.lemmas.List.{get_or-set_same}
 use Rattle.std.proofs.lemmas.List.Elements.{Contains-get_or, Contains-append_cases}
 use Rattle.hs_table_laws.proofs.Members.{from_map}
 use Rattle.hs_table_plain.specs.Enumeration.{through, opening, head_types, retyped, child_type, child_types, types_in, terminal_types, body_type, all_at}
-use Rattle.hs_checker.proofs.TypeLemmas.{pushed_is, body_says}
+use Rattle.hs_checker.proofs.TypeLemmas.{body_says}
 use Rattle.hs_table_plain.proofs.Members.{from_flat_map, into_flat_map, next_member, in_pushed}
 use Rattle.hs_table_plain.proofs.ChoiceLemmas.{choose_all, through_arrows, split_from, at_place, from_all}
 use Rattle.hs_table_plain.proofs.HeadLemmas.{from_heads, into_heads, from_children}
@@ -275,28 +275,16 @@ bare_more E us k u lt read before own v a c has = elim ((next_member us k u v lt
 ]
 
 -- those so far that fit, and one more
-pub fitting_pushed : (E : List EntryData) (args : List ℕ) (olds found news : List TypeTree) (a : TypeTree) → news ≡ found ++ a ∷ [] → FitsSets E args a → ((t : TypeTree) → Contains found t ↔ (Contains olds t × FitsSets E args t))
-    → (t : TypeTree) → Contains news t ↔ (Contains (olds ++ a ∷ []) t × FitsSets E args t)
-fitting_pushed E args olds found news a made fits before t =
-    let pushed = pushed_is found news a t made in
+pub fitting_added : (E : List EntryData) (args : List ℕ) (olds found news : List TypeTree) (a : TypeTree) → ((t : TypeTree) → Contains news t ↔ (Contains found t ⊎ ((t ≡ a) × FitsSets E args t)))
+    → ((t : TypeTree) → Contains found t ↔ (Contains olds t × FitsSets E args t)) → (t : TypeTree) → Contains news t ↔ (Contains (olds ++ a ∷ []) t × FitsSets E args t)
+fitting_added E args olds found news a added before t =
     let member = in_pushed olds a t in (
-      λ c. elim (pushed.0 c) [
+      λ c. elim ((added t).0 c) [
         | inl old ↦ let b = (before t).0 old in (member.1 (inl b.0), b.1)
-        | inr same ↦ (member.1 (inr same), subst (λ z. FitsSets E args z) (sym same) fits)
+        | inr own ↦ (member.1 (inr own.0), own.1)
       ],
-      λ both. pushed.1 (elim (member.0 both.0) [
+      λ both. (added t).1 (elim (member.0 both.0) [
         | inl there ↦ inl ((before t).1 (there, both.1))
-        | inr same ↦ inr same
+        | inr same ↦ inr (same, both.1)
       ]),
-    )
-
-pub fitting_passed : (E : List EntryData) (args : List ℕ) (olds found : List TypeTree) (a : TypeTree) → (FitsSets E args a → ⊥) → ((t : TypeTree) → Contains found t ↔ (Contains olds t × FitsSets E args t))
-    → (t : TypeTree) → Contains found t ↔ (Contains (olds ++ a ∷ []) t × FitsSets E args t)
-fitting_passed E args olds found a unfit before t =
-    let member = in_pushed olds a t in (
-      λ c. let b = (before t).0 c in (member.1 (inl b.0), b.1),
-      λ both. elim (member.0 both.0) [
-        | inl there ↦ (before t).1 (there, both.1)
-        | inr same ↦ absurd (unfit (subst (λ z. FitsSets E args z) same both.1))
-      ],
     )

@@ -1,7 +1,7 @@
 //! The instances at a point whose head is a terminal or a parameter: the types of the head whose sets
 //! have entries.
 
-ghost use Rattle.std.specs.Prelude.{◌≡◌, ◌↔◌, ◌<◌, ℕ, length, Contains, IsTrue, IfOk};
+ghost use Rattle.std.specs.Prelude.{◌≡◌, ◌↔◌, ◌⊎◌, ◌<◌, ℕ, length, Contains, IsTrue, IfOk, OnOk};
 ghost use Rattle.hs_scheme.specs.Points.{point_at};
 ghost use Rattle.hs_table.specs.Types as types;
 ghost use Rattle.hs_table.specs.Types.{TypeTree, IsSet};
@@ -29,7 +29,7 @@ fn have_entries(index: &EntryIndex, arg: u32, set: &[Ty]) -> bool
 }
 
 /// Whether each type of the sets has an entry at its argument. Recurses as deep as the type.
-pub(crate) fn fits(index: &EntryIndex, args: &[u32], ty: &Ty) -> bool
+fn fits(index: &EntryIndex, args: &[u32], ty: &Ty) -> bool
     ensures { IsTrue result ↔ FitsSets index.now args.now ty.now }
 {
     let Some(arg) = args.first() else {
@@ -60,6 +60,22 @@ pub(crate) fn sets_fit(index: &EntryIndex, args: &[u32], sets: &[TypeSet]) -> bo
     true
 }
 
+/// Adds the type, where its sets have entries.
+pub(crate) fn add_fitting(
+    index: &EntryIndex,
+    args: &[u32],
+    ty: Ty,
+    found: &mut Vec<Ty>,
+) -> Result<(), OutOfMemory>
+    ensures { OnOk result ((t : TypeTree) → Contains found.new.items t
+        ↔ (Contains found.old.items t ⊎ ((t ≡ ty) × FitsSets index.now args.now t))) }
+{
+    if fits(index, args, &ty) {
+        found.push(ty)?;
+    }
+    Ok(())
+}
+
 /// Those of the types whose sets have entries.
 fn fitting(
     alloc: Global,
@@ -72,9 +88,7 @@ fn fitting(
 {
     let mut found = Vec::new(alloc);
     for ty in types {
-        if fits(index, args, &ty) {
-            found.push(ty)?;
-        }
+        add_fitting(index, args, ty, &mut found)?;
     }
     Ok(found)
 }

@@ -9,7 +9,7 @@ ghost use Rattle.hs_checker.specs.Slots.{HasTypeAt, FitsSets, AreBare, IsComplet
 ghost use Rattle.hs_table_plain.specs.Enumeration as plain;
 
 use crate::index::EntryIndex;
-use crate::instances::fits;
+use crate::instances::add_fitting;
 use crate::shape::states;
 use hs_scheme::{Automaton, OutOfMemory, Problem, Transition};
 use hs_table::{Shape, Ty, rank};
@@ -34,22 +34,6 @@ fn transition(problem: &Problem, q: u32, terminal: u32) -> Option<&[u32]>
     ensures { option_copied result ≡ automaton.next problem.now.sorted.automaton.transitions q terminal }
 {
     problem.sorted.automaton.next(q, terminal)
-}
-
-/// Adds the type, where its sets have entries.
-fn add_fitting(
-    index: &EntryIndex,
-    args: &[u32],
-    ty: Ty,
-    found: &mut Vec<Ty>,
-) -> Result<(), OutOfMemory>
-    ensures { OnOk result ((t : TypeTree) → Contains found.new.items t
-        ↔ (Contains found.old.items t ⊎ ((t ≡ ty) × FitsSets index.now args.now t))) }
-{
-    if fits(index, args, &ty) {
-        found.push(ty)?;
-    }
-    Ok(())
 }
 
 /// Whether no entry stands at one of the arguments.
@@ -136,13 +120,9 @@ fn add_types_in(
     match transition(problem, q, terminal) {
         None => {
             let ty = bare_type(alloc, rank(problem, terminal) as usize, q)?;
-            add_fitting(index, args, ty, found)?;
-            Ok(())
+            add_fitting(index, args, ty, found)
         }
-        Some(to) => {
-            add_child_types(alloc, index, args, to, q, found)?;
-            Ok(())
-        }
+        Some(to) => add_child_types(alloc, index, args, to, q, found),
     }
 }
 

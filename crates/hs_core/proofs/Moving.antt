@@ -4,14 +4,14 @@ use Rattle.std.specs.Bool.{MatchBool}
 use Rattle.std.specs.Borrow.{Bor}
 use Rattle.std.specs.Option.{option_map, option_copied, is_some, unwrap_or}
 use Rattle.std.specs.Result.{IfOk}
-use Rattle.std.proofs.lemmas.Bool.{cases_Bool, cases_eq, cond-true, cond-false, false≢true}
+use Rattle.std.proofs.lemmas.Bool.{cases_eq, false≢true}
 use Rattle.std.proofs.lemmas.List.{take_all, take-append-le}
 use Rattle.std.proofs.lemmas.List.Elements.{All-nil, All-cons, All-append, All-map, All-contains, All-weaker, Contains-append_left, Contains-append_right, Contains-push}
 use Rattle.hs_scheme.specs.Problem.{ProblemData}
 use Rattle.hs_scheme.specs.declared.flow.FlowPair.{FlowPair}
 use Rattle.hs_scheme.specs.Points.{PointsData}
 use Rattle.hs_scheme.specs.Dependents.{IsDependent}
-use Rattle.hs_scheme.proofs.Lists.{none_in, here, uncons, Contains-at}
+use Rattle.hs_scheme.proofs.Lists.{here, Contains-at}
 use Rattle.hs_flow.specs.Dependents.{HasDependents, list_of}
 use Rattle.hs_table.specs.Entries.{EntryData}
 use Rattle.hs_table.specs.Follows.{Support, FollowsBy, premises}
@@ -23,13 +23,13 @@ use Rattle.hs_rules.specs.Conclusions.{DeducedData, IsDeduced, AnySupport, Uses,
 use Rattle.hs_history.specs.declared.step.Work.{Work}
 use Rattle.hs_history.specs.declared.step.Work.TheVariants.{Place}
 use Rattle.hs_history.specs.declared.step.Flight.{Flight}
-use Rattle.hs_history.specs.Story.{Base, Deduction, Action, takes, adds, passes, finishes, gives_back, CoreStep, Story}
-use Rattle.hs_history.specs.CoreStep.{State, without, is_work, put, IsClosedSeed, IsClosedPlace, GoesOn, CanTake, acted}
+use Rattle.hs_history.specs.Story.{Base, Deduction, Action, takes, adds, passes, gives_back, CoreStep, Story}
+use Rattle.hs_history.specs.CoreStep.{State, IsClosedSeed, IsClosedPlace, GoesOn, acted}
 use Rattle.hs_history.specs.History.{state_after, IsLegal, IsWork, IsPast}
 use Rattle.hs_history.proofs.Histories.{state_push, grown, holds_after, fits_at_rest}
 use Rattle.hs_history.proofs.Sound.{least_at_rest}
 use Rattle.hs_history.proofs.Logs.{at_within}
-use Rattle.hs_history.proofs.Works.{put_here, put_other, is_work_itself}
+use Rattle.hs_history.proofs.Works.{put_here, put_other}
 use Rattle.hs_core.specs.declared.answers.Taken.{Taken}
 use Rattle.hs_core.specs.declared.answers.Taken.TheVariants.{Item, Quiet, Idle, Over, Found}
 use Rattle.hs_core.specs.declared.answers.Published.{Published}
@@ -221,20 +221,6 @@ module _ (p : ProblemData) (from more L : List EntryData) (place : ℕ) (within 
       at_number (x ∷ xs) zero d lt h = sym h
       at_number (x ∷ xs) (suc k) d lt h = at_number xs k d (omega arith) h
 
--- taking a work, and leaving it
-pub shorter : (w : Work) (vs : List Work) → Contains vs w → suc (length (without w vs)) ≡ length vs
-shorter w [] c = absurd (none_in w c)
-shorter w (v ∷ vs) c = elim (cases_Bool (is_work w v)) [
-  | inl same ↦ ap (λ xs. suc (length xs)) (cond-true (is_work w v) vs (v ∷ without w vs) same)
-  | inr other ↦ ap (λ xs. suc (length xs)) (cond-false (is_work w v) vs (v ∷ without w vs) other) ∙ ap suc (shorter w vs (elim (uncons v w vs c) [
-    | inl is ↦ absurd (both w v is other)
-    | inr there ↦ there
-  ]))
-]
-  where
-    both : (a b : Work) → a ≡ b → is_work a b ≡ false → ⊥
-    both a b is other = false≢true (sym other ∙ ap (λ x. is_work a x) (sym is) ∙ is_work_itself a)
-
 module _ (me : ℕ) where
   pub published_there : (old new : CoreData) (ticket : ℕ) (d : Deduction) (answer : Published) → (answer ≡ NoRoom → ⊥) → Publishes old me ticket d answer new → Contains (log_of new) d.entry
   published_there old new ticket d (Known place) room h = known_there me old new ticket d place h
@@ -277,52 +263,6 @@ given_other a b worker ticket spare is other none = elim (cases_eq other ticket)
   | inl same ↦ ap (λ t. (state_of b).flight t) same ∙ given_free a b worker ticket spare is
   | inr ne ↦ ap (λ (s : State). s.flight other) (state_stepped a b worker (gives_back ticket) spare is) ∙ put_other ticket other None (state_of a).flight ne ∙ none
 ]
-
--- a turn: a work is taken, something is published, and the work is closed or given back
-module _ {me : ℕ} (a b c d : CoreData) (work : Work) (ticket k l : ℕ) (free : NothingFlies a) (can : CanTake a.base (state_of a) work ticket) (took : b ≡ stepped a me (takes work ticket) k) (moves : Moves me b c) where
-  taken_flight : (t : ℕ) → (t ≡ ticket → ⊥) → (state_of c).flight t ≡ None
-  taken_flight t ne = moves.flight t ∙ ap (λ (s : State). s.flight t) (state_stepped a b me (takes work ticket) k took) ∙ put_other ticket t (Some (record { worker = me; work = work })) (state_of a).flight ne ∙ free t
-
-  pub holds_taken : (state_of b).flight ticket ≡ Some (record { worker = me; work = work })
-  holds_taken = ap (λ (s : State). s.flight ticket) (state_stepped a b me (takes work ticket) k took) ∙ put_here ticket (Some (record { worker = me; work = work })) (state_of a).flight
-
-  pub holds_then : (state_of c).flight ticket ≡ Some (record { worker = me; work = work })
-  holds_then = moves.flight ticket ∙ holds_taken
-
-  pub turn_goes : (action : Action) → d ≡ stepped c me action l → GoesAlone me a d
-  turn_goes action is = alone_trans a c d (alone_trans a b c (alone_step a b (takes work ticket) k took) moves.alone) (alone_step c d action l is)
-
-  pub turn_flight_finished : d ≡ stepped c me (finishes ticket) l → NothingFlies d
-  turn_flight_finished is t = elim (cases_eq t ticket) [
-    | inl same ↦ ap (λ (s : State). s.flight t) (state_stepped c d me (finishes ticket) l is) ∙ ap (λ n. put ticket None (state_of c).flight n) same ∙ put_here ticket None (state_of c).flight
-    | inr ne ↦ ap (λ (s : State). s.flight t) (state_stepped c d me (finishes ticket) l is) ∙ put_other ticket t None (state_of c).flight ne ∙ taken_flight t ne
-  ]
-
-  pub turn_flight_given : d ≡ stepped c me (gives_back ticket) l → NothingFlies d
-  turn_flight_given is t = elim (cases_eq t ticket) [
-    | inl same ↦ ap (λ n. (state_of d).flight n) same ∙ given_free c d me ticket l is
-    | inr ne ↦ given_other c d me ticket l is t (taken_flight t ne)
-  ]
-
-  pub turn_lighter : d ≡ stepped c me (finishes ticket) l → weight d < weight a
-  turn_lighter is =
-      let first : weight b < weight a = taken_lighter in
-      let last : weight d ≡ weight c = (λ i. weight_of (((ap (λ (x : CoreData). x.base) is) i)) ((state_stepped c d me (finishes ticket) l is) i)) in
-      omega (arith, first, last, moves.lighter)
-    where
-      weight_of : Base → State → ℕ
-      weight_of base s = 2 * (base.budget - length s.log) + length s.pending
-
-      lighter_with : (m n i j p q r : ℕ) → m ≡ n → i ≡ j → p ≡ q → suc q ≡ r → 2 * (m - i) + p < 2 * (n - j) + r
-      lighter_with m n i j p q r e f g h = let same : m - i ≡ n - j = λ t. e t - f t in omega (arith, same, g, h)
-
-      taken_lighter : weight b < weight a
-      taken_lighter =
-          let s = state_stepped a b me (takes work ticket) k took in
-          let base : b.base.budget ≡ a.base.budget = ap (λ (x : CoreData). x.base.budget) took in
-          let log : length (log_of b) ≡ length (log_of a) = ap (λ (x : State). length x.log) s in
-          let pending : length (state_of b).pending ≡ length (without work (state_of a).pending) = ap (λ (x : State). length x.pending) s in
-          lighter_with b.base.budget a.base.budget (length (log_of b)) (length (log_of a)) (length (state_of b).pending) (length (without work (state_of a).pending)) (length (state_of a).pending) base log pending (shorter work (state_of a).pending can.pending)
 
 never_found : (c : CoreData) → ((place : ℕ) → IsFound c place → ⊥) → GoesOn c.base (log_of c)
 never_found c never first (e, (start, there)) = let at = place_of (log_of c) e there in never at.0 (record { first = first; start = record { entry = e; at = at.1; is_start = start } })
@@ -507,12 +447,3 @@ module _ {me : ℕ} where
 
 pub nothing_flies : (a b : CoreData) → b.base ≡ a.base → b.story ≡ a.story → NothingFlies a → NothingFlies b
 nothing_flies a b base story none t = ap (λ (s : State). s.flight t) (state_same a b base story) ∙ none t
-
--- past the budget no work is given out
-module _ (me : ℕ) where
-  pub kept_ends : (a b : CoreData) (ticket spare : ℕ) → IsSome (state_of a).kept → b ≡ stepped a me (gives_back ticket) spare → EndsAtRest b
-  kept_ends a b ticket spare some is none on = absurd (some_none (state_of a).kept some (sym (ap (λ (s : State). s.kept) (state_stepped a b me (gives_back ticket) spare is)) ∙ none))
-    where
-      some_none : (o : Option Deduction) → IsSome o → o ≡ None → ⊥
-      some_none None s e = false≢true s
-      some_none (Some x) s e = cc

@@ -1,4 +1,4 @@
--- The seed that is pending first: seen, taken, and passed.
+-- The work that is pending first: seen, taken, and, where it is a seed, passed.
 use Rattle.std.proofs.Common.{◌≡◌, refl, sym, ◌∙◌, ap, subst, ℕ, ◌-◌, ◌<◌, true, List, [], ◌∷◌, ◌++◌, length, drop, get_or, Option, Some, None, arith, inl, inr}
 use Rattle.std.proofs.lemmas.Bool.{cases_eq}
 use Rattle.hs_scheme.proofs.Lists.{Contains-at}
@@ -8,13 +8,13 @@ use Rattle.hs_history.specs.declared.step.Work.TheVariants.{Seed}
 use Rattle.hs_history.specs.declared.step.Flight.{Flight}
 use Rattle.hs_history.specs.declared.step.Event.TheVariants.{Take, Finish}
 use Rattle.hs_history.specs.Story.{Base, takes, finishes}
-use Rattle.hs_history.specs.CoreStep.{put, CanFinish, IsClosedSeed}
+use Rattle.hs_history.specs.CoreStep.{put, GoesOn, CanTake, CanFinish, IsClosedSeed}
 use Rattle.hs_history.proofs.Works.{put_here, put_other}
-use Rattle.hs_core.specs.Core.{CoreData, log_of, stepped}
+use Rattle.hs_core.specs.Core.{CoreData, state_of, log_of, stepped}
 use Rattle.hs_core.specs.Answers.{IsFound}
 use Rattle.hs_core.specs.Draining.{NothingFlies, IsNextSeed, passed_by}
 use Rattle.hs_core.specs.Inside.{Fields, IsInside}
-use Rattle.hs_core.proofs.Stepping.{state_in, Goes, taken, takes_goes, finished, finishes_goes, goes_as, value_of, steps_to, seen, seen_base, seen_kept, none_past, no_start, goes_on}
+use Rattle.hs_core.proofs.Stepping.{state_in, can_take, Goes, taken, takes_goes, finished, finishes_goes, goes_as, value_of, steps_to, seen, seen_base, seen_kept, none_past, no_start, goes_on}
 
 -- a list with a first item
 pub first_of : (xs : List Work) (w : Work) → 0 < length xs → get_or xs 0 w ≡ w → xs ≡ w ∷ drop 1 xs
@@ -37,35 +37,43 @@ module _ (base : Base) (f : Fields) (inside : IsInside base f) (spare : ℕ) (v 
     pending = (seen base f inside spare v is).pending ∙ front;
   }
 
-  module _ (point : ℕ) (next : IsNextSeed v point) where
+  -- works are given out, and this one is the first
+  module _ (work : Work) (rest : List Work) (none_kept : (state_of v).kept ≡ None) (on : GoesOn v.base (log_of v)) (pending : (state_of v).pending ≡ work ∷ rest) where
     pub never : (place : ℕ) → IsFound v place → ⊥
-    never place found = next.goes_on found.first (found.start.entry, (found.start.is_start, Contains-at (log_of v) place found.start.entry found.start.at))
+    never place found = on found.first (found.start.entry, (found.start.is_start, Contains-at (log_of v) place found.start.entry found.start.at))
 
     pub none : f.past ≡ None
-    none = none_past base f inside spare v is next.none_kept
+    none = none_past base f inside spare v is none_kept
 
     pub not_first : base.first ≡ true → f.start ≡ None
     not_first = no_start base f inside spare v is never
 
-    pub front : f.pending ≡ Seed point ∷ next.rest
-    front = sym (seen base f inside spare v is).pending ∙ next.pending
+    pub front : f.pending ≡ work ∷ rest
+    front = sym (seen base f inside spare v is).pending ∙ pending
 
     module _ (worker ticket : ℕ) (free : f.flight ticket ≡ None) where
-      abbrev pub seed_taken : Fields
-      seed_taken = taken base f inside worker ticket (Seed point) next.rest none not_first front free
+      abbrev pub first_taken : Fields
+      first_taken = taken base f inside worker ticket work rest none not_first front free
 
-      pub seed_goes : Goes base f (record { worker = worker; action = takes (Seed point) ticket }) seed_taken
-      seed_goes = takes_goes base f inside worker ticket (Seed point) next.rest none not_first front free
+      pub first_goes : Goes base f (record { worker = worker; action = takes work ticket }) first_taken
+      first_goes = takes_goes base f inside worker ticket work rest none not_first front free
+
+      pub first_can : CanTake v.base (state_of v) work ticket
+      first_can = subst (λ (w : CoreData). CanTake w.base (state_of w) work ticket) is (can_take base f inside worker ticket work rest none not_first front free)
+
+  module _ (point : ℕ) (next : IsNextSeed v point) where
+    pub seed_front : f.pending ≡ Seed point ∷ next.rest
+    seed_front = front (Seed point) next.rest next.none_kept next.goes_on next.pending
 
     module _ (worker : ℕ) (flies : NothingFlies v) (closed : IsClosedSeed v.base.problem (log_of v) point) where
       pub free : f.flight 0 ≡ None
       free = sym ((seen base f inside spare v is).flight 0) ∙ flies 0
 
       abbrev holding : Fields
-      holding = seed_taken worker 0 free
+      holding = first_taken (Seed point) next.rest next.none_kept next.goes_on next.pending worker 0 free
 
       goes : Goes base f (record { worker = worker; action = takes (Seed point) 0 }) holding
-      goes = seed_goes worker 0 free
+      goes = first_goes (Seed point) next.rest next.none_kept next.goes_on next.pending worker 0 free
 
       can : CanFinish base (state_in base holding) worker 0
       can = record {

@@ -1,21 +1,91 @@
 -- How the turn of a worker ends.
-use Rattle.std.proofs.Common.{◌≡◌, refl, sym, subst, ℕ, ◌<◌, ◌≤◌, Bool, true, false, List, [], ◌∷◌, length, None, IsSome, IsTrue, arith, Contains, Result, Ok, Err}
+use Rattle.std.proofs.Common.{◌≡◌, refl, sym, subst, ℕ, ◌<◌, ◌≤◌, Bool, true, false, List, [], ◌∷◌, length, None, IsSome, IsTrue, arith, Contains, Result, Ok, Err, ◌∙◌, ap, suc, ◌+◌, ◌-◌, ◌*◌, Option, Some, inl, inr}
 use Rattle.std.specs.Bool.{MatchBool}
 use Rattle.std.specs.Result.{IfOk}
-use Rattle.std.proofs.lemmas.Bool.{false≢true}
+use Rattle.std.proofs.lemmas.Bool.{false≢true, cases_Bool, cases_eq, cond-true, cond-false}
 use Rattle.std.proofs.lemmas.List.Elements.{All-nil}
 use Rattle.hs_scheme.specs.Problem.{ProblemData}
-use Rattle.hs_scheme.proofs.Lists.{here}
+use Rattle.hs_scheme.proofs.Lists.{here, none_in, uncons}
 use Rattle.hs_table.specs.Entries.{EntryData}
 use Rattle.hs_types.specs.Interned.{InternerData, entry_of}
 use Rattle.hs_rules.specs.Conclusions.{DeducedData, AnySupport, AreConclusions}
 use Rattle.hs_history.specs.declared.step.Work.{Work}
 use Rattle.hs_history.specs.declared.step.Work.TheVariants.{Seed}
-use Rattle.hs_history.specs.Story.{takes, finishes, gives_back}
-use Rattle.hs_history.specs.CoreStep.{IsClosedSeed, CanTake}
-use Rattle.hs_core.specs.Core.{CoreData, state_of, stepped}
+use Rattle.hs_history.specs.Story.{takes, finishes, gives_back, Base, Deduction, Action}
+use Rattle.hs_history.specs.CoreStep.{IsClosedSeed, CanTake, State, without, is_work, put}
+use Rattle.hs_core.specs.Core.{CoreData, state_of, stepped, log_of}
 use Rattle.hs_core.specs.Draining.{weight, GoesAlone, NothingFlies, EndsAtRest, IsNextSeed, passed_by, Closes}
-use Rattle.hs_core.proofs.Moving.{Moves, moves_same, alone_same, alone_trans, nothing_flies, turn_goes, turn_flight_finished, turn_flight_given, turn_lighter, kept_ends, seed_closed}
+use Rattle.hs_history.proofs.Works.{put_here, put_other, is_work_itself}
+use Rattle.hs_core.proofs.Moving.{Moves, moves_same, alone_same, alone_trans, alone_step, state_stepped, given_free, given_other, seed_closed}
+
+-- taking a work, and leaving it
+pub shorter : (w : Work) (vs : List Work) → Contains vs w → suc (length (without w vs)) ≡ length vs
+shorter w [] c = absurd (none_in w c)
+shorter w (v ∷ vs) c = elim (cases_Bool (is_work w v)) [
+  | inl same ↦ ap (λ xs. suc (length xs)) (cond-true (is_work w v) vs (v ∷ without w vs) same)
+  | inr other ↦ ap (λ xs. suc (length xs)) (cond-false (is_work w v) vs (v ∷ without w vs) other) ∙ ap suc (shorter w vs (elim (uncons v w vs c) [
+    | inl is ↦ absurd (both w v is other)
+    | inr there ↦ there
+  ]))
+]
+  where
+    both : (a b : Work) → a ≡ b → is_work a b ≡ false → ⊥
+    both a b is other = false≢true (sym other ∙ ap (λ x. is_work a x) (sym is) ∙ is_work_itself a)
+
+-- a turn: a work is taken, something is published, and the work is closed or given back
+module _ {me : ℕ} (a b c d : CoreData) (work : Work) (ticket k l : ℕ) (free : NothingFlies a) (can : CanTake a.base (state_of a) work ticket) (took : b ≡ stepped a me (takes work ticket) k) (moves : Moves me b c) where
+  taken_flight : (t : ℕ) → (t ≡ ticket → ⊥) → (state_of c).flight t ≡ None
+  taken_flight t ne = moves.flight t ∙ ap (λ (s : State). s.flight t) (state_stepped a b me (takes work ticket) k took) ∙ put_other ticket t (Some (record { worker = me; work = work })) (state_of a).flight ne ∙ free t
+
+  pub holds_taken : (state_of b).flight ticket ≡ Some (record { worker = me; work = work })
+  holds_taken = ap (λ (s : State). s.flight ticket) (state_stepped a b me (takes work ticket) k took) ∙ put_here ticket (Some (record { worker = me; work = work })) (state_of a).flight
+
+  pub holds_then : (state_of c).flight ticket ≡ Some (record { worker = me; work = work })
+  holds_then = moves.flight ticket ∙ holds_taken
+
+  pub turn_goes : (action : Action) → d ≡ stepped c me action l → GoesAlone me a d
+  turn_goes action is = alone_trans a c d (alone_trans a b c (alone_step a b (takes work ticket) k took) moves.alone) (alone_step c d action l is)
+
+  pub turn_flight_finished : d ≡ stepped c me (finishes ticket) l → NothingFlies d
+  turn_flight_finished is t = elim (cases_eq t ticket) [
+    | inl same ↦ ap (λ (s : State). s.flight t) (state_stepped c d me (finishes ticket) l is) ∙ ap (λ n. put ticket None (state_of c).flight n) same ∙ put_here ticket None (state_of c).flight
+    | inr ne ↦ ap (λ (s : State). s.flight t) (state_stepped c d me (finishes ticket) l is) ∙ put_other ticket t None (state_of c).flight ne ∙ taken_flight t ne
+  ]
+
+  pub turn_flight_given : d ≡ stepped c me (gives_back ticket) l → NothingFlies d
+  turn_flight_given is t = elim (cases_eq t ticket) [
+    | inl same ↦ ap (λ n. (state_of d).flight n) same ∙ given_free c d me ticket l is
+    | inr ne ↦ given_other c d me ticket l is t (taken_flight t ne)
+  ]
+
+  pub turn_lighter : d ≡ stepped c me (finishes ticket) l → weight d < weight a
+  turn_lighter is =
+      let first : weight b < weight a = taken_lighter in
+      let last : weight d ≡ weight c = (λ i. weight_of (((ap (λ (x : CoreData). x.base) is) i)) ((state_stepped c d me (finishes ticket) l is) i)) in
+      omega (arith, first, last, moves.lighter)
+    where
+      weight_of : Base → State → ℕ
+      weight_of base s = 2 * (base.budget - length s.log) + length s.pending
+
+      lighter_with : (m n i j p q r : ℕ) → m ≡ n → i ≡ j → p ≡ q → suc q ≡ r → 2 * (m - i) + p < 2 * (n - j) + r
+      lighter_with m n i j p q r e f g h = let same : m - i ≡ n - j = λ t. e t - f t in omega (arith, same, g, h)
+
+      taken_lighter : weight b < weight a
+      taken_lighter =
+          let s = state_stepped a b me (takes work ticket) k took in
+          let base : b.base.budget ≡ a.base.budget = ap (λ (x : CoreData). x.base.budget) took in
+          let log : length (log_of b) ≡ length (log_of a) = ap (λ (x : State). length x.log) s in
+          let pending : length (state_of b).pending ≡ length (without work (state_of a).pending) = ap (λ (x : State). length x.pending) s in
+          lighter_with b.base.budget a.base.budget (length (log_of b)) (length (log_of a)) (length (state_of b).pending) (length (without work (state_of a).pending)) (length (state_of a).pending) base log pending (shorter work (state_of a).pending can.pending)
+
+-- past the budget no work is given out
+module _ (me : ℕ) where
+  pub kept_ends : (a b : CoreData) (ticket spare : ℕ) → IsSome (state_of a).kept → b ≡ stepped a me (gives_back ticket) spare → EndsAtRest b
+  kept_ends a b ticket spare some is none on = absurd (some_none (state_of a).kept some (sym (ap (λ (s : State). s.kept) (state_stepped a b me (gives_back ticket) spare is)) ∙ none))
+    where
+      some_none : (o : Option Deduction) → IsSome o → o ≡ None → ⊥
+      some_none None s e = false≢true s
+      some_none (Some x) s e = cc
 
 pub record TurnEnds {E : Type 0} (me : ℕ) (old new : CoreData) (answer : Result Bool E) : Type 0 where
   pub goes : GoesAlone me old new
@@ -53,9 +123,6 @@ module _ {E : Type 0} {me : ℕ} (o a : CoreData) (base : a.base ≡ o.base) (st
       go (Ok true) less = omega (arith, less, not_heavier)
       go (Ok false) ends = ends
       go (Err e) h = tt
-
-  pub turn_refused : (e : E) → NothingFlies o → TurnEnds me o a (Err e)
-  turn_refused e none = record { goes = alone_same o a base story; flight = nothing_flies o a base story none; more = tt }
 
 -- the seed that is given out next
 pub next_can : (c : CoreData) (point ticket : ℕ) → (state_of c).flight ticket ≡ None → IsNextSeed c point → CanTake c.base (state_of c) (Seed point) ticket

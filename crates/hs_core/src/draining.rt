@@ -153,16 +153,10 @@ fn close(
     }
 }
 
-/// Passes the gate and does the seed of the point, which is the work that is given out next, as this
-/// worker. Answers whether the budget had room for what follows by it. Where nothing follows, as at
-/// most points, the seed is taken and closed without a look at the tickets.
-fn seed_turn<G: Gate>(
-    alloc: Global,
-    core: &mut Core,
-    worker: u32,
-    point: u32,
-    gate: &G,
-) -> Result<bool, OutOfMemory>
+/// Does the seed of the point, which is the work that is given out next, as this worker. Answers
+/// whether the budget had room for what follows by it. Where nothing follows, as at most points, the
+/// seed is taken and closed without a look at the tickets.
+fn seed_turn(alloc: Global, core: &mut Core, worker: u32, point: u32) -> Result<bool, OutOfMemory>
     requires next { IsNextSeed core.old point }
     requires flight { NothingFlies core.old }
     requires spare { 1 ≤ core.old.spare }
@@ -172,13 +166,12 @@ fn seed_turn<G: Gate>(
         (EndsAtRest core.new)) }
 {
     core.is_core();
-    gate.before(worker, Work::Seed(point));
     let found = core.at_seed(alloc, point)?;
     if found.is_empty() {
         core.pass_seed(worker, point);
         return Ok(true);
     }
-    let ticket = core.take_seed(worker, point);
+    let ticket = core.take_first(worker, Work::Seed(point));
     let all = publish_all(core, worker, ticket, found);
     close(core, worker, ticket, all)
 }
@@ -202,7 +195,8 @@ fn turn<G: Gate>(
 {
     core.reserve_some()?;
     if let Some(point) = core.next_seed() {
-        return seed_turn(alloc, core, worker, point, gate);
+        gate.before(worker, Work::Seed(point));
+        return seed_turn(alloc, core, worker, point);
     }
     core.is_core();
     let Taken::Item { work, ticket } = core.take(worker) else {

@@ -299,7 +299,7 @@ impl<'p> Core<'p> {
         let interner = self.replica.interner();
         let mut table = Vec::with_capacity(alloc, self.replica.len() as usize)?;
         for place in 0..self.replica.len() {
-            table.push(interner.tree(alloc, self.replica.row(place))?)?;
+            table.push_reserved(interner.tree(alloc, self.replica.row(place))?);
         }
         Ok(table)
     }

@@ -1,11 +1,11 @@
 //! The steps of workers on a core.
 
-ghost use Rattle.std.specs.Prelude.{◌≡◌, ◌-◌, ◌<◌, ◌≤◌, ◌∷◌, ◌++◌, [], length, IfOk, IfSome};
-ghost use Rattle.hs_history.specs.declared.step.Work.TheVariants.{Seed};
+ghost use Rattle.std.specs.Prelude.{◌≡◌, ◌-◌, ◌<◌, ◌≤◌, ◌∷◌, ◌++◌, List, [], length, None, IfOk, IfSome};
+ghost use Rattle.hs_history.specs.declared.step.Work.{Work};
 ghost use Rattle.hs_table.specs.Follows.{FollowsBy};
 ghost use Rattle.hs_types.specs.Interned.{IsRow, entry_of, Grows};
 ghost use Rattle.hs_history.specs.Story.{takes, adds, passes, finishes, gives_back};
-ghost use Rattle.hs_history.specs.CoreStep.{CanTake, CanAdd, CanPass, CanFinish, Holds, IsClosedSeed};
+ghost use Rattle.hs_history.specs.CoreStep.{GoesOn, CanTake, CanAdd, CanPass, CanFinish, Holds, IsClosedSeed};
 ghost use Rattle.hs_core.specs.Core.{state_of, log_of, deduction_of, stepped};
 ghost use Rattle.hs_core.specs.Answers.{Takes, Publishes};
 ghost use Rattle.hs_core.specs.Draining.{NothingFlies, IsNextSeed, passed_by};
@@ -37,19 +37,15 @@ impl<'p> Core<'p> {
         if self.past.is_some() {
             return Taken::Over;
         }
-        let Some(work) = self.pending.pop_front() else {
+        let Some(first) = self.pending.front() else {
             return if self.tickets.count() == 0 {
                 Taken::Quiet
             } else {
                 Taken::Idle
             };
         };
-        let ticket = self.tickets.insert(Flight { worker, work });
-        self.journal.push(Step {
-            worker,
-            event: Event::Take { work, ticket },
-        });
-        self.spare -= 1;
+        let work = *first;
+        let ticket = self.take_first(worker, work);
         Taken::Item { work, ticket }
     }
 
@@ -72,16 +68,17 @@ impl<'p> Core<'p> {
         Some(point)
     }
 
-    /// Takes the seed of the point, which `next_seed` names, for the worker, and answers its ticket.
-    pub(crate) fn take_seed(&mut self, worker: u32, point: u32) -> u32
-        requires next { IsNextSeed self.old point }
+    /// Takes the work for the worker, and answers its ticket. It is the first pending one, and works are
+    /// given out.
+    pub(crate) fn take_first(&mut self, worker: u32, work: Work) -> u32
+        requires none_kept { (state_of self.old).kept ≡ None }
+        requires goes_on { GoesOn self.old.base (log_of self.old) }
+        requires first { (rest : List Work) × ((state_of self.old).pending ≡ work ∷ rest) }
         requires spare { 1 ≤ self.old.spare }
-        ensures can { CanTake self.old.base (state_of self.old) (Seed point) result }
-        ensures stepped { self.new ≡ stepped self.old worker (takes (Seed point) result)
-            (self.old.spare - 1) }
+        ensures can { CanTake self.old.base (state_of self.old) work result }
+        ensures stepped { self.new ≡ stepped self.old worker (takes work result) (self.old.spare - 1) }
     {
         let _ = self.pending.pop_front();
-        let work = Work::Seed(point);
         let ticket = self.tickets.insert(Flight { worker, work });
         self.journal.push(Step {
             worker,

@@ -118,20 +118,28 @@ fn one_refusing(alloc: Global) -> Result<Vec<Box<dyn Pass>>, OutOfMemory>
     Ok(passes)
 }
 
+/// This pass alone.
+fn one(alloc: Global, pass: Box<dyn Pass>) -> Result<Vec<Box<dyn Pass>>, OutOfMemory>
+    requires { taken pass ≡ 0 }
+    ensures { IfOk result (λ passes. All (λ p. taken p ≡ 0) passes.items) }
+{
+    let mut passes: Vec<Box<dyn Pass>> = Vec::new(alloc);
+    add(&mut passes, pass)?;
+    Ok(passes)
+}
+
 /// These passes.
 fn passes_of(alloc: Global, which: Which) -> Result<Vec<Box<dyn Pass>>, OutOfMemory>
     ensures { IfOk result (λ passes. All (λ p. taken p ≡ 0) passes.items) }
 {
-    let mut passes: Vec<Box<dyn Pass>> = Vec::new(alloc);
     match which {
-        Which::Unreachable => add(&mut passes, Box::new(alloc, DropUnreachable::new())?)?,
-        Which::Aliases => add(&mut passes, Box::new(alloc, FoldAliases::new())?)?,
-        Which::Unused => add(&mut passes, Box::new(alloc, DropUnused::new())?)?,
-        Which::Copying => add(&mut passes, Box::new(alloc, Copying)?)?,
-        Which::Four => return four(alloc),
-        Which::Three => return one_refusing(alloc),
+        Which::Unreachable => one(alloc, Box::new(alloc, DropUnreachable::new())?),
+        Which::Aliases => one(alloc, Box::new(alloc, FoldAliases::new())?),
+        Which::Unused => one(alloc, Box::new(alloc, DropUnused::new())?),
+        Which::Copying => one(alloc, Box::new(alloc, Copying)?),
+        Which::Four => four(alloc),
+        Which::Three => one_refusing(alloc),
     }
-    Ok(passes)
 }
 
 /// Adds what the passes make of the scheme, or `refused`, and their tallies.

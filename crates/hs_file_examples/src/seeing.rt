@@ -1,4 +1,4 @@
-//! The assertions of all tests.
+//! The assertions that the tests share.
 
 use hs_edge::{ReadAll, Source, read_all};
 use std::alloc::Global;

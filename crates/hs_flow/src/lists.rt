@@ -31,7 +31,7 @@ impl<T: Drop> Lists<T> {
     {
         let mut rows = Vec::with_capacity(alloc, count)?;
         for _ in 0..count {
-            rows.push(Vec::new(alloc))?;
+            rows.push_reserved(Vec::new(alloc));
         }
         Ok(Lists { rows })
     }

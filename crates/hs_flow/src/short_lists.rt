@@ -33,7 +33,7 @@ impl ShortLists {
     {
         let mut rows = Vec::with_capacity(alloc, count)?;
         for _ in 0..count {
-            rows.push(SmallVec::new(alloc))?;
+            rows.push_reserved(SmallVec::new(alloc));
         }
         Ok(ShortLists { rows })
     }

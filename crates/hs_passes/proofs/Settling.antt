@@ -1,12 +1,12 @@
 -- Flags that are narrowed to what is needed.
 use Rattle.std.proofs.Common.{◌≡◌, refl, sym, ◌∙◌, ap, subst, ℕ, zero, suc, ◌+◌, ◌<◌, ◌≤◌, Bool, true, false, cond, List, [], ◌∷◌, length, slice_get, Some, inl, inr, arith}
-use Rattle.std.specs.Prelude.{◌&&◌, nat_lt, slice_set, slice_index, sum}
+use Rattle.std.specs.Prelude.{◌&&◌, nat_lt, slice_set, slice_index, sum, replicate}
 use Rattle.std.proofs.lemmas.Bool.{and_from, lt-ltb, ltb-true, cases_lt, and_parts, and_right}
 use Rattle.std.proofs.lemmas.Option.{slice_get_cases}
-use Rattle.std.proofs.lemmas.List.{get_or-map, get_or_past, length-map}
+use Rattle.std.proofs.lemmas.List.{get_or-map, get_or_past, get_or-replicate, length-map}
 use Rattle.std.proofs.Math.Nat.{eq-or-lt_of_le}
 use Rattle.hs_scheme.specs.Parameters.{counts_of, IsParameter, parameter_of}
-use Rattle.hs_scheme.proofs.ParameterLemmas.{sum_few, there}
+use Rattle.hs_scheme.proofs.ParameterLemmas.{sum_few, there, number_within}
 use Rattle.hs_scheme.specs.Scheme.{AreRules}
 use Rattle.hs_scheme.specs.declared.term.Rule.{Rule}
 use Rattle.hs_passes.specs.Selection.{stays}
@@ -47,6 +47,11 @@ module _ (rules : List Rule) (counts : List ℕ) (are : counts ≡ counts_of rul
       by : (b : Bool) → nat_lt j (slice_index counts f) ≡ b → cond b (stays flags (parameter_of counts f j)) true ≡ true
       by true e = on (ltb-true j (slice_index counts f) e)
       by false e = refl
+
+  -- nothing is above all parameters
+  pub all_above : IsAbove rules (kept counts (replicate (sum counts) true))
+  all_above other supported f j on =
+      kept_from (replicate (sum counts) true) f j (λ is. get_or-replicate (sum counts) (parameter_of counts f j) true false (number_within counts f j is))
 
   module _ (old new marks : List Bool) (each : (n : ℕ) → stays new n ≡ (stays old n && stays marks n))
       (needed : (f j : ℕ) → IsParameter counts f j → stays marks (parameter_of counts f j) ≡ is_live (kept counts old) rules f j) where

@@ -9,6 +9,7 @@ ghost use Rattle.std.specs.Prelude.{◌≡◌, ◌<◌, length, sum, vec_len, If
 
 use hs_scheme::{Head, OutOfMemory, Parameters, Points, PointsFault, Scheme};
 use std::alloc::Global;
+use std::mem::replace;
 
 /// The rank of a parameter that isn't dropped, higher than there are parameters.
 pub const NEVER: u32 = 2_000_000_000;
@@ -21,6 +22,9 @@ struct Span {
     to: u32,
 }
 
+/// No point.
+const NO_POINT: u32 = u32::MAX;
+
 /// What is left while parameters go.
 #[derive(Drop)]
 struct Left {
@@ -28,8 +32,16 @@ struct Left {
     needs: Vec<u32>,
     /// Which points are left.
     points: Vec<bool>,
+    /// For each rule the last of the points with its nonterminal in front.
+    last: Vec<u32>,
+    /// For each of these points the one before, with the same nonterminal.
+    before: Vec<u32>,
     /// The parameters that can go next, each with its rule.
     pending: Vec<(u32, u32)>,
+    /// The points that go next.
+    going: Vec<u32>,
+    /// Whether memory sufficed so far. Nothing is added to `pending` and `going` once it didn't.
+    is_whole: bool,
 }
 
 /// The parameters that the point needs: its own, or those for which it has no argument.
@@ -55,202 +67,218 @@ fn needs_of(points: &Points, parameters: &Parameters, point: u32) -> Span
     }
 }
 
+/// Sets the item at this place, where there is one.
+fn put(list: &mut [u32], place: u32, value: u32) {
+    if let Some(item) = list.get_mut(place as usize) {
+        *item = value;
+    }
+}
+
+/// The item at this place, or `NO_POINT` past the end.
+fn get(list: &[u32], place: u32) -> u32 {
+    list.get(place as usize).copied().unwrap_or(NO_POINT)
+}
+
+/// Whether the point was left; now it isn't.
+fn take(left: &mut [bool], point: u32) -> bool {
+    match left.get_mut(point as usize) {
+        Some(here) => replace(here, false),
+        None => false,
+    }
+}
+
 /// Counts these parameters once more.
-fn count(parameters: &Parameters, span: Span, needs: &mut Vec<u32>) {
+fn count(parameters: &Parameters, span: Span, needs: &mut [u32]) {
     for param in span.from..span.to {
         if let Some(number) = parameters.number(span.rule, param) {
-            if let Some(count) = needs.get_mut(number as usize) {
-                *count = count.saturating_add(1);
-            }
+            let count = get(needs, number);
+            put(needs, number, count.saturating_add(1));
         }
     }
 }
 
 /// Counts this parameter once less, and tells whether nothing needs it any more.
-fn discount(parameters: &Parameters, rule: u32, param: u32, needs: &mut Vec<u32>) -> bool {
-    let Some(number) = parameters.number(rule, param) else {
-        return false;
-    };
-    let Some(count) = needs.get_mut(number as usize) else {
-        return false;
-    };
-    *count = count.saturating_sub(1);
-    *count == 0
+fn discount(parameters: &Parameters, rule: u32, param: u32, needs: &mut [u32]) -> bool {
+    match parameters.number(rule, param) {
+        Some(number) => {
+            let count = get(needs, number).saturating_sub(1);
+            put(needs, number, count);
+            count == 0
+        }
+        None => false,
+    }
 }
 
-/// How many points need each parameter.
-fn all_needs(
-    alloc: Global,
-    points: &Points,
-    parameters: &Parameters,
-) -> Result<Vec<u32>, OutOfMemory> {
-    let mut needs = vec![in alloc; 0_u32; parameters.count() as usize]?;
-    for point in 0..points.count() {
-        count(parameters, needs_of(points, parameters, point), &mut needs);
+impl Left {
+    /// Nothing yet.
+    fn new(alloc: Global) -> Left {
+        Left {
+            needs: Vec::new(alloc),
+            points: Vec::new(alloc),
+            last: Vec::new(alloc),
+            before: Vec::new(alloc),
+            pending: Vec::new(alloc),
+            going: Vec::new(alloc),
+            is_whole: true,
+        }
     }
-    Ok(needs)
-}
 
-/// For each rule the points with its nonterminal in front.
-fn occurrences(alloc: Global, points: &Points, rules: usize) -> Result<Vec<Vec<u32>>, OutOfMemory> {
-    let mut rows = Vec::with_capacity(alloc, rules)?;
-    for _ in 0..rules {
-        rows.push(Vec::new(alloc))?;
+    /// All points, before any of them is looked at. Each parameter is counted once.
+    fn fill(&mut self, points: usize, parameters: usize, rules: usize) {
+        self.is_whole = self.needs.resize(parameters, 1).is_ok()
+            && self.points.resize(points, true).is_ok()
+            && self.last.resize(rules, NO_POINT).is_ok()
+            && self.before.resize(points, NO_POINT).is_ok();
     }
-    for point in 0..points.count() {
-        if let Head::Nt(rule) = points.head_of(point) {
-            if let Some(row) = rows.get_mut(rule as usize) {
-                row.push(point)?;
+
+    /// Notes the point among those with this rule's nonterminal in front.
+    fn note(&mut self, rule: u32, point: u32) {
+        let before = get(self.last.as_slice(), rule);
+        put(self.before.as_mut_slice(), point, before);
+        put(self.last.as_mut_slice(), rule, point);
+    }
+
+    /// Counts what each point needs.
+    fn look(&mut self, points: &Points, parameters: &Parameters) {
+        for point in 0..points.count() {
+            count(
+                parameters,
+                needs_of(points, parameters, point),
+                self.needs.as_mut_slice(),
+            );
+            if let Head::Nt(rule) = points.head_of(point) {
+                self.note(rule, point);
             }
         }
     }
-    Ok(rows)
-}
 
-/// The parameters that no point needs.
-fn unneeded(
-    alloc: Global,
-    parameters: &Parameters,
-    needs: &[u32],
-    rules: u32,
-) -> Result<Vec<(u32, u32)>, OutOfMemory> {
-    let mut pending = Vec::new(alloc);
-    for rule in 0..rules {
-        for param in 0..parameters.count_of(rule) {
+    /// Adds a parameter that can go.
+    fn free(&mut self, rule: u32, param: u32) {
+        if self.is_whole {
+            self.is_whole = self.pending.push((rule, param)).is_ok();
+        }
+    }
+
+    /// Adds points that go.
+    fn go(&mut self, points: &[u32]) {
+        if self.is_whole {
+            self.is_whole = self.going.extend_from_slice(points).is_ok();
+        }
+    }
+
+    /// Counts these parameters once less, and adds those that nothing needs any more.
+    fn release(&mut self, parameters: &Parameters, span: Span) {
+        for param in span.from..span.to {
+            if discount(parameters, span.rule, param, self.needs.as_mut_slice()) {
+                self.free(span.rule, param);
+            }
+        }
+    }
+
+    /// Takes the points away that go, with all that is in their arguments.
+    fn remove(&mut self, points: &Points, parameters: &Parameters) {
+        for _ in 0..points.count() {
+            let Some(point) = self.going.pop() else {
+                return;
+            };
+            if point < points.count() && take(self.points.as_mut_slice(), point) {
+                self.release(parameters, needs_of(points, parameters, point));
+                self.go(points.args_of(point));
+            }
+        }
+    }
+
+    /// Takes the arguments for this parameter away.
+    fn remove_arguments(
+        &mut self,
+        points: &Points,
+        parameters: &Parameters,
+        rule: u32,
+        param: u32,
+    ) {
+        let mut point = get(self.last.as_slice(), rule);
+        for _ in 0..points.count() {
+            if point >= points.count() {
+                return;
+            }
+            if let Some(arg) = points.args_of(point).get(param as usize) {
+                self.go(&[*arg]);
+                self.remove(points, parameters);
+            }
+            point = get(self.before.as_slice(), point);
+        }
+    }
+
+    /// Gives ranks in the order in which the parameters go.
+    fn rank(&mut self, points: &Points, parameters: &Parameters, ranks: &mut [u32]) {
+        for next in 0..parameters.count() {
+            let Some((rule, param)) = self.pending.pop() else {
+                return;
+            };
             if let Some(number) = parameters.number(rule, param) {
-                if needs.get(number as usize).copied() == Some(0) {
-                    pending.push((rule, param))?;
-                }
+                put(ranks, number, next);
             }
+            self.remove_arguments(points, parameters, rule, param);
         }
     }
-    Ok(pending)
+
+    /// Adds the parameters that no point needs: each was counted once more than points need it.
+    fn release_all(&mut self, parameters: &Parameters, rules: u32) {
+        for rule in 0..rules {
+            let to = parameters.count_of(rule);
+            self.release(parameters, Span { rule, from: 0, to });
+        }
+    }
+
+    /// Gives ranks where memory suffices.
+    fn work(
+        &mut self,
+        points: &Points,
+        parameters: &Parameters,
+        rules: u32,
+        ranks: &mut [u32],
+    ) -> Result<(), OutOfMemory> {
+        self.fill(points.count() as usize, ranks.len(), rules as usize);
+        self.look(points, parameters);
+        self.release_all(parameters, rules);
+        self.rank(points, parameters, ranks);
+        if self.is_whole {
+            Ok(())
+        } else {
+            Err(OutOfMemory)
+        }
+    }
 }
 
-/// Takes the point away, and adds its arguments to what goes with it.
-fn remove_one(
+/// Ranks the parameters that go, where these are the points of the scheme.
+fn rank_over(
+    alloc: Global,
     points: &Points,
     parameters: &Parameters,
-    point: u32,
-    left: &mut Left,
-    going: &mut Vec<u32>,
+    rules: u32,
+    ranks: &mut [u32],
 ) -> Result<(), OutOfMemory> {
-    if point >= points.count() {
-        return Ok(());
-    }
-    let Some(here) = left.points.get_mut(point as usize) else {
-        return Ok(());
-    };
-    if !*here {
-        return Ok(());
-    }
-    *here = false;
-    let span = needs_of(points, parameters, point);
-    for param in span.from..span.to {
-        if discount(parameters, span.rule, param, &mut left.needs) {
-            left.pending.push((span.rule, param))?;
-        }
-    }
-    going.extend_from_slice(points.args_of(point))?;
-    Ok(())
+    let mut left = Left::new(alloc);
+    let done = left.work(points, parameters, rules, ranks);
+    drop(left);
+    done
 }
 
-/// Takes the point away, with all that is in its arguments.
-fn remove(
+/// Ranks the parameters that go, none where there are too many points.
+fn rank_all(
     alloc: Global,
-    points: &Points,
-    parameters: &Parameters,
-    point: u32,
-    left: &mut Left,
-) -> Result<(), OutOfMemory> {
-    let mut going = vec![in alloc; point]?;
-    for _ in 0..points.count() {
-        let Some(next) = going.pop() else {
-            break;
-        };
-        remove_one(points, parameters, next, left, &mut going)?;
-    }
-    Ok(())
-}
-
-/// Takes the arguments for this parameter away from these points.
-fn remove_arguments(
-    alloc: Global,
-    points: &Points,
-    parameters: &Parameters,
-    param: u32,
-    of: &[u32],
-    left: &mut Left,
-) -> Result<(), OutOfMemory> {
-    for point in of {
-        if *point < points.count() {
-            if let Some(arg) = points.args_of(*point).get(param as usize) {
-                remove(alloc, points, parameters, *arg, left)?;
-            }
-        }
-    }
-    Ok(())
-}
-
-/// The same rank for each parameter.
-fn no_ranks(alloc: Global, parameters: &Parameters) -> Result<Vec<u32>, OutOfMemory>
-    ensures { IfOk result (λ ranks. vec_len ranks ≡ sum parameters.now) }
-{
-    Ok(vec![in alloc; NEVER; parameters.count() as usize]?)
-}
-
-/// Sets the parameter's rank.
-fn rank(parameters: &Parameters, rule: u32, param: u32, rank: u32, ranks: &mut [u32])
-    requires { length ranks.old ≡ sum parameters.now }
-{
-    if let Some(number) = parameters.number(rule, param) {
-        ranks[number as usize] = rank;
-    }
-}
-
-/// The ranks in the order in which the parameters go.
-fn ranks_by(
-    alloc: Global,
-    points: &Points,
-    parameters: &Parameters,
-    rows: &[Vec<u32>],
-    left: Left,
-) -> Result<Vec<u32>, OutOfMemory>
-    ensures { IfOk result (λ ranks. vec_len ranks ≡ sum parameters.now) }
-{
-    let mut left = left;
-    let mut ranks = no_ranks(alloc, parameters)?;
-    for next in 0..parameters.count() {
-        let Some((rule, param)) = left.pending.pop() else {
-            break;
-        };
-        rank(parameters, rule, param, next, ranks.as_mut_slice());
-        if let Some(row) = rows.get(rule as usize) {
-            remove_arguments(alloc, points, parameters, param, row.as_slice(), &mut left)?;
-        }
-    }
-    Ok(ranks)
-}
-
-/// Ranks of the parameters by their numbers, where these are the points of the scheme.
-fn ranks_over(
-    alloc: Global,
-    points: &Points,
     parameters: &Parameters,
     scheme: &Scheme,
-) -> Result<Vec<u32>, OutOfMemory>
-    ensures { IfOk result (λ ranks. vec_len ranks ≡ sum parameters.now) }
-{
-    let rules = scheme.rules.len();
-    let needs = all_needs(alloc, points, parameters)?;
-    let pending = unneeded(alloc, parameters, needs.as_slice(), rules as u32)?;
-    let rows = occurrences(alloc, points, rules)?;
-    let left = Left {
-        needs,
-        points: vec![in alloc; true; points.count() as usize]?,
-        pending,
+    ranks: &mut [u32],
+) -> Result<(), OutOfMemory> {
+    let points = match Points::of(alloc, scheme) {
+        Ok(points) => points,
+        Err(PointsFault::TooMany) => return Ok(()),
+        Err(PointsFault::OutOfMemory) => return Err(OutOfMemory),
     };
-    ranks_by(alloc, points, parameters, rows.as_slice(), left)
+    let done = rank_over(alloc, &points, parameters, scheme.rules.len() as u32, ranks);
+    drop(points);
+    done
 }
 
 /// Ranks of the parameters by their numbers: lower ones for those that go earlier, and `NEVER` for
@@ -263,12 +291,7 @@ pub fn ranks(
 ) -> Result<Vec<u32>, OutOfMemory>
     ensures { IfOk result (λ ranks. vec_len ranks ≡ sum parameters.now) }
 {
-    let points = match Points::of(alloc, scheme) {
-        Ok(points) => points,
-        Err(PointsFault::TooMany) => return no_ranks(alloc, parameters),
-        Err(PointsFault::OutOfMemory) => return Err(OutOfMemory),
-    };
-    let ranks = ranks_over(alloc, &points, parameters, scheme);
-    drop(points);
-    ranks
+    let mut ranks = vec![in alloc; NEVER; parameters.count() as usize]?;
+    rank_all(alloc, parameters, scheme, ranks.as_mut_slice())?;
+    Ok(ranks)
 }

@@ -20,7 +20,7 @@ pub fn places(alloc: Global, keep: &[bool]) -> Result<Vec<u32>, OutOfMemory>
     let mut numbers = Vec::with_capacity(alloc, keep.len())?;
     let mut next = 0;
     for stays in keep {
-        numbers.push(next)?;
+        numbers.push_reserved(next);
         if *stays {
             next += 1;
         }
@@ -52,7 +52,7 @@ fn renamed_term(alloc: Global, term: &Term, numbers: &[u32]) -> Result<Term, Out
     let head = renamed(term.head, numbers);
     let mut args = Vec::with_capacity(alloc, term.args.len())?;
     for arg in &term.args {
-        args.push(renamed_term(alloc, arg, numbers)?)?;
+        args.push_reserved(renamed_term(alloc, arg, numbers)?);
     }
     Ok(Term { head, args })
 }
@@ -216,10 +216,10 @@ pub fn selection(
     ensures { IfOk result (λ s. s ≡ selected (stays keep.now) (number_in numbers.now) sorted.now) }
 {
     is_sorted(sorted);
-    let scheme = chosen_scheme(alloc, &sorted.scheme, keep, numbers)?;
-    let automaton = sorted.automaton.copy(alloc)?;
-    let names = names_left(alloc, &sorted.names, keep)?;
     let sorts = chosen_sorts(alloc, sorted.sorts.as_slice(), keep)?;
+    let scheme = chosen_scheme(alloc, &sorted.scheme, keep, numbers)?;
+    let names = names_left(alloc, &sorted.names, keep)?;
+    let automaton = sorted.automaton.copy(alloc)?;
     Ok(Sorted {
         scheme,
         automaton,

@@ -1,16 +1,21 @@
 -- What the passes over a file find.
 --     HasNumbers      numbers below 2 ^ 32 for these names
 --     scoped_rule     a rule with numbers for its names
+--     AreEmpty        no names, no lengths
 --     AreTables       the names of the file by number
 --     IsNumberedFile  its rules and transitions with these numbers, where it is a file
 --     AreLines        the least line of each line fault
 --     IsResolved      all of these
 --     names_in        the names of a scheme with these tables
+--     no_names        no names of a scheme
+--     automaton_with  the automaton with these tables and transitions
 --     made_of         the scheme with these rules, transitions and names
-use Rattle.std.specs.Prelude.{◌≡◌, ℕ, ◌<◌, ◌^◌, List, map, length}
+use Rattle.std.specs.Prelude.{◌≡◌, ℕ, ◌<◌, ◌^◌, List, [], None, map, length}
 use Rattle.hs_reader.specs.Raw.{File, Rule}
 use Rattle.hs_reader.specs.Limits.{IsRaw}
 use Rattle.hs_scheme.specs.declared.term.Rule.{Rule as NumberedRule}
+use Rattle.hs_scheme.specs.Transition.{TransitionData}
+use Rattle.hs_scheme.specs.Automaton.{AutomatonData}
 use Rattle.hs_scheme.specs.Names.{NamesData}
 use Rattle.hs_scheme.specs.Unsorted.{UnsortedData}
 use Rattle.hs_resolve.specs.declared.line.FaultLines.{FaultLines}
@@ -38,6 +43,13 @@ pub record AreLines (raw : File) (lines : FaultLines) : Type 0 where
   pub duplicate_transition : IsLeast (DuplicateTransition raw) lines.duplicate_transition
   pub rank_clash : IsLeast (RankClash raw) lines.rank_clash
 
+pub record AreEmpty (tables : Tables) : Type 0 where
+  pub left : tables.left ≡ []
+  pub params : tables.params.items ≡ []
+  pub terminals : tables.terminals ≡ []
+  pub states : tables.states ≡ []
+  pub lengths : (x : List ℕ) → length_of tables.lengths x ≡ None
+
 pub record AreTables (raw : File) (tables : Tables) : Type 0 where
   pub left : tables.left ≡ distinct (left_names raw)
   pub params : tables.params.items ≡ map (λ r. distinct (texts r.params)) raw.rules
@@ -57,6 +69,12 @@ pub record IsResolved (raw : File) (r : Resolved) : Type 0 where
 
 abbrev pub names_in : Tables → NamesData
 names_in tables = record { rules = tables.left; params = tables.params.items; terminals = tables.terminals; states = tables.states }
+
+abbrev pub no_names : NamesData
+no_names = record { rules = []; params = []; terminals = []; states = [] }
+
+abbrev pub automaton_with : Tables → List TransitionData → AutomatonData
+automaton_with tables transitions = record { states = length tables.states; transitions = transitions }
 
 abbrev pub made_of : Tables → Numbered → UnsortedData
 made_of tables numbered = record {

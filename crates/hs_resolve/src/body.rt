@@ -1,6 +1,6 @@
 //! The names in the bodies of rules, and the numbers for them.
 
-ghost use Rattle.std.specs.Prelude.{◌≡◌, ◌++◌, ◌≤◌, List, ℕ, map, filter, length, if◌then◌else◌, All, IfOk, OnOk};
+ghost use Rattle.std.specs.Prelude.{◌≡◌, ◌++◌, ◌≤◌, [], List, ℕ, map, filter, length, if◌then◌else◌, All, IfOk, OnOk};
 ghost use Rattle.std.specs.List.{flat_map};
 ghost use Rattle.hs_scheme.specs.declared.term.Head.TheVariants.{Nt, Tm};
 ghost use Rattle.hs_reader.specs.Limits.{term_names};
@@ -21,13 +21,6 @@ use crate::numbering::number_in;
 use hs_reader::{RawName, RawNode, RawRule, is_upper};
 use hs_scheme::{Head, OutOfMemory, Rule, Term};
 use std::alloc::Global;
-
-/// What the bodies so far name.
-#[derive(Drop)]
-struct Met<'a> {
-    terminals: NameIndex<'a>,
-    undefined: Option<u32>,
-}
 
 /// The nonterminal of an upper name. One that isn't on the left of a rule gets the number 0, and its
 /// line is noted.
@@ -59,23 +52,24 @@ fn head_of<'a>(
     left: &NameIndex,
     params: &NameIndex,
     name: &RawName<'a>,
-    met: &mut Met<'a>,
+    terminals: &mut NameIndex<'a>,
+    undefined: &mut Option<u32>,
 ) -> Result<Head, OutOfMemory>
     requires left { HasNumbers left.now }
     requires params { HasNumbers params.now }
-    ensures terminals { OnOk result (met.new.terminals ≡ (if numbering.is_terminal params.now name.now.text
-        then with_name met.old.terminals name.now.text else met.old.terminals)) }
-    ensures undefined { OnOk result (met.new.undefined
-        ≡ least.earliest met.old.undefined (undefined_at left.now name.now)) }
-    ensures head { IfOk result (λ head. IsHead left.now params.now met.new.terminals name.now head) }
+    ensures terminals { OnOk result (terminals.new ≡ (if numbering.is_terminal params.now name.now.text
+        then with_name terminals.old name.now.text else terminals.old)) }
+    ensures undefined { OnOk result (undefined.new
+        ≡ least.earliest undefined.old (undefined_at left.now name.now)) }
+    ensures head { IfOk result (λ head. IsHead left.now params.now terminals.new name.now head) }
 {
     let text = name.text.bytes();
     if is_upper(text) {
-        return Ok(nonterminal(left, name, &mut met.undefined));
+        return Ok(nonterminal(left, name, undefined));
     }
     match params.number(text) {
         Some(parameter) => Ok(Head::Var(parameter as u32)),
-        None => terminal(name, &mut met.terminals),
+        None => terminal(name, terminals),
     }
 }
 
@@ -91,28 +85,29 @@ fn term_of<'a>(
     left: &NameIndex,
     params: &NameIndex,
     ahead: &mut Ahead<'_, 'a>,
-    met: &mut Met<'a>,
+    terminals: &mut NameIndex<'a>,
+    undefined: &mut Option<u32>,
 ) -> Result<Term, OutOfMemory>
     requires left { HasNumbers left.now }
     requires params { HasNumbers params.now }
     requires begins { BeginsTerm ahead.old.nodes.now }
     ensures ahead { OnOk result (ahead.new.nodes.now ≡ behind ahead.old.nodes.now) }
-    ensures terminals { OnOk result (met.new.terminals ≡ with_names met.old.terminals
+    ensures terminals { OnOk result (terminals.new ≡ with_names terminals.old
         (filter (numbering.is_terminal params.now) (texts (term_names (first_term ahead.old.nodes.now))))) }
-    ensures undefined { OnOk result (met.new.undefined
-        ≡ undefined_in left.now met.old.undefined (term_names (first_term ahead.old.nodes.now))) }
+    ensures undefined { OnOk result (undefined.new
+        ≡ undefined_in left.now undefined.old (term_names (first_term ahead.old.nodes.now))) }
     ensures term { IfOk result (λ term.
-        IsNumbered left.now params.now met.new.terminals (first_term ahead.old.nodes.now) term) }
+        IsNumbered left.now params.now terminals.new (first_term ahead.old.nodes.now) term) }
 {
     let [node, behind @ ..] = ahead.nodes else {
         unreachable!()
     };
     let name = node.name();
-    let head = head_of(left, params, &name, met)?;
+    let head = head_of(left, params, &name, terminals, undefined)?;
     let mut args = Vec::with_capacity(alloc, node.args as usize)?;
     ahead.nodes = behind;
     for _ in 0..node.args {
-        args.push(term_of(alloc, left, params, ahead, met)?)?;
+        args.push(term_of(alloc, left, params, ahead, terminals, undefined)?)?;
     }
     Ok(Term { head, args })
 }
@@ -123,65 +118,55 @@ fn rule_of<'a>(
     left: &NameIndex,
     params: &NameIndex,
     raw: &RawRule<'a>,
-    met: &mut Met<'a>,
+    terminals: &mut NameIndex<'a>,
+    undefined: &mut Option<u32>,
 ) -> Result<Rule, OutOfMemory>
     requires left { HasNumbers left.now }
     requires params { params.now ≡ distinct (texts raw.now.params) }
     requires few { length raw.now.params ≤ 64 }
-    ensures terminals { OnOk result (met.new.terminals ≡ with_names met.old.terminals
+    ensures terminals { OnOk result (terminals.new ≡ with_names terminals.old
         (filter (numbering.is_terminal params.now) (texts (term_names raw.now.body)))) }
-    ensures undefined { OnOk result (met.new.undefined
-        ≡ undefined_in left.now met.old.undefined (term_names raw.now.body)) }
-    ensures rule { IfOk result (λ rule. IsScoped left.now met.new.terminals raw.now rule) }
+    ensures undefined { OnOk result (undefined.new
+        ≡ undefined_in left.now undefined.old (term_names raw.now.body)) }
+    ensures rule { IfOk result (λ rule. IsScoped left.now terminals.new raw.now rule) }
 {
     let mut ahead = Ahead {
         nodes: raw.body.nodes(),
     };
-    let body = term_of(alloc, left, params, &mut ahead, met)?;
+    let body = term_of(alloc, left, params, &mut ahead, terminals, undefined)?;
     Ok(Rule {
         params: raw.params.len() as u32,
         body,
     })
 }
 
-/// The rules with numbers for their names, and what their bodies name.
-#[derive(Drop)]
-pub(crate) struct Bodies<'a> {
-    pub(crate) rules: Vec<Rule>,
-    /// The terminals by number.
-    pub(crate) terminals: NameIndex<'a>,
-    /// The least line of an upper name that isn't on the left of a rule.
-    pub(crate) undefined: Option<u32>,
-}
-
-/// The rules with numbers for their names, where these are the parameters of each.
-pub(crate) fn bodies_of<'a>(
+/// Adds the rules with numbers for their names, where these are the parameters of each, and puts the
+/// terminals of their bodies into an index; both are empty before. Answers the least line of an upper
+/// name that isn't on the left of a rule.
+pub(crate) fn number_bodies<'a>(
     alloc: Global,
     left: &NameIndex,
     params: &[NameIndex],
     rules: &[RawRule<'a>],
-) -> Result<Bodies<'a>, OutOfMemory>
+    terminals: &mut NameIndex<'a>,
+    numbered: &mut Vec<Rule>,
+) -> Result<Option<u32>, OutOfMemory>
     requires left { HasNumbers left.now }
     requires params { params.now ≡ map (λ r. distinct (texts r.params)) rules.now }
     requires few { All (λ r. length r.params ≤ 64) rules.now }
-    ensures terminals { IfOk result (λ b. b.terminals ≡ distinct (flat_map terminals_in rules.now)) }
-    ensures undefined { IfOk result (λ b. IsLeast
+    requires terminals { terminals.old ≡ [] }
+    requires numbered { numbered.old.items ≡ [] }
+    ensures terminals { OnOk result (terminals.new ≡ distinct (flat_map terminals_in rules.now)) }
+    ensures undefined { IfOk result (IsLeast
         (λ line. Somewhere (λ _ r. Somewhere (λ _ n. IsUndefined left.now n line)
-        (term_names r.body)) rules.now)
-        b.undefined) }
-    ensures rules { IfOk result (λ b. AreScoped left.now b.terminals rules.now b.rules.items) }
+        (term_names r.body)) rules.now)) }
+    ensures rules { OnOk result (AreScoped left.now terminals.new rules.now numbered.new.items) }
 {
-    let mut numbered = Vec::with_capacity(alloc, rules.len())?;
-    let mut met = Met {
-        terminals: NameIndex::new(alloc),
-        undefined: None,
-    };
+    numbered.reserve(rules.len())?;
+    let mut undefined = None;
     for (number, rule) in rules.iter().enumerate() {
-        numbered.push(rule_of(alloc, left, &params[number], rule, &mut met)?)?;
+        let scope = &params[number];
+        numbered.push(rule_of(alloc, left, scope, rule, terminals, &mut undefined)?)?;
     }
-    Ok(Bodies {
-        rules: numbered,
-        terminals: met.terminals,
-        undefined: met.undefined,
-    })
+    Ok(undefined)
 }

@@ -42,6 +42,18 @@ pub(crate) struct FaultLines {
 }
 
 impl FaultLines {
+    /// No fault stands anywhere.
+    pub(crate) fn none() -> FaultLines {
+        FaultLines {
+            duplicate_rule: None,
+            duplicate_param: None,
+            undefined: None,
+            start_has_params: None,
+            duplicate_transition: None,
+            rank_clash: None,
+        }
+    }
+
     /// The least of the lines.
     fn least(&self) -> Option<u32>
         ensures { result ≡ least_line self.now }

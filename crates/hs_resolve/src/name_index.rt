@@ -72,11 +72,12 @@ impl<'a> NameIndex<'a> {
         self.names.get_index_of(name)
     }
 
-    /// A copy of each of the names, in order.
-    pub(crate) fn copies(&self, alloc: Global) -> Result<Vec<Name>, OutOfMemory>
-        ensures { IfOk result (λ names. names.items ≡ self.now) }
+    /// Adds a copy of each of the names, in order, where there are none yet.
+    pub(crate) fn copy(&self, alloc: Global, names: &mut Vec<Name>) -> Result<(), OutOfMemory>
+        requires { names.old.items ≡ [] }
+        ensures { OnOk result (names.new.items ≡ self.now) }
     {
-        copies_of(alloc, self.names.as_slice())
+        copy_texts(alloc, self.names.as_slice(), names)
     }
 
     /// For each of the names the value that the map has for it.
@@ -91,14 +92,16 @@ impl<'a> NameIndex<'a> {
     }
 }
 
-fn copies_of(alloc: Global, texts: &[&[u8]]) -> Result<Vec<Name>, OutOfMemory>
-    ensures { IfOk result (λ names. names.items ≡ map (λ t. t.now) texts.now) }
+/// Adds the texts as names, where there are none yet.
+fn copy_texts(alloc: Global, texts: &[&[u8]], names: &mut Vec<Name>) -> Result<(), OutOfMemory>
+    requires { names.old.items ≡ [] }
+    ensures { OnOk result (names.new.items ≡ map (λ t. t.now) texts.now) }
 {
-    let mut names = Vec::with_capacity(alloc, texts.len())?;
+    names.reserve(texts.len())?;
     for text in texts {
         names.push(Name::of(alloc, text)?)?;
     }
-    Ok(names)
+    Ok(())
 }
 
 /// For each of the names the value that the map has for it, on average in time in proportion to the

@@ -1,6 +1,6 @@
 //! The numbers for the names of transitions, and the names of parameters.
 
-ghost use Rattle.std.specs.Prelude.{◌≡◌, ◌++◌, List, ℕ, map, IfOk, OnOk};
+ghost use Rattle.std.specs.Prelude.{◌≡◌, ◌++◌, ◌∷◌, [], List, ℕ, map, IfOk, OnOk};
 ghost use Rattle.std.specs.List.{flat_map};
 ghost use Rattle.hs_resolve.specs.Names as names;
 ghost use Rattle.hs_resolve.specs.Names.{texts, distinct, with_name, with_names};
@@ -63,45 +63,57 @@ fn transition_of<'a>(
     Ok(Transition { from, terminal, to })
 }
 
-/// The transitions with numbers for their names, and the states by number.
-#[derive(Drop)]
-pub(crate) struct Moves<'a> {
-    pub(crate) states: NameIndex<'a>,
-    pub(crate) transitions: Vec<Transition>,
-}
-
-/// The transitions with numbers for their names. Their terminals are put at the end of those that
-/// were met before.
-pub(crate) fn transitions_of<'a>(
+/// Adds the transitions with numbers for their names, and puts the states into an index; both are empty
+/// before. Their terminals are put at the end of those that were met before.
+pub(crate) fn number_transitions<'a>(
     alloc: Global,
+    states: &mut NameIndex<'a>,
     terminals: &mut NameIndex<'a>,
     transitions: &[RawTransition<'a>],
-) -> Result<Moves<'a>, OutOfMemory>
+    numbered: &mut Vec<Transition>,
+) -> Result<(), OutOfMemory>
+    requires states { states.old ≡ [] }
+    requires numbered { numbered.old.items ≡ [] }
     ensures terminals { OnOk result (terminals.new
         ≡ with_names terminals.old (map (λ t. t.terminal.text) transitions.now)) }
-    ensures states { IfOk result (λ moves. moves.states
-        ≡ distinct (flat_map states_in transitions.now)) }
-    ensures transitions { IfOk result (λ moves. moves.transitions.items
-        ≡ map (definition.transition_of moves.states terminals.new) transitions.now) }
+    ensures states { OnOk result (states.new ≡ distinct (flat_map states_in transitions.now)) }
+    ensures transitions { OnOk result (numbered.new.items
+        ≡ map (definition.transition_of states.new terminals.new) transitions.now) }
 {
-    let mut numbered = Vec::with_capacity(alloc, transitions.len())?;
-    let mut states = NameIndex::new(alloc);
+    numbered.reserve(transitions.len())?;
     for transition in transitions {
-        numbered.push(transition_of(alloc, &mut states, terminals, transition)?)?;
+        numbered.push(transition_of(alloc, states, terminals, transition)?)?;
     }
-    Ok(Moves {
-        states,
-        transitions: numbered,
-    })
+    Ok(())
 }
 
-/// The names of the parameters of each rule.
-pub(crate) fn params_of(alloc: Global, params: &[NameIndex]) -> Result<Vec<Vec<Name>>, OutOfMemory>
-    ensures { IfOk result (λ ns. map (λ n. n.items) ns.items ≡ params.now) }
+/// Adds the names of a rule's parameters.
+fn copy_scope(
+    alloc: Global,
+    scope: &NameIndex,
+    names: &mut Vec<Vec<Name>>,
+) -> Result<(), OutOfMemory>
+    ensures { OnOk result (map (λ n. n.items) names.new.items
+        ≡ map (λ n. n.items) names.old.items ++ scope.now ∷ []) }
 {
-    let mut names = Vec::with_capacity(alloc, params.len())?;
-    for index in params {
-        names.push(index.copies(alloc)?)?;
+    let mut row = Vec::new(alloc);
+    let copied = scope.copy(alloc, &mut row);
+    names.push(row)?;
+    copied
+}
+
+/// Adds the names of the parameters of each rule, where there are none yet.
+pub(crate) fn copy_scopes(
+    alloc: Global,
+    scopes: &[NameIndex],
+    names: &mut Vec<Vec<Name>>,
+) -> Result<(), OutOfMemory>
+    requires { names.old.items ≡ [] }
+    ensures { OnOk result (map (λ n. n.items) names.new.items ≡ scopes.now) }
+{
+    names.reserve(scopes.len())?;
+    for scope in scopes {
+        copy_scope(alloc, scope, names)?;
     }
-    Ok(names)
+    Ok(())
 }

@@ -1,25 +1,22 @@
 //! From a file to the scheme that it stands for.
 
-ghost use Rattle.std.specs.Prelude.{◌≡◌, ◌⊎◌, ◌≤◌, map, length, IfOk, OnOk, IfErr, IsErrAnd, IfSome, IfNone};
-ghost use Rattle.std.specs.List.{flat_map};
+ghost use Rattle.std.specs.Prelude.{◌≡◌, ◌⊎◌, ◌≤◌, [], map, length, IfOk, OnOk, IfErr, IsErrAnd, IfSome, IfNone};
 ghost use Rattle.hs_scheme.specs.Automaton.{IsAutomaton};
 ghost use Rattle.hs_scheme.specs.Unsorted.{IsUnsorted};
 ghost use Rattle.hs_reader.specs.Raw.{File};
 ghost use Rattle.hs_resolve.specs.Least.{IsLeast};
-ghost use Rattle.hs_resolve.specs.Bodies.{AreScoped};
-ghost use Rattle.hs_resolve.specs.LineFaults.{DuplicateRule, DuplicateParam, Undefined, StartHasParams};
-ghost use Rattle.hs_resolve.specs.Names.{texts, distinct};
-ghost use Rattle.hs_resolve.specs.Numbering.{left_names, terminals_in, unsorted_of};
+ghost use Rattle.hs_resolve.specs.LineFaults.{StartHasParams};
+ghost use Rattle.hs_resolve.specs.Numbering.{unsorted_of};
 ghost use Rattle.hs_resolve.specs.Answer.{IsFaultless, IsAnswered, Decides};
-ghost use Rattle.hs_resolve.specs.Tables.{AreLines, AreTables, IsNumberedFile, IsResolved, made_of, names_in};
+ghost use Rattle.hs_resolve.specs.Tables.{AreEmpty, AreLines, AreTables, IsNumberedFile, IsResolved, made_of, names_in, no_names, automaton_with};
 
-use crate::body::{Bodies, bodies_of};
+use crate::body::number_bodies;
 use crate::fault::{MAX_STATES, NameFault};
 use crate::line::FaultLines;
 use crate::name_index::NameIndex;
-use crate::numbering::{params_of, transitions_of};
-use crate::seen::{Scopes, Seen, left_of, scopes_of};
-use crate::transitions::transition_lines;
+use crate::numbering::{copy_scopes, number_transitions};
+use crate::seen::{add_scopes, number_left};
+use crate::transitions::{note_lengths, repeated_of};
 use hs_reader::RawFile;
 use hs_scheme::{Automaton, Names, OutOfMemory, Rule, Transition, Unsorted};
 use indexmap::IndexMap;
@@ -61,36 +58,66 @@ fn start_line(raw: &RawFile) -> Option<u32>
     Some(rule.name.line)
 }
 
-/// The rules of a file with numbers for their names, and what was found on the way.
-#[derive(Drop)]
-struct NumberedRules<'a> {
-    left: Seen<'a>,
-    scopes: Scopes<'a>,
-    bodies: Bodies<'a>,
+/// The tables before any name is numbered.
+fn no_tables<'a>(alloc: Global) -> Tables<'a>
+    ensures { AreEmpty result }
+{
+    Tables {
+        left: NameIndex::new(alloc),
+        params: Vec::new(alloc),
+        terminals: NameIndex::new(alloc),
+        states: NameIndex::new(alloc),
+        lengths: IndexMap::new(alloc),
+        lines: FaultLines::none(),
+    }
 }
 
-/// The rules of a file with numbers for their names.
-fn number_rules<'a>(alloc: Global, raw: &RawFile<'a>) -> Result<NumberedRules<'a>, OutOfMemory>
-    ensures left { IfOk result (λ r. r.left.index ≡ distinct (left_names raw.now)) }
-    ensures params { IfOk result (λ r. r.scopes.params.items
-        ≡ map (λ rule. distinct (texts rule.params)) raw.now.rules) }
-    ensures terminals { IfOk result (λ r. r.bodies.terminals
-        ≡ distinct (flat_map terminals_in raw.now.rules)) }
-    ensures rules { IfOk result (λ r. AreScoped (distinct (left_names raw.now)) r.bodies.terminals
-        raw.now.rules r.bodies.rules.items) }
-    ensures duplicate_rule { IfOk result (λ r. IsLeast (DuplicateRule raw.now) r.left.repeated) }
-    ensures duplicate_param { IfOk result (λ r. IsLeast (DuplicateParam raw.now) r.scopes.repeated) }
-    ensures undefined { IfOk result (λ r. IsLeast (Undefined raw.now) r.bodies.undefined) }
+/// Numbers the names of a file of which none is numbered yet, its rules and its transitions, and notes
+/// what is found on the way.
+fn number_names<'a>(
+    alloc: Global,
+    raw: &RawFile<'a>,
+    tables: &mut Tables<'a>,
+    numbered: &mut Numbered,
+) -> Result<(), OutOfMemory>
+    requires tables { AreEmpty tables.old }
+    requires rules { numbered.old.rules.items ≡ [] }
+    requires transitions { numbered.old.transitions.items ≡ [] }
+    ensures tables { OnOk result (AreTables raw.now tables.new) }
+    ensures numbered { OnOk result (IsNumberedFile raw.now numbered.new) }
+    ensures lines { OnOk result (AreLines raw.now tables.new.lines) }
 {
     let rules = raw.rules.as_slice();
-    let left = left_of(alloc, rules)?;
-    let scopes = scopes_of(alloc, rules)?;
-    let bodies = bodies_of(alloc, &left.index, scopes.params.as_slice(), rules)?;
-    Ok(NumberedRules {
-        left,
-        scopes,
-        bodies,
-    })
+    let transitions = raw.transitions.as_slice();
+    let start_has_params = start_line(raw);
+    let duplicate_transition = repeated_of(alloc, transitions)?;
+    let rank_clash = note_lengths(&mut tables.lengths, transitions)?;
+    let duplicate_rule = number_left(&mut tables.left, rules)?;
+    let duplicate_param = add_scopes(alloc, &mut tables.params, rules)?;
+    let undefined = number_bodies(
+        alloc,
+        &tables.left,
+        tables.params.as_slice(),
+        rules,
+        &mut tables.terminals,
+        &mut numbered.rules,
+    )?;
+    number_transitions(
+        alloc,
+        &mut tables.states,
+        &mut tables.terminals,
+        transitions,
+        &mut numbered.transitions,
+    )?;
+    tables.lines = FaultLines {
+        duplicate_rule,
+        duplicate_param,
+        undefined,
+        start_has_params,
+        duplicate_transition,
+        rank_clash,
+    };
+    Ok(())
 }
 
 /// The names of a file by number, with what was found on the way, and its rules and transitions.
@@ -99,36 +126,13 @@ fn number_file<'a>(alloc: Global, raw: &RawFile<'a>) -> Result<Resolved<'a>, Out
     ensures numbered { IfOk result (λ r. IsNumberedFile raw.now r.numbered) }
     ensures lines { IfOk result (λ r. AreLines raw.now r.tables.lines) }
 {
-    let transitions = raw.transitions.as_slice();
-    let lines = transition_lines(alloc, transitions)?;
-    let mut rules = number_rules(alloc, raw)?;
-    let moves = transitions_of(alloc, &mut rules.bodies.terminals, transitions)?;
-    let NumberedRules {
-        left,
-        scopes,
-        bodies,
-    } = rules;
-    Ok(Resolved {
-        tables: Tables {
-            left: left.index,
-            params: scopes.params,
-            terminals: bodies.terminals,
-            states: moves.states,
-            lengths: lines.lengths,
-            lines: FaultLines {
-                duplicate_rule: left.repeated,
-                duplicate_param: scopes.repeated,
-                undefined: bodies.undefined,
-                start_has_params: start_line(raw),
-                duplicate_transition: lines.repeated,
-                rank_clash: lines.clash,
-            },
-        },
-        numbered: Numbered {
-            rules: bodies.rules,
-            transitions: moves.transitions,
-        },
-    })
+    let mut tables = no_tables(alloc);
+    let mut numbered = Numbered {
+        rules: Vec::new(alloc),
+        transitions: Vec::new(alloc),
+    };
+    number_names(alloc, raw, &mut tables, &mut numbered)?;
+    Ok(Resolved { tables, numbered })
 }
 
 /// The first fault of a file, where it has one.
@@ -147,20 +151,47 @@ fn first_fault(tables: &Tables) -> Option<NameFault>
     None
 }
 
-/// The names of a scheme with these tables.
-fn names_in(alloc: Global, tables: &Tables) -> Result<Names, OutOfMemory>
-    ensures { IfOk result (λ names. names ≡ names_in tables.now) }
+/// Adds the names of a scheme with these tables, where there are none yet.
+fn copy_names(alloc: Global, tables: &Tables, names: &mut Names) -> Result<(), OutOfMemory>
+    requires { names.old ≡ no_names }
+    ensures { OnOk result (names.new ≡ names_in tables.now) }
 {
-    let rules = tables.left.copies(alloc)?;
-    let params = params_of(alloc, tables.params.as_slice())?;
-    let terminals = tables.terminals.copies(alloc)?;
-    let states = tables.states.copies(alloc)?;
-    Ok(Names {
-        rules,
-        params,
-        terminals,
-        states,
-    })
+    tables.left.copy(alloc, &mut names.rules)?;
+    copy_scopes(alloc, tables.params.as_slice(), &mut names.params)?;
+    tables.terminals.copy(alloc, &mut names.terminals)?;
+    tables.states.copy(alloc, &mut names.states)?;
+    Ok(())
+}
+
+/// The automaton with these transitions. The names of its scheme are added, where there are none yet.
+fn automaton_of(
+    alloc: Global,
+    tables: &Tables,
+    transitions: Vec<Transition>,
+    names: &mut Names,
+) -> Result<Automaton, OutOfMemory>
+    requires automaton { IsAutomaton (automaton_with tables.now transitions.items) }
+    requires few { length tables.now.states ≤ MAX_STATES }
+    requires names { names.old ≡ no_names }
+    ensures automaton { IfOk result (λ a. a ≡ automaton_with tables.now transitions.items) }
+    ensures names { OnOk result (names.new ≡ names_in tables.now) }
+{
+    let states = tables.states.len() as u32;
+    copy_names(alloc, tables, names)?;
+    let automaton = Automaton::of(alloc, states, transitions)?;
+    Ok(automaton)
+}
+
+/// No names.
+fn no_names(alloc: Global) -> Names
+    ensures { result ≡ no_names }
+{
+    Names {
+        rules: Vec::new(alloc),
+        params: Vec::new(alloc),
+        terminals: Vec::new(alloc),
+        states: Vec::new(alloc),
+    }
 }
 
 /// The scheme with these rules and transitions and these names.
@@ -170,11 +201,10 @@ fn put_together(alloc: Global, tables: &Tables, numbered: Numbered) -> Result<Un
     requires few { length tables.now.states ≤ MAX_STATES }
     ensures { IfOk result (λ u. u ≡ made_of tables.now numbered) }
 {
-    let states = tables.states.len() as u32;
     let ranks = tables.terminals.values_in(alloc, &tables.lengths)?;
-    let names = names_in(alloc, tables)?;
     let Numbered { rules, transitions } = numbered;
-    let automaton = Automaton::of(alloc, states, transitions)?;
+    let mut names = no_names(alloc);
+    let automaton = automaton_of(alloc, tables, transitions, &mut names)?;
     Ok(Unsorted {
         rules,
         ranks,

@@ -1,6 +1,6 @@
 //! The transitions that stand twice, and the lengths of those of a terminal.
 
-ghost use Rattle.std.specs.Prelude.{◌≡◌, ◌<◌, ◌≤◌, ◌^◌, ℕ, List, map, length, All, IfOk, OnOk};
+ghost use Rattle.std.specs.Prelude.{◌≡◌, ◌<◌, ◌≤◌, ◌^◌, ℕ, List, None, map, length, All, IfOk, OnOk};
 ghost use Rattle.indexmap.specs.IndexSet.{IsEmpty};
 ghost use Rattle.hs_resolve.specs.Numbering.{rank_of};
 ghost use Rattle.hs_resolve.specs.Least.{IsLeast};
@@ -41,7 +41,10 @@ fn repeated_in<'a>(
 }
 
 /// The least line of a transition whose state and terminal an earlier one has.
-fn repeated_of(alloc: Global, transitions: &[RawTransition]) -> Result<Option<u32>, OutOfMemory>
+pub(crate) fn repeated_of(
+    alloc: Global,
+    transitions: &[RawTransition],
+) -> Result<Option<u32>, OutOfMemory>
     ensures { IfOk result (λ least. IsLeast
         (λ line. Somewhere (λ i t. RepeatsLeft transitions.now i t line) transitions.now) least) }
 {
@@ -75,61 +78,23 @@ fn note_length<'a>(
     Ok(Some(transition.from.line))
 }
 
-/// The lengths of the right sides of the first transitions of the terminals, and the least line of
-/// a transition of another length.
-#[derive(Drop)]
-struct Lengths<'a> {
-    first: IndexMap<&'a [u8], u32>,
-    clash: Option<u32>,
-}
-
-/// The lengths of the transitions of each terminal.
-fn lengths_of<'a>(
-    alloc: Global,
+/// Notes the lengths of the right sides of the first transitions of the terminals, where none is noted
+/// yet, and answers the least line of a transition of another length.
+pub(crate) fn note_lengths<'a>(
+    lengths: &mut IndexMap<&'a [u8], u32>,
     transitions: &[RawTransition<'a>],
-) -> Result<Lengths<'a>, OutOfMemory>
-    requires { All (λ t. length t.to ≤ 64) transitions.now }
-    ensures first { IfOk result (λ lengths. (x : List ℕ)
-        → length_of lengths.first x ≡ rank_of transitions.now x) }
-    ensures clash { IfOk result (λ lengths. IsLeast
-        (λ line. Somewhere (λ _ t. Clashes transitions.now t line) transitions.now) lengths.clash) }
+) -> Result<Option<u32>, OutOfMemory>
+    requires few { All (λ t. length t.to ≤ 64) transitions.now }
+    requires empty { (x : List ℕ) → length_of lengths.old x ≡ None }
+    ensures lengths { OnOk result ((x : List ℕ)
+        → length_of lengths.new x ≡ rank_of transitions.now x) }
+    ensures clash { IfOk result (λ least. IsLeast
+        (λ line. Somewhere (λ _ t. Clashes transitions.now t line) transitions.now) least) }
 {
-    let mut first = IndexMap::new(alloc);
     let mut clash = None;
     for transition in transitions {
-        let line = note_length(&mut first, transition)?;
+        let line = note_length(lengths, transition)?;
         clash = earliest(clash, line);
     }
-    Ok(Lengths { first, clash })
-}
-
-/// What the transitions of a file say of lengths, and the least lines of those that don't go together.
-#[derive(Drop)]
-pub(crate) struct TransitionLines<'a> {
-    pub(crate) repeated: Option<u32>,
-    /// The lengths of the right sides of the first transitions of the terminals.
-    pub(crate) lengths: IndexMap<&'a [u8], u32>,
-    pub(crate) clash: Option<u32>,
-}
-
-/// What the transitions say of each other.
-pub(crate) fn transition_lines<'a>(
-    alloc: Global,
-    transitions: &[RawTransition<'a>],
-) -> Result<TransitionLines<'a>, OutOfMemory>
-    requires { All (λ t. length t.to ≤ 64) transitions.now }
-    ensures repeated { IfOk result (λ lines. IsLeast
-        (λ line. Somewhere (λ i t. RepeatsLeft transitions.now i t line) transitions.now) lines.repeated) }
-    ensures lengths { IfOk result (λ lines. (x : List ℕ)
-        → length_of lines.lengths x ≡ rank_of transitions.now x) }
-    ensures clash { IfOk result (λ lines. IsLeast
-        (λ line. Somewhere (λ _ t. Clashes transitions.now t line) transitions.now) lines.clash) }
-{
-    let repeated = repeated_of(alloc, transitions)?;
-    let lengths = lengths_of(alloc, transitions)?;
-    Ok(TransitionLines {
-        repeated,
-        lengths: lengths.first,
-        clash: lengths.clash,
-    })
+    Ok(clash)
 }

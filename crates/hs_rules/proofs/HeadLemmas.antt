@@ -5,7 +5,7 @@ use Rattle.std.proofs.lemmas.List.Elements.{All-take, Contains-append_left, Cont
 use Rattle.hs_scheme.specs.declared.flow.FlowPair.{FlowPair}
 use Rattle.hs_scheme.proofs.Lists.{none_in}
 use Rattle.hs_table.specs.declared.support.HeadBy.{HeadBy}
-use Rattle.hs_table.specs.Types.{TypeTree, arrows, arrow, state}
+use Rattle.hs_table.specs.Types.{TypeTree, arrows, arrow}
 use Rattle.hs_table.specs.Entries.{Env, EntryData}
 use Rattle.hs_table_laws.proofs.Places.{within_from}
 use Rattle.hs_table_laws.proofs.Members.{taken_next, pushed_cases}

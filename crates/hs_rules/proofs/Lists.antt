@@ -1,6 +1,6 @@
 -- Members of lists.
-use Rattle.std.proofs.Common.{Bool, true, false, cond, filter, ◌≡◌, refl, sym, ◌∙◌, ap, subst, ℕ, ◌+◌, ◌<◌, List, [], ◌∷◌, length, get_or, take, Option, Some, None, MatchOption, Result, Ok, Err, OnOk, All, Contains, ◌⊎◌, inl, inr}
-use Rattle.std.proofs.lemmas.List.Elements.{Contains-append_cases, Contains-get_or}
+use Rattle.std.proofs.Common.{Bool, true, false, cond, filter, ◌≡◌, refl, sym, ◌∙◌, ap, subst, ℕ, ◌+◌, ◌<◌, List, [], ◌∷◌, ◌++◌, length, get_or, take, Option, Some, None, MatchOption, Result, Ok, Err, OnOk, All, Contains, ◌⊎◌, inl, inr}
+use Rattle.std.proofs.lemmas.List.Elements.{Contains-append_cases, Contains-append_left, Contains-get_or}
 use Rattle.std.proofs.lemmas.List.{get_or_default}
 use Rattle.hs_scheme.proofs.Lists.{none_in, here, later, uncons}
 use Rattle.hs_table_laws.proofs.Members.{taken_next}
@@ -64,3 +64,16 @@ into_filter test (y ∷ xs) x c h = elim (test y) as (λ b. test y ≡ b → Con
 pub on_ok_both : {X E : Type 0} (r : Result X E) (P Q R : Type 0) → (P → Q → R) → OnOk r P → OnOk r Q → OnOk r R
 on_ok_both (Ok x) P Q R f h k = f h k
 on_ok_both (Err e) P Q R f h k = tt
+
+-- one more item where room was made before
+pub push_later : {X : Type 0} (old mid new : List X) (x : X) → mid ≡ old → new ≡ mid ++ x ∷ [] → new ≡ old ++ x ∷ []
+push_later old mid new x same is = is ∙ ap (λ xs. xs ++ x ∷ []) same
+
+pub pushed_keeps : {X : Type 0} (old new : List X) (x : X) → new ≡ old ++ x ∷ [] → (y : X) → Contains old y → Contains new y
+pushed_keeps old new x is y there = subst (λ zs. Contains zs y) (sym is) (Contains-append_left old (x ∷ []) y there)
+
+pub pushed_only : {X : Type 0} (old new : List X) (x : X) → new ≡ old ++ x ∷ [] → (y : X) → Contains new y → Contains old y ⊎ (y ≡ x)
+pushed_only old new x is y there = elim (Contains-append_cases old (x ∷ []) y (subst (λ zs. Contains zs y) is there)) [
+  | inl was ↦ inl was
+  | inr last ↦ inr (elim (uncons x y [] last) [ inl e ↦ e | inr nowhere ↦ absurd (none_in y nowhere) ])
+]

@@ -276,18 +276,6 @@ module _ (p : ProblemData) (log : List EntryData) (limit rule : ℕ) (args : Lis
         let h : LacksTransition p a q t = record { moves = s.moves; is = j.2 } in
         (subst (λ (b : HeadBy). IsHeadType p E rule (Tm a) b t) (sym j.0) (lt, h), subst (λ (e : Env). IsOwn n (Tm a) t e) (sym j.1) (own_terminal n a t))
 
-    -- no type of a terminal comes from a place
-    pub terminals_from_place : (place : ℕ) → heads ≡ [] → AreHeads p E at_terminal ids (ComesFrom place) heads
-    terminals_from_place place none = record {
-      sound = λ h c. absurd (none_in h (subst (λ (hs : List HeadData). Contains hs h) none c));
-      all = all;
-    }
-      where
-        all : (by : HeadBy) (sets : Env) (rest : TypeTree) → length sets ≡ length args → IsHeadType p E rule (Tm a) by (arrows sets rest) → ComesFrom place by sets → HasType ids (length args) sets rest heads
-        all (Terminal q child) sets rest long h want = absurd (cc)
-        all (Rule k) sets rest long h want = absurd h
-        all (Param y k) sets rest long h want = absurd h
-
     -- the types that ask for a state at a child
     module _ (arg : ℕ) (arg_lt : arg < length args) where
       -- what the set of a terminal's child asks for

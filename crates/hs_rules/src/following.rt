@@ -1,10 +1,9 @@
 //! What follows at a point.
 
-ghost use Rattle.std.specs.Prelude.{◌≡◌, ◌+◌, ◌^◌, ◌<◌, ◌≤◌, [], ℕ, length, slice_get, take, Some, All, IfOk};
+ghost use Rattle.std.specs.Prelude.{◌≡◌, ◌+◌, ◌^◌, ◌<◌, [], ℕ, length, slice_get, take, Some, All, IfOk};
 ghost use Rattle.hs_scheme.specs.Points.{point_at};
 ghost use Rattle.hs_table.specs.Entries.{InShape};
 ghost use Rattle.hs_types.specs.Interned.{Grows};
-ghost use Rattle.hs_replica.specs.Replica.{KeepsLog};
 ghost use Rattle.hs_rules.specs.Conclusions.{AnySupport, Uses, AreConclusions};
 ghost use Rattle.hs_rules.specs.Parts.{IsInRule};
 

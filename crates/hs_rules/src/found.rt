@@ -10,8 +10,8 @@ ghost use Rattle.hs_rules.specs.Joins.{PartialData};
 ghost use Rattle.hs_rules.specs.Found.{HeadData, seek, HasKnownNumbers, HaveEnvs, RowsAre, IsRowOf, HasRow, HeadLeadsTo, IsConclusion, HasEnvFound};
 
 use crate::deduced::Deduced;
-use crate::joining::{FEW, Partial, joined};
-use crate::search::{Search, fill};
+use crate::joining::{FEW, Partial, PartialList, joined};
+use crate::search::{Search, Slots, fill};
 use hs_replica::Replica;
 use hs_scheme::OutOfMemory;
 use hs_table::HeadBy;
@@ -128,8 +128,9 @@ fn add(
         return Ok(());
     }
     keep(&mut found.rows, found.list.len(), key)?;
+    found.list.reserve(1)?;
     let args = args.to_vec(alloc)?;
-    found.list.push(Deduced { row, head, args })?;
+    found.list.push_reserved(Deduced { row, head, args });
     Ok(())
 }
 
@@ -164,12 +165,15 @@ fn add_all(
     Ok(())
 }
 
-/// Adds what one type of the head leads to.
+/// Adds what one type of the head leads to. Its slots and their environments are listed in the two lists,
+/// whatever was there.
 fn conclude(
     alloc: Global,
     replica: &mut Replica,
     search: &Search,
     head: &HeadType,
+    slots: &mut Slots,
+    partials: &mut PartialList,
     found: &mut Found,
 ) -> Result<(), OutOfMemory>
     requires search { CanSearch replica.old search.now.args.now search.now.limit search.now.fixed }
@@ -188,11 +192,17 @@ fn conclude(
         HasEnvFound replica.new.ids (seek search.now) head.now env found.new.list.items) }
     ensures kept { KeepsLog replica.old replica.new }
 {
-    let Some(slots) = fill(alloc, replica, search, head.sets.as_slice())? else {
+    slots.clear();
+    partials.clear();
+    let sets = head.sets.as_slice();
+    let complete = fill(alloc, replica, search, sets, slots)?;
+    if !complete {
         return Ok(());
-    };
-    let partials = joined(alloc, replica, head.own, slots.as_slice())?;
-    add_all(alloc, found, search.point, head, partials.as_slice())
+    }
+    let filled = slots.as_slice();
+    joined(alloc, replica, head.own, filled, partials)?;
+    let joins = partials.as_slice();
+    add_all(alloc, found, search.point, head, joins)
 }
 
 /// Adds what these types of the head lead to.
@@ -222,8 +232,18 @@ pub(crate) fn conclude_all(
         HasEnvFound replica.new.ids (seek search.now) h env found.new.list.items) }
     ensures kept { KeepsLog replica.old replica.new }
 {
+    let mut slots = SmallVec::new(alloc);
+    let mut partials = SmallVec::new(alloc);
     for head in heads {
-        conclude(alloc, replica, search, head, found)?;
+        conclude(
+            alloc,
+            replica,
+            search,
+            head,
+            &mut slots,
+            &mut partials,
+            found,
+        )?;
     }
     Ok(())
 }

@@ -19,6 +19,7 @@ use crate::sources::{heads_all, heads_asking, heads_at, heads_nothing};
 use crate::spot::Spot;
 use hs_replica::Replica;
 use hs_scheme::{Head, OutOfMemory, Points};
+use smallvec::SmallVec;
 use std::alloc::Global;
 
 /// The place at which one point is an argument of another, where it is one.
@@ -75,7 +76,8 @@ fn add_by_argument(
         limit: search.limit,
         fixed: Some(Fixed { arg, place }),
     };
-    let heads = heads_asking(alloc, spot, replica, &search, head, arg, row.ty)?;
+    let mut heads = SmallVec::new(alloc);
+    heads_asking(alloc, spot, replica, &search, head, arg, row.ty, &mut heads)?;
     replica.interner().numbers_are_exact();
     conclude_all(alloc, replica, &search, heads.as_slice(), found)
 }
@@ -140,7 +142,8 @@ fn add_from_head(
         (λ s. head_premise s.head ≡ place ∷ []) found.new.list.items) }
     ensures kept { KeepsLog replica.old replica.new }
 {
-    let heads = heads_at(alloc, spot, replica, search, head, place)?;
+    let mut heads = SmallVec::new(alloc);
+    heads_at(alloc, spot, replica, search, head, place, &mut heads)?;
     conclude_all(alloc, replica, search, heads.as_slice(), found)
 }
 
@@ -243,7 +246,8 @@ pub(crate) fn add_all(
         (take search.now.limit replica.old.log) search.now.point AnySupport found.new.list.items) }
     ensures kept { KeepsLog replica.old replica.new }
 {
-    let heads = heads_all(alloc, spot, replica, search, head)?;
+    let mut heads = SmallVec::new(alloc);
+    heads_all(alloc, spot, replica, search, head, &mut heads)?;
     conclude_all(alloc, replica, search, heads.as_slice(), found)
 }
 
@@ -276,6 +280,7 @@ pub(crate) fn add_seeds(
         limit: 0,
         fixed: None,
     };
-    let heads = heads_nothing(alloc, spot, replica, args, head)?;
+    let mut heads = SmallVec::new(alloc);
+    heads_nothing(alloc, spot, replica, args, head, &mut heads)?;
     conclude_all(alloc, replica, &search, heads.as_slice(), found)
 }

@@ -1,10 +1,9 @@
 //! The types of a head, in numbers.
 
-ghost use Rattle.std.specs.Prelude.{◌≡◌, ◌≤◌, ◌<◌, ◌∷◌, [], ℕ, All, Contains, IfOk, MatchOption, OnOk, drop, length, map, replicate, slice_index, slice_set};
-ghost use Rattle.hs_table.specs.declared.support.HeadBy.TheVariants.{Terminal};
+ghost use Rattle.std.specs.Prelude.{◌≡◌, ◌≤◌, ◌<◌, All, IfOk, MatchOption, OnOk, drop, length, map};
 ghost use Rattle.hs_table.specs.Types as types;
 ghost use Rattle.hs_table.specs.Types.{TypeTree};
-ghost use Rattle.hs_table.specs.Entries.{Env, EntryData};
+ghost use Rattle.hs_table.specs.Entries.{Env};
 ghost use Rattle.hs_types.specs.Interned.{type_of_id, set_of_id, env_of_id};
 ghost use Rattle.hs_replica.specs.Places.{IsState};
 ghost use Rattle.hs_replica.specs.Replica.{KeepsLog};
@@ -95,13 +94,14 @@ pub(crate) fn push_given(
         return Ok(());
     }
     let rest = rest_of(replica, full, count, ty)?;
+    out.reserve(1)?;
     let sets = SmallVec::from_slice(alloc, &full[..count])?;
-    out.push(HeadType {
+    out.push_reserved(HeadType {
         by,
         own,
         sets,
         rest,
-    })?;
+    });
     Ok(())
 }
 
@@ -177,16 +177,17 @@ fn push_param(
     ensures kept { KeepsLog replica.old replica.new }
 {
     let row = replica.row(place);
+    out.reserve(1)?;
     let Some((sets, rest)) = split(alloc, replica.interner(), row.ty, count)? else {
         return Ok(());
     };
     let own = replica.single_env(params, x, row.ty)?;
-    out.push(HeadType {
+    out.push_reserved(HeadType {
         by: HeadBy::Param { param: x, place },
         own,
         sets,
         rest,
-    })?;
+    });
     Ok(())
 }
 

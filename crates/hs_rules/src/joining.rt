@@ -1,11 +1,11 @@
 //! Environments joined slot by slot.
 
-ghost use Rattle.std.specs.Prelude.{◌≡◌, ◌<◌, ◌++◌, ◌∷◌, ◌⊎◌, [], ℕ, List, length, Contains, IfOk, IfSome, OnOk};
+ghost use Rattle.std.specs.Prelude.{◌≡◌, ◌<◌, ◌++◌, ◌∷◌, ◌⊎◌, [], ℕ, length, Contains, IfOk, IfSome, OnOk};
 ghost use Rattle.hs_table.specs.Entries.{EntryData, IsEnv};
 ghost use Rattle.hs_types.specs.Interned.{env_of_id};
 ghost use Rattle.hs_replica.specs.Replica.{KeepsLog};
 ghost use Rattle.hs_rules.specs.Slots.{FilledData};
-ghost use Rattle.std.specs.Bool.{OnTrue};
+ghost use Rattle.std.specs.Bool.{OnFalse, OnTrue};
 ghost use Rattle.hs_rules.specs.Joins.{PartialData, FillsBy, ArePlaced, SeenAre, IsMade, IsMadeOf, IsCovered, CanFill, AreJoined};
 
 use crate::search::Filled;
@@ -18,12 +18,16 @@ use std::alloc::Global;
 use std::default::MadeWith;
 use std::marker::Model;
 
+/// For some slots the number of the argument with the place of the entry that fills it. Four of them lie in
+/// the value itself.
+type Chosen = SmallVec<(u32, u32), 4>;
+
 /// An environment that some slots lead to, and for each of these slots the number of its argument
 /// with the place of the entry that fills it.
 #[derive(Drop)]
 pub(crate) struct Partial {
     pub(crate) env: EnvId,
-    pub(crate) args: SmallVec<(u32, u32), 4>,
+    pub(crate) args: Chosen,
 }
 
 impl Model for Partial {
@@ -113,9 +117,10 @@ fn add(
         return Ok(());
     }
     keep(&mut out.seen, out.list.len(), env)?;
+    out.list.reserve(1)?;
     let mut args = SmallVec::from_slice(alloc, from)?;
     args.push((arg, place))?;
-    out.list.push(Partial { env, args })?;
+    out.list.push_reserved(Partial { env, args });
     Ok(())
 }
 
@@ -152,49 +157,73 @@ fn extend(
     Ok(())
 }
 
-/// What comes of each environment and each candidate for a slot, each environment once.
-fn extended(
+/// Adds what comes of each environment and each candidate for a slot, each environment once.
+fn extend_all(
     alloc: Global,
     replica: &mut Replica,
     partials: &[Partial],
     slot: &Filled,
-) -> Result<PartialList, OutOfMemory>
-    requires { CanFill replica.old.ids replica.old.log partials.now slot.now }
-    ensures only { IfOk result (λ out. (x : PartialData) → Contains out.items x →
+    out: &mut Partials,
+) -> Result<(), OutOfMemory>
+    requires can { CanFill replica.old.ids replica.old.log partials.now slot.now }
+    requires none { out.old.list.items ≡ [] }
+    requires unseen { out.old.seen.keys ≡ [] }
+    ensures only { OnOk result ((x : PartialData) → Contains out.new.list.items x →
         IsMadeOf replica.old.ids replica.new.ids replica.old.log partials.now slot.now x) }
-    ensures all { IfOk result (λ out. (from : PartialData) → Contains partials.now from →
+    ensures all { OnOk result ((from : PartialData) → Contains partials.now from →
         (place : ℕ) (e : EntryData) → FillsBy replica.old.log slot.now place e →
-        IsCovered replica.old.ids replica.new.ids from e out.items) }
+        IsCovered replica.old.ids replica.new.ids from e out.new.list.items) }
+    ensures kept { KeepsLog replica.old replica.new }
+{
+    for partial in partials {
+        extend(alloc, replica, partial, slot, out)?;
+    }
+    Ok(())
+}
+
+/// Puts what comes of each environment and each candidate for a slot in the place of the environments.
+fn extended(
+    alloc: Global,
+    replica: &mut Replica,
+    slot: &Filled,
+    partials: &mut PartialList,
+) -> Result<(), OutOfMemory>
+    requires { CanFill replica.old.ids replica.old.log partials.old.items slot.now }
+    ensures only { OnOk result ((x : PartialData) → Contains partials.new.items x →
+        IsMadeOf replica.old.ids replica.new.ids replica.old.log partials.old.items slot.now x) }
+    ensures all { OnOk result ((from : PartialData) → Contains partials.old.items from →
+        (place : ℕ) (e : EntryData) → FillsBy replica.old.log slot.now place e →
+        IsCovered replica.old.ids replica.new.ids from e partials.new.items) }
     ensures kept { KeepsLog replica.old replica.new }
 {
     let mut out = Partials {
         list: SmallVec::new(alloc),
         seen: IndexSet::new(alloc),
     };
-    for partial in partials {
-        extend(alloc, replica, partial, slot, &mut out)?;
-    }
-    Ok(out.list)
+    extend_all(alloc, replica, partials.as_slice(), slot, &mut out)?;
+    *partials = out.list;
+    Ok(())
 }
 
-/// The environment that the slots lead to where each has just one candidate, as most have: then no
-/// lists are kept. `None` where a slot has more or none.
-fn joined_only(
-    alloc: Global,
+/// The environment that the slots lead to where each has just one candidate, with the choice of these added
+/// to a list. `None` where a slot has more or none.
+fn only_env(
     replica: &mut Replica,
     own: EnvId,
     slots: &[Filled],
-) -> Result<Option<Partial>, OutOfMemory>
+    args: &mut Chosen,
+) -> Result<Option<EnvId>, OutOfMemory>
     requires own { own < length replica.old.ids.envs }
     requires is_env { IsEnv (length (env_of_id replica.old.ids own)) (env_of_id replica.old.ids own) }
     requires placed { (f : FilledData) → Contains slots.now f
         → ArePlaced replica.old.log (length (env_of_id replica.old.ids own)) f }
-    ensures joined { IfOk result (λ only. IfSome only (λ x. AreJoined replica.new.ids replica.old.log
-        (length (env_of_id replica.old.ids own)) (env_of_id replica.old.ids own) slots.now (x ∷ []))) }
+    requires none { args.old.items ≡ [] }
+    ensures joined { IfOk result (λ only. IfSome only (λ env. AreJoined replica.new.ids replica.old.log
+        (length (env_of_id replica.old.ids own)) (env_of_id replica.old.ids own) slots.now
+        (record { env = env; args = args.new.items } ∷ []))) }
     ensures kept { KeepsLog replica.old replica.new }
 {
     let mut env = own;
-    let mut args = SmallVec::new(alloc);
     for slot in slots {
         let places = slot.places.as_slice();
         if places.len() != 1 {
@@ -204,10 +233,38 @@ fn joined_only(
         env = replica.union_envs(env, candidate)?;
         args.push((slot.arg, places[0]))?;
     }
-    Ok(Some(Partial { env, args }))
+    Ok(Some(env))
 }
 
-/// The environments that the slots lead to from the head's own, each once, with one choice of
+/// Adds the environment that the slots lead to where each has just one candidate, as most have, and answers
+/// whether it is so.
+fn joined_only(
+    alloc: Global,
+    replica: &mut Replica,
+    own: EnvId,
+    slots: &[Filled],
+    out: &mut PartialList,
+) -> Result<bool, OutOfMemory>
+    requires own { own < length replica.old.ids.envs }
+    requires is_env { IsEnv (length (env_of_id replica.old.ids own)) (env_of_id replica.old.ids own) }
+    requires placed { (f : FilledData) → Contains slots.now f
+        → ArePlaced replica.old.log (length (env_of_id replica.old.ids own)) f }
+    requires none { out.old.items ≡ [] }
+    ensures joined { IfOk result (λ one. OnTrue one (AreJoined replica.new.ids replica.old.log
+        (length (env_of_id replica.old.ids own)) (env_of_id replica.old.ids own) slots.now out.new.items)) }
+    ensures none { IfOk result (λ one. OnFalse one (out.new.items ≡ [])) }
+    ensures kept { KeepsLog replica.old replica.new }
+{
+    out.reserve(1)?;
+    let mut args = SmallVec::new(alloc);
+    let Some(env) = only_env(replica, own, slots, &mut args)? else {
+        return Ok(false);
+    };
+    out.push_reserved(Partial { env, args });
+    Ok(true)
+}
+
+/// Adds the environments that the slots lead to from the head's own, each once, with one choice of
 /// candidates for each.
 ///
 /// Slot by slot, so that time is in the number of distinct environments and the candidates, and not
@@ -217,26 +274,28 @@ pub(crate) fn joined(
     replica: &mut Replica,
     own: EnvId,
     slots: &[Filled],
-) -> Result<PartialList, OutOfMemory>
+    out: &mut PartialList,
+) -> Result<(), OutOfMemory>
     requires own { own < length replica.old.ids.envs }
     requires is_env { IsEnv (length (env_of_id replica.old.ids own)) (env_of_id replica.old.ids own) }
     requires placed { (f : FilledData) → Contains slots.now f
         → ArePlaced replica.old.log (length (env_of_id replica.old.ids own)) f }
-    ensures joined { IfOk result (λ out. AreJoined replica.new.ids replica.old.log
-        (length (env_of_id replica.old.ids own)) (env_of_id replica.old.ids own) slots.now out.items) }
+    requires none { out.old.items ≡ [] }
+    ensures joined { OnOk result (AreJoined replica.new.ids replica.old.log
+        (length (env_of_id replica.old.ids own)) (env_of_id replica.old.ids own) slots.now out.new.items) }
     ensures kept { KeepsLog replica.old replica.new }
 {
-    let mut partials: PartialList = SmallVec::new(alloc);
-    if let Some(only) = joined_only(alloc, replica, own, slots)? {
-        partials.push(only)?;
-        return Ok(partials);
+    let alone = joined_only(alloc, replica, own, slots, out)?;
+    if alone {
+        return Ok(());
     }
-    partials.push(Partial {
+    out.reserve(1)?;
+    out.push_reserved(Partial {
         env: own,
         args: SmallVec::new(alloc),
-    })?;
+    });
     for slot in slots {
-        partials = extended(alloc, replica, partials.as_slice(), slot)?;
+        extended(alloc, replica, slot, out)?;
     }
-    Ok(partials)
+    Ok(())
 }

@@ -1,6 +1,6 @@
 //! The types of a nonterminal at a point's head, as they are wanted.
 
-ghost use Rattle.std.specs.Prelude.{◌<◌, IfOk, length, take};
+ghost use Rattle.std.specs.Prelude.{◌≡◌, ◌<◌, [], IfOk, OnOk, length, take};
 ghost use Rattle.std.specs.Bool.{OnFalse};
 ghost use Rattle.hs_scheme.specs.declared.term.Head.TheVariants.{Nt};
 ghost use Rattle.hs_types.specs.Interned.{type_of_id};
@@ -16,10 +16,9 @@ use crate::spot::Spot;
 use hs_replica::Replica;
 use hs_scheme::OutOfMemory;
 use hs_types::TyId;
-use smallvec::SmallVec;
 use std::alloc::Global;
 
-/// The types of a nonterminal at the head that ask for the type at the argument.
+/// Adds the types of a nonterminal at the head that ask for the type at the argument.
 pub(crate) fn nonterminal_asking(
     alloc: Global,
     spot: &Spot,
@@ -28,17 +27,19 @@ pub(crate) fn nonterminal_asking(
     nonterminal: u32,
     arg: u32,
     ty: TyId,
-) -> Result<HeadTypes, OutOfMemory>
+    out: &mut HeadTypes,
+) -> Result<(), OutOfMemory>
     requires search { CanSearch replica.old search.now.args.now search.now.limit search.now.fixed }
     requires spot { IsParameterSpot spot.now.problem.now spot.now.rule spot.now.params
         (take search.now.limit replica.old.log) }
     requires head { nonterminal < length spot.now.problem.now.points.bodies }
     requires arg { arg < length search.now.args.now }
     requires ty { ty < length replica.old.ids.types }
-    ensures heads { IfOk result (λ heads. AreHeads spot.now.problem.now
+    requires none { out.old.items ≡ [] }
+    ensures heads { OnOk result (AreHeads spot.now.problem.now
         (take search.now.limit replica.old.log)
         (record { rule = spot.now.rule; head = Nt nonterminal; args = search.now.args.now })
-        replica.new.ids (Asks arg (type_of_id replica.old.ids ty)) heads.items) }
+        replica.new.ids (Asks arg (type_of_id replica.old.ids ty)) out.new.items) }
     ensures kept { KeepsLog replica.old replica.new }
 {
     let problem = spot.problem;
@@ -46,9 +47,7 @@ pub(crate) fn nonterminal_asking(
     let asked = replica.asking(body, arg, ty)?;
     let places = begin_below(asked.as_slice(), search.limit);
     let own = replica.empty_env(spot.params as usize)?;
-    let mut out = SmallVec::new(alloc);
-    push_bodies(alloc, replica, places, own, search.args.len(), &mut out)?;
-    Ok(out)
+    push_bodies(alloc, replica, places, own, search.args.len(), out)
 }
 
 /// Whether the entry at the place may lead to something as one at the nonterminal's body: it is
@@ -82,7 +81,7 @@ pub(crate) fn is_body_open(
     Ok(is_open(replica, search, &sets[..count]))
 }
 
-/// The type of a nonterminal at the head that comes from the place.
+/// Adds the type of a nonterminal at the head that comes from the place.
 pub(crate) fn nonterminal_at(
     alloc: Global,
     spot: &Spot,
@@ -90,59 +89,59 @@ pub(crate) fn nonterminal_at(
     search: &Search,
     nonterminal: u32,
     place: u32,
-) -> Result<HeadTypes, OutOfMemory>
+    out: &mut HeadTypes,
+) -> Result<(), OutOfMemory>
     requires search { CanSearch replica.old search.now.args.now search.now.limit search.now.fixed }
     requires spot { IsParameterSpot spot.now.problem.now spot.now.rule spot.now.params
         (take search.now.limit replica.old.log) }
     requires head { nonterminal < length spot.now.problem.now.points.bodies }
     requires place { place < search.now.limit }
-    ensures heads { IfOk result (λ heads. AreHeads spot.now.problem.now
+    requires none { out.old.items ≡ [] }
+    ensures heads { OnOk result (AreHeads spot.now.problem.now
         (take search.now.limit replica.old.log)
         (record { rule = spot.now.rule; head = Nt nonterminal; args = search.now.args.now })
-        replica.new.ids (ComesFrom place) heads.items) }
+        replica.new.ids (ComesFrom place) out.new.items) }
     ensures kept { KeepsLog replica.old replica.new }
 {
     let problem = spot.problem;
     let body = problem.points.body_of(nonterminal);
     if replica.row(place).point != body {
-        return Ok(SmallVec::new(alloc));
+        return Ok(());
     }
     let own = replica.empty_env(spot.params as usize)?;
-    let mut out = SmallVec::new(alloc);
-    push_bodies(alloc, replica, &[place], own, search.args.len(), &mut out)?;
-    Ok(out)
+    push_bodies(alloc, replica, &[place], own, search.args.len(), out)
 }
 
-/// All types of a nonterminal at the head.
+/// Adds all types of a nonterminal at the head.
 pub(crate) fn nonterminal_all(
     alloc: Global,
     spot: &Spot,
     replica: &mut Replica,
     search: &Search,
     nonterminal: u32,
-) -> Result<HeadTypes, OutOfMemory>
+    out: &mut HeadTypes,
+) -> Result<(), OutOfMemory>
     requires search { CanSearch replica.old search.now.args.now search.now.limit search.now.fixed }
     requires spot { IsParameterSpot spot.now.problem.now spot.now.rule spot.now.params
         (take search.now.limit replica.old.log) }
     requires head { nonterminal < length spot.now.problem.now.points.bodies }
-    ensures heads { IfOk result (λ heads. AreHeads spot.now.problem.now
+    requires none { out.old.items ≡ [] }
+    ensures heads { OnOk result (AreHeads spot.now.problem.now
         (take search.now.limit replica.old.log)
         (record { rule = spot.now.rule; head = Nt nonterminal; args = search.now.args.now })
-        replica.new.ids AnyHead heads.items) }
+        replica.new.ids AnyHead out.new.items) }
     ensures kept { KeepsLog replica.old replica.new }
 {
     let problem = spot.problem;
     let own = replica.empty_env(spot.params as usize)?;
     let body = problem.points.body_of(nonterminal);
     let places = below(alloc, replica.at_point(body), search.limit)?;
-    let mut out = SmallVec::new(alloc);
     push_bodies(
         alloc,
         replica,
         places.as_slice(),
         own,
         search.args.len(),
-        &mut out,
-    )?;
-    Ok(out)
+        out,
+    )
 }

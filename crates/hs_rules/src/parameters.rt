@@ -1,6 +1,6 @@
 //! The types of a parameter at a point's head, as they are wanted.
 
-ghost use Rattle.std.specs.Prelude.{◌<◌, IfOk, OnOk, length, take};
+ghost use Rattle.std.specs.Prelude.{◌≡◌, ◌<◌, [], OnOk, length, take};
 ghost use Rattle.hs_scheme.specs.declared.term.Head.TheVariants.{Var};
 ghost use Rattle.hs_types.specs.Interned.{type_of_id};
 ghost use Rattle.hs_replica.specs.Places.{here, takes};
@@ -15,7 +15,6 @@ use crate::spot::Spot;
 use hs_replica::Replica;
 use hs_scheme::{FlowPair, OutOfMemory};
 use hs_types::TyId;
-use smallvec::SmallVec;
 use std::alloc::Global;
 
 /// Adds the types of parameter x of `params` that take an argument of the type, from the points of
@@ -86,7 +85,7 @@ fn push_flowing(
     Ok(())
 }
 
-/// The types of parameter x at the head that ask for the type at the argument.
+/// Adds the types of parameter x at the head that ask for the type at the argument.
 pub(crate) fn parameter_asking(
     alloc: Global,
     spot: &Spot,
@@ -95,22 +94,23 @@ pub(crate) fn parameter_asking(
     x: u32,
     arg: u32,
     ty: TyId,
-) -> Result<HeadTypes, OutOfMemory>
+    out: &mut HeadTypes,
+) -> Result<(), OutOfMemory>
     requires search { CanSearch replica.old search.now.args.now search.now.limit search.now.fixed }
     requires spot { IsParameterSpot spot.now.problem.now spot.now.rule spot.now.params
         (take search.now.limit replica.old.log) }
     requires head { x < spot.now.params }
     requires arg { arg < length search.now.args.now }
     requires ty { ty < length replica.old.ids.types }
-    ensures heads { IfOk result (λ heads. AreHeads spot.now.problem.now
+    requires none { out.old.items ≡ [] }
+    ensures heads { OnOk result (AreHeads spot.now.problem.now
         (take search.now.limit replica.old.log)
         (record { rule = spot.now.rule; head = Var x; args = search.now.args.now })
-        replica.new.ids (Asks arg (type_of_id replica.old.ids ty)) heads.items) }
+        replica.new.ids (Asks arg (type_of_id replica.old.ids ty)) out.new.items) }
     ensures kept { KeepsLog replica.old replica.new }
 {
     let problem = spot.problem;
     let pairs = problem.flow.flow_of(spot.rule, x);
-    let mut out = SmallVec::new(alloc);
     push_taking(
         alloc,
         replica,
@@ -120,12 +120,11 @@ pub(crate) fn parameter_asking(
         x,
         arg,
         ty,
-        &mut out,
-    )?;
-    Ok(out)
+        out,
+    )
 }
 
-/// The type of parameter x at the head that comes from the place.
+/// Adds the type of parameter x at the head that comes from the place.
 pub(crate) fn parameter_at(
     alloc: Global,
     spot: &Spot,
@@ -133,24 +132,25 @@ pub(crate) fn parameter_at(
     search: &Search,
     x: u32,
     place: u32,
-) -> Result<HeadTypes, OutOfMemory>
+    out: &mut HeadTypes,
+) -> Result<(), OutOfMemory>
     requires search { CanSearch replica.old search.now.args.now search.now.limit search.now.fixed }
     requires spot { IsParameterSpot spot.now.problem.now spot.now.rule spot.now.params
         (take search.now.limit replica.old.log) }
     requires head { x < spot.now.params }
     requires place { place < search.now.limit }
-    ensures heads { IfOk result (λ heads. AreHeads spot.now.problem.now
+    requires none { out.old.items ≡ [] }
+    ensures heads { OnOk result (AreHeads spot.now.problem.now
         (take search.now.limit replica.old.log)
         (record { rule = spot.now.rule; head = Var x; args = search.now.args.now })
-        replica.new.ids (ComesFrom place) heads.items) }
+        replica.new.ids (ComesFrom place) out.new.items) }
     ensures kept { KeepsLog replica.old replica.new }
 {
     let problem = spot.problem;
     let row = replica.row(place);
     if !problem.flow.holds(spot.rule, x, row.point) {
-        return Ok(SmallVec::new(alloc));
+        return Ok(());
     }
-    let mut out = SmallVec::new(alloc);
     push_params(
         alloc,
         replica,
@@ -158,40 +158,31 @@ pub(crate) fn parameter_at(
         spot.params as usize,
         x,
         search.args.len(),
-        &mut out,
-    )?;
-    Ok(out)
+        out,
+    )
 }
 
-/// All types of parameter x at the head.
+/// Adds all types of parameter x at the head.
 pub(crate) fn parameter_all(
     alloc: Global,
     spot: &Spot,
     replica: &mut Replica,
     search: &Search,
     x: u32,
-) -> Result<HeadTypes, OutOfMemory>
+    out: &mut HeadTypes,
+) -> Result<(), OutOfMemory>
     requires search { CanSearch replica.old search.now.args.now search.now.limit search.now.fixed }
     requires spot { IsParameterSpot spot.now.problem.now spot.now.rule spot.now.params
         (take search.now.limit replica.old.log) }
     requires head { x < spot.now.params }
-    ensures heads { IfOk result (λ heads. AreHeads spot.now.problem.now
+    requires none { out.old.items ≡ [] }
+    ensures heads { OnOk result (AreHeads spot.now.problem.now
         (take search.now.limit replica.old.log)
         (record { rule = spot.now.rule; head = Var x; args = search.now.args.now })
-        replica.new.ids AnyHead heads.items) }
+        replica.new.ids AnyHead out.new.items) }
     ensures kept { KeepsLog replica.old replica.new }
 {
     let problem = spot.problem;
     let pairs = problem.flow.flow_of(spot.rule, x);
-    let mut out = SmallVec::new(alloc);
-    push_flowing(
-        alloc,
-        replica,
-        search,
-        pairs,
-        spot.params as usize,
-        x,
-        &mut out,
-    )?;
-    Ok(out)
+    push_flowing(alloc, replica, search, pairs, spot.params as usize, x, out)
 }

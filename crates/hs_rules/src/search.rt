@@ -1,6 +1,6 @@
 //! Where conclusions are sought, and the candidates for the slots there.
 
-ghost use Rattle.std.specs.Prelude.{◌≡◌, ◌<◌, ◌≤◌, ◌↔◌, ℕ, length, map, take, slice_get, Some, All, Contains, IfOk, MatchOption, OnOk};
+ghost use Rattle.std.specs.Prelude.{◌≡◌, ◌<◌, ◌≤◌, ◌↔◌, [], ℕ, length, map, take, slice_get, Some, All, Contains, IfOk, OnOk};
 ghost use Rattle.std.specs.List.Sorted.{IsStrictlyIncreasing};
 ghost use Rattle.hs_table.specs.Entries.{EntryData};
 ghost use Rattle.hs_types.specs.Interned.{type_of_id, set_of_id};
@@ -102,7 +102,7 @@ fn places_for(
     if let Some(fixed) = search.fixed {
         if fixed.arg == arg && replica.row(fixed.place).ty == ty {
             let mut only = SmallVec::new(alloc);
-            only.push(fixed.place)?;
+            only.push_reserved(fixed.place);
             return Ok(only);
         }
     }
@@ -134,11 +134,12 @@ fn fill_set(
     let count = replica.interner().members(set).len();
     for number in 0..count {
         let ty = replica.interner().members(set)[number];
+        out.reserve(1)?;
         let places = places_for(alloc, replica, search, arg, point, ty)?;
         if places.is_empty() {
             return Ok(false);
         }
-        out.push(Filled { arg, places })?;
+        out.push_reserved(Filled { arg, places });
     }
     Ok(true)
 }
@@ -208,33 +209,33 @@ pub(crate) fn is_open(replica: &Replica, search: &Search, sets: &[SetId]) -> boo
     true
 }
 
-/// The slots for these sets, one set for each argument; `None` where one of them has no candidates.
+/// Adds the slots for these sets, one set for each argument, and answers whether each has candidates. It
+/// ends at the first that has none.
 pub(crate) fn fill(
     alloc: Global,
     replica: &mut Replica,
     search: &Search,
     sets: &[SetId],
-) -> Result<Option<Slots>, OutOfMemory>
+    out: &mut Slots,
+) -> Result<bool, OutOfMemory>
     requires search { CanSearch replica.old search.now.args.now search.now.limit search.now.fixed }
     requires sets { All (λ s. s < length replica.old.ids.sets) sets.now }
     requires long { length sets.now ≡ length search.now.args.now }
-    ensures filled { IfOk result (λ slots_or. MatchOption slots_or (AreShut (take search.now.limit replica.old.log)
+    requires none { out.old.items ≡ [] }
+    ensures filled { IfOk result (λ all. OnTrue all (AreFilled (take search.now.limit replica.old.log)
         (fixed_of replica.old.log search.now.fixed)
-        (slots 0 search.now.args.now (map (set_of_id replica.old.ids) sets.now)))
-        (λ out. AreFilled (take search.now.limit replica.old.log)
+        (slots 0 search.now.args.now (map (set_of_id replica.old.ids) sets.now)) out.new.items)) }
+    ensures shut { IfOk result (λ all. OnFalse all (AreShut (take search.now.limit replica.old.log)
         (fixed_of replica.old.log search.now.fixed)
-        (slots 0 search.now.args.now (map (set_of_id replica.old.ids) sets.now)) out.items)) }
+        (slots 0 search.now.args.now (map (set_of_id replica.old.ids) sets.now)))) }
     ensures kept { ListsMore replica.old replica.new }
 {
-    let mut out = SmallVec::new(alloc);
     let args = search.args;
     for (arg, set) in sets.iter().enumerate() {
-        let complete = fill_set(
-            alloc, replica, search, arg as u32, args[arg], *set, &mut out,
-        )?;
+        let complete = fill_set(alloc, replica, search, arg as u32, args[arg], *set, out)?;
         if !complete {
-            return Ok(None);
+            return Ok(false);
         }
     }
-    Ok(Some(out))
+    Ok(true)
 }

@@ -1,6 +1,6 @@
 //! The types of a point's head, as they are wanted.
 
-ghost use Rattle.std.specs.Prelude.{◌≡◌, ◌^◌, ◌<◌, [], IfOk, length, take};
+ghost use Rattle.std.specs.Prelude.{◌≡◌, ◌^◌, ◌<◌, [], OnOk, length, take};
 ghost use Rattle.hs_table.specs.Entries.{params_of};
 ghost use Rattle.hs_types.specs.Interned.{type_of_id};
 ghost use Rattle.hs_replica.specs.Replica.{KeepsLog};
@@ -16,35 +16,36 @@ use crate::terminals::{terminal_all, terminal_asking, terminal_nothing};
 use hs_replica::Replica;
 use hs_scheme::{Head, OutOfMemory};
 use hs_types::TyId;
-use smallvec::SmallVec;
 use std::alloc::Global;
 
-/// The types of the head that there are without entries, and that ask for no argument.
+/// Adds the types of the head that there are without entries, and that ask for no argument.
 pub(crate) fn heads_nothing(
     alloc: Global,
     spot: &Spot,
     replica: &mut Replica,
     args: &[u32],
     head: Head,
-) -> Result<HeadTypes, OutOfMemory>
+    out: &mut HeadTypes,
+) -> Result<(), OutOfMemory>
     requires few { length args.now < 2 ^ 32 }
     requires params { spot.now.params ≡ params_of spot.now.problem.now spot.now.rule }
-    ensures heads { IfOk result (λ heads. AreHeads spot.now.problem.now []
+    requires none { out.old.items ≡ [] }
+    ensures heads { OnOk result (AreHeads spot.now.problem.now []
         (record {
           rule = spot.now.rule;
           head = head;
           args = args.now;
-        }) replica.new.ids AsksNothing heads.items) }
+        }) replica.new.ids AsksNothing out.new.items) }
     ensures kept { KeepsLog replica.old replica.new }
 {
     match head {
-        Head::Tm(terminal) => terminal_nothing(alloc, spot, replica, args, terminal),
-        Head::Nt(_) => Ok(SmallVec::new(alloc)),
-        Head::Var(_) => Ok(SmallVec::new(alloc)),
+        Head::Tm(terminal) => terminal_nothing(alloc, spot, replica, args, terminal, out),
+        Head::Nt(_) => Ok(()),
+        Head::Var(_) => Ok(()),
     }
 }
 
-/// The types of the head that ask for the type at the argument.
+/// Adds the types of the head that ask for the type at the argument.
 pub(crate) fn heads_asking(
     alloc: Global,
     spot: &Spot,
@@ -53,29 +54,33 @@ pub(crate) fn heads_asking(
     head: Head,
     arg: u32,
     ty: TyId,
-) -> Result<HeadTypes, OutOfMemory>
+    out: &mut HeadTypes,
+) -> Result<(), OutOfMemory>
     requires search { CanSearch replica.old search.now.args.now search.now.limit search.now.fixed }
     requires spot { IsParameterSpot spot.now.problem.now spot.now.rule spot.now.params
         (take search.now.limit replica.old.log) }
     requires head { IsHeadWithin spot.now.problem.now spot.now.params head }
     requires arg { arg < length search.now.args.now }
     requires ty { ty < length replica.old.ids.types }
-    ensures heads { IfOk result (λ heads. AreHeads spot.now.problem.now
+    requires none { out.old.items ≡ [] }
+    ensures heads { OnOk result (AreHeads spot.now.problem.now
         (take search.now.limit replica.old.log)
         (record { rule = spot.now.rule; head = head; args = search.now.args.now })
-        replica.new.ids (Asks arg (type_of_id replica.old.ids ty)) heads.items) }
+        replica.new.ids (Asks arg (type_of_id replica.old.ids ty)) out.new.items) }
     ensures kept { KeepsLog replica.old replica.new }
 {
     match head {
-        Head::Tm(terminal) => terminal_asking(alloc, spot, replica, search, terminal, arg, ty),
-        Head::Nt(nonterminal) => {
-            nonterminal_asking(alloc, spot, replica, search, nonterminal, arg, ty)
+        Head::Tm(terminal) => {
+            terminal_asking(alloc, spot, replica, search, terminal, arg, ty, out)
         }
-        Head::Var(x) => parameter_asking(alloc, spot, replica, search, x, arg, ty),
+        Head::Nt(nonterminal) => {
+            nonterminal_asking(alloc, spot, replica, search, nonterminal, arg, ty, out)
+        }
+        Head::Var(x) => parameter_asking(alloc, spot, replica, search, x, arg, ty, out),
     }
 }
 
-/// The type of the head that comes from the place.
+/// Adds the type of the head that comes from the place.
 pub(crate) fn heads_at(
     alloc: Global,
     spot: &Spot,
@@ -83,46 +88,52 @@ pub(crate) fn heads_at(
     search: &Search,
     head: Head,
     place: u32,
-) -> Result<HeadTypes, OutOfMemory>
+    out: &mut HeadTypes,
+) -> Result<(), OutOfMemory>
     requires search { CanSearch replica.old search.now.args.now search.now.limit search.now.fixed }
     requires spot { IsParameterSpot spot.now.problem.now spot.now.rule spot.now.params
         (take search.now.limit replica.old.log) }
     requires head { IsHeadWithin spot.now.problem.now spot.now.params head }
     requires place { place < search.now.limit }
-    ensures heads { IfOk result (λ heads. AreHeads spot.now.problem.now
+    requires none { out.old.items ≡ [] }
+    ensures heads { OnOk result (AreHeads spot.now.problem.now
         (take search.now.limit replica.old.log)
         (record { rule = spot.now.rule; head = head; args = search.now.args.now })
-        replica.new.ids (ComesFrom place) heads.items) }
+        replica.new.ids (ComesFrom place) out.new.items) }
     ensures kept { KeepsLog replica.old replica.new }
 {
     match head {
-        Head::Tm(_) => Ok(SmallVec::new(alloc)),
-        Head::Nt(nonterminal) => nonterminal_at(alloc, spot, replica, search, nonterminal, place),
-        Head::Var(x) => parameter_at(alloc, spot, replica, search, x, place),
+        Head::Tm(_) => Ok(()),
+        Head::Nt(nonterminal) => {
+            nonterminal_at(alloc, spot, replica, search, nonterminal, place, out)
+        }
+        Head::Var(x) => parameter_at(alloc, spot, replica, search, x, place, out),
     }
 }
 
-/// All types of the head.
+/// Adds all types of the head.
 pub(crate) fn heads_all(
     alloc: Global,
     spot: &Spot,
     replica: &mut Replica,
     search: &Search,
     head: Head,
-) -> Result<HeadTypes, OutOfMemory>
+    out: &mut HeadTypes,
+) -> Result<(), OutOfMemory>
     requires search { CanSearch replica.old search.now.args.now search.now.limit search.now.fixed }
     requires spot { IsParameterSpot spot.now.problem.now spot.now.rule spot.now.params
         (take search.now.limit replica.old.log) }
     requires head { IsHeadWithin spot.now.problem.now spot.now.params head }
-    ensures heads { IfOk result (λ heads. AreHeads spot.now.problem.now
+    requires none { out.old.items ≡ [] }
+    ensures heads { OnOk result (AreHeads spot.now.problem.now
         (take search.now.limit replica.old.log)
         (record { rule = spot.now.rule; head = head; args = search.now.args.now })
-        replica.new.ids AnyHead heads.items) }
+        replica.new.ids AnyHead out.new.items) }
     ensures kept { KeepsLog replica.old replica.new }
 {
     match head {
-        Head::Tm(terminal) => terminal_all(alloc, spot, replica, search, terminal),
-        Head::Nt(nonterminal) => nonterminal_all(alloc, spot, replica, search, nonterminal),
-        Head::Var(x) => parameter_all(alloc, spot, replica, search, x),
+        Head::Tm(terminal) => terminal_all(alloc, spot, replica, search, terminal, out),
+        Head::Nt(nonterminal) => nonterminal_all(alloc, spot, replica, search, nonterminal, out),
+        Head::Var(x) => parameter_all(alloc, spot, replica, search, x, out),
     }
 }

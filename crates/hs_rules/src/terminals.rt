@@ -16,7 +16,7 @@ use crate::heads::push_given;
 use crate::search::Search;
 use crate::spot::Spot;
 use hs_replica::Replica;
-use hs_scheme::{Automaton, OutOfMemory, Problem};
+use hs_scheme::{Automaton, OutOfMemory};
 use hs_table::{HeadBy, rank};
 use hs_types::{EnvId, SetId, TyId, View};
 use smallvec::SmallVec;
@@ -277,7 +277,7 @@ fn push_reads(
     push_child(alloc, replica, q, to, place, own, count, out)
 }
 
-/// The types of a terminal at the head that ask for the type at the argument.
+/// Adds the types of a terminal at the head that ask for the type at the argument.
 pub(crate) fn terminal_asking(
     alloc: Global,
     spot: &Spot,
@@ -286,20 +286,22 @@ pub(crate) fn terminal_asking(
     terminal: u32,
     arg: u32,
     ty: TyId,
-) -> Result<HeadTypes, OutOfMemory>
+    out: &mut HeadTypes,
+) -> Result<(), OutOfMemory>
     requires search { CanSearch replica.old search.now.args.now search.now.limit search.now.fixed }
     requires spot { IsParameterSpot spot.now.problem.now spot.now.rule spot.now.params
         (take search.now.limit replica.old.log) }
     requires arg { arg < length search.now.args.now }
     requires ty { ty < length replica.old.ids.types }
-    ensures heads { IfOk result (λ heads. AreHeads spot.now.problem.now
+    requires none { out.old.items ≡ [] }
+    ensures heads { OnOk result (AreHeads spot.now.problem.now
         (take search.now.limit replica.old.log)
         (record { rule = spot.now.rule; head = Tm terminal; args = search.now.args.now })
-        replica.new.ids (Asks arg (type_of_id replica.old.ids ty)) heads.items) }
+        replica.new.ids (Asks arg (type_of_id replica.old.ids ty)) out.new.items) }
     ensures kept { KeepsLog replica.old replica.new }
 {
     let View::State(state) = replica.interner().view(ty) else {
-        return Ok(SmallVec::new(alloc));
+        return Ok(());
     };
     let problem = spot.problem;
     let rank = rank(problem, terminal);
@@ -307,7 +309,6 @@ pub(crate) fn terminal_asking(
     let automaton = &sorted.automaton;
     let own = replica.empty_env(spot.params as usize)?;
     let states = automaton.reading(terminal, arg as usize, state);
-    let mut out = SmallVec::new(alloc);
     push_reading(
         alloc,
         automaton,
@@ -318,26 +319,27 @@ pub(crate) fn terminal_asking(
         states,
         own,
         search.args.len(),
-        &mut out,
-    )?;
-    Ok(out)
+        out,
+    )
 }
 
-/// All types of a terminal at the head.
+/// Adds all types of a terminal at the head.
 pub(crate) fn terminal_all(
     alloc: Global,
     spot: &Spot,
     replica: &mut Replica,
     search: &Search,
     terminal: u32,
-) -> Result<HeadTypes, OutOfMemory>
+    out: &mut HeadTypes,
+) -> Result<(), OutOfMemory>
     requires search { CanSearch replica.old search.now.args.now search.now.limit search.now.fixed }
     requires spot { IsParameterSpot spot.now.problem.now spot.now.rule spot.now.params
         (take search.now.limit replica.old.log) }
-    ensures heads { IfOk result (λ heads. AreHeads spot.now.problem.now
+    requires none { out.old.items ≡ [] }
+    ensures heads { OnOk result (AreHeads spot.now.problem.now
         (take search.now.limit replica.old.log)
         (record { rule = spot.now.rule; head = Tm terminal; args = search.now.args.now })
-        replica.new.ids AnyHead heads.items) }
+        replica.new.ids AnyHead out.new.items) }
     ensures kept { KeepsLog replica.old replica.new }
 {
     let problem = spot.problem;
@@ -345,7 +347,6 @@ pub(crate) fn terminal_all(
     let sorted = &problem.sorted;
     let automaton = &sorted.automaton;
     let own = replica.empty_env(spot.params as usize)?;
-    let mut out = SmallVec::new(alloc);
     push_terminal(
         alloc,
         automaton,
@@ -355,27 +356,28 @@ pub(crate) fn terminal_all(
         0,
         own,
         search.args.len(),
-        &mut out,
-    )?;
-    Ok(out)
+        out,
+    )
 }
 
-/// The types of a terminal at the head that ask for no argument.
+/// Adds the types of a terminal at the head that ask for no argument.
 pub(crate) fn terminal_nothing(
     alloc: Global,
     spot: &Spot,
     replica: &mut Replica,
     args: &[u32],
     terminal: u32,
-) -> Result<HeadTypes, OutOfMemory>
+    out: &mut HeadTypes,
+) -> Result<(), OutOfMemory>
     requires few { length args.now < 2 ^ 32 }
     requires params { spot.now.params ≡ params_of spot.now.problem.now spot.now.rule }
-    ensures heads { IfOk result (λ heads. AreHeads spot.now.problem.now []
+    requires none { out.old.items ≡ [] }
+    ensures heads { OnOk result (AreHeads spot.now.problem.now []
         (record {
           rule = spot.now.rule;
           head = Tm terminal;
           args = args.now;
-        }) replica.new.ids AsksNothing heads.items) }
+        }) replica.new.ids AsksNothing out.new.items) }
     ensures kept { KeepsLog replica.old replica.new }
 {
     let problem = spot.problem;
@@ -383,7 +385,6 @@ pub(crate) fn terminal_nothing(
     let sorted = &problem.sorted;
     let automaton = &sorted.automaton;
     let own = replica.empty_env(spot.params as usize)?;
-    let mut out = SmallVec::new(alloc);
     let from = args.len() as u32;
     push_terminal(
         alloc,
@@ -394,7 +395,6 @@ pub(crate) fn terminal_nothing(
         from,
         own,
         args.len(),
-        &mut out,
-    )?;
-    Ok(out)
+        out,
+    )
 }

@@ -18,7 +18,7 @@ pub fn copied<T: Drop, F: Fn(&T) -> Result<T, OutOfMemory>>(
 {
     let mut copies = Vec::with_capacity(alloc, items.len())?;
     for item in items {
-        copies.push(copy(item)?)?;
+        copies.push_reserved(copy(item)?);
     }
     Ok(copies)
 }

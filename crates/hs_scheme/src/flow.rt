@@ -1,6 +1,6 @@
 //! The result of the flow analysis: which points may stand for which parameters.
 
-ghost use Rattle.std.specs.Prelude.{◌≡◌, ◌↔◌, ℕ, ◌<◌, ◌≤◌, max, ◌&&◌, IsTrue, Contains, IfOk, OnOk, length, filter, nat_eq, slice_index};
+ghost use Rattle.std.specs.Prelude.{◌≡◌, ◌↔◌, ℕ, ◌<◌, ◌≤◌, max, ◌&&◌, IsTrue, Contains, IfOk, length, filter, nat_eq, slice_index, vec_capacity};
 ghost use Rattle.hs_scheme.specs.Flow.{IsAscending, flow_cmp, IsFlowTable};
 ghost use Rattle.hs_scheme.specs.FlowRows.{AreOfParameters, AreStarts};
 
@@ -58,18 +58,20 @@ impl Model for FlowTable {
         × AreStarts a.params a.pairs.items a.starts.items };
 }
 
-/// Adds this place at the end until there are `count` places, where there are fewer.
-fn fill(starts: &mut Vec<usize>, count: usize, place: usize) -> Result<(), OutOfMemory>
-    ensures kept { OnOk result ((k : ℕ) → k < length starts.old.items
-        → slice_index starts.new.items k ≡ slice_index starts.old.items k) }
-    ensures added { OnOk result ((k : ℕ) → length starts.old.items ≤ k → k < length starts.new.items
-        → slice_index starts.new.items k ≡ place) }
-    ensures len { OnOk result (length starts.new.items ≡ max (length starts.old.items) count) }
+/// Adds this place at the end until there are `count` places, where there are fewer. There is room
+/// for so many.
+fn fill(starts: &mut Vec<usize>, count: usize, place: usize)
+    requires { count ≤ vec_capacity starts.old }
+    ensures kept { (k : ℕ) → k < length starts.old.items
+        → slice_index starts.new.items k ≡ slice_index starts.old.items k }
+    ensures added { (k : ℕ) → length starts.old.items ≤ k → k < length starts.new.items
+        → slice_index starts.new.items k ≡ place }
+    ensures len { length starts.new.items ≡ max (length starts.old.items) count }
+    ensures room { vec_capacity starts.new ≡ vec_capacity starts.old }
 {
     while starts.len() < count {
-        starts.push(place)?;
+        starts.push_reserved(place);
     }
-    Ok(())
 }
 
 /// Where the pairs of each parameter start, by its number, and then where all end.
@@ -86,9 +88,9 @@ fn starts_of(
     let mut starts = Vec::with_capacity(alloc, count)?;
     for (place, pair) in pairs.iter().enumerate() {
         let number = params.number(pair.rule, pair.param).unwrap();
-        fill(&mut starts, number as usize + 1, place)?;
+        fill(&mut starts, number as usize + 1, place);
     }
-    fill(&mut starts, count, pairs.len())?;
+    fill(&mut starts, count, pairs.len());
     Ok(starts)
 }
 

@@ -40,11 +40,11 @@ impl Parameters {
         let mut firsts = Vec::with_capacity(alloc, rules.len() + 1)?;
         let mut total = 0;
         for rule in rules {
-            counts.push(rule.params)?;
-            firsts.push(total)?;
+            counts.push_reserved(rule.params);
+            firsts.push_reserved(total);
             total += rule.params;
         }
-        firsts.push(total)?;
+        firsts.push_reserved(total);
         Ok(Parameters { counts, firsts })
     }
 

@@ -182,14 +182,14 @@ impl Points {
         ensures many { IsErrOf result TooMany → 500000 < length (points_of scheme.now.rules).points }
     {
         let params = Parameters::of(alloc, scheme.rules.as_slice())?;
+        let mut bodies = Vec::with_capacity(alloc, scheme.rules.len())?;
         let mut rows = Rows {
             points: Vec::new(alloc),
             args: Vec::new(alloc),
         };
         let mut pending = Vec::new(alloc);
-        let mut bodies = Vec::with_capacity(alloc, scheme.rules.len())?;
         for (number, rule) in scheme.rules.iter().enumerate() {
-            bodies.push(rows.points.len() as u32)?;
+            bodies.push_reserved(rows.points.len() as u32);
             add_term(&mut rows, &mut pending, number as u32, None, &rule.body)?;
         }
         Ok(Points {

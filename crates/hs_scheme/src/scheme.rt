@@ -79,7 +79,7 @@ impl Names {
     {
         let mut params = Vec::with_capacity(alloc, self.params.len())?;
         for names in &self.params {
-            params.push(Name::copy_all(alloc, names.as_slice())?)?;
+            params.push_reserved(Name::copy_all(alloc, names.as_slice())?);
         }
         Ok(Names {
             rules: Name::copy_all(alloc, self.rules.as_slice())?,

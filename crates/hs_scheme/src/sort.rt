@@ -42,7 +42,7 @@ impl Sort {
     {
         let mut args = Vec::with_capacity(alloc, self.args.len())?;
         for arg in &self.args {
-            args.push(arg.copy(alloc)?)?;
+            args.push_reserved(arg.copy(alloc)?);
         }
         Ok(Sort { args })
     }

@@ -52,8 +52,8 @@ impl Sorted {
         let sorts = copied(alloc, self.sorts.as_slice(), |sort| sort.copy(alloc))?;
         Ok(Sorted {
             scheme: self.scheme.copy(alloc)?,
-            automaton: self.automaton.copy(alloc)?,
             names: self.names.copy(alloc)?,
+            automaton: self.automaton.copy(alloc)?,
             sorts,
         })
     }

@@ -51,7 +51,7 @@ impl Term {
     {
         let mut args = Vec::with_capacity(alloc, self.args.len())?;
         for arg in &self.args {
-            args.push(arg.copy(alloc)?)?;
+            args.push_reserved(arg.copy(alloc)?);
         }
         Ok(Term {
             head: self.head,

@@ -124,7 +124,7 @@ pub fn read_sorts(
 {
     let mut sorts = Vec::with_capacity(alloc, count as usize)?;
     for node in 0..count {
-        sorts.push(read_sort(alloc, store, weights, node)?)?;
+        sorts.push_reserved(read_sort(alloc, store, weights, node)?);
     }
     Ok(sorts)
 }
@@ -141,7 +141,7 @@ pub fn arities(
 {
     let mut arities = Vec::with_capacity(alloc, count)?;
     for place in 0..count {
-        arities.push(weights.at(start as usize + place).arity)?;
+        arities.push_reserved(weights.at(start as usize + place).arity);
     }
     Ok(arities)
 }

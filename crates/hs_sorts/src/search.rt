@@ -79,10 +79,7 @@ pub fn weigh(alloc: Global, store: &Store) -> Result<Option<Weights>, OutOfMemor
     ensures { IfOk result (λ weights. IsWeighing store.now weights) }
 {
     let count = store.len();
-    let mut marks = Vec::with_capacity(alloc, count)?;
-    for _node in 0..count {
-        marks.push(Mark::New)?;
-    }
+    let marks = vec![in alloc; Mark::New; count]?;
     let mut search = Search {
         marks,
         path: Vec::new(alloc),

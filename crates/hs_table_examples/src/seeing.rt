@@ -1,4 +1,4 @@
-//! The assertion of all tests.
+//! The assertion that the tests share.
 
 use std::fmt::Debug;
 use std::process::Abort;

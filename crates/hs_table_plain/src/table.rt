@@ -61,7 +61,12 @@ fn missing(alloc: Global, problem: &Problem, log: &[Entry]) -> Result<Option<Ent
 fn are_below(states: &[u32], number: u32) -> bool
     ensures { IsTrue result ↔ All (λ q. q < number) states.now }
 {
-    states.iter().all(|q| *q < number)
+    for q in states {
+        if *q >= number {
+            return false;
+        }
+    }
+    true
 }
 
 /// Whether each transition leads to states of the automaton.

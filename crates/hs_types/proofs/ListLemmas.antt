@@ -1,6 +1,6 @@
 -- Lists that grow at their end, and what is read from them.
-use Rattle.std.proofs.Common.{◌≡◌, refl, sym, ◌∙◌, ap, subst, ℕ, zero, suc, ◌+◌, ◌<◌, ◌≤◌, List, [], ◌∷◌, ◌++◌, length, map, get_or, slice_get, Some, arith, Contains, All, inl, inr, take, set, replicate}
-use Rattle.std.proofs.lemmas.List.{get_or_append_left, map_more, take_all}
+use Rattle.std.proofs.Common.{◌≡◌, refl, sym, ◌∙◌, ap, subst, ℕ, zero, suc, ◌+◌, ◌<◌, ◌≤◌, List, [], ◌∷◌, ◌++◌, length, map, get_or, slice_get, Some, arith, Contains, All, inl, inr, take, length-take, set, replicate}
+use Rattle.std.proofs.lemmas.List.{get_or_append_left, length-map, map_more, take_all}
 use Rattle.std.proofs.lemmas.Option.{get_or_from_slice_get, same_Some}
 use Rattle.std.proofs.lemmas.List.Elements.{All-head, All-tail, All-weaker, All-push}
 use Rattle.hs_scheme.proofs.Lists.{at_append, push_cases}
@@ -116,3 +116,6 @@ made_more f ids xs new k id x same is lt at e = e ∙ (λ i. same i ++ (is ∙ a
 
 pub made_all : {Y X : Type 0} (f : Y → X) (ids : List Y) (xs whole : List X) (k : ℕ) → xs ≡ map f (take k ids) → length ids ≤ k → map f ids ≡ whole → xs ≡ whole
 made_all {Y} f ids xs whole k same past is = same ∙ ap (λ (js : List Y). map f js) (take_all k ids past) ∙ is
+
+pub made_long : {Y X : Type 0} (f : Y → X) (ids : List Y) (xs : List X) (k : ℕ) → xs ≡ map f (take k ids) → length xs ≤ k
+made_long f ids xs k same = omega (arith, ap length same, length-map (take k ids) f, length-take k ids)

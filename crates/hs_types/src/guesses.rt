@@ -1,6 +1,5 @@
-//! Guesses of one's own numbers by the numbers of another interner.
+//! Guesses of one's own numbers.
 
-use crate::ids::{EnvId, SetId, TyId};
 use hs_scheme::OutOfMemory;
 use std::alloc::Global;
 
@@ -8,9 +7,20 @@ use std::alloc::Global;
 /// for. Nothing rests on a guess: it is looked at before it is taken.
 #[derive(Drop)]
 pub(crate) struct Guesses {
-    types: Vec<u32>,
-    sets: Vec<u32>,
-    envs: Vec<u32>,
+    pub(crate) types: Vec<u32>,
+    pub(crate) sets: Vec<u32>,
+    pub(crate) envs: Vec<u32>,
+}
+
+impl Guesses {
+    /// No guesses. Takes no memory.
+    pub(crate) fn new(alloc: Global) -> Guesses {
+        Guesses {
+            types: Vec::new(alloc),
+            sets: Vec::new(alloc),
+            envs: Vec::new(alloc),
+        }
+    }
 }
 
 /// The guess for this number.
@@ -29,45 +39,4 @@ pub(crate) fn keep(guesses: &mut Vec<u32>, number: u32, own: u32) -> Result<(), 
     }
     guesses[place] = own;
     Ok(())
-}
-
-impl Guesses {
-    /// No guesses. Takes no memory.
-    pub(crate) fn new(alloc: Global) -> Guesses {
-        Guesses {
-            types: Vec::new(alloc),
-            sets: Vec::new(alloc),
-            envs: Vec::new(alloc),
-        }
-    }
-
-    /// The guess for the other's type.
-    pub(crate) fn ty(&self, id: TyId) -> TyId {
-        TyId::at(guess(self.types.as_slice(), id.stored()))
-    }
-
-    /// The guess for the other's set.
-    pub(crate) fn set(&self, id: SetId) -> SetId {
-        SetId::at(guess(self.sets.as_slice(), id.stored()))
-    }
-
-    /// The guess for the other's environment.
-    pub(crate) fn env(&self, id: EnvId) -> EnvId {
-        EnvId::at(guess(self.envs.as_slice(), id.stored()))
-    }
-
-    /// Keeps the guess for the other's type.
-    pub(crate) fn keep_type(&mut self, id: TyId, own: TyId) -> Result<(), OutOfMemory> {
-        keep(&mut self.types, id.stored(), own.stored())
-    }
-
-    /// Keeps the guess for the other's set.
-    pub(crate) fn keep_set(&mut self, id: SetId, own: SetId) -> Result<(), OutOfMemory> {
-        keep(&mut self.sets, id.stored(), own.stored())
-    }
-
-    /// Keeps the guess for the other's environment.
-    pub(crate) fn keep_env(&mut self, id: EnvId, own: EnvId) -> Result<(), OutOfMemory> {
-        keep(&mut self.envs, id.stored(), own.stored())
-    }
 }

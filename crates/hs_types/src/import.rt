@@ -1,11 +1,11 @@
-//! What has a number elsewhere gets one here.
+//! Numbers that are guessed, and what has a number elsewhere gets one here.
 
 ghost use Rattle.std.specs.Prelude.{◌≡◌, ◌<◌, All, IfOk, IfSome, Some, length, map, slice_get};
 ghost use Rattle.hs_table.specs.Types.{IsSet};
 ghost use Rattle.hs_types.specs.Interned.{type_of_id, set_of_id, env_of_id, Grows};
 ghost use Rattle.hs_types.specs.Nodes.{node_type, IsInRange};
 
-use crate::guesses::Guesses;
+use crate::guesses::{Guesses, guess, keep};
 use crate::ids::{EnvId, SetId, TyId, View};
 use crate::nodes::Nodes;
 use hs_scheme::OutOfMemory;
@@ -14,7 +14,7 @@ use std::alloc::Global;
 
 impl Nodes {
     /// The guess, where it is the node's type.
-    pub(crate) fn guessed_type(&self, guess: TyId, node: &View) -> Option<TyId>
+    fn guessed_type(&self, guess: TyId, node: &View) -> Option<TyId>
         ensures { IfSome result (λ own. slice_get self.now.types own ≡ Some (node_type self.now node.now)) }
     {
         if guess.number() >= self.count_types() || self.view(guess) != *node {
@@ -24,7 +24,7 @@ impl Nodes {
     }
 
     /// The guess, where it is the set of these types.
-    pub(crate) fn guessed_set(&self, guess: SetId, types: &[TyId]) -> Option<SetId>
+    fn guessed_set(&self, guess: SetId, types: &[TyId]) -> Option<SetId>
         ensures { IfSome result (λ own. slice_get self.now.sets own ≡ Some
             (map (type_of_id self.now) types.now)) }
     {
@@ -35,7 +35,7 @@ impl Nodes {
     }
 
     /// The guess, where it is the environment of these sets.
-    pub(crate) fn guessed_env(&self, guess: EnvId, sets: &[SetId]) -> Option<EnvId>
+    fn guessed_env(&self, guess: EnvId, sets: &[SetId]) -> Option<EnvId>
         ensures { IfSome result (λ own. slice_get self.now.envs own ≡ Some
             (map (set_of_id self.now) sets.now)) }
     {
@@ -45,30 +45,31 @@ impl Nodes {
         Some(guess)
     }
 
-    /// The number here of this node, which the other's type has. Looks at the guess first.
-    fn number_type(
+    /// The number of the type of this node. Looks first at the guess at the place.
+    pub(crate) fn number_type(
         &mut self,
-        guesses: &mut Guesses,
-        id: TyId,
+        guesses: &mut Vec<u32>,
+        place: u32,
         node: View,
     ) -> Result<TyId, OutOfMemory>
         requires { IsInRange self.old node }
         ensures ok { IfOk result (λ own. slice_get self.new.types own ≡ Some (node_type self.old node)) }
         ensures grows { Grows self.old self.new }
     {
-        if let Some(own) = self.guessed_type(guesses.ty(id), &node) {
+        let guessed = TyId::at(guess(guesses.as_slice(), place));
+        if let Some(own) = self.guessed_type(guessed, &node) {
             return Ok(own);
         }
         let own = self.add_type(node)?;
-        guesses.keep_type(id, own)?;
+        keep(guesses, place, own.stored())?;
         Ok(own)
     }
 
-    /// The number here of the set of these types, which are in order and those of the other's set.
-    fn number_set(
+    /// The number of the set of these types, which are in order. Looks first at the guess at the place.
+    pub(crate) fn number_set(
         &mut self,
-        guesses: &mut Guesses,
-        id: SetId,
+        guesses: &mut Vec<u32>,
+        place: u32,
         types: &[TyId],
     ) -> Result<SetId, OutOfMemory>
         requires range { All (λ t. t < length self.old.types) types.now }
@@ -77,19 +78,20 @@ impl Nodes {
             (map (type_of_id self.old) types.now)) }
         ensures grows { Grows self.old self.new }
     {
-        if let Some(own) = self.guessed_set(guesses.set(id), types) {
+        let guessed = SetId::at(guess(guesses.as_slice(), place));
+        if let Some(own) = self.guessed_set(guessed, types) {
             return Ok(own);
         }
         let own = self.add_set(types)?;
-        guesses.keep_set(id, own)?;
+        keep(guesses, place, own.stored())?;
         Ok(own)
     }
 
-    /// The number here of the environment of these sets, which are those of the other's.
-    fn number_env(
+    /// The number of the environment of these sets. Looks first at the guess at the place.
+    pub(crate) fn number_env(
         &mut self,
-        guesses: &mut Guesses,
-        id: EnvId,
+        guesses: &mut Vec<u32>,
+        place: u32,
         sets: &[SetId],
     ) -> Result<EnvId, OutOfMemory>
         requires { All (λ s. s < length self.old.sets) sets.now }
@@ -97,11 +99,12 @@ impl Nodes {
             (map (set_of_id self.old) sets.now)) }
         ensures grows { Grows self.old self.new }
     {
-        if let Some(own) = self.guessed_env(guesses.env(id), sets) {
+        let guessed = EnvId::at(guess(guesses.as_slice(), place));
+        if let Some(own) = self.guessed_env(guessed, sets) {
             return Ok(own);
         }
         let own = self.add_env(sets)?;
-        guesses.keep_env(id, own)?;
+        keep(guesses, place, own.stored())?;
         Ok(own)
     }
 
@@ -119,11 +122,15 @@ impl Nodes {
         ensures grows { Grows self.old self.new }
     {
         match from.view(id) {
-            View::State(q) => self.number_type(guesses, id, View::State(q)),
+            View::State(q) => self.number_type(&mut guesses.types, id.stored(), View::State(q)),
             View::Arrow(set, rest) => {
                 let own_set = self.import_set(alloc, guesses, from, set)?;
                 let own_rest = self.import_type(alloc, guesses, from, rest)?;
-                self.number_type(guesses, id, View::Arrow(own_set, own_rest))
+                self.number_type(
+                    &mut guesses.types,
+                    id.stored(),
+                    View::Arrow(own_set, own_rest),
+                )
             }
         }
     }
@@ -147,7 +154,7 @@ impl Nodes {
         for member in members {
             types.push(self.import_type(alloc, guesses, from, *member)?)?;
         }
-        self.number_set(guesses, id, types.as_slice())
+        self.number_set(&mut guesses.sets, id.stored(), types.as_slice())
     }
 
     /// The number here of the other's environment.
@@ -167,6 +174,6 @@ impl Nodes {
         for set in sets {
             own_sets.push(self.import_set(alloc, guesses, from, *set)?)?;
         }
-        self.number_env(guesses, id, own_sets.as_slice())
+        self.number_env(&mut guesses.envs, id.stored(), own_sets.as_slice())
     }
 }

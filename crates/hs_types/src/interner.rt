@@ -82,7 +82,7 @@ impl Interner {
         ensures ok { IfOk result (λ id. slice_get self.new.types id ≡ Some (state q)) }
         ensures grows { Grows self.old self.new }
     {
-        self.nodes.base(&mut self.latest, q)
+        self.nodes.base(&mut self.latest.states, q)
     }
 
     /// The type with this set and this result. Constant time on average.
@@ -104,7 +104,7 @@ impl Interner {
             × IsSetOf (map (type_of_id self.old) ids.now) (set_of_id self.new id)) }
         ensures grows { Grows self.old self.new }
     {
-        self.nodes.set(self.alloc, &mut self.latest, ids)
+        self.nodes.set(self.alloc, &mut self.latest.sets, ids)
     }
 
     /// The environment with these sets. Time in proportion to their number, on average.
@@ -123,7 +123,8 @@ impl Interner {
         ensures ok { IfOk result (λ id. slice_get self.new.envs id ≡ Some (replicate n [])) }
         ensures grows { Grows self.old self.new }
     {
-        self.nodes.empty_env(self.alloc, &mut self.latest, n)
+        self.nodes
+            .empty_env(self.alloc, &mut self.latest.empty_envs, n)
     }
 
     /// The environment of n sets, of which the one at x, counted from 0, has this type alone, and the

@@ -4,8 +4,9 @@ ghost use Rattle.std.specs.Prelude.{◌≡◌, ◌<◌, ◌∷◌, [], IfOk, IsT
 ghost use Rattle.hs_table.specs.Types.{state, IsSet};
 ghost use Rattle.hs_types.specs.Interned.{type_of_id, set_of_id, Grows, IsSetOf, IsUnion};
 
+use crate::guesses::{guess, keep};
 use crate::ids::{EnvId, SetId, TyId, View};
-use crate::latest::{Latest, number_of_count, number_of_set};
+use crate::latest::{Latest, place_of, place_of_count, place_of_set};
 use crate::nodes::Nodes;
 use hs_scheme::OutOfMemory;
 use smallvec::SmallVec;
@@ -13,63 +14,29 @@ use std::alloc::Global;
 
 impl Nodes {
     /// The type that is this state. Looks at the guess first.
-    pub(crate) fn base(&mut self, latest: &mut Latest, q: u32) -> Result<TyId, OutOfMemory>
+    pub(crate) fn base(&mut self, states: &mut Vec<u32>, q: u32) -> Result<TyId, OutOfMemory>
         ensures ok { IfOk result (λ id. slice_get self.new.types id ≡ Some (state q)) }
         ensures grows { Grows self.old self.new }
     {
-        let guess = TyId::at(latest.states.find(q));
-        if let Some(id) = self.guessed_type(guess, &View::State(q)) {
-            return Ok(id);
-        }
-        let id = self.add_type(View::State(q))?;
-        latest.states.keep(q, id.stored())?;
-        Ok(id)
+        self.number_type(states, place_of(q), View::State(q))
     }
 
     /// The set of these types, which are in order. Looks at the guess by the first of them.
-    fn latest_set(&mut self, latest: &mut Latest, types: &[TyId]) -> Result<SetId, OutOfMemory>
+    fn latest_set(&mut self, guesses: &mut Vec<u32>, types: &[TyId]) -> Result<SetId, OutOfMemory>
         requires range { All (λ t. t < length self.old.types) types.now }
         requires ascends { IsSet (map (type_of_id self.old) types.now) }
         ensures ok { IfOk result (λ id. slice_get self.new.sets id ≡ Some
             (map (type_of_id self.old) types.now)) }
         ensures grows { Grows self.old self.new }
     {
-        let number = number_of_set(types);
-        let guess = SetId::at(latest.sets.find(number));
-        if let Some(id) = self.guessed_set(guess, types) {
-            return Ok(id);
-        }
-        let id = self.add_set(types)?;
-        latest.sets.keep(number, id.stored())?;
-        Ok(id)
-    }
-
-    /// The environment of these sets. Looks at the guess by the type.
-    fn latest_env(
-        &mut self,
-        latest: &mut Latest,
-        ty: TyId,
-        sets: &[SetId],
-    ) -> Result<EnvId, OutOfMemory>
-        requires { All (λ s. s < length self.old.sets) sets.now }
-        ensures ok { IfOk result (λ id. slice_get self.new.envs id ≡ Some
-            (map (set_of_id self.old) sets.now)) }
-        ensures grows { Grows self.old self.new }
-    {
-        let guess = EnvId::at(latest.single_envs.find(ty.stored()));
-        if let Some(id) = self.guessed_env(guess, sets) {
-            return Ok(id);
-        }
-        let id = self.add_env(sets)?;
-        latest.single_envs.keep(ty.stored(), id.stored())?;
-        Ok(id)
+        self.number_set(guesses, place_of_set(types), types)
     }
 
     /// The set of these types.
     pub(crate) fn set(
         &mut self,
         alloc: Global,
-        latest: &mut Latest,
+        guesses: &mut Vec<u32>,
         ids: &[TyId],
     ) -> Result<SetId, OutOfMemory>
         requires { All (λ t. t < length self.old.types) ids.now }
@@ -78,7 +45,7 @@ impl Nodes {
         ensures grows { Grows self.old self.new }
     {
         if ids.len() <= 1 {
-            return self.latest_set(latest, ids);
+            return self.latest_set(guesses, ids);
         }
         let sorted = self.sorted(alloc, ids)?;
         self.add_set(sorted.as_slice())
@@ -125,21 +92,21 @@ impl Nodes {
     pub(crate) fn empty_env(
         &mut self,
         alloc: Global,
-        latest: &mut Latest,
+        guesses: &mut Vec<u32>,
         n: usize,
     ) -> Result<EnvId, OutOfMemory>
         ensures ok { IfOk result (λ id. slice_get self.new.envs id ≡ Some (replicate n [])) }
         ensures grows { Grows self.old self.new }
     {
-        let number = number_of_count(n);
-        let guess = EnvId::at(latest.empty_envs.find(number));
-        if self.is_empty_env(guess, n) {
-            return Ok(guess);
+        let place = place_of_count(n);
+        let guessed = EnvId::at(guess(guesses.as_slice(), place));
+        if self.is_empty_env(guessed, n) {
+            return Ok(guessed);
         }
         let empty = self.add_set(&[])?;
         let sets: SmallVec<SetId, 8> = SmallVec::from_elem(alloc, empty, n)?;
         let id = self.add_env(sets.as_slice())?;
-        latest.empty_envs.keep(number, id.stored())?;
+        keep(guesses, place, id.stored())?;
         Ok(id)
     }
 
@@ -158,10 +125,14 @@ impl Nodes {
             ≡ Some (slice_set (replicate n []) x (type_of_id self.old ty ∷ []))) }
         ensures grows { Grows self.old self.new }
     {
-        let single = self.latest_set(latest, &[ty])?;
-        let empty = self.latest_set(latest, &[])?;
+        let single = self.latest_set(&mut latest.sets, &[ty])?;
+        let empty = self.latest_set(&mut latest.sets, &[])?;
         let mut sets: SmallVec<SetId, 8> = SmallVec::from_elem(alloc, empty, n)?;
         sets[x] = single;
-        self.latest_env(latest, ty, sets.as_slice())
+        self.number_env(
+            &mut latest.single_envs,
+            place_of(ty.stored()),
+            sets.as_slice(),
+        )
     }
 }

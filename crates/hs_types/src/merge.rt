@@ -30,18 +30,20 @@ impl Nodes {
         let mut i = 0;
         let mut j = 0;
         while i < xs.len() && j < ys.len() {
-            match self.compare(xs[i], ys[j]) {
+            let x = xs[i];
+            let y = ys[j];
+            match self.compare(x, y) {
                 Ordering::Less => {
-                    merged.push(xs[i])?;
+                    merged.push(x)?;
                     i += 1;
                 }
                 Ordering::Equal => {
-                    merged.push(xs[i])?;
+                    merged.push(x)?;
                     i += 1;
                     j += 1;
                 }
                 Ordering::Greater => {
-                    merged.push(ys[j])?;
+                    merged.push(y)?;
                     j += 1;
                 }
             }

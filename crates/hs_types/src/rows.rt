@@ -102,7 +102,7 @@ impl Nodes {
         found.clear();
         let mut own = Vec::with_capacity(alloc, rows.len())?;
         for row in rows {
-            own.push(self.find_row(alloc, guesses, found, from, *row)?)?;
+            own.push_reserved(self.find_row(alloc, guesses, found, from, *row)?);
         }
         Ok(own)
     }

@@ -39,7 +39,7 @@ impl Nodes {
         let members = self.members(id);
         let mut types = Vec::with_capacity(alloc, members.len())?;
         for member in members {
-            types.push(self.tree_of_type(alloc, *member)?)?;
+            types.push_reserved(self.tree_of_type(alloc, *member)?);
         }
         Ok(types)
     }
@@ -53,7 +53,7 @@ impl Nodes {
         let mut trees = Vec::with_capacity(alloc, sets.len())?;
         for set in sets {
             let types = self.trees_of_set(alloc, *set)?;
-            trees.push(TypeSet { types })?;
+            trees.push_reserved(TypeSet { types });
         }
         Ok(trees)
     }

@@ -1,4 +1,4 @@
-use Rattle.std.proofs.Common.{refl, sym, subst, inl, inr}
+use Rattle.std.proofs.Common.{refl, sym, ◌∙◌, ap, subst, inl, inr, ◌++◌, ℕ, List}
 use Rattle.hs_app.specs.declared.refusal.Refusal.{Refusal}
 use Rattle.hs_app.specs.Refusal.{line_of}
 use Rattle.hs_words.specs.Words.{texts}
@@ -25,3 +25,11 @@ returns-in-Err-clause-ends g c =
         told = subst (λ (r : Refusal). HasTakenOrFailed err (line_of r)) (sym is) gains;
       }
     ]
+
+pub returns-in-Ok-write_all-clause-ends : goal.returns-in-Ok-write_all-clause-ends
+returns-in-Ok-write_all-clause-ends g c = record {
+  answer = c.in-Ok.ensures.answer;
+  taken = c.in-Ok-write_all.ensures.all ∙ ap (λ (xs : List ℕ). (g.O.Sink.writing c.args.out.now).taken ++ xs) c.as_slice.ensures.value;
+  same_faults = c.in-Ok-write_all.ensures.same_faults;
+  silent = record { same_taken = refl; same_faults = refl };
+}

@@ -1,28 +1,14 @@
-use Rattle.std.proofs.Common.{◌≡◌, sym, ◌∙◌, subst, true, false, List, length, arith, Contains, ◌↔◌}
+use Rattle.std.proofs.Common.{◌≡◌, subst, List, length, arith, Contains, ◌↔◌}
 use Rattle.hs_table.specs.Types.{TypeTree}
 use Rattle.hs_checker.specs.Slots.{FitsSets}
 use Rattle.hs_checker.proofs.Once.{all_given, one_given}
-use Rattle.hs_checker.proofs.InstanceLemmas.{fitting_pushed, fitting_passed}
+use Rattle.hs_checker.proofs.InstanceLemmas.{fitting_added}
 use Rattle.hs_checker.proofs.instances.fitting.Goals as goal
-
-pub loop-ty-preserved-in-Continue-1 : goal.loop-ty-preserved-in-Continue-1
-loop-ty-preserved-in-Continue-1 c =
-    record {
-      each = fitting_pushed c.args.index.now c.args.args.now c.loop-ty.yielded c.loop-ty.found.items c.push.new.self.items c.in-Some.ty c.in_ok-push.ensures.items (c.fits.ensures.0 c.if-fits.true) c.loop-ty.invariant.each;
-      whole = one_given c.loop-ty.yielded c.loop-ty.ty-iterator.rest.items c.next.new.self.rest.items c.args.types.items c.in-Some.ty c.in-Some.ensures.steps.0 c.loop-ty.invariant.whole;
-    }
-
-pub loop-ty-preserved-else-fits : goal.loop-ty-preserved-else-fits
-loop-ty-preserved-else-fits c =
-    record {
-      each = fitting_passed c.args.index.now c.args.args.now c.loop-ty.yielded c.loop-ty.found.items c.in-Some.ty (λ fit. let f : false ≡ true = sym c.if-fits.false ∙ c.fits.ensures.1 fit in absurd (cc)) c.loop-ty.invariant.each;
-      whole = one_given c.loop-ty.yielded c.loop-ty.ty-iterator.rest.items c.next.new.self.rest.items c.args.types.items c.in-Some.ty c.in-Some.ensures.steps.0 c.loop-ty.invariant.whole;
-    }
 
 pub loop-ty-preserved : goal.loop-ty-preserved
 loop-ty-preserved c =
     record {
-      each = fitting_passed c.args.index.now c.args.args.now c.loop-ty.yielded c.loop-ty.found.items c.in-Some.ty (λ fit. let f : false ≡ true = sym c.if-fits.false ∙ c.fits.ensures.1 fit in absurd (cc)) c.loop-ty.invariant.each;
+      each = fitting_added c.args.index.now c.args.args.now c.loop-ty.yielded c.loop-ty.found.items c.add_fitting.new.found.items c.in-Some.ty c.in_ok-add_fitting.ensures c.loop-ty.invariant.each;
       whole = one_given c.loop-ty.yielded c.loop-ty.ty-iterator.rest.items c.next.new.self.rest.items c.args.types.items c.in-Some.ty c.in-Some.ensures.steps.0 c.loop-ty.invariant.whole;
     }
 

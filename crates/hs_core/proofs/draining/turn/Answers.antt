@@ -4,8 +4,8 @@ use Rattle.hs_flow.specs.Dependents.{HasDependents}
 use Rattle.hs_history.specs.Story.{Base}
 use Rattle.hs_history.specs.CoreStep.{IsClosedWork, CanFinish}
 use Rattle.hs_core.specs.Core.{CoreData, state_of, log_of}
-use Rattle.hs_core.proofs.Moving.{Moves, alone_same, nothing_flies, not_taken, holds_new, holds_then, taken_work, work_taken}
-use Rattle.hs_core.proofs.Turning.{TurnEnds, closed_turn, turn_behind, may_close}
+use Rattle.hs_core.proofs.Moving.{Moves, alone_same, nothing_flies, not_taken, holds_new, taken_work, work_taken}
+use Rattle.hs_core.proofs.Turning.{TurnEnds, holds_then, closed_turn, turn_behind, may_close}
 use Rattle.hs_core.proofs.draining.turn.Goals as goal
 
 pub returns-in_err-reserve_some-clause-goes : goal.returns-in_err-reserve_some-clause-goes

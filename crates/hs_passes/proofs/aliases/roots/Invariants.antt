@@ -1,4 +1,4 @@
-use Rattle.std.proofs.Common.{◌≡◌, ◌<◌, ℕ, vec_len, ◌≤◌, length, vec_capacity}
+use Rattle.std.proofs.Common.{◌≡◌, ◌<◌, ℕ, vec_len, ◌≤◌, vec_capacity}
 use Rattle.hs_passes.specs.Links.{AreLinks, Follow}
 use Rattle.hs_passes.specs.Selection.{number_in}
 use Rattle.hs_passes.proofs.aliases.roots.Given as goal

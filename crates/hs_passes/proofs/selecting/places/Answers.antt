@@ -20,7 +20,11 @@ loop-stays-preserved c =
         | then-stays w ↦ omega (arith, w.next-is, inv.few)
         | else-stays w ↦ omega (arith, w.next-is, inv.few)
       ];
-      long = omega (arith, c.in_ok-push.ensures.len, inv.long);
-      each = λ f lt. ap (λ ys. get_or ys f 0) c.in_ok-push.ensures.items
+      long = omega (arith, c.push_reserved.ensures.len, inv.long);
+      each = λ f lt. ap (λ ys. get_or ys f 0) c.push_reserved.ensures.items
           ∙ told_more xs c.loop-stays.next (place keep) (λ k l. inv.each k (omega (arith, l, long))) (inv.next ∙ ap (place keep) (sym long)) f (omega (arith, lt, long));
+      room = omega (arith, c.push_reserved.ensures.capacity, inv.room);
     }
+
+pub push_reserved-requires : goal.push_reserved-requires
+push_reserved-requires c = omega (arith, c.loop-stays.invariant.long, c.loop-stays.invariant.room, c.loop-stays-test.true)

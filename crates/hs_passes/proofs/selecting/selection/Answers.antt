@@ -34,3 +34,14 @@ invariant_of-result c =
       sorts = (c.in_ok-sorts.ensures ∙ ap (chosen keep) (c.as_slice.ensures.value ∙ ap (λ (s : SortedData). s.sorts) c.sorted.view_is)) j;
     } in
     subst IsSorted (sym made) (selected_is_sorted keep to c.args.sorted.now c.is_sorted.ensures.scheme c.is_sorted.ensures.sorted c.requires.selection)
+
+pub returns : goal.returns
+returns c =
+    let keep = stays c.args.keep.now in
+    let to = number_in c.args.numbers.now in
+    λ j. record {
+      scheme = (c.in_ok-scheme.ensures ∙ ap (λ (s : SortedData). selected_scheme keep to s.scheme) c.sorted.view_is) j;
+      automaton = (c.in_ok-automaton.ensures ∙ ap (λ (s : SortedData). s.automaton) c.sorted.view_is) j;
+      names = (c.in_ok-names.ensures ∙ ap (λ (s : SortedData). selected_names keep s.names) c.sorted.view_is) j;
+      sorts = (c.in_ok-sorts.ensures ∙ ap (chosen keep) (c.as_slice.ensures.value ∙ ap (λ (s : SortedData). s.sorts) c.sorted.view_is)) j;
+    }

@@ -45,9 +45,9 @@ loop-preserved t c =
       count = c.loop.invariant.count;
       ahead = ensured.ahead ∙ next.behind;
       shorter = next_shorter c.loop.ahead.nodes.now all c.term_of.new.ahead.nodes.now c.loop.invariant.shorter ensured.ahead;
-      terminals = terminals-in-more args i arg next.at (is_terminal params) c.head_of.new.met.terminals c.loop.met.terminals c.term_of.new.met.terminals c.loop.invariant.terminals ensured.terminals;
-      undefined = undefined-in-more args i arg next.at left c.head_of.new.met.undefined c.loop.met.undefined c.term_of.new.met.undefined c.loop.invariant.undefined ensured.undefined;
-      args = terms-more args i arg next.at left params (filter (is_terminal params) (texts (term_names arg))) c.loop.met.terminals c.term_of.new.met.terminals c.loop.args.items c.push.new.self.items
+      terminals = terminals-in-more args i arg next.at (is_terminal params) c.head_of.new.terminals c.loop.terminals c.term_of.new.terminals c.loop.invariant.terminals ensured.terminals;
+      undefined = undefined-in-more args i arg next.at left c.head_of.new.undefined c.loop.undefined c.term_of.new.undefined c.loop.invariant.undefined ensured.undefined;
+      args = terms-more args i arg next.at left params (filter (is_terminal params) (texts (term_names arg))) c.loop.terminals c.term_of.new.terminals c.loop.args.items c.push.new.self.items
           c.in_ok-term_of.field-0 ensured.terminals c.loop.invariant.args ensured.term c.in_ok-push.ensures.items;
     }
 
@@ -60,9 +60,9 @@ returns-clause-terminals t c =
     let o = opened all n _ (front_of all n c.in-len1-up.len_at_least c.node-item.is) c.requires.begins in
     let m = c.name-name.result in
     let term : first_term all ≡ node m (forest args) = o.term ∙ ap (λ (k : RawName). node k (forest args)) (sym c.name-name.ensures) in
-    let behind_head = c.loop.invariant.terminals ∙ ap (λ ts. with_names c.head_of.new.met.terminals (filter (is_terminal params) (texts (terms_names (forest ts))))) (take_end args c.loop.counter _ c.loop-test.false c.loop.invariant.count) in
-    terminals-all (is_terminal params) c.args.met.now.terminals c.head_of.new.met.terminals c.loop.met.terminals m.text (texts (terms_names (forest args))) c.in_ok-head.ensures.terminals behind_head
-    ∙ ap (λ u. with_names c.args.met.now.terminals (filter (is_terminal params) (texts (term_names u)))) (sym term)
+    let behind_head = c.loop.invariant.terminals ∙ ap (λ ts. with_names c.head_of.new.terminals (filter (is_terminal params) (texts (terms_names (forest ts))))) (take_end args c.loop.counter _ c.loop-test.false c.loop.invariant.count) in
+    terminals-all (is_terminal params) c.args.terminals.now c.head_of.new.terminals c.loop.terminals m.text (texts (terms_names (forest args))) c.in_ok-head.ensures.terminals behind_head
+    ∙ ap (λ u. with_names c.args.terminals.now (filter (is_terminal params) (texts (term_names u)))) (sym term)
 
 pub returns-clause-undefined : goal.returns-clause-undefined
 returns-clause-undefined t c =
@@ -74,9 +74,9 @@ returns-clause-undefined t c =
     let m = c.name-name.result in
     let term : first_term all ≡ node m (forest args) = o.term ∙ ap (λ (k : RawName). node k (forest args)) (sym c.name-name.ensures) in
     c.loop.invariant.undefined
-    ∙ (ap (λ ts. undefined_in left c.head_of.new.met.undefined (terms_names (forest ts))) (take_end args c.loop.counter _ c.loop-test.false c.loop.invariant.count)
+    ∙ (ap (λ ts. undefined_in left c.head_of.new.undefined (terms_names (forest ts))) (take_end args c.loop.counter _ c.loop-test.false c.loop.invariant.count)
     ∙ (ap (λ u. undefined_in left u (terms_names (forest args))) c.in_ok-head.ensures.undefined
-    ∙ ap (λ u. undefined_in left c.args.met.now.undefined (term_names u)) (sym term)))
+    ∙ ap (λ u. undefined_in left c.args.undefined.now (term_names u)) (sym term)))
 
 pub returns-clause-term : goal.returns-clause-term
 returns-clause-term t c = λ later.
@@ -88,9 +88,9 @@ returns-clause-term t c = λ later.
     let o = opened all n _ (front_of all n c.in-len1-up.len_at_least c.node-item.is) c.requires.begins in
     let m = c.name-name.result in
     let term : first_term all ≡ node m (forest args) = o.term ∙ ap (λ (k : RawName). node k (forest args)) (sym c.name-name.ensures) in
-    let head = head_of left params (c.loop.met.terminals ++ later) in
+    let head = head_of left params (c.loop.terminals ++ later) in
     let first : c.in_ok-head.head ≡ head m =
-    head-later left params c.head_of.new.met.terminals (filter (is_terminal params) (texts (terms_names (forest (take c.loop.counter args))))) m c.in_ok-head.head c.in_ok-head.ensures.head later
+    head-later left params c.head_of.new.terminals (filter (is_terminal params) (texts (terms_names (forest (take c.loop.counter args))))) m c.in_ok-head.head c.in_ok-head.ensures.head later
     ∙ ap (λ ts. head_of left params (ts ++ later) m) (sym c.loop.invariant.terminals) in
     let each : c.loop.args.items ≡ map (numbered head) args =
     c.loop.invariant.args later ∙ ap (map (numbered head)) (take_end args c.loop.counter _ c.loop-test.false c.loop.invariant.count) in

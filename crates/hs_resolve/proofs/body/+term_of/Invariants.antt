@@ -17,9 +17,9 @@ invariant-loop l =
       count : l.end ≡ length args;
       ahead : l.ahead.nodes.now ≡ preorders (forest (drop l.counter args)) ++ behind all;
       shorter : length l.ahead.nodes.now < length all;
-      terminals : l.met.terminals ≡ with_names l.initial.met.terminals (filter (is_terminal l.params) (texts (terms_names (forest (take l.counter args)))));
-      undefined : l.met.undefined ≡ undefined_in l.left l.initial.met.undefined (terms_names (forest (take l.counter args)));
-      args : AreNumbered l.left l.params l.met.terminals (take l.counter args) l.args.items;
+      terminals : l.terminals ≡ with_names l.initial.terminals (filter (is_terminal l.params) (texts (terms_names (forest (take l.counter args)))));
+      undefined : l.undefined ≡ undefined_in l.left l.initial.undefined (terms_names (forest (take l.counter args)));
+      args : AreNumbered l.left l.params l.terminals (take l.counter args) l.args.items;
     }
 
 abbrev pub decreases-term_of : goal.decreases-term_of

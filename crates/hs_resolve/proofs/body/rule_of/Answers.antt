@@ -26,17 +26,17 @@ term_of-requires-clause-begins c = subst BeginsTerm (sym c.nodes.ensures) (begin
 pub returns-clause-terminals : goal.returns-clause-terminals
 returns-clause-terminals c =
     let is : first_term c.nodes.result.now ≡ c.args.raw.now.body = ap first_term c.nodes.ensures ∙ (first-whole c.raw.inside.body ∙ ap (λ (r : Rule). r.body) c.raw.view_is) in
-    c.in_ok-body.ensures.terminals ∙ ap (λ (t : Tree RawName). with_names c.args.met.now.terminals (filter (is_terminal c.args.params.now) (texts (term_names t)))) is
+    c.in_ok-body.ensures.terminals ∙ ap (λ (t : Tree RawName). with_names c.args.terminals.now (filter (is_terminal c.args.params.now) (texts (term_names t)))) is
 
 pub returns-clause-undefined : goal.returns-clause-undefined
 returns-clause-undefined c =
     let is : first_term c.nodes.result.now ≡ c.args.raw.now.body = ap first_term c.nodes.ensures ∙ (first-whole c.raw.inside.body ∙ ap (λ (r : Rule). r.body) c.raw.view_is) in
-    c.in_ok-body.ensures.undefined ∙ ap (λ (t : Tree RawName). undefined_in c.args.left.now c.args.met.now.undefined (term_names t)) is
+    c.in_ok-body.ensures.undefined ∙ ap (λ (t : Tree RawName). undefined_in c.args.left.now c.args.undefined.now (term_names t)) is
 
 pub returns-clause-rule : goal.returns-clause-rule
 returns-clause-rule c = λ later.
     let is : first_term c.nodes.result.now ≡ c.args.raw.now.body = ap first_term c.nodes.ensures ∙ (first-whole c.raw.inside.body ∙ ap (λ (r : Rule). r.body) c.raw.view_is) in
-    let all = c.term_of.new.met.terminals ++ later in
+    let all = c.term_of.new.terminals ++ later in
     let body = c.in_ok-body.ensures.term later ∙ ((λ i. numbered (head_of c.args.left.now (c.requires.params i) all) (is i))) in
     let same = ap (λ (r : Rule). length r.params) c.raw.view_is in
     let count : c.len.result ≡ length c.args.raw.now.params = omega (arith, c.len.ensures, same) in

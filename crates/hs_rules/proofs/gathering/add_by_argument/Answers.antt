@@ -64,7 +64,7 @@ conclude_all-requires-clause-search c =
     let of : PointData = record { rule = c.args.spot.now.rule; head = c.args.head; args = c.args.search.now.args.now } in
     let is_place = subst (λ (x : PointsData). IsOnlyPlaceOf x point e0.point arg) (ap (λ (q : ProblemData). q.points) c.problem.view_is) c.in-Some.ensures in
     let e0_is = get_or_from_slice_get log c.args.place e0 (record { point = 0; env = []; ty = state 0 }) c.row-row.ensures.entry in
-    can_search_later c.args.replica.now c.heads_asking.new.replica c.args.search.now.args.now c.args.search.now.limit (Some (record { arg = c.in-Some.arg; place = c.args.place })) c.in_ok-heads.ensures.kept
+    can_search_later c.args.replica.now c.heads_asking.new.replica c.args.search.now.args.now c.args.search.now.limit (Some (record { arg = c.in-Some.arg; place = c.args.place })) c.in_ok-heads_asking.ensures.kept
     (record {
       indexed = c.requires.search.indexed;
       limited = c.requires.search.limited;
@@ -73,7 +73,7 @@ conclude_all-requires-clause-search c =
     })
 
 pub conclude_all-requires-clause-heads : goal.conclude_all-requires-clause-heads
-conclude_all-requires-clause-heads c = λ h there_. (c.in_ok-heads.ensures.heads.sound h (subst (λ (hs : List HeadData). Contains hs h) c.as_slice.ensures there_)).0.known
+conclude_all-requires-clause-heads c = λ h there_. (c.in_ok-heads_asking.ensures.heads.sound h (subst (λ (hs : List HeadData). Contains hs h) c.as_slice.ensures there_)).0.known
 
 pub conclude_all-requires-clause-envs : goal.conclude_all-requires-clause-envs
 conclude_all-requires-clause-envs c = λ h there_.
@@ -91,9 +91,9 @@ conclude_all-requires-clause-envs c = λ h there_.
     let E = take s.limit log in
     let of : PointData = record { rule = c.args.spot.now.rule; head = c.args.head; args = s.args } in
     let is_place = subst (λ (x : PointsData). IsOnlyPlaceOf x point e0.point arg) (ap (λ (q : ProblemData). q.points) c.problem.view_is) c.in-Some.ensures in
-    let same = c.in_ok-heads.ensures.kept.log in
-    let heads = c.in_ok-heads.heads.items in
-    let are = c.in_ok-heads.ensures.heads in
+    let same = c.in_ok-heads_asking.ensures.kept.log in
+    let heads = c.heads_asking.new.out.items in
+    let are = c.in_ok-heads_asking.ensures.heads in
     let wanted = Asks arg (type_of_id I row.ty) in
     let shapes = λ (e : EntryData) (m : Contains E e). All-contains (InShape p) E e c.requires.spot.shapes m in
     subst (λ (l : List EntryData). HaveEnvs (take s.limit l) s.args (length (env_of_id J h.own))) (sym same)
@@ -116,16 +116,16 @@ returns-clause-part c =
     let E = take s.limit log in
     let of : PointData = record { rule = c.args.spot.now.rule; head = c.args.head; args = s.args } in
     let is_place = subst (λ (x : PointsData). IsOnlyPlaceOf x point e0.point arg) (ap (λ (q : ProblemData). q.points) c.problem.view_is) c.in-Some.ensures in
-    let same = c.in_ok-heads.ensures.kept.log in
-    let heads = c.in_ok-heads.heads.items in
-    let are = c.in_ok-heads.ensures.heads in
+    let same = c.in_ok-heads_asking.ensures.kept.log in
+    let heads = c.heads_asking.new.out.items in
+    let are = c.in_ok-heads_asking.ensures.heads in
     let new = c.conclude_all.new.found.list.items in
     let wanted = Asks arg (type_of_id I row.ty) in
     let shapes = λ (e : EntryData) (m : Contains E e). All-contains (InShape p) E e c.requires.spot.shapes m in
     let some = along (λ i. OnOk c.conclude_all.result ((d : DeducedData) → Contains new d → Contains c.args.found.now.list.items d ⊎ ((h : HeadData) × Contains (c.as_slice.ensures i) h × IsConclusion J K (same i) s h d))) c.conclude_all.ensures.only in
     on_ok_both c.conclude_all.result (RowsAre c.conclude_all.new.found.rows.keys new) ((d : DeducedData) → Contains new d → Contains c.args.found.now.list.items d ⊎ ((h : HeadData) × Contains heads h × IsConclusion J K log s h d))
     (ArePart p K E s.point (Uses place) c.conclude_all.new.found.rows.keys new)
-    (λ rows only_these. part_more p log s of c.requires.at refl shapes J K c.conclude_all.ensures.kept.grows I c.in_ok-heads.ensures.kept.grows (Uses place) wanted heads c.args.found.now.rows.keys c.conclude_all.new.found.rows.keys c.args.found.now.list.items new are
+    (λ rows only_these. part_more p log s of c.requires.at refl shapes J K c.conclude_all.ensures.kept.grows I c.in_ok-heads_asking.ensures.kept.grows (Uses place) wanted heads c.args.found.now.rows.keys c.conclude_all.new.found.rows.keys c.args.found.now.list.items new are
     (λ h d among asks is. argument_used d.support.head d.support.args place
     (fixed_uses p log limit point arg place of c.requires.at e0 c.row-row.ensures.entry c.requires.place is_place (map (set_of_id J) h.sets) d.support.args is.leads.chosen asks is.leads.picked)) c.requires.part rows only_these) c.conclude_all.ensures.rows some
 
@@ -146,9 +146,9 @@ returns-clause-all c =
     let E = take s.limit log in
     let of : PointData = record { rule = c.args.spot.now.rule; head = c.args.head; args = s.args } in
     let is_place = subst (λ (x : PointsData). IsOnlyPlaceOf x point e0.point arg) (ap (λ (q : ProblemData). q.points) c.problem.view_is) c.in-Some.ensures in
-    let same = c.in_ok-heads.ensures.kept.log in
-    let heads = c.in_ok-heads.heads.items in
-    let are = c.in_ok-heads.ensures.heads in
+    let same = c.in_ok-heads_asking.ensures.kept.log in
+    let heads = c.heads_asking.new.out.items in
+    let are = c.in_ok-heads_asking.ensures.heads in
     let new = c.conclude_all.new.found.list.items in
     let wanted = Asks arg (type_of_id I row.ty) in
     let shapes = λ (e : EntryData) (m : Contains E e). All-contains (InShape p) E e c.requires.spot.shapes m in

@@ -6,6 +6,7 @@ use Rattle.hs_types.specs.Interned.{type_of_id, set_of_id, env_of_id}
 use Rattle.hs_types.proofs.Numbers.{env_within, env_stays}
 use Rattle.hs_rules.specs.Found.{HeadData}
 use Rattle.hs_rules.specs.Heads.{Just}
+use Rattle.hs_rules.proofs.Lists.{push_later}
 use Rattle.hs_rules.proofs.ArrowLemmas.{arrows_long}
 use Rattle.hs_rules.proofs.FoundLemmas.{sets_within}
 use Rattle.hs_rules.proofs.HeadLemmas.{heads_none, heads_one, parts_type}
@@ -31,7 +32,7 @@ returns-clause-gains c =
     let sets_are : c.in_ok-sets.sets.items ≡ take c.args.count full = c.in_ok-sets.ensures.ok in
     let h : HeadData = record { by = c.args.by; own = c.args.own; sets = c.in_ok-sets.sets.items; rest = c.in_ok-rest.rest } in
     let is = ap (λ (xs : List ℕ). arrows (map (set_of_id K) xs) (type_of_id K c.in_ok-rest.rest)) sets_are ∙ parts_type I K c.args.count full c.args.ty c.in_ok-rest.rest g c.requires.full c.in_ok-rest.ensures.is in
-    heads_one K c.args.count (Just c.args.by own ty) c.args.out.now.items c.push.new.self.items h c.in_ok-push.ensures.ok
+    heads_one K c.args.count (Just c.args.by own ty) c.args.out.now.items c.push_reserved.new.self.items h (push_later c.args.out.now.items c.reserve.new.self.items c.push_reserved.new.self.items h c.reserve.ensures.items c.push_reserved.ensures.items)
     (record {
       own = env_within I K g c.args.own c.requires.own;
       sets = subst (λ (xs : List ℕ). All (λ s. s < length K.sets) xs) (sym sets_are) (sets_within I K (take c.args.count full) g (All-take (λ s. s < length I.sets) c.args.count full c.requires.full));
@@ -40,3 +41,15 @@ returns-clause-gains c =
     })
     (refl, env_stays I K g c.args.own c.requires.own, is)
     (λ by o t j. j.2 ∙ sym is)
+
+pub push_reserved-requires : goal.push_reserved-requires
+push_reserved-requires c = (omega arith, c.in_ok-reserve.ensures.ok)
+
+pub returns-in_err-reserve-clause-kept : goal.returns-in_err-reserve-clause-kept
+returns-in_err-reserve-clause-kept c = c.rest_of.ensures.kept
+
+pub returns-in_err-sets-clause-kept : goal.returns-in_err-sets-clause-kept
+returns-in_err-sets-clause-kept c = c.rest_of.ensures.kept
+
+pub returns-clause-kept : goal.returns-clause-kept
+returns-clause-kept c = c.rest_of.ensures.kept

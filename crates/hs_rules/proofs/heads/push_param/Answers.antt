@@ -1,4 +1,4 @@
-use Rattle.std.proofs.Common.{◌≡◌, refl, sym, ◌∙◌, ap, subst, ◌∷◌, [], length, replicate, set}
+use Rattle.std.proofs.Common.{◌≡◌, refl, sym, ◌∙◌, ap, subst, ◌∷◌, [], length, replicate, set, arith}
 use Rattle.std.proofs.lemmas.Option.{slice_get_within, get_or_from_slice_get, same_Some}
 use Rattle.hs_table.specs.declared.support.HeadBy.TheVariants.{Param}
 use Rattle.hs_table.specs.Types.{TypeTree, arrows}
@@ -8,7 +8,7 @@ use Rattle.hs_types.proofs.Numbers.{type_within, type_stays}
 use Rattle.hs_rules.specs.Found.{HeadData}
 use Rattle.hs_rules.specs.Heads.{head_type, ParamAt, IsSplit}
 use Rattle.hs_rules.proofs.FoundLemmas.{sets_within, sets_stay}
-use Rattle.hs_rules.proofs.Lists.{match_some}
+use Rattle.hs_rules.proofs.Lists.{match_some, push_later}
 use Rattle.hs_rules.proofs.HeadLemmas.{heads_one}
 use Rattle.hs_rules.proofs.heads.push_param.Goals as goal
 
@@ -28,7 +28,7 @@ returns-clause-gains c =
     (λ x. IsSplit c.interner.result.now row.ty c.args.count x.0.items x.1) c.in-Some.is c.in_ok-sets.ensures) in
     let h : HeadData = record { by = Param c.args.x c.args.place; own = own; sets = c.in-Some.sets.items; rest = c.in-Some.rest } in
     let is : head_type K h ≡ e.ty = (λ i. arrows (sets_stay I K c.in-Some.sets.items g s.sets_within i) (type_stays I K g c.in-Some.rest s.rest_within i)) ∙ sym s.is in
-    heads_one K c.args.count (ParamAt log c.args.params c.args.x c.args.place) c.args.out.now.items c.push.new.self.items h c.in_ok-push.ensures.ok
+    heads_one K c.args.count (ParamAt log c.args.params c.args.x c.args.place) c.args.out.now.items c.push_reserved.new.self.items h (push_later c.args.out.now.items c.reserve.new.self.items c.push_reserved.new.self.items h c.reserve.ensures.items c.push_reserved.ensures.items)
     (record {
       own = slice_get_within K.envs own own_env c.in_ok-own.ensures.ok;
       sets = sets_within I K c.in-Some.sets.items g s.sets_within;
@@ -37,3 +37,6 @@ returns-clause-gains c =
     })
     (record { entry = e; at = c.row-row.ensures.entry; just = (refl, get_or_from_slice_get K.envs own own_env [] c.in_ok-own.ensures.ok, is) })
     (λ by o t p. p.just.2 ∙ (ap (λ (x : EntryData). x.ty) (same_Some p.entry e (sym p.at ∙ c.row-row.ensures.entry)) ∙ sym is))
+
+pub push_reserved-requires : goal.push_reserved-requires
+push_reserved-requires c = (omega arith, c.in_ok-reserve.ensures.ok)

@@ -1,63 +1,18 @@
-use Rattle.std.proofs.Common.{sym, ◌∙◌, ap, subst, List, take, slice_get, inl, inr, Contains}
-use Rattle.std.proofs.lemmas.List.{take_all}
-use Rattle.hs_scheme.proofs.Lists.{Contains-at}
-use Rattle.hs_types.proofs.Numbers.{env_within}
-use Rattle.hs_table_laws.proofs.Places.{place_of, at_take}
-use Rattle.hs_rules.specs.Joins.{PartialData, IsCovered}
-use Rattle.hs_rules.proofs.Lists.{taken_cases}
-use Rattle.hs_rules.proofs.KeepLemmas.{keeps_then}
-use Rattle.hs_rules.proofs.JoinLemmas.{made_stays, covered_stays, made_earlier, covered_earlier, placed_later}
+use Rattle.std.proofs.Common.{sym, subst, ℕ, List, Contains}
+use Rattle.hs_table.specs.Entries.{EntryData}
+use Rattle.hs_rules.specs.Joins.{PartialData, FillsBy, IsMadeOf, IsCovered, CanFill}
 use Rattle.hs_rules.proofs.joining.extended.Goals as goal
 
-pub extend-requires-clause-env : goal.extend-requires-clause-env
-extend-requires-clause-env c =
-    env_within c.args.replica.now.ids c.loop-partial.replica.ids c.loop-partial.invariant.kept.grows c.partial-item.result.env
-    (c.requires c.partial-item.result (c.loop-partial.partial-index, c.loop-partial-test.true, sym c.partial-item.is)).0
+pub extend_all-requires-clause-can : goal.extend_all-requires-clause-can
+extend_all-requires-clause-can c = subst (λ (xs : List PartialData). CanFill c.args.replica.now.ids c.args.replica.now.log xs c.args.slot.now) (sym c.as_slice.ensures) c.requires
 
-pub extend-requires-clause-placed : goal.extend-requires-clause-placed
-extend-requires-clause-placed c =
-    let known = c.requires c.partial-item.result (c.loop-partial.partial-index, c.loop-partial-test.true, sym c.partial-item.is) in
-    placed_later c.args.replica.now.ids c.loop-partial.replica.ids c.loop-partial.replica.ids c.args.replica.now.log c.loop-partial.replica.log c.partial-item.result c.args.slot.now c.loop-partial.invariant.kept.grows known.0 c.loop-partial.invariant.kept.log known.1
-
-pub returns-in_err-extend-clause-kept : goal.returns-in_err-extend-clause-kept
-returns-in_err-extend-clause-kept c = keeps_then c.args.replica.now c.loop-partial.replica c.extend.new.replica c.loop-partial.invariant.kept c.extend.ensures.kept
-
-pub loop-partial-preserved : goal.loop-partial-preserved
-loop-partial-preserved c =
-    let I = c.args.replica.now.ids in
-    let J = c.loop-partial.replica.ids in
-    let K = c.extend.new.replica.ids in
-    let log = c.args.replica.now.log in
-    let item = c.partial-item.result in
-    let f = c.args.slot.now in
-    let g = c.loop-partial.invariant.kept.grows in
-    let h = c.in_ok-extend.ensures.kept.grows in
-    let same = c.loop-partial.invariant.kept.log in
-    let among : Contains c.args.partials.now item = (c.loop-partial.partial-index, c.loop-partial-test.true, sym c.partial-item.is) in
-    let known = (c.requires item among).0 in
-    record {
-      kept = keeps_then c.args.replica.now c.loop-partial.replica c.extend.new.replica c.loop-partial.invariant.kept c.extend.ensures.kept;
-      seen = c.in_ok-extend.ensures.seen;
-      made = λ x there. elim (c.in_ok-extend.ensures.only x there) [
-        | inl was ↦
-            let m = c.loop-partial.invariant.made x was in
-            record { from = m.from; among = m.among; made = made_stays I J K log m.from f g h (c.requires m.from m.among).0 x m.made }
-        | inr made ↦ record { from = item; among = among; made = made_earlier I J K log c.loop-partial.replica.log item f g known same x made }
-      ];
-      all = λ from there place e fills. elim (taken_cases c.args.partials.now c.loop-partial.partial-index item from c.loop-partial-test.true c.partial-item.is there) [
-        | inl was ↦
-            let before = c.loop-partial.invariant.all from was place e fills in
-            covered_stays I J K log from f g h (c.requires from (in_all from was)).0 e c.loop-partial.out.list.items c.extend.new.out.list.items c.in_ok-extend.ensures.keeps before
-        | inr is ↦
-            subst (λ (y : PartialData). IsCovered I K y e c.extend.new.out.list.items) (sym is)
-            (covered_earlier I J K log c.loop-partial.replica.log item f g known same e c.extend.new.out.list.items
-            (c.in_ok-extend.ensures.all place e (record { among = fills.among; at = ap (λ l. slice_get l place) same ∙ fills.at })))
-      ];
-    }
-  where
-    in_all : (from : PartialData) → Contains (take c.loop-partial.partial-index c.args.partials.now) from → Contains c.args.partials.now from
-    in_all from there = let p = place_of (take c.loop-partial.partial-index c.args.partials.now) from there in Contains-at c.args.partials.now p.0 from (at_take c.loop-partial.partial-index c.args.partials.now p.0 from p.1).1
+pub returns-clause-only : goal.returns-clause-only
+returns-clause-only c =
+    let new = c.extend_all.new.out.list.items in
+    subst (λ (xs : List PartialData). (x : PartialData) → Contains new x → IsMadeOf c.args.replica.now.ids c.extend_all.new.replica.ids c.args.replica.now.log xs c.args.slot.now x) c.as_slice.ensures c.in_ok-extend_all.ensures.only
 
 pub returns-clause-all : goal.returns-clause-all
-returns-clause-all c = λ from there.
-    c.loop-partial.invariant.all from (subst (λ (xs : List PartialData). Contains xs from) (sym (take_all c.loop-partial.partial-index c.args.partials.now c.loop-partial-test.false)) there)
+returns-clause-all c =
+    let new = c.extend_all.new.out.list.items in
+    subst (λ (xs : List PartialData). (from : PartialData) → Contains xs from → (place : ℕ) (e : EntryData) → FillsBy c.args.replica.now.log c.args.slot.now place e → IsCovered c.args.replica.now.ids c.extend_all.new.replica.ids from e new)
+    c.as_slice.ensures c.in_ok-extend_all.ensures.all

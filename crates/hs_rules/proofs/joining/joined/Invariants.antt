@@ -8,5 +8,5 @@ use Rattle.hs_rules.proofs.joining.joined.Given as goal
 abbrev pub invariant-loop-slot : goal.invariant-loop-slot
 invariant-loop-slot l = record {
   kept : KeepsLog l.fn.replica l.replica;
-  joined : AreJoined l.replica.ids l.fn.replica.log (length (env_of_id l.fn.replica.ids l.fn.own)) (env_of_id l.fn.replica.ids l.fn.own) (take l.slot-index l.slots) l.partials.items;
+  joined : AreJoined l.replica.ids l.fn.replica.log (length (env_of_id l.fn.replica.ids l.fn.own)) (env_of_id l.fn.replica.ids l.fn.own) (take l.slot-index l.slots) l.out.items;
 }

@@ -1,72 +1,49 @@
-use Rattle.std.proofs.Common.{◌≡◌, refl, sym, ◌∙◌, ap, subst, ℕ, ◌<◌, List, [], ◌∷◌, ◌++◌, length, take, slice_get, slice_index_or, Contains}
-use Rattle.std.proofs.lemmas.Option.{same_Some}
-use Rattle.hs_scheme.proofs.Lists.{here}
-use Rattle.hs_table.specs.Entries.{EntryData}
-use Rattle.hs_table_laws.proofs.Places.{within_from}
-use Rattle.hs_table_laws.proofs.Members.{taken_next}
-use Rattle.hs_types.specs.Interned.{env_of_id, entry_of}
-use Rattle.hs_rules.specs.Slots.{FilledData}
+use Rattle.std.proofs.Common.{◌≡◌, sym, ◌∙◌, ap, subst, ℕ, List, ◌∷◌, [], ◌++◌, length, arith, Option, IfSome}
+use Rattle.hs_types.specs.Interned.{env_of_id}
 use Rattle.hs_rules.specs.Joins.{PartialData, AreJoined}
-use Rattle.hs_rules.proofs.KeepLemmas.{keeps_none, keeps_then}
-use Rattle.hs_rules.proofs.JoinLemmas.{single, joined_none, joined_more}
+use Rattle.hs_rules.proofs.KeepLemmas.{keeps_none}
 use Rattle.hs_rules.proofs.joining.joined_only.Goals as goal
 
-pub loop-slot-init : goal.loop-slot-init
-loop-slot-init c =
-    let x : PartialData = record { env = c.args.own; args = c.new-args.result.items } in
-    record {
-      kept = keeps_none c.args.replica.now;
-      joined = joined_none c.args.replica.now.ids c.args.replica.now.log c.args.own (x ∷ []) x c.requires.own c.requires.is_env refl refl c.new-args.ensures.items;
-    }
+pub push_reserved-requires : goal.push_reserved-requires
+push_reserved-requires c = (omega arith, c.in_ok-reserve.ensures.ok)
 
-pub row-candidate-requires : goal.row-candidate-requires
-row-candidate-requires c =
-    let log = c.args.replica.now.log in
-    let items = c.as_slice-places.result.now in
-    let place = slice_index_or items 0 0 in
-    let f = c.slot-item.result in
-    let one : f.places ≡ place ∷ [] = sym (c.as_slice-places.ensures ∙ ap (λ (x : FilledData). x.places) c.slot.view_is) ∙ single items c.if-places-ne1.false in
-    let placed = c.requires.placed f (c.loop-slot.slot-index, c.loop-slot-test.true, sym c.slot-item.is) place (subst (λ (ps : List ℕ). Contains ps place) (sym one) (here place [])) in
-    subst (λ (l : List EntryData). place < length l) (sym c.loop-slot.invariant.kept.log) (within_from log place placed.entry placed.at)
+pub only_env-requires-clause-own : goal.only_env-requires-clause-own
+only_env-requires-clause-own c = c.requires.own
 
-pub union_envs-requires-clause-a : goal.union_envs-requires-clause-a
-union_envs-requires-clause-a c =
-    let x : PartialData = record { env = c.loop-slot.env; args = c.loop-slot.args.items } in
-    (c.loop-slot.invariant.joined.sound x (here x [])).within
+pub only_env-requires-clause-is_env : goal.only_env-requires-clause-is_env
+only_env-requires-clause-is_env c = c.requires.is_env
 
-pub union_envs-requires-clause-long : goal.union_envs-requires-clause-long
-union_envs-requires-clause-long c =
-    let J = c.loop-slot.replica.ids in
-    let items = c.as_slice-places.result.now in
-    let place = slice_index_or items 0 0 in
-    let f = c.slot-item.result in
-    let x : PartialData = record { env = c.loop-slot.env; args = c.loop-slot.args.items } in
-    let one : f.places ≡ place ∷ [] = sym (c.as_slice-places.ensures ∙ ap (λ (x : FilledData). x.places) c.slot.view_is) ∙ single items c.if-places-ne1.false in
-    let placed = c.requires.placed f (c.loop-slot.slot-index, c.loop-slot-test.true, sym c.slot-item.is) place (subst (λ (ps : List ℕ). Contains ps place) (sym one) (here place [])) in
-    let at = ap (λ (l : List EntryData). slice_get l place) (sym c.loop-slot.invariant.kept.log) ∙ c.row-candidate.ensures.entry in
-    let same = same_Some placed.entry (entry_of J c.row-candidate.result) (sym placed.at ∙ at) in
-    (c.loop-slot.invariant.joined.sound x (here x [])).join.is_env.long ∙ (sym placed.env.long ∙ ap (λ (e : EntryData). length e.env) same)
+pub only_env-requires-clause-placed : goal.only_env-requires-clause-placed
+only_env-requires-clause-placed c = c.requires.placed
 
-pub loop-slot-preserved : goal.loop-slot-preserved
-loop-slot-preserved c =
+pub only_env-requires-clause-none : goal.only_env-requires-clause-none
+only_env-requires-clause-none c = c.new-args.ensures.items
+
+pub returns-clause-joined : goal.returns-clause-joined
+returns-clause-joined c =
     let I = c.args.replica.now.ids in
-    let J = c.loop-slot.replica.ids in
-    let K = c.union_envs.new.self.ids in
+    let own = env_of_id I c.args.own in
+    let K = c.only_env.new.replica.ids in
     let log = c.args.replica.now.log in
     let slots = c.args.slots.now in
-    let k = c.loop-slot.slot-index in
-    let items = c.as_slice-places.result.now in
-    let place = slice_index_or items 0 0 in
-    let f = c.slot-item.result in
-    let own = env_of_id I c.args.own in
-    let old : PartialData = record { env = c.loop-slot.env; args = c.loop-slot.args.items } in
-    let new : PartialData = record { env = c.in_ok-env.env; args = c.push.new.self.items } in
-    let one : f.places ≡ place ∷ [] = sym (c.as_slice-places.ensures ∙ ap (λ (x : FilledData). x.places) c.slot.view_is) ∙ single items c.if-places-ne1.false in
-    let at = ap (λ (l : List EntryData). slice_get l place) (sym c.loop-slot.invariant.kept.log) ∙ c.row-candidate.ensures.entry in
-    let arg_is = ap (λ (x : FilledData). x.arg) c.slot.view_is in
-    record {
-      kept = keeps_then c.args.replica.now c.loop-slot.replica c.union_envs.new.self c.loop-slot.invariant.kept c.in_ok-env.ensures.kept;
-      joined = subst (λ (fs : List FilledData). AreJoined K log (length own) own fs (new ∷ [])) (sym (taken_next slots k f c.loop-slot-test.true c.slot-item.is))
-          (joined_more J K log (length own) own (take k slots) f old new c.loop-slot.invariant.joined place (entry_of J c.row-candidate.result) one at
-          (c.in_ok-push.ensures.ok ∙ (λ i. c.loop-slot.args.items ++ (arg_is i, place) ∷ [])) c.in_ok-env.ensures.ok.0 c.in_ok-env.ensures.ok.1);
-    }
+    let chosen = c.only_env.new.args.items in
+    let with : ℕ → PartialData = λ env. record { env = env; args = chosen } in
+    let x : PartialData = with c.in-Some.env in
+    let is : c.push_reserved.new.self.items ≡ x ∷ [] = c.push_reserved.ensures.items ∙ ap (λ (xs : List PartialData). xs ++ x ∷ []) (c.reserve.ensures.items ∙ c.requires.none) in
+    subst (λ (xs : List PartialData). AreJoined K log (length own) own slots xs) (sym is)
+    (subst (λ (o : Option ℕ). IfSome o (λ env. AreJoined K log (length own) own slots (with env ∷ []))) c.in-Some.is c.in_ok-env.ensures.joined)
+
+pub returns-in_default-clause-none : goal.returns-in_default-clause-none
+returns-in_default-clause-none c = c.reserve.ensures.items ∙ c.requires.none
+
+pub returns-in_err-reserve-clause-kept : goal.returns-in_err-reserve-clause-kept
+returns-in_err-reserve-clause-kept c = keeps_none c.args.replica.now
+
+pub returns-in_err-env-clause-kept : goal.returns-in_err-env-clause-kept
+returns-in_err-env-clause-kept c = c.only_env.ensures.kept
+
+pub returns-in_default-clause-kept : goal.returns-in_default-clause-kept
+returns-in_default-clause-kept c = c.only_env.ensures.kept
+
+pub returns-clause-kept : goal.returns-clause-kept
+returns-clause-kept c = c.only_env.ensures.kept

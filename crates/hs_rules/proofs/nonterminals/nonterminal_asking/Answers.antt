@@ -1,14 +1,15 @@
-use Rattle.std.proofs.Common.{◌≡◌, sym, ◌∙◌, ap, subst, ℕ, ◌<◌, List, [], length, replicate, get_or, take, slice_get, Some, Contains, arith}
+use Rattle.std.proofs.Common.{◌≡◌, sym, ◌∙◌, ap, subst, ℕ, ◌<◌, List, [], length, replicate, get_or, take, slice_get, Some, OnOk, Contains, arith}
 use Rattle.std.proofs.lemmas.Option.{slice_get-get_or, slice_get_within, get_or_from_slice_get}
 use Rattle.std.proofs.lemmas.List.Elements.{All-contains}
+use Rattle.hs_scheme.specs.declared.term.Head.TheVariants.{Nt}
 use Rattle.hs_scheme.specs.Points.{PointsData}
 use Rattle.hs_scheme.specs.Problem.{ProblemData}
 use Rattle.hs_table.specs.Entries.{Env, EntryData, InShape, params_of}
 use Rattle.hs_types.specs.Interned.{type_of_id, env_of_id}
 use Rattle.hs_replica.specs.Replica.{ReplicaData, KeepsLog}
 use Rattle.hs_replica.specs.Places.{asks, ArePlaces}
-use Rattle.hs_rules.specs.Heads.{GainsHeads, BodyAt, AtSome}
-use Rattle.hs_rules.proofs.Lists.{along, all_from}
+use Rattle.hs_rules.specs.Heads.{GainsHeads, BodyAt, AtSome, AreHeads, Asks}
+use Rattle.hs_rules.proofs.Lists.{along, all_from, on_ok_map}
 use Rattle.hs_rules.proofs.KeepLemmas.{keeps_none, keeps_then}
 use Rattle.hs_rules.proofs.SourceLemmas.{bodies_asking}
 use Rattle.hs_rules.proofs.nonterminals.nonterminal_asking.Goals as goal
@@ -45,10 +46,12 @@ returns-clause-heads c =
     let body_is : slice_get p.points.bodies f ≡ Some body = slice_get-get_or p.points.bodies f 0 c.requires.head ∙ ap (λ (k : ℕ). Some k) (sym (c.body_of-body.ensures.body ∙ ap (λ (x : PointsData). get_or x.bodies f 0) points)) in
     let shapes = λ (e : EntryData) (m : Contains (take limit log) e). All-contains (InShape p) (take limit log) e c.requires.spot.shapes m in
     let heads = c.push_bodies.new.out.items in
-    let gains = along (λ i. GainsHeads K (length args) (AtSome (BodyAt (same i) (own_is i)) c.begin_below-places.result.now) (c.new-out.ensures.items i) heads) c.in_ok-push_bodies.ensures.gains in
+    let gains = along (λ i. OnOk c.push_bodies.result (GainsHeads K (length args) (AtSome (BodyAt (same i) (own_is i)) c.begin_below-places.result.now) (c.requires.none i) heads)) c.push_bodies.ensures.gains in
     let are = subst (λ (xs : List ℕ). ArePlaces log c.args.replica.now.indexed (asks body c.args.arg (type_of_id I c.args.ty)) xs) (sym c.as_slice.ensures) c.in_ok-asked.ensures.exact in
-    bodies_asking p log limit c.args.spot.now.rule args shapes f body body_is K c.begin_below-places.result.now heads c.args.replica.now.indexed c.args.arg (type_of_id I c.args.ty) c.as_slice.result.now c.requires.search.indexed c.requires.arg are
-    c.begin_below-places.ensures gains
+    on_ok_map c.push_bodies.result (GainsHeads K (length args) (AtSome (BodyAt log (replicate (params_of p c.args.spot.now.rule) [])) c.begin_below-places.result.now) [] heads)
+    (AreHeads p (take limit log) (record { rule = c.args.spot.now.rule; head = Nt f; args = args }) K (Asks c.args.arg (type_of_id I c.args.ty)) heads)
+    (bodies_asking p log limit c.args.spot.now.rule args shapes f body body_is K c.begin_below-places.result.now heads c.args.replica.now.indexed c.args.arg (type_of_id I c.args.ty) c.as_slice.result.now c.requires.search.indexed c.requires.arg are
+    c.begin_below-places.ensures) gains
 
 pub returns-in_err-asked-clause-kept : goal.returns-in_err-asked-clause-kept
 returns-in_err-asked-clause-kept c = subst (λ (r : ReplicaData). KeepsLog c.args.replica.now r) (sym c.asking.ensures.kept) (keeps_none c.args.replica.now)
@@ -56,10 +59,6 @@ returns-in_err-asked-clause-kept c = subst (λ (r : ReplicaData). KeepsLog c.arg
 pub returns-in_err-own-clause-kept : goal.returns-in_err-own-clause-kept
 returns-in_err-own-clause-kept c = kept_from c.args.replica.now c.asking.new.self c.empty_env.new.self c.in_ok-asked.ensures.kept c.empty_env.ensures.kept
 
-pub returns-in_err-push_bodies-clause-kept : goal.returns-in_err-push_bodies-clause-kept
-returns-in_err-push_bodies-clause-kept c =
-    keeps_then c.args.replica.now c.empty_env.new.self c.push_bodies.new.replica (kept_from c.args.replica.now c.asking.new.self c.empty_env.new.self c.in_ok-asked.ensures.kept c.in_ok-own.ensures.kept) c.push_bodies.ensures.kept
-
 pub returns-clause-kept : goal.returns-clause-kept
 returns-clause-kept c =
-    keeps_then c.args.replica.now c.empty_env.new.self c.push_bodies.new.replica (kept_from c.args.replica.now c.asking.new.self c.empty_env.new.self c.in_ok-asked.ensures.kept c.in_ok-own.ensures.kept) c.in_ok-push_bodies.ensures.kept
+    keeps_then c.args.replica.now c.empty_env.new.self c.push_bodies.new.replica (kept_from c.args.replica.now c.asking.new.self c.empty_env.new.self c.in_ok-asked.ensures.kept c.in_ok-own.ensures.kept) c.push_bodies.ensures.kept

@@ -1,4 +1,4 @@
-use Rattle.std.proofs.Common.{◌≡◌, sym, ◌∙◌, ap, subst, ℕ, ◌<◌, List, ◌∷◌, [], length, replicate, get_or, take, slice_get, Some, Contains, arith}
+use Rattle.std.proofs.Common.{◌≡◌, sym, ◌∙◌, ap, subst, ℕ, ◌<◌, List, ◌∷◌, [], length, replicate, get_or, take, slice_get, Some, OnOk, Contains, arith}
 use Rattle.std.proofs.lemmas.Option.{slice_get-get_or, slice_get_within, get_or_from_slice_get, same_Some}
 use Rattle.std.proofs.lemmas.List.Elements.{All-contains}
 use Rattle.hs_scheme.specs.Points.{PointsData}
@@ -10,7 +10,7 @@ use Rattle.hs_rules.specs.Found.{HeadData}
 use Rattle.hs_types.specs.Interned.{env_of_id, entry_of}
 use Rattle.hs_rules.specs.Heads.{GainsHeads, BodyAt, AtSome, AreHeads, ComesFrom}
 use Rattle.hs_rules.proofs.HeadLemmas.{heads_start}
-use Rattle.hs_rules.proofs.Lists.{along, all_from}
+use Rattle.hs_rules.proofs.Lists.{along, all_from, on_ok_map}
 use Rattle.hs_rules.proofs.SourceLemmas.{bodies_from_place}
 use Rattle.hs_rules.proofs.KeepLemmas.{keeps_then}
 use Rattle.hs_rules.proofs.nonterminals.nonterminal_at.Goals as goal
@@ -30,7 +30,7 @@ returns-then-row-body-clause-heads c =
     let own : Env = replicate (params_of p c.args.spot.now.rule) [] in
     let e0 = entry_of I c.row.result in
     let none = heads_start I (length args) (BodyAt log own) [] in
-    subst (λ (heads : List HeadData). AreHeads p (take limit log) (record { rule = c.args.spot.now.rule; head = Nt f; args = args }) I (ComesFrom c.args.place) heads) (sym c.new.ensures.items)
+    subst (λ (heads : List HeadData). AreHeads p (take limit log) (record { rule = c.args.spot.now.rule; head = Nt f; args = args }) I (ComesFrom c.args.place) heads) (sym c.requires.none)
     (bodies_from_place p log limit c.args.spot.now.rule args shapes f body body_is I [] [] c.args.place
     (λ place e there at. absurd (none_in place there))
     (λ e at point_is. absurd (c.if-row-body.true (ap (λ (z : EntryData). z.point) (same_Some e0 e (sym c.row.ensures.entry ∙ at)) ∙ point_is)))
@@ -63,22 +63,20 @@ returns-clause-heads c =
     let body_is : slice_get p.points.bodies f ≡ Some body = slice_get-get_or p.points.bodies f 0 c.requires.head ∙ ap (λ (k : ℕ). Some k) (sym (c.body_of-body.ensures.body ∙ ap (λ (x : PointsData). get_or x.bodies f 0) points)) in
     let shapes = λ (e : EntryData) (m : Contains (take limit log) e). All-contains (InShape p) (take limit log) e c.requires.spot.shapes m in
     let heads = c.push_bodies.new.out.items in
-    let gains = along (λ i. GainsHeads K (length args) (AtSome (BodyAt (same i) (own_is i)) (c.args.place ∷ [])) (c.new-out.ensures.items i) heads) c.in_ok-push_bodies.ensures.gains in
+    let gains = along (λ i. OnOk c.push_bodies.result (GainsHeads K (length args) (AtSome (BodyAt (same i) (own_is i)) (c.args.place ∷ [])) (c.requires.none i) heads)) c.push_bodies.ensures.gains in
     let indexed = c.in_ok-own.ensures.kept.indexed ∙ c.requires.search.indexed in
     let e0 = entry_of I c.row.result in
-    bodies_from_place p log limit c.args.spot.now.rule args shapes f body body_is K (c.args.place ∷ []) heads c.args.place
+    on_ok_map c.push_bodies.result (GainsHeads K (length args) (AtSome (BodyAt log (replicate (params_of p c.args.spot.now.rule) [])) (c.args.place ∷ [])) [] heads)
+    (AreHeads p (take limit log) (record { rule = c.args.spot.now.rule; head = Nt f; args = args }) K (ComesFrom c.args.place) heads)
+    (bodies_from_place p log limit c.args.spot.now.rule args shapes f body body_is K (c.args.place ∷ []) heads c.args.place
     (λ place e there at.
     let is = only c.args.place place there in
     let e_is = same_Some e e0 (sym at ∙ (ap (λ k. slice_get log k) is ∙ c.row.ensures.entry)) in
     (is, omega (arith, is, c.requires.place), ap (λ (z : EntryData). z.point) e_is ∙ c.if-row-body.false))
-    (λ e at point_is. here c.args.place [])
-    gains
+    (λ e at point_is. here c.args.place [])) gains
 
 pub returns-in_err-own-clause-kept : goal.returns-in_err-own-clause-kept
 returns-in_err-own-clause-kept c = c.empty_env.ensures.kept
 
-pub returns-in_err-push_bodies-clause-kept : goal.returns-in_err-push_bodies-clause-kept
-returns-in_err-push_bodies-clause-kept c = keeps_then c.args.replica.now c.empty_env.new.self c.push_bodies.new.replica c.in_ok-own.ensures.kept c.push_bodies.ensures.kept
-
 pub returns-clause-kept : goal.returns-clause-kept
-returns-clause-kept c = keeps_then c.args.replica.now c.empty_env.new.self c.push_bodies.new.replica c.in_ok-own.ensures.kept c.in_ok-push_bodies.ensures.kept
+returns-clause-kept c = keeps_then c.args.replica.now c.empty_env.new.self c.push_bodies.new.replica c.in_ok-own.ensures.kept c.push_bodies.ensures.kept

@@ -1,12 +1,13 @@
-use Rattle.std.proofs.Common.{◌≡◌, ◌∙◌, ap, ◌&&◌, nat_eq, filter, length, take, Contains}
+use Rattle.std.proofs.Common.{◌≡◌, ◌∙◌, ap, ◌&&◌, nat_eq, filter, length, take, [], OnOk, Contains}
 use Rattle.std.proofs.lemmas.List.Elements.{All-contains}
 use Rattle.hs_scheme.specs.declared.flow.FlowPair.{FlowPair}
+use Rattle.hs_scheme.specs.declared.term.Head.TheVariants.{Var}
 use Rattle.hs_scheme.specs.Problem.{ProblemData}
-use Rattle.hs_table.specs.Entries.{EntryData, InShape}
+use Rattle.hs_table.specs.Entries.{EntryData, InShape, params_of}
 use Rattle.hs_types.specs.Interned.{type_of_id}
 use Rattle.hs_replica.specs.Places.{takes}
-use Rattle.hs_rules.specs.Heads.{GainsHeads, AtFlow}
-use Rattle.hs_rules.proofs.Lists.{along}
+use Rattle.hs_rules.specs.Heads.{GainsHeads, AtFlow, AreHeads, Asks}
+use Rattle.hs_rules.proofs.Lists.{along, on_ok_map}
 use Rattle.hs_rules.proofs.SourceLemmas.{params_taking}
 use Rattle.hs_rules.proofs.parameters.parameter_asking.Goals as goal
 
@@ -25,11 +26,10 @@ returns-clause-heads c =
     let heads = c.push_taking.new.out.items in
     let pairs = c.flow_of-pairs.result.now in
     let are_pairs : pairs ≡ filter (λ (f : FlowPair). nat_eq f.rule rule && nat_eq f.param x) p.flow.pairs = c.flow_of-pairs.ensures.pairs ∙ ap (filter (λ (f : FlowPair). nat_eq f.rule rule && nat_eq f.param x)) flows in
-    let gains = along (λ i. GainsHeads K (length args) (AtFlow log (c.requires.spot.params_are i) x limit (λ u. takes u c.args.arg (type_of_id I c.args.ty)) pairs) (c.new-out.ensures.items i) heads) c.in_ok-push_taking.ensures.gains in
-    params_taking p log limit rule args shapes x pairs are_pairs K heads c.args.arg (type_of_id I c.args.ty) c.requires.arg gains
-
-pub returns-in_err-push_taking-clause-kept : goal.returns-in_err-push_taking-clause-kept
-returns-in_err-push_taking-clause-kept c = c.push_taking.ensures.kept
+    let gains = along (λ i. OnOk c.push_taking.result (GainsHeads K (length args) (AtFlow log (c.requires.spot.params_are i) x limit (λ u. takes u c.args.arg (type_of_id I c.args.ty)) pairs) (c.requires.none i) heads)) c.push_taking.ensures.gains in
+    on_ok_map c.push_taking.result (GainsHeads K (length args) (AtFlow log (params_of p rule) x limit (λ u. takes u c.args.arg (type_of_id I c.args.ty)) pairs) [] heads)
+    (AreHeads p (take limit log) (record { rule = rule; head = Var x; args = args }) K (Asks c.args.arg (type_of_id I c.args.ty)) heads)
+    (params_taking p log limit rule args shapes x pairs are_pairs K heads c.args.arg (type_of_id I c.args.ty) c.requires.arg) gains
 
 pub returns-clause-kept : goal.returns-clause-kept
-returns-clause-kept c = c.in_ok-push_taking.ensures.kept
+returns-clause-kept c = c.push_taking.ensures.kept

@@ -1,4 +1,4 @@
-use Rattle.std.proofs.Common.{refl, sym, ◌∙◌, ap, subst, ℕ, ◌<◌, ◌&&◌, nat_eq, filter, List, ◌∷◌, [], ◌≡◌, true, false, length, take, slice_get, Contains, arith}
+use Rattle.std.proofs.Common.{refl, sym, ◌∙◌, ap, subst, ℕ, ◌<◌, ◌&&◌, nat_eq, filter, List, ◌∷◌, [], ◌≡◌, true, false, length, take, slice_get, OnOk, Contains, arith}
 use Rattle.std.proofs.lemmas.List.Elements.{All-contains}
 use Rattle.std.proofs.lemmas.Option.{same_Some}
 use Rattle.hs_scheme.specs.declared.flow.FlowPair.{FlowPair}
@@ -10,7 +10,7 @@ use Rattle.hs_types.specs.Interned.{entry_of}
 use Rattle.hs_rules.specs.Found.{HeadData}
 use Rattle.hs_rules.specs.Heads.{GainsHeads, ParamAt, AtSome, AreHeads, ComesFrom}
 use Rattle.hs_rules.proofs.HeadLemmas.{heads_start}
-use Rattle.hs_rules.proofs.Lists.{along, all_from}
+use Rattle.hs_rules.proofs.Lists.{along, all_from, on_ok_map}
 use Rattle.hs_rules.proofs.SourceLemmas.{params_from_place}
 use Rattle.hs_rules.proofs.parameters.parameter_at.Goals as goal
 
@@ -27,7 +27,7 @@ returns-then-not-holds-clause-heads c =
     let flows = ap (λ (q : ProblemData). q.flow.pairs) c.problem.view_is in
     let e0 = entry_of I c.row-row.result in
     let pair : ℕ → FlowPair = λ u. record { rule = rule; param = x; point = u } in
-    subst (λ (heads : List HeadData). AreHeads p (take limit log) (record { rule = rule; head = Var x; args = args }) I (ComesFrom c.args.place) heads) (sym c.new.ensures.items)
+    subst (λ (heads : List HeadData). AreHeads p (take limit log) (record { rule = rule; head = Var x; args = args }) I (ComesFrom c.args.place) heads) (sym c.requires.none)
     (params_from_place p log limit rule args shapes x (filter (λ (f : FlowPair). nat_eq f.rule rule && nat_eq f.param x) p.flow.pairs) refl I [] c.args.place []
     (λ place e there at. absurd (none_in place there))
     (λ e at flows_there.
@@ -57,17 +57,15 @@ returns-clause-heads c =
     let row_at = c.row-row.ensures.entry in
     let e0 = entry_of I c.row-row.result in
     let pair : ℕ → FlowPair = λ u. record { rule = rule; param = x; point = u } in
-    let gains = along (λ i. GainsHeads K (length args) (AtSome (ParamAt log (c.requires.spot.params_are i) x) (c.args.place ∷ [])) (c.new-out.ensures.items i) heads) c.in_ok-push_params.ensures.gains in
-    params_from_place p log limit rule args shapes x (filter (λ (f : FlowPair). nat_eq f.rule rule && nat_eq f.param x) p.flow.pairs) refl K heads c.args.place (c.args.place ∷ [])
+    let gains = along (λ i. OnOk c.push_params.result (GainsHeads K (length args) (AtSome (ParamAt log (c.requires.spot.params_are i) x) (c.args.place ∷ [])) (c.requires.none i) heads)) c.push_params.ensures.gains in
+    on_ok_map c.push_params.result (GainsHeads K (length args) (AtSome (ParamAt log (params_of p rule) x) (c.args.place ∷ [])) [] heads)
+    (AreHeads p (take limit log) (record { rule = rule; head = Var x; args = args }) K (ComesFrom c.args.place) heads)
+    (params_from_place p log limit rule args shapes x (filter (λ (f : FlowPair). nat_eq f.rule rule && nat_eq f.param x) p.flow.pairs) refl K heads c.args.place (c.args.place ∷ [])
     (λ place e there at.
     let is = only c.args.place place there in
     let e_is = same_Some e e0 (sym at ∙ (ap (λ k. slice_get log k) is ∙ row_at)) in
     (is, omega (arith, is, c.requires.place), subst (λ (fs : List FlowPair). Contains fs (pair e.point)) flows (subst (λ (u : ℕ). Contains c.problem.inside.flow.pairs (pair u)) (sym (ap (λ (z : EntryData). z.point) e_is)) (c.holds.ensures.0 c.if-not-holds.false))))
-    (λ e at flows_there. here c.args.place [])
-    gains
-
-pub returns-in_err-push_params-clause-kept : goal.returns-in_err-push_params-clause-kept
-returns-in_err-push_params-clause-kept c = c.push_params.ensures.kept
+    (λ e at flows_there. here c.args.place [])) gains
 
 pub returns-clause-kept : goal.returns-clause-kept
-returns-clause-kept c = c.in_ok-push_params.ensures.kept
+returns-clause-kept c = c.push_params.ensures.kept

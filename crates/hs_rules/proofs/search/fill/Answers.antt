@@ -33,8 +33,8 @@ loop-arg-preserved c =
     (filled_append E fixed old (slots_of k u (set_of_id ids s)) c.loop-arg.out.items g.added c.loop-arg.invariant.filled g.filled)) in
     record { kept = lists_then r c.loop-arg.replica c.fill_set.new.replica kept c.in_ok-complete.ensures.kept; filled = filled }
 
-pub returns-then-not-complete-clause-filled : goal.returns-then-not-complete-clause-filled
-returns-then-not-complete-clause-filled c =
+pub returns-then-not-complete-clause-shut : goal.returns-then-not-complete-clause-shut
+returns-then-not-complete-clause-shut c =
     let ids = c.args.replica.now.ids in
     let log = c.args.replica.now.log in
     let s = c.args.search.now in

@@ -7,6 +7,7 @@ use Rattle.hs_types.specs.Interned.{InternerData, type_of_id, set_of_id}
 use Rattle.hs_replica.specs.Replica.{ReplicaData}
 use Rattle.hs_rules.specs.Slots.{SlotData, FilledData, slots_of, IsCandidate}
 use Rattle.hs_rules.specs.Filling.{fixed_of, GainsFilled}
+use Rattle.hs_rules.proofs.Lists.{push_later}
 use Rattle.hs_rules.proofs.KeepLemmas.{lists_then, as_before}
 use Rattle.hs_rules.proofs.FillLemmas.{gains_then, gains_one, next_of_types, members_long, member_is}
 use Rattle.hs_rules.proofs.search.fill_set.Goals as goal
@@ -33,10 +34,10 @@ loop-number-preserved c =
     ↔ ((e : EntryData) × IsCandidate (take c.args.search.now.limit es) (fixed_of es c.args.search.now.fixed) (record { arg = c.args.arg; point = c.args.point; ty = type_of_id I t }) place e)) c.in_ok-places.ensures.candidates in
     record {
       kept = lists_then r now c.places_for.new.replica kept c.in_ok-places.ensures.kept;
-      gains = subst (λ (ss : List SlotData). GainsFilled E fixed ss c.args.out.now.items c.push.new.self.items)
+      gains = subst (λ (ss : List SlotData). GainsFilled E fixed ss c.args.out.now.items c.push_reserved.new.self.items)
           (sym (next_of_types c.args.arg c.args.point k set (type_of_id ids t) long (member_is ids items set are k t within c.index-members-number.is)))
-          (gains_then E fixed (slots_of c.args.arg c.args.point (take k set)) (s ∷ []) c.args.out.now.items c.loop-number.out.items c.push.new.self.items c.loop-number.invariant.gains
-          (gains_one E fixed s c.loop-number.out.items c.push.new.self.items f c.in_ok-push.ensures.ok (record { arg = refl; places = candidates })));
+          (gains_then E fixed (slots_of c.args.arg c.args.point (take k set)) (s ∷ []) c.args.out.now.items c.loop-number.out.items c.push_reserved.new.self.items c.loop-number.invariant.gains
+          (gains_one E fixed s c.loop-number.out.items c.push_reserved.new.self.items f (push_later c.loop-number.out.items c.reserve.new.self.items c.push_reserved.new.self.items f c.reserve.ensures.items c.push_reserved.ensures.items) (record { arg = refl; places = candidates })));
     }
 
 pub returns-then-is_empty-clause-lacks : goal.returns-then-is_empty-clause-lacks
@@ -61,3 +62,6 @@ returns-then-is_empty-clause-lacks c =
           → IsCandidate (take c.args.search.now.limit es) (fixed_of es c.args.search.now.fixed) (record { arg = c.args.arg; point = c.args.point; ty = type_of_id I t }) place e → ⊥)
           (λ place e is. let there = (c.in_ok-places.ensures.candidates place).1 (e, is) in omega (arith, there.1, nothing));
     }
+
+pub push_reserved-requires : goal.push_reserved-requires
+push_reserved-requires c = (omega arith, c.in_ok-reserve.ensures.ok)

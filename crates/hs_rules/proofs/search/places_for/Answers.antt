@@ -1,4 +1,4 @@
-use Rattle.std.proofs.Common.{◌≡◌, sym, ◌∙◌, ◌<◌, ap, subst, ℕ, [], true, false, length, take, Contains, ◌↔◌, List, Option, ◌∷◌, ◌++◌}
+use Rattle.std.proofs.Common.{◌≡◌, sym, ◌∙◌, ◌<◌, ap, subst, ℕ, [], true, false, length, take, Contains, ◌↔◌, List, Option, ◌∷◌, ◌++◌, arith}
 use Rattle.std.proofs.lemmas.Bool.{eq-eqb, eqb-true}
 use Rattle.std.proofs.lemmas.Result.{IfOk-weaker}
 use Rattle.std.proofs.lemmas.Option.{get_or_from_slice_get}
@@ -50,6 +50,9 @@ returns-then-eq-clause-candidates c = λ place.
     let f = c.in-Some.fixed in
     let same : c.row.result.ty ≡ c.args.ty = eqb-true c.row.result.ty c.args.ty (sym c.eq.ensures ∙ c.if-eq.true) in
     let within = subst (λ (o : Option Fixed). IsWithin log s.args.now s.limit o) c.in-Some.is c.requires.search.fixed_within in
-    let items : c.push.new.self.items ≡ f.place ∷ [] = c.in_ok-push.ensures.ok ∙ ap (λ (ps : List ℕ). ps ++ f.place ∷ []) c.new-only.ensures.items in
-    subst (λ (o : Option Fixed). Contains c.push.new.self.items place ↔ ((x : EntryData) × IsCandidate (take s.limit log) (fixed_of log o) (record { arg = c.args.arg; point = c.args.point; ty = type_of_id ids c.args.ty }) place x)) (sym c.in-Some.is)
-    (fixed_candidates log s.limit c.args.arg c.args.point (type_of_id ids c.args.ty) f s.args.now (entry_of ids c.row.result) c.push.new.self.items c.row.ensures.entry (ap (type_of_id ids) same) c.if-fixed-arg.true c.requires.point within items place)
+    let items : c.push_reserved.new.self.items ≡ f.place ∷ [] = c.push_reserved.ensures.items ∙ ap (λ (ps : List ℕ). ps ++ f.place ∷ []) c.new-only.ensures.items in
+    subst (λ (o : Option Fixed). Contains c.push_reserved.new.self.items place ↔ ((x : EntryData) × IsCandidate (take s.limit log) (fixed_of log o) (record { arg = c.args.arg; point = c.args.point; ty = type_of_id ids c.args.ty }) place x)) (sym c.in-Some.is)
+    (fixed_candidates log s.limit c.args.arg c.args.point (type_of_id ids c.args.ty) f s.args.now (entry_of ids c.row.result) c.push_reserved.new.self.items c.row.ensures.entry (ap (type_of_id ids) same) c.if-fixed-arg.true c.requires.point within items place)
+
+pub push_reserved-requires : goal.push_reserved-requires
+push_reserved-requires c = omega (arith, c.new-only.ensures.capacity, ap (λ (ps : List ℕ). length ps) c.new-only.ensures.items)

@@ -1,4 +1,4 @@
-use Rattle.std.proofs.Common.{◌≡◌, sym, ◌∙◌, ap, subst, ℕ, [], length, replicate, take, Some, Contains, ◌↔◌}
+use Rattle.std.proofs.Common.{◌≡◌, sym, ◌∙◌, ap, subst, ℕ, [], length, replicate, take, Some, OnOk, Contains, ◌↔◌}
 use Rattle.std.proofs.lemmas.Option.{slice_get_within, get_or_from_slice_get}
 use Rattle.std.proofs.lemmas.List.Elements.{All-contains}
 use Rattle.hs_scheme.specs.declared.term.Head.TheVariants.{Tm}
@@ -12,7 +12,7 @@ use Rattle.hs_table_laws.proofs.Arrows.{state_no_arrow}
 use Rattle.hs_types.specs.Interned.{InternerData, type_of_id, set_of_id, env_of_id, IsView}
 use Rattle.hs_types.specs.declared.ids.View.TheVariants.{Arrow}
 use Rattle.hs_rules.specs.Heads.{GainsHeads, AtSome, ReadIn, AreHeads, Asks}
-use Rattle.hs_rules.proofs.Lists.{along}
+use Rattle.hs_rules.proofs.Lists.{along, on_ok_map}
 use Rattle.hs_rules.proofs.RankLemmas.{ranks_agree}
 use Rattle.hs_rules.proofs.SourceLemmas.{terminals_asking, terminals_asking_none}
 use Rattle.hs_rules.proofs.KeepLemmas.{keeps_then}
@@ -49,11 +49,13 @@ returns-clause-heads c =
     let K = c.push_reading.new.replica.ids in
     let heads = c.push_reading.new.out.items in
     let states = c.reading-states.result.now in
-    let gains = along (λ i. GainsHeads K (length args) (AtSome (ReadIn (m_is i).states (m_is i).transitions a (own_is i) c.args.arg) states) (c.new-out.ensures.items i) heads) c.in_ok-push_reading.ensures.gains in
+    let gains = along (λ i. OnOk c.push_reading.result (GainsHeads K (length args) (AtSome (ReadIn (m_is i).states (m_is i).transitions a (own_is i) c.args.arg) states) (c.requires.none i) heads)) c.push_reading.ensures.gains in
     let reading = subst (λ (m : AutomatonData). (q : ℕ) → Contains states q ↔ Reads m.transitions a c.args.arg c.in-State.state q) m_is c.reading-states.ensures in
     let ty_is = subst (λ (ids : InternerData). type_of_id ids c.args.ty ≡ state c.in-State.state) c.interner.ensures c.in-State.ensures in
-    subst (λ (t : TypeTree). AreHeads p (take limit log) (record { rule = c.args.spot.now.rule; head = Tm a; args = args }) K (Asks c.args.arg t) heads) (sym ty_is)
-    (terminals_asking p log limit c.args.spot.now.rule args shapes a K heads c.args.arg c.requires.arg c.in-State.state states reading gains)
+    on_ok_map c.push_reading.result (GainsHeads K (length args) (AtSome (ReadIn p.sorted.automaton.states p.sorted.automaton.transitions a (replicate (params_of p c.args.spot.now.rule) []) c.args.arg) states) [] heads)
+    (AreHeads p (take limit log) (record { rule = c.args.spot.now.rule; head = Tm a; args = args }) K (Asks c.args.arg (type_of_id I c.args.ty)) heads)
+    (λ g. subst (λ (t : TypeTree). AreHeads p (take limit log) (record { rule = c.args.spot.now.rule; head = Tm a; args = args }) K (Asks c.args.arg t) heads) (sym ty_is)
+    (terminals_asking p log limit c.args.spot.now.rule args shapes a K heads c.args.arg c.requires.arg c.in-State.state states reading g)) gains
 
 pub returns-in_default-clause-heads : goal.returns-in_default-clause-heads
 returns-in_default-clause-heads c =
@@ -63,14 +65,11 @@ returns-in_default-clause-heads c =
     let limit = c.args.search.now.limit in
     let shapes = λ (e : EntryData) (m : Contains (take limit log) e). All-contains (InShape p) (take limit log) e c.requires.spot.shapes m in
     let view = subst (λ (ids : InternerData). IsView ids c.args.ty (Arrow c.in_default.field-0 c.in_default.field-1)) c.interner.ensures c.in_default.ensures in
-    terminals_asking_none p log limit c.args.spot.now.rule c.args.search.now.args.now shapes c.args.terminal I c.new.result.items c.args.arg c.requires.arg (type_of_id I c.args.ty)
-    (λ q is. state_no_arrow q (set_of_id I c.in_default.field-0) (type_of_id I c.in_default.field-1) (sym is ∙ view.2)) c.new.ensures.items
+    terminals_asking_none p log limit c.args.spot.now.rule c.args.search.now.args.now shapes c.args.terminal I c.args.out.now.items c.args.arg c.requires.arg (type_of_id I c.args.ty)
+    (λ q is. state_no_arrow q (set_of_id I c.in_default.field-0) (type_of_id I c.in_default.field-1) (sym is ∙ view.2)) c.requires.none
 
 pub returns-in_err-own-clause-kept : goal.returns-in_err-own-clause-kept
 returns-in_err-own-clause-kept c = c.empty_env.ensures.kept
 
-pub returns-in_err-push_reading-clause-kept : goal.returns-in_err-push_reading-clause-kept
-returns-in_err-push_reading-clause-kept c = keeps_then c.args.replica.now c.empty_env.new.self c.push_reading.new.replica c.in_ok-own.ensures.kept c.push_reading.ensures.kept
-
 pub returns-clause-kept : goal.returns-clause-kept
-returns-clause-kept c = keeps_then c.args.replica.now c.empty_env.new.self c.push_reading.new.replica c.in_ok-own.ensures.kept c.in_ok-push_reading.ensures.kept
+returns-clause-kept c = keeps_then c.args.replica.now c.empty_env.new.self c.push_reading.new.replica c.in_ok-own.ensures.kept c.push_reading.ensures.kept

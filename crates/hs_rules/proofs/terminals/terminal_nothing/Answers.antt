@@ -1,12 +1,14 @@
-use Rattle.std.proofs.Common.{◌≡◌, sym, ◌∙◌, ap, subst, ℕ, [], length, replicate, Some}
+use Rattle.std.proofs.Common.{◌≡◌, sym, ◌∙◌, ap, subst, ℕ, [], length, replicate, Some, OnOk}
 use Rattle.std.proofs.lemmas.Option.{slice_get_within, get_or_from_slice_get}
+use Rattle.hs_scheme.specs.declared.term.Head.TheVariants.{Tm}
 use Rattle.hs_scheme.specs.Automaton.{AutomatonData, next}
 use Rattle.hs_scheme.specs.Sorted.{SortedData, IsSorted}
 use Rattle.hs_scheme.specs.Problem.{ProblemData}
 use Rattle.hs_table.specs.Entries.{Env, params_of}
+use Rattle.hs_table.specs.Follows.{rank_of}
 use Rattle.hs_types.specs.Interned.{env_of_id}
-use Rattle.hs_rules.specs.Heads.{GainsHeads, AtRange, InState}
-use Rattle.hs_rules.proofs.Lists.{along}
+use Rattle.hs_rules.specs.Heads.{GainsHeads, AtRange, InState, AreHeads, AsksNothing}
+use Rattle.hs_rules.proofs.Lists.{along, on_ok_map}
 use Rattle.hs_rules.proofs.RankLemmas.{ranks_agree}
 use Rattle.hs_rules.proofs.SeedLemmas.{terminals_nothing}
 use Rattle.hs_rules.proofs.KeepLemmas.{keeps_then}
@@ -38,14 +40,13 @@ returns-clause-heads c =
     let is_sorted : IsSorted p.sorted = subst (λ (q : SortedData). IsSorted q) (c.sorted.view_is ∙ sorted_is) c.sorted.invariant in
     let K = c.push_terminal.new.replica.ids in
     let heads = c.push_terminal.new.out.items in
-    let gains = along (λ i. GainsHeads K (length args) (AtRange (InState (m_is i).transitions a (c.rank-rank.ensures i) (length args) (own_is i)) 0 (m_is i).states) (c.new-out.ensures.items i) heads) c.in_ok-push_terminal.ensures.gains in
-    terminals_nothing p [] c.args.spot.now.rule args K heads a gains (λ q to moves. ranks_agree p.sorted is_sorted q a to moves)
+    let gains = along (λ i. OnOk c.push_terminal.result (GainsHeads K (length args) (AtRange (InState (m_is i).transitions a (c.rank-rank.ensures i) (length args) (own_is i)) 0 (m_is i).states) (c.requires.none i) heads)) c.push_terminal.ensures.gains in
+    on_ok_map c.push_terminal.result (GainsHeads K (length args) (AtRange (InState p.sorted.automaton.transitions a (rank_of p a) (length args) (replicate (params_of p c.args.spot.now.rule) [])) 0 p.sorted.automaton.states) [] heads)
+    (AreHeads p [] (record { rule = c.args.spot.now.rule; head = Tm a; args = args }) K AsksNothing heads)
+    (λ g. terminals_nothing p [] c.args.spot.now.rule args K heads a g (λ q to moves. ranks_agree p.sorted is_sorted q a to moves)) gains
 
 pub returns-in_err-own-clause-kept : goal.returns-in_err-own-clause-kept
 returns-in_err-own-clause-kept c = c.empty_env.ensures.kept
 
-pub returns-in_err-push_terminal-clause-kept : goal.returns-in_err-push_terminal-clause-kept
-returns-in_err-push_terminal-clause-kept c = keeps_then c.args.replica.now c.empty_env.new.self c.push_terminal.new.replica c.in_ok-own.ensures.kept c.push_terminal.ensures.kept
-
 pub returns-clause-kept : goal.returns-clause-kept
-returns-clause-kept c = keeps_then c.args.replica.now c.empty_env.new.self c.push_terminal.new.replica c.in_ok-own.ensures.kept c.in_ok-push_terminal.ensures.kept
+returns-clause-kept c = keeps_then c.args.replica.now c.empty_env.new.self c.push_terminal.new.replica c.in_ok-own.ensures.kept c.push_terminal.ensures.kept

@@ -24,15 +24,24 @@ more weights start count arities new weight so_far next is = record {
 }
 
 pub loop-place-init : goal.loop-place-init
-loop-place-init c = nothing c.args.weights.now c.args.start c.in_ok-arities.arities.items c.in_ok-arities.ensures.items
+loop-place-init c = record {
+  arities = nothing c.args.weights.now c.args.start c.in_ok-arities.arities.items c.in_ok-arities.ensures.items;
+  room = omega (arith, c.in_ok-arities.ensures.capacity);
+}
 
 pub at-requires : goal.at-requires
 at-requires c = omega (arith, c.requires, c.loop-place-test.true)
 
 pub loop-place-preserved : goal.loop-place-preserved
-loop-place-preserved c = more c.args.weights.now c.args.start c.loop-place.place c.loop-place.arities.items c.push.new.self.items c.at.result c.loop-place.invariant c.at.ensures c.in_ok-push.ensures.items
+loop-place-preserved c = record {
+  arities = more c.args.weights.now c.args.start c.loop-place.place c.loop-place.arities.items c.push_reserved.new.self.items c.at.result c.loop-place.invariant.arities c.at.ensures c.push_reserved.ensures.items;
+  room = omega (arith, c.push_reserved.ensures.capacity, c.loop-place.invariant.room);
+}
+
+pub push_reserved-requires : goal.push_reserved-requires
+push_reserved-requires c = omega (arith, c.loop-place.arities.ok, c.loop-place.invariant.arities.as_long, c.loop-place.invariant.room, c.loop-place-test.true)
 
 pub returns : goal.returns
 returns c =
     let all : c.loop-place.place ≡ c.args.count = omega (arith, c.loop-place-test.false) in
-    subst (λ (n : ℕ). AreArities c.args.weights.now c.args.start n c.loop-place.arities.items) all c.loop-place.invariant
+    subst (λ (n : ℕ). AreArities c.args.weights.now c.args.start n c.loop-place.arities.items) all c.loop-place.invariant.arities

@@ -23,12 +23,21 @@ more nodes count sorts new sort so_far next is = record {
 }
 
 pub loop-node-init : goal.loop-node-init
-loop-node-init c = nothing c.args.store.now c.in_ok-sorts.sorts.items c.in_ok-sorts.ensures.items
+loop-node-init c = record {
+  sorts = nothing c.args.store.now c.in_ok-sorts.sorts.items c.in_ok-sorts.ensures.items;
+  room = omega (arith, c.in_ok-sorts.ensures.capacity);
+}
 
 pub loop-node-preserved : goal.loop-node-preserved
-loop-node-preserved c = more c.args.store.now c.loop-node.node c.loop-node.sorts.items c.push.new.self.items c.in_ok-read_sort.field-0 c.loop-node.invariant c.in_ok-read_sort.ensures c.in_ok-push.ensures.items
+loop-node-preserved c = record {
+  sorts = more c.args.store.now c.loop-node.node c.loop-node.sorts.items c.push_reserved.new.self.items c.in_ok-read_sort.field-0 c.loop-node.invariant.sorts c.in_ok-read_sort.ensures c.push_reserved.ensures.items;
+  room = omega (arith, c.push_reserved.ensures.capacity, c.loop-node.invariant.room);
+}
+
+pub push_reserved-requires : goal.push_reserved-requires
+push_reserved-requires c = omega (arith, c.loop-node.sorts.ok, c.loop-node.invariant.sorts.as_long, c.loop-node.invariant.room, c.loop-node-test.true)
 
 pub returns : goal.returns
 returns c =
     let all : c.loop-node.node ≡ c.args.count = omega (arith, c.loop-node-test.false) in
-    subst (λ (n : ℕ). AreSorts c.args.store.now n c.loop-node.sorts.items) all c.loop-node.invariant
+    subst (λ (n : ℕ). AreSorts c.args.store.now n c.loop-node.sorts.items) all c.loop-node.invariant.sorts

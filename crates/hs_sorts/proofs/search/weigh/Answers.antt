@@ -1,23 +1,15 @@
-use Rattle.std.proofs.Common.{◌≡◌, ◌∙◌, ap, subst, sym, length, replicate, Bool, List, [], ◌∷◌, ◌++◌, arith}
-use Rattle.std.proofs.lemmas.List.{replicate_more}
+use Rattle.std.proofs.Common.{rules, ◌∙◌, ap, subst, sym, replicate, Bool, arith}
 use borrow.Author.Count.{below_more}
-use Rattle.hs_sorts.specs.declared.weights.Mark.{Mark}
 use Rattle.hs_sorts.specs.declared.weights.Mark.TheVariants.{New}
 use Rattle.hs_sorts.specs.Search.{Weighing, IsStarted, IsNodeWalk}
 use Rattle.hs_sorts.proofs.Searching.{search_none, weighing}
 use Rattle.hs_sorts.proofs.search.weigh.Goals as goal
 
-pub loop-node-init : goal.loop-node-init
-loop-node-init c = c.in_ok-marks.ensures.items
-
-pub loop-node-preserved : goal.loop-node-preserved
-loop-node-preserved c = c.in_ok-push.ensures.items ∙ (ap (λ (ms : List Mark). ms ++ New ∷ []) c.loop-node.invariant ∙ replicate_more c.loop-node._node New)
-
 pub loop-start-init : goal.loop-start-init
 loop-start-init c =
-    let e : c.loop-node._node ≡ length c.args.store.now = omega (arith, c.loop-node-test.false, c.len-count.ensures.len) in
+    let all = c.in_ok-marks.ensures.items_if_clones_equal (λ y h. search rules) in
     record {
-      search = search_none c.args.store.now c.loop-node.marks.items c.new.result.items (c.loop-node.invariant ∙ ap (λ n. replicate n New) e) c.new.ensures.items;
+      search = search_none c.args.store.now c.in_ok-marks.marks.items c.new.result.items (all ∙ ap (λ n. replicate n New) c.len-count.ensures.len) c.new.ensures.items;
       empty = c.new.ensures.items;
       started = λ i h. absurd (omega arith);
     }

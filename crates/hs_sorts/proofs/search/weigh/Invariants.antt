@@ -1,11 +1,7 @@
--- all nodes are new, and then those so far were walked from
-use Rattle.std.proofs.Common.{◌≡◌, ◌<◌, ℕ, [], replicate}
-use Rattle.hs_sorts.specs.declared.weights.Mark.TheVariants.{New}
+-- the nodes so far were walked from
+use Rattle.std.proofs.Common.{◌≡◌, ◌<◌, ℕ, []}
 use Rattle.hs_sorts.specs.Search.{IsSearch, IsStarted}
 use Rattle.hs_sorts.proofs.search.weigh.Given as goal
-
-abbrev pub invariant-loop-node : goal.invariant-loop-node
-invariant-loop-node l = l.marks.items ≡ replicate l._node New
 
 abbrev pub invariant-loop-start : goal.invariant-loop-start
 invariant-loop-start l = record {

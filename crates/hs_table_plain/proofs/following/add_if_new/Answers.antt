@@ -3,6 +3,9 @@ use Rattle.hs_table.specs.Entries.{EntryData}
 use Rattle.hs_table_plain.proofs.Members.{in_pushed, pairs_push}
 use Rattle.hs_table_plain.proofs.following.add_if_new.Goals as goal
 
+pub returns-then-contains-clause-once : goal.returns-then-contains-clause-once
+returns-then-contains-clause-once c = c.requires
+
 pub returns-then-contains-clause-each : goal.returns-then-contains-clause-each
 returns-then-contains-clause-each c = λ e. (
   λ k. inl k,

@@ -15,6 +15,13 @@ use Rattle.hs_table_plain.proofs.following.conclusions.Goals as goal
 part_at : {A : Type 0} (part : PointData → A) (x : PointsData) (n : ℕ) (r : A) → n < length x.points → r ≡ part (point_at x n) → option_map part (slice_get x.points n) ≡ Some r
 part_at part x n r below is = ap (option_map part) (slice_get-get_or x.points n (record { rule = 0; head = Tm 0; args = [] }) below) ∙ ap (λ a. Some a) (sym is)
 
+pub gathered-requires : goal.gathered-requires
+gathered-requires c =
+    subst (λ (x : PointsData). NonterminalWithin (length x.bodies) c.head_of-head.result) (ap (λ (q : ProblemData). q.points) c.problem.view_is) c.head_of-head.ensures.within
+
+pub returns-clause-once : goal.returns-clause-once
+returns-clause-once c = c.gathered.ensures.once
+
 pub returns-clause-each : goal.returns-clause-each
 returns-clause-each c =
     let p = c.args.problem.now in

@@ -1,11 +1,24 @@
-use Rattle.std.proofs.Common.{◌≡◌, ◌∙◌, subst, Contains, ◌⊎◌, ◌↔◌, List, [], ◌∷◌, take}
+use Rattle.std.proofs.Common.{◌≡◌, ◌≢◌, sym, ◌∙◌, subst, AllPairs, Contains, ◌⊎◌, ◌↔◌, List, [], ◌∷◌, take, arith}
 use Rattle.std.specs.List.{flat_map}
 use Rattle.std.proofs.lemmas.List.{take_all}
+use Rattle.hs_scheme.proofs.Lists.{none_in}
 use Rattle.hs_table.specs.Types.{TypeTree}
 use Rattle.hs_table.specs.Entries.{EntryData, params_of}
 use Rattle.hs_table_plain.specs.Enumeration as plain
 use Rattle.hs_table_plain.proofs.Members.{next_gives, two_steps}
 use Rattle.hs_table_plain.proofs.following.gathered.Goals as goal
+
+pub loop-ty-init : goal.loop-ty-init
+loop-ty-init c = record {
+  once = subst (λ (xs : List EntryData). AllPairs (λ a b. a ≢ b) xs) (sym c.new-found.ensures.items) (λ i j d lt below. absurd (omega arith));
+  each = λ e. (λ k. absurd (none_in e (subst (λ (xs : List EntryData). Contains xs e) c.new-found.ensures.items k)), λ k. absurd (none_in e k));
+}
+
+pub add_typed-requires : goal.add_typed-requires
+add_typed-requires c = c.loop-ty.invariant.once
+
+pub returns-clause-once : goal.returns-clause-once
+returns-clause-once c = c.loop-ty.invariant.once
 
 pub loop-ty-preserved : goal.loop-ty-preserved
 loop-ty-preserved c = record {

@@ -1,9 +1,20 @@
-use Rattle.std.proofs.Common.{sym, ap, subst, length, List, [], ◌∷◌, ◌++◌, arith}
+use Rattle.std.proofs.Common.{◌≡◌, sym, ap, subst, length, List, [], ◌∷◌, ◌++◌, None, Some, All, arith}
 use Rattle.std.proofs.lemmas.List.{length_push}
-use Rattle.hs_table.specs.Entries.{EntryData}
+use Rattle.hs_table.specs.Entries.{EntryData, InShape}
 use Rattle.hs_table.specs.Tables.{IsSupportedTable}
 use Rattle.hs_table_plain.proofs.TableLemmas.{supported_push, shapes_push, found_one, found_none}
 use Rattle.hs_table_plain.proofs.table.least_table.Goals as goal
+
+pub loop-log-init : goal.loop-log-init
+loop-log-init c =
+    let p = c.args.problem.now in
+    let empty = sym c.new-log.ensures.items in
+    record {
+      within = omega (arith, ap (λ (xs : List EntryData). length xs) c.new-log.ensures.items);
+      supported = subst (λ (T : List EntryData). IsSupportedTable p T) empty
+          (record { distinct = λ i j d lt below. absurd (omega arith); follows = λ i x at. let e : None ≡ Some x = at in absurd (cc) });
+      shape = subst (λ (T : List EntryData). All (InShape p) T) empty (λ k d lt. absurd (omega arith));
+    }
 
 pub returns-then-len-budget-clause-least : goal.returns-then-len-budget-clause-least
 returns-then-len-budget-clause-least c =

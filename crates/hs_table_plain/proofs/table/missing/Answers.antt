@@ -4,6 +4,9 @@ use Rattle.hs_table_laws.proofs.Places.{within_from}
 use Rattle.hs_table_plain.proofs.TableLemmas.{below_or_last}
 use Rattle.hs_table_plain.proofs.table.missing.Goals as goal
 
+pub loop-point-init : goal.loop-point-init
+loop-point-init c = λ e lt f. absurd (omega arith)
+
 pub returns-in-Some : goal.returns-in-Some
 returns-in-Some c = (((c.in_ok-found.ensures.each c.in-Some.entry).0 c.in-Some.ensures.0).1, c.in-Some.ensures.1)
 

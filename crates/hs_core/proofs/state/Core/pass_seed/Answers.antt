@@ -3,7 +3,7 @@ use Rattle.hs_core.specs.Tickets.{under}
 use Rattle.hs_core.specs.Core.{CoreData}
 use Rattle.hs_core.specs.Inside.{Fields, IsInside}
 use Rattle.hs_core.proofs.Stepping.{base_of, fields_of, value_of}
-use Rattle.hs_core.proofs.Passing.{front, passed_seed, passed_goes, passed_value}
+use Rattle.hs_core.proofs.Passing.{seed_front, passed_seed, passed_goes, passed_value}
 use Rattle.hs_core.proofs.state.Core.pass_seed.Goals as goal
 
 -- the fields are those of a seed that is passed
@@ -27,7 +27,7 @@ same c =
       ids = f.ids;
       log = f.log;
       supports = f.supports;
-      pending = (c.pop_front.ensures.rest ∙ ap (λ ws. drop 1 ws) (front (base_of a) f c.self.invariant.0 a.spare c.args.self.now c.self.view_is c.args.point c.requires.next)) i;
+      pending = (c.pop_front.ensures.rest ∙ ap (λ ws. drop 1 ws) (seed_front (base_of a) f c.self.invariant.0 a.spare c.args.self.now c.self.view_is c.args.point c.requires.next)) i;
       flight = f.flight;
       past = f.past;
       journal = c.push_passed.ensures.steps i;

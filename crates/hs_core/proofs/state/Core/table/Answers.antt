@@ -13,9 +13,13 @@ loop-place-preserved c =
     let e = c.in_ok-tree.field-0 in
     let at : slice_get (log_of c.args.self.now) c.loop-place.place ≡ Some e =
     ap (λ xs. slice_get xs c.loop-place.place) log ∙ c.row.ensures.entry ∙ (λ i. Some (entry_of (sym c.interner-interner.ensures i) c.row.result)) ∙ ap (λ (x : EntryData). Some x) (sym c.in_ok-tree.ensures) in
-    c.in_ok-push.ensures.items ∙ ap (λ xs. xs ++ e ∷ []) c.loop-place.invariant ∙ sym (taken_at (log_of c.args.self.now) c.loop-place.place e at)
+    record {
+      items = c.push_reserved.ensures.items ∙ ap (λ xs. xs ++ e ∷ []) c.loop-place.invariant.items ∙ sym (taken_at (log_of c.args.self.now) c.loop-place.place e at);
+      len = omega (arith, c.push_reserved.ensures.len, c.loop-place.invariant.len);
+      room = omega (arith, c.push_reserved.ensures.capacity, c.loop-place.invariant.room);
+    }
 
 pub returns : goal.returns
 returns c =
     let log = (seen (base_of c.self.inside) (fields_of c.self.inside) c.self.invariant.0 c.self.inside.spare c.args.self.now c.self.view_is).log in
-    c.loop-place.invariant ∙ take_all c.loop-place.place (log_of c.args.self.now) (omega (arith, ap (λ xs. length xs) log, c.len-place-end.ensures.len, c.loop-place-test.false))
+    c.loop-place.invariant.items ∙ take_all c.loop-place.place (log_of c.args.self.now) (omega (arith, ap (λ xs. length xs) log, c.len-place-end.ensures.len, c.loop-place-test.false))

@@ -1,5 +1,5 @@
 -- so far all are empty
-use Rattle.std.proofs.Common.{◌≡◌, [], ℕ, length, map}
+use Rattle.std.proofs.Common.{◌≡◌, [], ℕ, ◌≤◌, length, map, vec_capacity}
 use Rattle.hs_flow.specs.Lists.{list_of}
 use Rattle.hs_flow.proofs.short_lists.ShortLists.empty.Given as goal
 
@@ -7,4 +7,5 @@ abbrev pub invariant-loop : goal.invariant-loop
 invariant-loop l = record {
   long : length l.rows.items ≡ l.counter;
   empty : (k : ℕ) → list_of (map (λ r. r.items) l.rows.items) k ≡ [];
+  room : l.count ≤ vec_capacity l.rows;
 }

@@ -1,4 +1,4 @@
-use Rattle.std.proofs.Common.{◌≡◌, refl, ◌∙◌, ap, sym, subst, ℕ, ◌+◌, ◌^◌, ◌<◌, ◌≤◌, List, ◌++◌, ◌∷◌, [], take, sum, length, slice_index, arith}
+use Rattle.std.proofs.Common.{◌≡◌, refl, ◌∙◌, ap, sym, subst, ℕ, ◌^◌, ◌<◌, ◌≤◌, List, ◌++◌, ◌∷◌, [], take, sum, length, slice_index, arith}
 use Rattle.std.proofs.lemmas.List.{length_push, length-map, take_all}
 use Rattle.std.proofs.lemmas.Result.{err_from_is_err_and}
 use Rattle.hs_scheme.specs.declared.term.Rule.{Rule}
@@ -29,22 +29,30 @@ returns-in_err-counts c = if_ok_err _ (err_from_is_err_and c.from_residual.resul
 pub returns-in_err-firsts : goal.returns-in_err-firsts
 returns-in_err-firsts c = if_ok_err _ (err_from_is_err_and c.from_residual-in_err-firsts.result c.from_residual-in_err-firsts.ensures.1).1
 
-pub returns-in_err-push : goal.returns-in_err-push
-returns-in_err-push c = if_ok_err _ (err_from_is_err_and c.from_residual-in_err-push.result c.from_residual-in_err-push.ensures.1).1
-
-pub returns-in_err-push-2 : goal.returns-in_err-push-2
-returns-in_err-push-2 c = if_ok_err _ (err_from_is_err_and c.from_residual-in_err-push-2.result c.from_residual-in_err-push-2.ensures.1).1
-
-pub returns-in_err-push-3 : goal.returns-in_err-push-3
-returns-in_err-push-3 c = if_ok_err _ (err_from_is_err_and c.from_residual-in_err-push-3.result c.from_residual-in_err-push-3.ensures.1).1
-
 pub loop-rule-init : goal.loop-rule-init
-loop-rule-init c = record { counts = c.in_ok-counts.ensures.items; long = ap length c.in_ok-firsts.ensures.items; each = λ rule lt. absurd (omega arith); total = refl }
+loop-rule-init c = record {
+  counts = c.in_ok-counts.ensures.items;
+  counted = c.in_ok-counts.ensures.len;
+  counts_room = omega (arith, c.in_ok-counts.ensures.capacity);
+  long = ap length c.in_ok-firsts.ensures.items;
+  each = λ rule lt. absurd (omega arith);
+  firsts_room = omega (arith, c.in_ok-firsts.ensures.capacity);
+  total = refl;
+}
+
+pub push_reserved-requires : goal.push_reserved-requires
+push_reserved-requires c = omega (arith, c.loop-rule.invariant.counted, c.loop-rule.invariant.counts_room, c.loop-rule-test.true)
+
+pub push_reserved-requires-in-loop-rule : goal.push_reserved-requires-in-loop-rule
+push_reserved-requires-in-loop-rule c = omega (arith, c.loop-rule.firsts.ok, c.loop-rule.invariant.long, c.loop-rule.invariant.firsts_room, c.loop-rule-test.true)
+
+pub push_reserved-requires-2 : goal.push_reserved-requires-2
+push_reserved-requires-2 c = omega (arith, c.loop-rule.firsts.ok, c.loop-rule.invariant.long, c.loop-rule.invariant.firsts_room)
 
 pub invariant_of-result : goal.invariant_of-result
 invariant_of-result c =
     let i = c.loop-rule.invariant in
-    numbered c.args.rules.now c.loop-rule.rule-index c.loop-rule.counts.items c.loop-rule-test.false (omega arith) i.counts c.loop-rule.firsts.items c.push-2.new.self.items c.loop-rule.total c.requires i.long c.in_ok-push-3.ensures.items i.total i.each
+    numbered c.args.rules.now c.loop-rule.rule-index c.loop-rule.counts.items c.loop-rule-test.false (omega arith) i.counts c.loop-rule.firsts.items c.push_reserved-2.new.self.items c.loop-rule.total c.requires i.long c.push_reserved-2.ensures.items i.total i.each
 
 pub returns : goal.returns
 returns c = whole c.args.rules.now c.loop-rule.rule-index c.loop-rule.counts.items c.loop-rule-test.false (omega arith) c.loop-rule.invariant.counts
@@ -54,9 +62,12 @@ overflow_add-total c = omega (arith, sum_within c.args.rules.now c.loop-rule.rul
 
 pub loop-rule-preserved : goal.loop-rule-preserved
 loop-rule-preserved c = record {
-  counts = c.in_ok-push.ensures.items ∙ (ap (λ ns. ns ++ c.rule-item.result.params ∷ []) c.loop-rule.invariant.counts ∙ sym (counts_more c.args.rules.now c.loop-rule.rule-index c.rule-item.result c.loop-rule-test.true c.rule-item.is));
-  long = ap length c.in_ok-push-2.ensures.items ∙ (length_push c.loop-rule.firsts.items _ ∙ omega arith);
-  each = row_more c.loop-rule.firsts.items c.push-in-loop-rule.new.self.items c.loop-rule.rule-index c.loop-rule.total (λ k. sum (take k (counts_of c.args.rules.now))) c.loop-rule.invariant.long
-      c.in_ok-push-2.ensures.items c.loop-rule.invariant.total c.loop-rule.invariant.each;
+  counts = c.push_reserved.ensures.items ∙ (ap (λ ns. ns ++ c.rule-item.result.params ∷ []) c.loop-rule.invariant.counts ∙ sym (counts_more c.args.rules.now c.loop-rule.rule-index c.rule-item.result c.loop-rule-test.true c.rule-item.is));
+  counted = omega (arith, c.push_reserved.ensures.len, c.loop-rule.invariant.counted);
+  counts_room = omega (arith, c.push_reserved.ensures.capacity, c.loop-rule.invariant.counts_room);
+  long = ap length c.push_reserved-in-loop-rule.ensures.items ∙ (length_push c.loop-rule.firsts.items _ ∙ omega arith);
+  each = row_more c.loop-rule.firsts.items c.push_reserved-in-loop-rule.new.self.items c.loop-rule.rule-index c.loop-rule.total (λ k. sum (take k (counts_of c.args.rules.now))) c.loop-rule.invariant.long
+      c.push_reserved-in-loop-rule.ensures.items c.loop-rule.invariant.total c.loop-rule.invariant.each;
+  firsts_room = omega (arith, c.push_reserved-in-loop-rule.ensures.capacity, c.loop-rule.invariant.firsts_room);
   total = ap (λ n. n) (omega (arith, sum_more c.args.rules.now c.loop-rule.rule-index c.rule-item.result c.loop-rule-test.true c.rule-item.is));
 }

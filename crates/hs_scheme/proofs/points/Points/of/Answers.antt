@@ -50,10 +50,8 @@ returns-in_err-bodies c =
     let p = err_from_is_err_and c.from_residual-in_err-bodies.result c.from_residual-in_err-bodies.ensures.1 in
     rw p.1 (record { points = tt; few = tt; many = λ h. absurd (cc (p.2, h)) })
 
-pub returns-in_err-push : goal.returns-in_err-push
-returns-in_err-push c =
-    let p = err_from_is_err_and c.from_residual-in_err-push.result c.from_residual-in_err-push.ensures.1 in
-    rw p.1 (record { points = tt; few = tt; many = λ h. absurd (cc (p.2, h)) })
+pub push_reserved-requires : goal.push_reserved-requires
+push_reserved-requires c = omega (arith, c.loop-number.invariant.numbered, c.loop-number.invariant.bodies_room, c.loop-number-test.true)
 
 pub loop-number-init : goal.loop-number-init
 loop-number-init c =
@@ -62,6 +60,8 @@ loop-number-init c =
       points = ap (points_in c.new-2.result.items) c.new.ensures.items;
       places = ap places_in c.new.ensures.items;
       bodies = c.in_ok-bodies.ensures.items;
+      numbered = c.in_ok-bodies.ensures.len;
+      bodies_room = omega (arith, c.in_ok-bodies.ensures.capacity, c.len.ensures, ap (λ (rules : List Rule). length rules) c.deref-rule-items.ensures.value, c.scheme.inside.rules.ok.0);
       ranges = λ k d l. absurd (omega (arith, none));
       few = omega (arith, none);
       room = omega (arith, none, ap (λ (args : List ℕ). length args) c.new-2.ensures.items);
@@ -97,7 +97,9 @@ loop-number-preserved c =
           (sym count ∙ rule_length c.loop-number.number rules c.rule-item.result points c.loop-number-test.true c.rule-item.is c.loop-number.invariant.points)
           c.loop-number.invariant.places c.in_ok-add_term.ensures.places;
       bodies = body_more c.loop-number.number rules c.rule-item.result points c.loop-number-test.true c.rule-item.is c.loop-number.invariant.points
-          c.loop-number.bodies.items c.push.new.self.items c.loop-number.invariant.bodies (c.in_ok-push.ensures.items ∙ ap (λ n. c.loop-number.bodies.items ++ n ∷ []) (omega (arith, count)));
+          c.loop-number.bodies.items c.push_reserved.new.self.items c.loop-number.invariant.bodies (c.push_reserved.ensures.items ∙ ap (λ n. c.loop-number.bodies.items ++ n ∷ []) (omega (arith, count)));
+      numbered = omega (arith, c.push_reserved.ensures.len, c.loop-number.invariant.numbered);
+      bodies_room = omega (arith, c.push_reserved.ensures.capacity, c.loop-number.invariant.bodies_room);
       ranges = c.in_ok-add_term.ensures.ranges;
       few = c.in_ok-add_term.ensures.few;
       room = omega (arith, c.in_ok-add_term.ensures.args, c.loop-number.invariant.room);

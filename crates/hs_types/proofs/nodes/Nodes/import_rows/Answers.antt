@@ -1,6 +1,7 @@
 use Rattle.std.proofs.Common.{refl, sym, subst, map, arith}
+use Rattle.std.proofs.lemmas.List.{length-map}
 use Rattle.hs_types.specs.Interned.{RowData, IsRow, entry_of}
-use Rattle.hs_types.proofs.ListLemmas.{made_all}
+use Rattle.hs_types.proofs.ListLemmas.{made_all, made_long}
 use Rattle.hs_types.proofs.RowLemmas.{rows_known, rows_same}
 use Rattle.hs_types.proofs.Numbers.{Grows-trans}
 use Rattle.hs_types.proofs.nodes.Nodes.import_rows.Goals as goal
@@ -15,9 +16,10 @@ loop-row-preserved c =
     record {
       grows = Grows-trans c.args.self.now J K h.grows g;
       found = c.in_ok-find_row.ensures.found;
-      known = rows_known J K g c.loop-row.own.items c.push.new.self.items own h.known c.in_ok-find_row.ensures.row c.in_ok-push.ensures.items;
-      same = rows_same J K c.args.from.now g c.loop-row.own.items c.push.new.self.items c.args.rows.now own c.row-item.result c.loop-row.row-index
-          h.known h.same c.in_ok-find_row.ensures.entry c.loop-row-test.true c.row-item.is c.in_ok-push.ensures.items;
+      known = rows_known J K g c.loop-row.own.items c.push_reserved.new.self.items own h.known c.in_ok-find_row.ensures.row c.push_reserved.ensures.items;
+      same = rows_same J K c.args.from.now g c.loop-row.own.items c.push_reserved.new.self.items c.args.rows.now own c.row-item.result c.loop-row.row-index
+          h.known h.same c.in_ok-find_row.ensures.entry c.loop-row-test.true c.row-item.is c.push_reserved.ensures.items;
+      room = omega (arith, c.push_reserved.ensures.capacity, c.loop-row.invariant.room);
     }
 
 pub find_row-requires-clause-row : goal.find_row-requires-clause-row
@@ -26,8 +28,11 @@ find_row-requires-clause-row c = subst (λ (r : RowData). IsRow c.args.from.now 
 pub returns-in_err-find_row-clause-grows : goal.returns-in_err-find_row-clause-grows
 returns-in_err-find_row-clause-grows c = Grows-trans c.args.self.now c.loop-row.self c.find_row.new.self c.loop-row.invariant.grows c.find_row.ensures.grows
 
-pub returns-in_err-push-clause-grows : goal.returns-in_err-push-clause-grows
-returns-in_err-push-clause-grows c = Grows-trans c.args.self.now c.loop-row.self c.find_row.new.self c.loop-row.invariant.grows c.find_row.ensures.grows
+pub push_reserved-requires : goal.push_reserved-requires
+push_reserved-requires c =
+    let own = c.loop-row.own.items in
+    let long = made_long (entry_of c.args.from.now) c.args.rows.now (map (entry_of c.loop-row.self) own) c.loop-row.row-index c.loop-row.invariant.same in
+    omega (arith, c.loop-row.own.ok, long, length-map own (entry_of c.loop-row.self), c.loop-row.invariant.room, c.loop-row-test.true)
 
 pub returns-clause-entries : goal.returns-clause-entries
 returns-clause-entries c =

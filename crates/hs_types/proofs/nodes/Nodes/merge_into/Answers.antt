@@ -10,7 +10,7 @@ loop-i-preserved-in-Less c =
     let I = c.args.self.now in
     let s = step_less (type_of_id I) (length I.types) c.args.xs.now c.args.ys.now c.loop-i.merged.items c.loop-i.i c.loop-i.j c.index-xs-i.result c.index-ys-j.result c.loop-i-test.true c.if-j-ys.true
     c.requires.xs_ascend c.requires.ys_ascend c.requires.xs_range c.requires.ys_range c.loop-i.invariant.range c.loop-i.invariant.merged c.index-xs-i.is c.index-ys-j.is
-    c.index-xs-i-in-Less.result c.push.new.self.items c.in-Less.ensures c.index-xs-i-in-Less.is c.in_ok-push-in-Less.ensures.items in
+    c.index-xs-i.result c.push.new.self.items c.in-Less.ensures c.index-xs-i.is c.in_ok-push-in-Less.ensures.items in
     record { first = omega (arith, c.loop-i-test.true); second = c.loop-i.invariant.second; range = s.in_range; merged = s.merged }
 
 pub loop-i-preserved-in-Equal : goal.loop-i-preserved-in-Equal
@@ -18,7 +18,7 @@ loop-i-preserved-in-Equal c =
     let I = c.args.self.now in
     let s = step_equal (type_of_id I) (length I.types) c.args.xs.now c.args.ys.now c.loop-i.merged.items c.loop-i.i c.loop-i.j c.index-xs-i.result c.index-ys-j.result c.loop-i-test.true c.if-j-ys.true
     c.requires.xs_ascend c.requires.ys_ascend c.requires.xs_range c.requires.ys_range c.loop-i.invariant.range c.loop-i.invariant.merged c.index-xs-i.is c.index-ys-j.is
-    c.index-xs-i-in-Equal.result c.push-in-Equal.new.self.items c.in-Equal.ensures c.index-xs-i-in-Equal.is c.in_ok-push-in-Equal.ensures.items in
+    c.index-xs-i.result c.push-in-Equal.new.self.items c.in-Equal.ensures c.index-xs-i.is c.in_ok-push-in-Equal.ensures.items in
     record { first = omega (arith, c.loop-i-test.true); second = omega (arith, c.if-j-ys.true); range = s.in_range; merged = s.merged }
 
 pub loop-i-preserved : goal.loop-i-preserved
@@ -26,7 +26,7 @@ loop-i-preserved c =
     let I = c.args.self.now in
     let s = step_greater (type_of_id I) (length I.types) c.args.xs.now c.args.ys.now c.loop-i.merged.items c.loop-i.i c.loop-i.j c.index-xs-i.result c.index-ys-j.result c.loop-i-test.true c.if-j-ys.true
     c.requires.xs_ascend c.requires.ys_ascend c.requires.xs_range c.requires.ys_range c.loop-i.invariant.range c.loop-i.invariant.merged c.index-xs-i.is c.index-ys-j.is
-    c.index-ys-j-in-Greater.result c.push-in-Greater.new.self.items c.in-Greater.ensures c.index-ys-j-in-Greater.is c.in_ok-push-in-Greater.ensures.items in
+    c.index-ys-j.result c.push-in-Greater.new.self.items c.in-Greater.ensures c.index-ys-j.is c.in_ok-push-in-Greater.ensures.items in
     record { first = c.loop-i.invariant.first; second = omega (arith, c.if-j-ys.true); range = s.in_range; merged = s.merged }
 
 -- what the two calls append
