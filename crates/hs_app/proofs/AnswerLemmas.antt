@@ -14,7 +14,7 @@ use Rattle.hs_resolve.specs.Answer.{IsFaultless, IsAnswered}
 use Rattle.hs_resolve.proofs.FirstFault.{not_both, one_fault_is as one_name_fault}
 use Rattle.hs_sorts.specs.declared.fault.SortFault.{SortFault}
 use Rattle.hs_sorts.specs.declared.fault.SortFault.TheVariants as sorts
-use Rattle.hs_sorts.specs.Inference.{IsInferable, IsFaultOf}
+use Rattle.hs_sorts.specs.Inference.{IsInferable, IsSortFault}
 use Rattle.hs_sorts.proofs.Excluding.{only_memory, inferred_inferable, one_fault_is as one_sort_fault}
 use Rattle.hs_table.specs.Entries.{EntryData}
 use Rattle.hs_table.specs.Tables.{IsLeastTable, Exceeds}
@@ -25,7 +25,7 @@ use Rattle.hs_app.specs.declared.verdict.Verdict.{Verdict}
 use Rattle.hs_app.specs.declared.verdict.Verdict.TheVariants.{Accepted, Rejected, Long}
 use Rattle.hs_app.specs.declared.verdict.Decided.{Decided}
 use Rattle.hs_app.specs.Problems.{Asked, IsProblemOf, HasManyPoints, HasMuchFlow, IsReportedTable}
-use Rattle.hs_app.specs.Verdict.{max_bytes, HasAnswer, IsSchemeOf, IsSortable, Reports, IsOverBudget, Decides, Refused, IsAnsweredWith, HasDecision, IsWithinBudget, IsBoundToExceed, WarrantsOnScheme, HasWarrant, Warrants, IsWithinLimits}
+use Rattle.hs_app.specs.Verdict.{max_bytes, HasAnswer, IsSchemeOf, IsSortable, Reports, IsOverBudget, IsAnswerOn, Refused, IsAnsweredWith, HasDecision, IsWithinBudget, IsBoundToExceed, WarrantsOnScheme, HasWarrant, Warrants, HasProblemWithinLimits}
 use Rattle.hs_app.proofs.OneProblem.{one_problem, not_many_points, not_much_flow, many_not_much}
 
 -- ---- what comes of a file, layer by layer: a refusal, of which R holds, or a scheme with sorts, of which S holds
@@ -49,7 +49,7 @@ told_of_memory : (u : UnsortedData) (f : SortFault) (a : Refusal) → f ≡ sort
 told_of_memory u f a e h = subst (λ (g : SortFault). TellsSort u g a) e h
 
 abbrev AtScheme : (Refusal → Type 0) → (UnsortedData → Type 0) → UnsortedData → Type 0
-AtScheme R S u = ((f : SortFault) × (IsFaultOf u.rules u.ranks f × ((r : Refusal) × (TellsSort u f r × R r)))) ⊎ (IsInferable u.rules u.ranks × S u)
+AtScheme R S u = ((f : SortFault) × (IsSortFault u.rules u.ranks f × ((r : Refusal) × (TellsSort u f r × R r)))) ⊎ (IsInferable u.rules u.ranks × S u)
 
 abbrev AtFile : (Refusal → Type 0) → (UnsortedData → Type 0) → File → Type 0
 AtFile R S file = ((f : NameFault) × (IsAnswered file f × R (Names f))) ⊎ (IsFaultless file × AtScheme R S (unsorted_of file))
@@ -181,7 +181,7 @@ module _ (asked : Asked) (u : UnsortedData) where
       let r = h.reports in
       inr (inr (inl (d, (refl, (inr e, record { rejects = r.rejects; problem = h.problem; of = h.of; budget = reported_within asked.settings.first h.problem r.table r.reported r.within })))))
 
-  told : (a : Result Decided Refusal) → Decides asked u a → Told a
+  told : (a : Result Decided Refusal) → IsAnswerOn asked u a → Told a
   told (Ok d) h = told_verdict d d.verdict refl h
   told (Err PointLimit) h = inr (inr (inr (inl (refl, h))))
   told (Err FlowLimit) h = inr (inr (inr (inr (inl (refl, h)))))
@@ -282,7 +282,7 @@ module _ (asked : Asked) (u : UnsortedData) where
         | inr (inr (inr (inr (inr (e, o))))) ↦ absurd (none o.0 o.1.0)
       ]
 
-  pub scheme_matches : (d : Result Verdict Refusal) (a : Result Decided Refusal) → WarrantsOnScheme asked u d → Decides asked u a → Right d a
+  pub scheme_matches : (d : Result Verdict Refusal) (a : Result Decided Refusal) → WarrantsOnScheme asked u d → IsAnswerOn asked u a → Right d a
   scheme_matches d a w h =
       elim (warranted d w) [
         | inl (is, (accepts, within)) ↦
@@ -313,12 +313,12 @@ module _ (asked : Asked) (u : UnsortedData) where
 -- ---- an answer and a warrant on the bytes of a file
 
 module _ (asked : Asked) (bytes : List ℕ) where
-  answer_layers : (a : Result Decided Refusal) → IsAnsweredWith asked bytes a → Wants a ⊎ Layered (λ r. a ≡ Err r) (λ u. Decides asked u a) bytes
-  answer_layers (Ok d) h = inr (of_sound (λ r. Ok d ≡ Err r) (λ u. Decides asked u (Ok d)) bytes h.scheme h.sound h.decides)
+  answer_layers : (a : Result Decided Refusal) → IsAnsweredWith asked bytes a → Wants a ⊎ Layered (λ r. a ≡ Err r) (λ u. IsAnswerOn asked u a) bytes
+  answer_layers (Ok d) h = inr (of_sound (λ r. Ok d ≡ Err r) (λ u. IsAnswerOn asked u (Ok d)) bytes h.scheme h.sound h.decides)
   answer_layers (Err r) h =
-      elim (of_refusal (λ s. Err r ≡ Err s) (λ u. Decides asked u (Err r)) bytes asked r h refl) [
+      elim (of_refusal (λ s. Err r ≡ Err s) (λ u. IsAnswerOn asked u (Err r)) bytes asked r h refl) [
         | inl e ↦ inl (ap (λ (s : Refusal). Err s) e)
-        | inr (inl d) ↦ inr (of_sound (λ s. Err r ≡ Err s) (λ u. Decides asked u (Err r)) bytes d.scheme d.sound d.decides)
+        | inr (inl d) ↦ inr (of_sound (λ s. Err r ≡ Err s) (λ u. IsAnswerOn asked u (Err r)) bytes d.scheme d.sound d.decides)
         | inr (inr l) ↦ inr l
       ]
 
@@ -332,7 +332,7 @@ module _ (asked : Asked) (bytes : List ℕ) where
     abbrev Layers : Type 0
     Layers = Layered IsRefusal OnScheme bytes
 
-    at_scheme : (u : UnsortedData) → IsSchemeOf bytes u → (f : SortFault) → IsFaultOf u.rules u.ranks f → (r : Refusal) → TellsSort u f r → d ≡ Err r → Layers
+    at_scheme : (u : UnsortedData) → IsSchemeOf bytes u → (f : SortFault) → IsSortFault u.rules u.ranks f → (r : Refusal) → TellsSort u f r → d ≡ Err r → Layers
     at_scheme u of f fault r tells e = of_scheme IsRefusal OnScheme bytes u of (inl (f, (fault, (r, (tells, e)))))
 
     of_warrant : HasWarrant asked bytes d → Layers
@@ -369,7 +369,7 @@ module _ (asked : Asked) (bytes : List ℕ) where
         | inr l ↦ elim (warrant_layers d w) [
           | inl long ↦ absurd (omega (arith, long, h.0))
           | inr (short, k) ↦
-              meet (λ r. d ≡ Err r) (λ r. a ≡ Err r) (λ u. WarrantsOnScheme asked u d) (λ u. Decides asked u a) (Right d a)
+              meet (λ r. d ≡ Err r) (λ r. a ≡ Err r) (λ u. WarrantsOnScheme asked u d) (λ u. IsAnswerOn asked u a) (Right d a)
               (λ r e f. inr (matching (Err r) d a (Err r) e f refl)) (λ u p s. scheme_matches asked u d a p s) bytes k l
         ]
       ]
@@ -390,12 +390,12 @@ module _ (asked : Asked) (bytes : List ℕ) where
       ]
 
   -- a file with a problem gets a verdict, unless memory is refused or there are too many entries
-  pub readable_comes : (a : Result Decided Refusal) → IsWithinLimits asked bytes → HasAnswer asked a bytes → Comes a
+  pub readable_comes : (a : Result Decided Refusal) → HasProblemWithinLimits asked bytes → HasAnswer asked a bytes → Comes a
   readable_comes a r h =
       elim (answer_layers a h.1) [
         | inl wants ↦ inl wants
         | inr l ↦
-            meet (λ s. ⊥) (λ s. a ≡ Err s) (λ u. (p : ProblemData) × IsProblemOf asked u p) (λ u. Decides asked u a) (Comes a)
+            meet (λ s. ⊥) (λ s. a ≡ Err s) (λ u. (p : ProblemData) × IsProblemOf asked u p) (λ u. IsAnswerOn asked u a) (Comes a)
             (λ s never e. absurd never) (λ u q s. comes_of u a q.0 q.1 (told asked u a s)) bytes
             (of_sound (λ s. ⊥) (λ u. (p : ProblemData) × IsProblemOf asked u p) bytes r.scheme r.sound (r.problem, r.of)) l
       ]

@@ -3,7 +3,6 @@ use Rattle.std.proofs.Common.{◌≡◌, sym, ◌∙◌, ap, subst, ℕ, ◌+◌
 use Rattle.std.proofs.lemmas.Option.{unwrap_or-slice_get}
 use Rattle.std.proofs.lemmas.List.{ext_get_or, length-map}
 use Rattle.std.proofs.lemmas.List.Elements.{Contains-append_left, Contains-append_right, Contains-append_cases}
-use Rattle.hs_steps.proofs.Trees.{length-lengthening}
 use Rattle.hs_flow.proofs.TableLemmas.{mapped}
 use Rattle.hs_scheme.specs.declared.flow.FlowPair.{FlowPair}
 use Rattle.hs_scheme.specs.declared.flow.HeadPair.{HeadPair}
@@ -20,7 +19,7 @@ use Rattle.hs_scheme.specs.Flow.{FlowData, pairs_of, IsFlow, IsSupported, IsFlow
 use Rattle.hs_scheme.specs.Problem.{ProblemData}
 use Rattle.hs_scheme.proofs.DemandLemmas.{flow_unique, fewer, same_flow, same_head, no_head}
 use Rattle.hs_scheme.proofs.FlowLemmas.{flow_cmp-equal, head_cmp-equal, flow_cmp_total, head_cmp_total}
-use Rattle.hs_scheme.proofs.Sortings.{least_unique, length-ranked}
+use Rattle.hs_scheme.proofs.Sortings.{least_unique, length-ranked, length-lengthening}
 use Rattle.hs_scheme.proofs.Lists.{none_in, here, later, uncons}
 use Rattle.hs_sorts.specs.Naming.{lengthened_names}
 use Rattle.hs_table_laws.proofs.Sets.{ascending_same}

@@ -8,7 +8,7 @@ use Rattle.clap.specs.Simple.{matches_of}
 use Rattle.clap.specs.Faults.{fault_of}
 use Rattle.clap.specs.Walk.{Row, first_of, is_empty}
 use Rattle.hs_words.specs.Words.{horsat, said, is_numeral, number_in, number_or, number_if, is_set, OptionsData, said_by_values, options_of}
-use Rattle.hs_app.specs.Verdict.{AreWithin}
+use Rattle.hs_app.specs.Verdict.{AreSettingsWithin}
 use Rattle.hs_app.specs.Order.{settings_of}
 
 pub record IsIn (least most n : ℕ) : Type 0 where
@@ -46,7 +46,7 @@ both_given false o p e = same_Some o p e
 
 -- what options say is within its range
 pub record AreIn (o : OptionsData) : Type 0 where
-  pub settings : AreWithin (settings_of o)
+  pub settings : AreSettingsWithin (settings_of o)
   pub cycle : (k : ℕ) → o.cycle ≡ Some k → IsIn 1 300 k
 
 said_in : (workers entries steps table first simplify cycle file : Option (List ℕ)) (o : OptionsData) → said_by_values workers entries steps table first simplify cycle file ≡ Some o → AreIn o

@@ -12,15 +12,15 @@ use Rattle.hs_app.specs.declared.verdict.Decided.{Decided}
 use Rattle.hs_app.specs.declared.top.Ending.{Ending}
 use Rattle.hs_app.specs.declared.top.Ending.TheVariants.{Reported, CutOff, Refused}
 use Rattle.hs_app.specs.Refusal.{HasFixedLine, status_of}
-use Rattle.hs_app.specs.Verdict.{max_bytes, HasAnswer, Warrants, IsAnsweredWith, IsWithinLimits}
-use Rattle.hs_app.specs.Order.{Job, read_file, generate, Order, SourceRun, IsUntouched, IsReadFromFront, bytes_of, IsReadToEnd, IsPart, OfTold}
+use Rattle.hs_app.specs.Verdict.{max_bytes, HasAnswer, Warrants, IsAnsweredWith, HasProblemWithinLimits}
+use Rattle.hs_app.specs.Order.{FileOrigin, read_file, generate, Order, SourceRun, IsUntouched, IsReadFromFront, bytes_of, IsReadToEnd, IsPart, OfTold}
 use Rattle.hs_app.specs.Outcome.{SinkRun, IsCalm, HasCause, IsOfBytes, IsAnswerOfRun, IsReadFault, IsDue, IsStatusOf, status_of_verdict, status_at, Ends, Complies, Rows}
 use Rattle.hs_app.proofs.AnswerLemmas.{Wants, Matches, answer_meets, readable_comes}
 
 -- ---- facts about the bytes of a job's file
 
 -- the same as `OfTold`, where the file need not be told
-abbrev OfFile : Job → (List ℕ → Option (List ℕ)) → (List ℕ → Type 0) → Type 0
+abbrev OfFile : FileOrigin → (List ℕ → Option (List ℕ)) → (List ℕ → Type 0) → Type 0
 OfFile (read_file n) file P = IfSome (file n) P
 OfFile (generate k) file P = P (cycle_file_text k)
 
@@ -30,7 +30,7 @@ module _ (P Q R : List ℕ → Type 0) (f : (bytes : List ℕ) → P bytes → Q
   both_of_bytes (Some bytes) p q = f bytes p q
 
   -- two facts about the bytes of a told file
-  both_of_job : (j : Job) (file : List ℕ → Option (List ℕ)) → OfTold j file P → OfFile j file Q → OfTold j file R
+  both_of_job : (j : FileOrigin) (file : List ℕ → Option (List ℕ)) → OfTold j file P → OfFile j file Q → OfTold j file R
   both_of_job (read_file n) file p q = both_of_bytes (file n) p q
   both_of_job (generate k) file p q = f (cycle_file_text k) p q
 
@@ -39,7 +39,7 @@ always_of_bytes : (R : Type 0) (o : Option (List ℕ)) → IsSomeAnd o (λ _. R)
 always_of_bytes R None h = absurd h
 always_of_bytes R (Some bytes) h = h
 
-always_of_job : (R : Type 0) (j : Job) (file : List ℕ → Option (List ℕ)) → OfTold j file (λ _. R) → R
+always_of_job : (R : Type 0) (j : FileOrigin) (file : List ℕ → Option (List ℕ)) → OfTold j file (λ _. R) → R
 always_of_job R (read_file n) file h = always_of_bytes R (file n) h
 always_of_job R (generate k) file h = h
 
@@ -56,18 +56,18 @@ part_bytes limit given told (Some l) is p =
     subst (λ (o : Option (List ℕ)). IfSome o (λ bytes. limit < length bytes)) (sym is) (rw (length-append given l) (omega (arith, p)))
 
 -- What was handed out says of these files what it says itself.
-record IsShownBy (job : Job) (source : SourceRun) (file : List ℕ → Option (List ℕ)) : Type 1 where
+record IsShownBy (job : FileOrigin) (source : SourceRun) (file : List ℕ → Option (List ℕ)) : Type 1 where
   whole : (P : List ℕ → Type 0) → P (bytes_of job source.after.given) → IsReadToEnd job source → OfFile job file P
   part : max_bytes < length source.after.given → IsPart job source → OfFile job file (λ bytes. max_bytes < length bytes)
 
-shows_told : (job : Job) (source : SourceRun) → IsShownBy job source source.file
+shows_told : (job : FileOrigin) (source : SourceRun) → IsShownBy job source source.file
 shows_told (read_file n) source = record {
   whole = λ P h read. whole_bytes P source.after.given (source.file n) source.left read.told (read.all refl) h;
   part = λ h read. part_bytes max_bytes source.after.given (source.file n) source.left read.told h;
 }
 shows_told (generate k) source = record { whole = λ P h read. h; part = λ h read. absurd read }
 
-shows_handed : (job : Job) (source : SourceRun) → IsShownBy job source (λ _. Some source.after.given)
+shows_handed : (job : FileOrigin) (source : SourceRun) → IsShownBy job source (λ _. Some source.after.given)
 shows_handed (read_file n) source = record { whole = λ P h read. h; part = λ h read. h }
 shows_handed (generate k) source = record { whole = λ P h read. h; part = λ h read. absurd read }
 
@@ -305,24 +305,24 @@ module _ (o : Order) (source : SourceRun) (file : List ℕ → Option (List ℕ)
   abbrev Comes_to : Result Decided Refusal → Type 0
   Comes_to b = IsFailure b ⊎ (((x : Decided) × (b ≡ Ok x)) ⊎ (b ≡ Err EntryLimit))
 
-  of_readable : (b : Result Decided Refusal) (bytes : List ℕ) → IsWithinLimits o.asked bytes → HasAnswer o.asked b bytes → Comes_to b
+  of_readable : (b : Result Decided Refusal) (bytes : List ℕ) → HasProblemWithinLimits o.asked bytes → HasAnswer o.asked b bytes → Comes_to b
   of_readable b bytes r h =
       elim (readable_comes o.asked bytes b r h) [
         | inl wants ↦ inl (inr wants)
         | inr comes ↦ inr comes
       ]
 
-  readable_has : (b : Result Decided Refusal) → Told (IsWithinLimits o.asked) → Is b → Comes_to b
+  readable_has : (b : Result Decided Refusal) → Told (HasProblemWithinLimits o.asked) → Is b → Comes_to b
   readable_has b r h =
       elim (why b h) [
         | inl fails ↦ inl fails
         | inr (inl (e, long)) ↦
-            absurd (always_of_job ⊥ o.job file (both_of_job (IsWithinLimits o.asked) (λ bytes. max_bytes < length bytes) (λ _. ⊥) (λ bytes q l. omega (arith, q.within, l)) o.job file r long))
+            absurd (always_of_job ⊥ o.job file (both_of_job (HasProblemWithinLimits o.asked) (λ bytes. max_bytes < length bytes) (λ _. ⊥) (λ bytes q l. omega (arith, q.within, l)) o.job file r long))
         | inr (inr has) ↦
-            always_of_job (Comes_to b) o.job file (both_of_job (IsWithinLimits o.asked) (HasAnswer o.asked b) (λ _. Comes_to b) (of_readable b) o.job file r has)
+            always_of_job (Comes_to b) o.job file (both_of_job (HasProblemWithinLimits o.asked) (HasAnswer o.asked b) (λ _. Comes_to b) (of_readable b) o.job file r has)
       ]
 
-  completes : (b : Result Decided Refusal) → Told (IsWithinLimits o.asked) → Is b → Completes (status_due b)
+  completes : (b : Result Decided Refusal) → Told (HasProblemWithinLimits o.asked) → Is b → Completes (status_due b)
   completes b r h =
       elim (readable_has b r h) [
         | inl (inl e) ↦ inr (inl (ap status_due e))

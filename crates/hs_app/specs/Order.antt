@@ -1,11 +1,11 @@
 -- What the words of the command line order: what to work on, and how.
---     Job             the file of a name, or the generated file of a number
---     Order           a job with what is asked for
---     ordered         what the words order, where they are taken
---     ReadsNothing    the words are refused, or a file is generated
---     bytes_of        the bytes of a job, where these were handed out
+--     FileOrigin    the file of a name, or the generated file of a number
+--     Order         a job with what is asked for
+--     ordered       what the words order, where they are taken
+--     ReadsNothing  the words are refused, or a file is generated
+--     bytes_of      the bytes of a job, where these were handed out
 --     IsReadToEnd, IsPart the job's file was read up to its end, or not so far; for a generated file nothing is read
---     OfTold          a fact about the bytes of the job's file, where they are told
+--     OfTold        a fact about the bytes of the job's file, where they are told
 use Rattle.std.specs.Prelude.{◌≡◌, ℕ, ◌+◌, Bool, true, false, List, [], Option, Some, None, option_map, unwrap_or, codes, IfSome, IsSomeAnd}
 use Rattle.std.specs.Option.{option_map_or}
 use Rattle.std.specs.Io.KnownBytes.{prepend_known}
@@ -17,16 +17,16 @@ use Rattle.hs_passes.specs.Passing.{Image}
 use Rattle.hs_app.specs.declared.verdict.Settings.{Settings}
 use Rattle.hs_app.specs.Problems.{Asked, asked_of}
 
-pub data Job : Type 0 where
-  read_file : List ℕ → Job
-  generate : ℕ → Job
+pub data FileOrigin : Type 0 where
+  read_file : List ℕ → FileOrigin
+  generate : ℕ → FileOrigin
 
 pub record Order : Type 0 where
-  pub job : Job
+  pub job : FileOrigin
   pub asked : Asked
 
 -- without a file's name, and where none is generated, standard input is read, whose name is `-`
-abbrev pub job_of : OptionsData → Job
+abbrev pub job_of : OptionsData → FileOrigin
 job_of o = option_map_or (λ k. generate k) o.cycle (read_file (unwrap_or o.file (codes "-")))
 
 abbrev pub settings_of : OptionsData → Settings
@@ -40,7 +40,7 @@ abbrev pub ordered : List Image → List (List ℕ) → Option Order
 ordered images words = option_map (order_of images) (options_of words)
 
 -- a file is generated, and none is read
-abbrev pub IsGenerated : Job → Type 0
+abbrev pub IsGenerated : FileOrigin → Type 0
 IsGenerated (read_file name) = ⊥
 IsGenerated (generate k) = Unit {0}
 
@@ -87,23 +87,23 @@ pub record IsReadFromFront (source : SourceRun) (met : Bool) (name : List ℕ) :
   pub told : source.file name ≡ prepend_known source.after.given source.left
   pub all : met ≡ true → IfSome source.left (λ left. left ≡ [])
 
-abbrev pub bytes_of : Job → List ℕ → List ℕ
+abbrev pub bytes_of : FileOrigin → List ℕ → List ℕ
 bytes_of (read_file name) given = given
 bytes_of (generate k) given = cycle_file_text k
 
-abbrev pub IsReadToEnd : Job → SourceRun → Type 0
+abbrev pub IsReadToEnd : FileOrigin → SourceRun → Type 0
 IsReadToEnd (read_file name) source = IsReadFromFront source true name
 IsReadToEnd (generate k) source = IsUntouched source
 
-abbrev pub IsPart : Job → SourceRun → Type 0
+abbrev pub IsPart : FileOrigin → SourceRun → Type 0
 IsPart (read_file name) source = IsReadFromFront source false name
 IsPart (generate k) source = ⊥
 
 -- the count of the job's file rose
-abbrev pub HasFault : Job → SourceRun → Type 0
+abbrev pub HasFault : FileOrigin → SourceRun → Type 0
 HasFault (read_file name) source = Rose (source.faults name) (source.faults_after name)
 HasFault (generate k) source = ⊥
 
-abbrev pub OfTold : Job → (List ℕ → Option (List ℕ)) → (List ℕ → Type 0) → Type 0
+abbrev pub OfTold : FileOrigin → (List ℕ → Option (List ℕ)) → (List ℕ → Type 0) → Type 0
 OfTold (read_file name) file P = IsSomeAnd (file name) P
 OfTold (generate k) file P = P (cycle_file_text k)

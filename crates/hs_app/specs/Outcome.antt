@@ -2,7 +2,8 @@
 --     SinkRun               a sink as a run found it and left it
 --     IsAnswerOfRun         the verdict with its report, or why there is none, by the order and by what the source handed out
 --     Ends, status_at       how a run ends, with what comes with it; its exit status
---     Due                   what has to be answered, by the order and by the bytes
+--     IsDue, Complies       what has to be answered, by the order and by the bytes; that it is answered
+--     Keeps                 what a run leaves as it was, and what doesn't fall
 --     Rows                  all that is claimed of a run
 use Rattle.std.specs.Prelude.{◌≡◌, ◌≢◌, ℕ, ◌<◌, ◌≤◌, true, false, List, ◌++◌, Option, Some, None, Result, Ok, Err, length, ◌⊎◌, IsSomeAnd}
 use Rattle.hs_edge.specs.Count.{Rose}
@@ -16,7 +17,7 @@ use Rattle.hs_app.specs.declared.verdict.Decided.{Decided}
 use Rattle.hs_app.specs.declared.verdict.Verdict.{Verdict}
 use Rattle.hs_app.specs.declared.verdict.Verdict.TheVariants.{Accepted, Rejected, Long}
 use Rattle.hs_app.specs.Order.{Order, SourceRun, IsUntouched, IsReadFromFront, bytes_of, IsReadToEnd, IsPart, HasFault, OfTold}
-use Rattle.hs_app.specs.Verdict.{max_bytes, HasAnswer, Warrants, IsWithinLimits}
+use Rattle.hs_app.specs.Verdict.{max_bytes, HasAnswer, Warrants, HasProblemWithinLimits}
 
 -- ---- the outside
 
@@ -85,7 +86,7 @@ abbrev pub HasTakenOrFailed : SinkRun → List ℕ → Type 0
 HasTakenOrFailed sink text = (sink.taken_after ≡ sink.taken ++ text) ⊎ (AddsPart sink.taken sink.taken_after text × Rose sink.faults sink.faults_after)
 
 -- nothing was taken, and nothing failed
-pub record IsSilent (sink : SinkRun) : Type 0 where
+pub record HasTakenNothing (sink : SinkRun) : Type 0 where
   pub same_taken : sink.taken_after ≡ sink.taken
   pub same_faults : sink.faults_after ≡ sink.faults
 
@@ -101,7 +102,7 @@ module _ (order : Option Order) (source : SourceRun) (out err : SinkRun) where
     pub answer : IsAnswerOfRun order source (Ok decided)
     pub taken : out.taken_after ≡ out.taken ++ decided.report.items
     pub same_faults : out.faults_after ≡ out.faults
-    pub silent : IsSilent err
+    pub silent : HasTakenNothing err
 
   -- the report met a fault
   pub record IsCutOff (decided : Decided) : Type 0 where
@@ -113,7 +114,7 @@ module _ (order : Option Order) (source : SourceRun) (out err : SinkRun) where
   -- there is no verdict
   pub record Refuses (refusal : Refusal) : Type 0 where
     pub cause : HasCause order source refusal
-    pub silent : IsSilent out
+    pub silent : HasTakenNothing out
     pub told : HasTakenOrFailed err (line_of refusal)
 
   abbrev pub Ends : Ending → Type 0
@@ -151,7 +152,7 @@ IsStatusOf (Err refusal) status = status ≡ status_of refusal
 pub record Complies (order : Option Order) (file : List ℕ → Option (List ℕ)) (status : ℕ) : Type 0 where
   pub due : (answer : Result Verdict Refusal) → IsDue order file answer
       → IsStatusOf answer status ⊎ ((status ≡ 8) ⊎ (((status ≡ 9) × (verdict : Verdict) × (answer ≡ Ok verdict)) ⊎ (status ≡ 10)))
-  pub complete : IsSomeAnd order (λ o. OfTold o.job file (IsWithinLimits o.asked)) → (status ≤ 3) ⊎ ((status ≡ 8) ⊎ ((status ≡ 9) ⊎ (status ≡ 10)))
+  pub complete : IsSomeAnd order (λ o. OfTold o.job file (HasProblemWithinLimits o.asked)) → (status ≤ 3) ⊎ ((status ≡ 8) ⊎ ((status ≡ 9) ⊎ (status ≡ 10)))
 
 -- ---- the run
 

@@ -1,12 +1,11 @@
 -- What the bytes of a file are answered with.
---     IsSchemeOf, IsSortable    the bytes are a file without faults in its names, and this is its scheme; it has sorts within the limits
---     IsFailingPath             the path leads to a terminal without transition, which it names with its state
---     FailsAlong                so it does after some number of steps
---     Reports                   the text is the report of the verdict on a scheme
---     IsAnsweredWith            the verdict with its report, or the reason why there is none
---     max_bytes, HasAnswer      the most bytes of a file; the answer of a file that isn't longer
---     Warrants                  the verdict that the bytes come to, or the reason why there is none, whatever is answered
---     IsWithinLimits            the bytes have a scheme with a problem
+--     IsSchemeOf, IsSortable  the bytes are a file without faults in its names, and this is its scheme; it has sorts within the limits
+--     FailsAlong              the path leads, after some number of steps, to a terminal without transition, which it names with its state
+--     Reports                 the text is the report of the verdict on a scheme
+--     IsAnsweredWith          the verdict with its report, or the reason why there is none
+--     max_bytes, HasAnswer    the most bytes of a file; the answer of a file that isn't longer
+--     Warrants                the verdict that the bytes come to, or the reason why there is none, whatever is answered
+--     HasProblemWithinLimits  the bytes have a scheme with a problem
 use Rattle.std.specs.Prelude.{◌≡◌, ◌≤◌, ◌<◌, ◌⊎◌, ℕ, Bool, true, false, List, ◌++◌, length, slice_get, Option, Some, None, Result, Ok, Err, if◌then◌else◌}
 use Rattle.hs_scheme.specs.declared.term.Head.{Head}
 use Rattle.hs_scheme.specs.declared.term.Rule.{Rule}
@@ -23,7 +22,7 @@ use Rattle.hs_resolve.specs.declared.fault.NameFault.{NameFault}
 use Rattle.hs_resolve.specs.Numbering.{unsorted_of}
 use Rattle.hs_resolve.specs.Answer.{IsFaultless, IsAnswered}
 use Rattle.hs_sorts.specs.declared.fault.SortFault.TheVariants as sorts
-use Rattle.hs_sorts.specs.Inference.{IsInferred, IsFaultOf}
+use Rattle.hs_sorts.specs.Inference.{IsInferred, IsSortFault}
 use Rattle.hs_table.specs.Entries.{EntryData}
 use Rattle.hs_scheme.specs.SameTree.{FailsFromStart}
 use Rattle.hs_table.specs.Follows.{Support}
@@ -64,7 +63,7 @@ pub record IsSortable (bytes : List ℕ) (scheme : UnsortedData) : Type 0 where
 -- ---- the verdict on a scheme, with its report
 
 -- what is asked for is within its range
-pub record AreWithin (settings : Settings) : Type 0 where
+pub record AreSettingsWithin (settings : Settings) : Type 0 where
   pub least_workers : 1 ≤ settings.workers
   pub most_workers : settings.workers ≤ 16
   pub least_entries : 1 ≤ settings.entries
@@ -90,7 +89,7 @@ module _ (settings : Settings) (rules : List Rule) (ts : List TransitionData) (p
   abbrev pub rules_walked : List Rule
   rules_walked = if settings.simplify then p.sorted.scheme.rules else rules
 
-  -- the tree is accepted, and the least table lacks the start entry; it was checked, instance by instance
+  -- the tree is accepted, and the least table lacks the start entry; `checked` tells the number of its instances
   pub record ReportsAccepted : Type 0 where
     pub accepts : Accepts rules ts
     pub table : List EntryData
@@ -162,13 +161,13 @@ abbrev pub IsOverBudget : Asked → UnsortedData → Type 0
 IsOverBudget asked u = (p : ProblemData) × (IsProblemOf asked u p × IsOver asked.settings p)
 
 -- what is answered on a scheme that has its sorts
-abbrev pub Decides : Asked → UnsortedData → Result Decided Refusal → Type 0
-Decides asked u (Ok decided) = Reports asked u decided.verdict decided.report.items
-Decides asked u (Err PointLimit) = HasManyPoints asked u
-Decides asked u (Err FlowLimit) = HasMuchFlow asked u
-Decides asked u (Err EntryLimit) = IsOverBudget asked u
-Decides asked u (Err OutOfMemory) = Unit {0}
-Decides asked u (Err refusal) = ⊥
+abbrev pub IsAnswerOn : Asked → UnsortedData → Result Decided Refusal → Type 0
+IsAnswerOn asked u (Ok decided) = Reports asked u decided.verdict decided.report.items
+IsAnswerOn asked u (Err PointLimit) = HasManyPoints asked u
+IsAnswerOn asked u (Err FlowLimit) = HasMuchFlow asked u
+IsAnswerOn asked u (Err EntryLimit) = IsOverBudget asked u
+IsAnswerOn asked u (Err OutOfMemory) = Unit {0}
+IsAnswerOn asked u (Err refusal) = ⊥
 
 -- the same of a problem that was saturated, whose rules are judged
 abbrev pub DecidesProblem : Settings → ProblemData → Option ℕ → Result Decided Refusal → Type 0
@@ -208,14 +207,14 @@ pub record HasNameFault (bytes : List ℕ) (wrong : NameFault) : Type 0 where
 pub record HasHigherTerminal (scheme : UnsortedData) (terminal : List ℕ) : Type 0 where
   pub number : ℕ
   pub named : slice_get scheme.names.terminals number ≡ Some terminal
-  pub fault : IsFaultOf scheme.rules scheme.ranks (sorts.TerminalNotFirstOrder number)
+  pub fault : IsSortFault scheme.rules scheme.ranks (sorts.TerminalNotFirstOrder number)
 
 -- a refusal of a scheme by its sorts
 abbrev pub IsSortRefusal : UnsortedData → Refusal → Type 0
-IsSortRefusal scheme (IllSorted rule) = IsFaultOf scheme.rules scheme.ranks (sorts.IllSorted rule)
+IsSortRefusal scheme (IllSorted rule) = IsSortFault scheme.rules scheme.ranks (sorts.IllSorted rule)
 IsSortRefusal scheme (NotFirstOrder terminal) = HasHigherTerminal scheme terminal
-IsSortRefusal scheme (SortTooLarge rule) = IsFaultOf scheme.rules scheme.ranks (sorts.SortTooLarge rule)
-IsSortRefusal scheme (RuleTooLong rule) = IsFaultOf scheme.rules scheme.ranks (sorts.RuleTooLong rule)
+IsSortRefusal scheme (SortTooLarge rule) = IsSortFault scheme.rules scheme.ranks (sorts.SortTooLarge rule)
+IsSortRefusal scheme (RuleTooLong rule) = IsSortFault scheme.rules scheme.ranks (sorts.RuleTooLong rule)
 IsSortRefusal scheme OutOfMemory = Unit {0}
 IsSortRefusal scheme refusal = ⊥
 
@@ -224,11 +223,11 @@ pub record HasSortFault (bytes : List ℕ) (refusal : Refusal) : Type 0 where
   pub of_bytes : IsSchemeOf bytes scheme
   pub fault : IsSortRefusal scheme refusal
 
--- a scheme that has its sorts comes to no verdict
+-- what is answered on a scheme that has its sorts
 pub record HasDecision (asked : Asked) (bytes : List ℕ) (answer : Result Decided Refusal) : Type 0 where
   pub scheme : UnsortedData
   pub sound : IsSortable bytes scheme
-  pub decides : Decides asked scheme answer
+  pub decides : IsAnswerOn asked scheme answer
 
 abbrev pub Refused : Asked → List ℕ → Refusal → Type 0
 Refused asked bytes Usage = ⊥
@@ -296,7 +295,7 @@ Warrants asked (Err refusal) bytes = (length bytes ≤ max_bytes) × Refused ask
 Warrants asked (Ok verdict) bytes = (length bytes ≤ max_bytes) × HasWarrant asked bytes (Ok verdict)
 
 -- a file within the size, without faults, whose scheme has a problem within the limits
-pub record IsWithinLimits (asked : Asked) (bytes : List ℕ) : Type 0 where
+pub record HasProblemWithinLimits (asked : Asked) (bytes : List ℕ) : Type 0 where
   pub within : length bytes ≤ max_bytes
   pub scheme : UnsortedData
   pub sound : IsSortable bytes scheme

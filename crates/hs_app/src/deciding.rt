@@ -10,7 +10,7 @@ ghost use Rattle.hs_core.specs.Saturation.{IsVerdict};
 ghost use Rattle.hs_workers.specs.Answers.{IsShared, IsSharedDone};
 ghost use Rattle.hs_checker.specs.Checked.{IsCount};
 ghost use Rattle.hs_app.specs.Problems.{IsReportedTable};
-ghost use Rattle.hs_app.specs.Verdict.{IsShown, DecidesProblem, AreWithin};
+ghost use Rattle.hs_app.specs.Verdict.{IsShown, DecidesProblem, AreSettingsWithin};
 
 use crate::refusal::Refusal;
 use crate::verdict::{Decided, Settings, Verdict};
@@ -144,7 +144,7 @@ fn rejected(
 ) -> Result<Decided, OutOfMemory>
     requires problem { problem.now ≡ core.now.base.problem }
     requires budget { core.now.base.budget ≡ settings.entries }
-    requires settings { AreWithin settings }
+    requires settings { AreSettingsWithin settings }
     requires reported { IsReportedTable settings.first problem.now (log_of core.now) }
     requires start { HasStart problem.now (log_of core.now) }
     requires rejects { Accepts problem.now.sorted.scheme.rules problem.now.sorted.automaton.transitions → ⊥ }
@@ -200,7 +200,7 @@ fn first(
     settings: Settings,
     removed: Option<u64>,
 ) -> Result<Decided, OutOfMemory>
-    requires settings { AreWithin settings }
+    requires settings { AreSettingsWithin settings }
     requires sorted { IsSortedProblem problem.now }
     requires shared { IsShared (record {
       problem = problem.now;
@@ -223,7 +223,7 @@ fn least(
     removed: Option<u64>,
 ) -> Result<Decided, OutOfMemory>
     requires flow { HasClosedFlow problem.now }
-    requires settings { AreWithin settings }
+    requires settings { AreSettingsWithin settings }
     requires sorted { IsSortedProblem problem.now }
     requires shared { IsShared (record {
       problem = problem.now;
@@ -251,7 +251,7 @@ fn of_done(
     removed: Option<u64>,
 ) -> Result<Decided, Refusal>
     requires flow { HasClosedFlow problem.now }
-    requires settings { AreWithin settings }
+    requires settings { AreSettingsWithin settings }
     requires sorted { IsSortedProblem problem.now }
     requires done { IsSharedDone (record {
       problem = problem.now;
@@ -277,7 +277,7 @@ pub(crate) fn decide_problem<R: Threads + Wait + Sync, G: Gate + Sync>(
     settings: Settings,
     gate: &G,
 ) -> Result<Decided, Refusal>
-    requires settings { AreWithin settings }
+    requires settings { AreSettingsWithin settings }
     requires flow { HasClosedFlow problem.now }
     ensures { DecidesProblem settings problem.now removed result }
 {

@@ -6,7 +6,7 @@ ghost use Rattle.hs_app.specs.Order.{read_file, ordered, settings_of, source_run
 ghost use Rattle.hs_app.specs.Problems.{asked_of};
 ghost use Rattle.hs_app.specs.Outcome.{sink_run};
 ghost use Rattle.hs_app.specs.Outcome as outcome;
-ghost use Rattle.hs_app.specs.Verdict.{AreWithin, HasAnswer};
+ghost use Rattle.hs_app.specs.Verdict.{AreSettingsWithin, HasAnswer};
 ghost use Rattle.hs_gen.specs.Cycle.{cycle_file_text};
 
 use crate::line::OUT_OF_MEMORY;
@@ -56,7 +56,7 @@ fn verdict_on<R: Threads + Wait + Sync, S: Source, G: Gate + Sync>(
     passes: &mut Vec<Box<dyn Pass>>,
     gate: &G,
 ) -> Result<Decided, Refusal>
-    requires settings { AreWithin settings }
+    requires settings { AreSettingsWithin settings }
     requires tallies { All (λ p. taken p ≡ 0) passes.old.items }
     ensures answer { outcome.IsAnswerOfRun
         (Some (record {
@@ -86,7 +86,7 @@ fn verdict_on_cycle<R: Threads + Wait + Sync, G: Gate + Sync>(
 ) -> Result<Decided, Refusal>
     requires least { 1 ≤ k }
     requires most { k ≤ 300 }
-    requires settings { AreWithin settings }
+    requires settings { AreSettingsWithin settings }
     requires tallies { All (λ p. taken p ≡ 0) passes.old.items }
     ensures { HasAnswer (asked_of settings (map (λ p. image p) passes.old.items)) result (cycle_file_text k) }
 {

@@ -3,9 +3,9 @@
 ghost use Rattle.std.specs.Prelude.{◌≡◌, ◌≤◌, ◌<◌, ◌^◌, true, length, map, slice_get, Some, All, IfOk, IfErr};
 ghost use Rattle.hs_scheme.specs.Sorted.{IsSorted};
 ghost use Rattle.hs_scheme.specs.Unsorted.{UnsortedData, IsUnsorted};
-ghost use Rattle.hs_sorts.specs.Inference.{IsFaultOf};
+ghost use Rattle.hs_sorts.specs.Inference.{IsSortFault};
 ghost use Rattle.hs_app.specs.Problems.{Asked, asked_of};
-ghost use Rattle.hs_app.specs.Verdict.{AreWithin, IsSchemeOf, DecidesForm, DecidesSorted, Refused, IsAnsweredWith, IsSortRefusal};
+ghost use Rattle.hs_app.specs.Verdict.{AreSettingsWithin, IsSchemeOf, DecidesForm, DecidesSorted, Refused, IsAnsweredWith, IsSortRefusal};
 
 use crate::deciding::decide_problem;
 use crate::problem::problem_of;
@@ -90,7 +90,7 @@ fn terminal_name(alloc: Global, bytes: &[u8], terminal: u32) -> Result<Name, Out
 /// The refusal of a fault in the sorts.
 fn sort_refusal(alloc: Global, bytes: &[u8], fault: SortFault) -> Refusal
     requires length { length bytes.now ≤ MAX_BYTES }
-    requires fault { (u : UnsortedData) → IsSchemeOf bytes.now u → IsFaultOf u.rules u.ranks fault }
+    requires fault { (u : UnsortedData) → IsSchemeOf bytes.now u → IsSortFault u.rules u.ranks fault }
     ensures { (u : UnsortedData) → IsSchemeOf bytes.now u → IsSortRefusal u result }
 {
     match fault {
@@ -130,7 +130,7 @@ fn decide_form<R: Threads + Wait + Sync, G: Gate + Sync>(
     settings: Settings,
     gate: &G,
 ) -> Result<Decided, Refusal>
-    requires settings { AreWithin settings }
+    requires settings { AreSettingsWithin settings }
     ensures { DecidesForm settings form removed result }
 {
     match problem_of(alloc, form) {
@@ -152,7 +152,7 @@ fn decide_simplified<R: Threads + Wait + Sync, G: Gate + Sync>(
     passes: &mut Vec<Box<dyn Pass>>,
     gate: &G,
 ) -> Result<Decided, Refusal>
-    requires settings { AreWithin settings }
+    requires settings { AreSettingsWithin settings }
     requires simplify { settings.simplify ≡ true }
     requires tallies { All (λ p. taken p ≡ 0) passes.old.items }
     ensures { DecidesSorted (asked_of settings (map (λ p. image p) passes.old.items)) sorted result }
@@ -173,7 +173,7 @@ fn decide_scheme<R: Threads + Wait + Sync, G: Gate + Sync>(
     passes: &mut Vec<Box<dyn Pass>>,
     gate: &G,
 ) -> Result<Decided, Refusal>
-    requires settings { AreWithin settings }
+    requires settings { AreSettingsWithin settings }
     requires tallies { All (λ p. taken p ≡ 0) passes.old.items }
     ensures { DecidesSorted (asked_of settings (map (λ p. image p) passes.old.items)) sorted result }
 {
@@ -195,7 +195,7 @@ pub(crate) fn decide<R: Threads + Wait + Sync, G: Gate + Sync>(
     gate: &G,
 ) -> Result<Decided, Refusal>
     requires length { length bytes.now ≤ MAX_BYTES }
-    requires settings { AreWithin settings }
+    requires settings { AreSettingsWithin settings }
     requires tallies { All (λ p. taken p ≡ 0) passes.old.items }
     ensures { IsAnsweredWith (asked_of settings (map (λ p. image p) passes.old.items)) bytes.now result }
 {

@@ -52,13 +52,14 @@ pub fn run_on<R: Threads + Wait + Sync, S: Source, O: Sink, E: Sink>(
 ) -> u8
     requires { All (λ p. taken p ≡ 0) passes.items }
     ensures rows { IfOk words (λ given.
-        ((result ≡ NO_MEMORY) × (source.new ≡ source.old) × (out.new ≡ out.old) × (err.new ≡ err.old))
+        ((result ≡ 10) × (source.new ≡ source.old) × (out.new ≡ out.old) × (err.new ≡ err.old))
         ⊎ outcome.Rows (ordered (map (λ p. image p) passes.items) (map string_bytes (into_iter_items given)))
         (source_run S.file S.left S.reading S.faults source.old source.new)
         (sink_run O.writing O.faults out.old out.new) (sink_run E.writing E.faults err.old err.new) result) }
-    ensures no_words { IfErr words (λ error. error_kind error ≢ ErrorKind.OutOfMemory → result ≡ NO_WORDS) }
-    ensures no_memory { IfErr words (λ error. error_kind error ≡ ErrorKind.OutOfMemory
-        → result ≡ NO_MEMORY) }
+    ensures keeps { outcome.Keeps (source_run S.file S.left S.reading S.faults source.old source.new)
+        (sink_run O.writing O.faults out.old out.new) (sink_run E.writing E.faults err.old err.new) }
+    ensures no_words { IfErr words (λ error. error_kind error ≢ ErrorKind.OutOfMemory → result ≡ 13) }
+    ensures no_memory { IfErr words (λ error. error_kind error ≡ ErrorKind.OutOfMemory → result ≡ 10) }
     ensures untouched { OnErr words ((source.new ≡ source.old) × (out.new ≡ out.old) × (err.new ≡ err.old)) }
 {
     let words = match words {

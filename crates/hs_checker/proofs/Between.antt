@@ -1,14 +1,13 @@
 -- What stands between two places of a list that rises.
-use Rattle.std.proofs.Common.{◌≡◌, refl, sym, ◌∙◌, ap, subst, ℕ, ◌+◌, ◌-◌, ◌<◌, ◌≤◌, Bool, true, false, cond, List, [], ◌∷◌, length, get_or, take, drop, filter, arith, inl, inr, Contains, ◌↔◌}
+use Rattle.std.proofs.Common.{◌≡◌, refl, sym, ◌∙◌, ap, subst, ℕ, ◌+◌, ◌-◌, ◌<◌, ◌≤◌, true, false, List, length, get_or, take, drop, filter, arith, Contains, ◌↔◌}
 use Rattle.std.specs.Ordering.{is_lt, is_eq, ordering_index}
 use Rattle.std.specs.declared.cmp.Ordering.{Ordering}
 use Rattle.std.specs.declared.cmp.Ordering.TheVariants.{Less, Equal, Greater}
 use Rattle.std.specs.List.Sorted.{IsPartitionedBy, IsPartitionPoint, IsNonDecreasingBy}
 use Rattle.std.proofs.lemmas.List.{get_or-drop, length-drop, take_all}
 use Rattle.hs_scheme.proofs.FlowLemmas.{filter-middle}
-use Rattle.hs_scheme.proofs.FlowRowLemmas.{filter_keeps, filter_has}
 use Rattle.hs_scheme.proofs.Orderings.{equal_of}
-use Rattle.hs_scheme.proofs.Lists.{none_in, uncons}
+use Rattle.hs_scheme.proofs.Lists.{filter_keeps, filter_has, filter_passes}
 
 lt_below : (a b : Ordering) → ordering_index a ≤ ordering_index b → is_lt b ≡ true → is_lt a ≡ true
 lt_below Less b le h = refl
@@ -30,16 +29,6 @@ lt_not_eq : (a : Ordering) → is_lt a ≡ true → is_eq a ≡ false
 lt_not_eq Less h = refl
 lt_not_eq Equal h = absurd (cc)
 lt_not_eq Greater h = refl
-
-pub filter_passes : {X : Type 0} (m : X → Bool) (xs : List X) (x : X) → Contains (filter m xs) x → m x ≡ true
-filter_passes m [] x c = absurd (none_in x c)
-filter_passes m (y ∷ ys) x c = elim (m y) as (λ b. m y ≡ b → Contains (cond b (y ∷ filter m ys) (filter m ys)) x → m x ≡ true) [
-  | true ↦ λ e d. elim (uncons y x (filter m ys) d) [
-    | inl is ↦ ap m is ∙ e
-    | inr there ↦ filter_passes m ys x there
-  ]
-  | false ↦ λ e d. filter_passes m ys x d
-] refl c
 
 module _ {X : Type 0} (ord : X → Ordering) (xs : List X) (rises : IsNonDecreasingBy (λ y. ordering_index (ord y)) xs) where
   pub parted_less : IsPartitionedBy (λ y. is_lt (ord y)) xs

@@ -25,8 +25,8 @@ use Rattle.hs_scheme.proofs.Lists.{none_in, here, later, uncons, Contains-at}
 use Rattle.hs_verdict.specs.Premises.{HasClosedFlow}
 use Rattle.hs_checker.specs.declared.fault.CheckFault.{CheckFault}
 use Rattle.hs_checker.specs.declared.fault.CheckFault.TheVariants.{FlowOpen, HeadOpen, Missing, HasStart, OutOfMemory}
-use Rattle.hs_checker.specs.declared.flow.Kind.TheVariants.{Flow, Heads}
-use Rattle.hs_checker.specs.Gaps.{HoldsAll, IsFirstLacking}
+use Rattle.hs_flow_checker.specs.declared.gaps.Kind.TheVariants.{Flow, Heads}
+use Rattle.hs_flow_checker.specs.Gaps.{HoldsAll, IsFirstLacking}
 use Rattle.hs_checker.specs.Slots.{IsCountAt}
 use Rattle.hs_checker.specs.Checked.{IsCount, IsMissing, IsGap, IsFault, fault_of}
 

@@ -1,6 +1,6 @@
 -- The order of an index, and what is found in it.
 use Rattle.std.proofs.Common.{◌≡◌, refl, sym, ◌∙◌, ap, subst, ℕ, zero, suc, ◌+◌, ◌<◌, true, false, List, [], ◌∷◌, ◌++◌, length, map, take, get_or, arith, inl, inr, Contains, ◌↔◌, Result, Ok, Err, is_ok, Bor}
-use Rattle.std.specs.Cmp.{IsTotalOrder}
+use Rattle.std.specs.Cmp.{IsTotalOrder, nat_cmp_is}
 use Rattle.std.specs.Ordering.{nat_cmp, ordering_then, is_lt, ordering_index}
 use Rattle.std.specs.declared.cmp.Ordering.{Ordering}
 use Rattle.std.specs.declared.cmp.Ordering.TheVariants.{Less, Equal, Greater}
@@ -18,7 +18,6 @@ use Rattle.hs_table_laws.proofs.Orders.{type_cmp_total, type_same, entry_cmp_tot
 use Rattle.hs_table_laws.proofs.Members.{from_map, into_map}
 use Rattle.hs_table_plain.proofs.Members.{in_pushed, next_member}
 use Rattle.hs_checker.specs.Order.{key_cmp, index_cmp, IsInIndexOrder}
-use Rattle.hs_checker.proofs.GapLemmas.{nat_itself}
 
 pub index_total : IsTotalOrder index_cmp
 index_total = then_total (then_total (on_total (λ (e : EntryData). e.point) nat_cmp_total) (on_total (λ (e : EntryData). e.ty) type_cmp_total)) entry_cmp_total
@@ -37,7 +36,7 @@ index_same a b h = entry_same a b (then_equal (key_cmp b.point b.ty a) (entry_cm
 pub key_equal : (point : ℕ) (ty : TypeTree) (e : EntryData) → (key_cmp point ty e ≡ Equal) ↔ ((e.point ≡ point) × (e.ty ≡ ty))
 key_equal point ty e = (
   λ h. let r = then_equal (nat_cmp e.point point) (type_cmp e.ty ty) h in (nat_equal e.point point r.0, type_same e.ty ty r.1),
-  λ both. both_equal (nat_cmp e.point point) (type_cmp e.ty ty) (nat_itself e.point point both.0) (ap (type_cmp e.ty) (sym both.1) ∙ tied_itself type_cmp_total e.ty),
+  λ both. both_equal (nat_cmp e.point point) (type_cmp e.ty ty) (sym (nat_cmp_is e.point point Equal both.0)) (ap (type_cmp e.ty) (sym both.1) ∙ tied_itself type_cmp_total e.ty),
 )
 
 pub get_or-map : {X Y : Type 0} (f : X → Y) (xs : List X) (k : ℕ) (d : X) → get_or (map f xs) k (f d) ≡ f (get_or xs k d)

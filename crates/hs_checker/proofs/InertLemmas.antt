@@ -14,10 +14,11 @@ use Rattle.hs_table.specs.Types.{TypeTree}
 use Rattle.hs_table.specs.Entries.{EntryData}
 use Rattle.hs_table.specs.Follows.{IsHeadType, Follows}
 use Rattle.hs_table_laws.proofs.Places.{within_from}
-use Rattle.hs_checker.specs.Gaps.{held}
-use Rattle.hs_checker.specs.Inert.{IsInert, AreInert, DemandNothing}
+use Rattle.hs_flow_checker.specs.Gaps.{held}
+use Rattle.hs_flow_checker.specs.PassedOn.{DemandNothing}
+use Rattle.hs_checker.specs.Inert.{IsInert, AreInert}
 use Rattle.hs_checker.specs.Slots.{IsCountAt}
-use Rattle.hs_checker.proofs.GapLemmas.{flow_held, head_held}
+use Rattle.hs_flow_checker.proofs.GapLemmas.{flow_held, head_held}
 
 -- one mark more
 pub marks_push : (olds : List Bool) (b : Bool) (u : ℕ) → slice_get (olds ++ b ∷ []) u ≡ Some true → slice_get olds u ≡ Some true ⊎ ((u ≡ length olds) × (b ≡ true))

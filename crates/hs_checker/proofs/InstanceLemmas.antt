@@ -179,14 +179,6 @@ pub match_map : {X : Type 0} (o : Option X) (P P' : Type 0) (Q Q' : X → Type 0
 match_map None P P' Q Q' f g h = f h
 match_map (Some x) P P' Q Q' f g h = g x h
 
-pub nothing_found : {X : Type 0} (o : Option X) (P : Type 0) (Q : X → Type 0) → o ≡ None → MatchOption o P Q → P
-nothing_found None P Q e h = h
-nothing_found (Some x) P Q e h = absurd (cc)
-
-pub one_found : {X : Type 0} (o : Option X) (x : X) (P : Type 0) (Q : X → Type 0) → o ≡ Some x → MatchOption o P Q → Q x
-one_found None x P Q e h = absurd (cc)
-one_found (Some y) x P Q e h = subst Q (same_Some y x e) h
-
 -- what comes of the types so far, and of one more
 pub conclusion_more : (E : List EntryData) (point params : ℕ) (head : Head) (args : List ℕ) (types : List TypeTree) (k : ℕ) (ty : TypeTree) → k < length types → ty ≡ get_or types k ty
     → ((e : EntryData) → IsConclusion E point params head args (take k types) e → Contains E e)

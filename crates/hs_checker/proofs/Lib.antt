@@ -1,9 +1,7 @@
 pub mod Between
-pub mod GapLemmas
 pub mod InertLemmas
 pub mod OpeningLemmas
 pub mod Ordered
-pub mod Parts
 pub mod IndexLemmas
 pub mod StartLemmas
 pub mod AnyLemmas

@@ -1,5 +1,5 @@
 -- Sorted lists from which repeats are dropped.
-use Rattle.std.proofs.Common.{◌≡◌, refl, sym, ◌∙◌, ap, subst, ◌+◌, Bool, true, false, cond, get_or, map, List, [], ◌∷◌, ◌++◌, length, append_assoc, arith, Contains, ◌↔◌, append-nil}
+use Rattle.std.proofs.Common.{◌≡◌, refl, sym, ◌∙◌, ap, subst, ◌+◌, Bool, true, false, cond, get_or, map, List, [], ◌∷◌, ◌++◌, append_assoc, arith, Contains, ◌↔◌}
 use Rattle.std.specs.List.{dedup, dedup_from}
 use Rattle.std.specs.Cmp.{IsTotalOrder}
 use Rattle.std.specs.Ordering.{is_eq, is_lt, ordering_index, ordering_reverse}
@@ -33,10 +33,6 @@ pub index_tied : (o : Ordering) → ordering_index o ≡ 1 → o ≡ Equal
 index_tied Less e = absurd (omega (arith, e))
 index_tied Equal e = refl
 index_tied Greater e = absurd (omega (arith, e))
-
-pub all_given : {X : Type 0} (ys rest all : List X) → length rest ≡ 0 → ys ++ rest ≡ all → ys ≡ all
-all_given ys [] all none whole = sym (append-nil ys) ∙ whole
-all_given ys (x ∷ rest) all none whole = absurd (omega arith)
 
 pub one_given : {X : Type 0} (ys rest news all : List X) (x : X) → rest ≡ x ∷ news → ys ++ rest ≡ all → (ys ++ x ∷ []) ++ news ≡ all
 one_given ys rest news all x step whole = append_assoc ys (x ∷ []) news ∙ (sym (ap (λ xs. ys ++ xs) step) ∙ whole)

@@ -38,9 +38,9 @@ just_one [] t long read = absurd (omega arith)
 just_one (u ∷ []) t long read = ap (λ z. z ∷ []) (sym read)
 just_one (u ∷ v ∷ ts) t long read = absurd (omega arith)
 
-pub match_some : {X : Type 0} (o : Option X) (P : Type 0) (Q R : X → Type 0) → ((x : X) → Q x → R x) → MatchOption o P Q → MatchOption o P R
-match_some None P Q R to h = h
-match_some (Some x) P Q R to h = to x h
+pub match_weaker : {X : Type 0} (o : Option X) (P : Type 0) (Q R : X → Type 0) → ((x : X) → Q x → R x) → MatchOption o P Q → MatchOption o P R
+match_weaker None P Q R to h = h
+match_weaker (Some x) P Q R to h = to x h
 
 -- an empty set less before the type
 pub behind_one : (E : List EntryData) (us : List ℕ) (rest ty : TypeTree) (es : List EntryData) → (length us ≡ 0 → ⊥) → ty ≡ arrow [] rest

@@ -7,8 +7,7 @@ use Rattle.std.proofs.lemmas.List.Elements.{Contains-append_left, Contains-appen
 use Rattle.hs_scheme.specs.declared.flow.FlowPair.{FlowPair}
 use Rattle.hs_scheme.specs.Automaton.{next}
 use Rattle.hs_scheme.specs.Problem.{ProblemData}
-use Rattle.hs_scheme.proofs.FlowRowLemmas.{filter_keeps, filter_has}
-use Rattle.hs_scheme.proofs.Lists.{none_in, here, only}
+use Rattle.hs_scheme.proofs.Lists.{none_in, here, only, filter_keeps, filter_has, filter_passes}
 use Rattle.hs_table.specs.Types.{TypeTree, state, arrows}
 use Rattle.hs_table.specs.Entries.{EntryData}
 use Rattle.hs_table.specs.Follows.{rank_of}
@@ -19,7 +18,6 @@ use Rattle.hs_table_plain.proofs.Members.{from_flat_map, into_flat_map, in_pushe
 use Rattle.hs_table_plain.proofs.ChoiceLemmas.{from_cond, into_cond}
 use Rattle.hs_checker.specs.Any.{AnyOf}
 use Rattle.hs_checker.specs.Slots.{HasTypeAt}
-use Rattle.hs_checker.proofs.Between.{filter_passes}
 
 pub child_types_more : (qs : List ℕ) (q k : ℕ) (t : TypeTree) → Contains (child_types qs q (k + 1)) t ↔ (Contains (child_types qs q k) t ⊎ (t ≡ child_type qs q k))
 child_types_more qs q k t =

@@ -11,8 +11,8 @@ use Rattle.hs_table.specs.Tables.{IsClosedTable, HasStart as HasStartEntry, IsIn
 use Rattle.hs_verdict.specs.Premises.{HasClosedFlow}
 use Rattle.hs_checker.specs.declared.fault.CheckFault.{CheckFault}
 use Rattle.hs_checker.specs.declared.fault.CheckFault.TheVariants.{FlowOpen, HeadOpen, Missing, HasStart, OutOfMemory}
-use Rattle.hs_checker.specs.declared.flow.Kind.TheVariants.{Flow}
-use Rattle.hs_checker.specs.Gaps.{Lacks, HoldsAll}
+use Rattle.hs_flow_checker.specs.declared.gaps.Kind.TheVariants.{Flow}
+use Rattle.hs_flow_checker.specs.Gaps.{Lacks, HoldsAll}
 
 pub record IsCount (p : ProblemData) (T : List EntryData) (n : ℕ) : Type 0 where
   pub total : ℕ

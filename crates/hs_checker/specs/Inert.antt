@@ -1,15 +1,12 @@
 -- Points of which nothing comes; only private contracts cite it.
 --     IsSilent heads E u     no head pair and no entry is of the point
 --     IsInert p E point      the point's head is a parameter for which only silent points may stand
---     DemandNothing p marks  no pair is demanded at a point that is marked
 use Rattle.std.specs.Prelude.{◌≡◌, ℕ, Bool, true, List, slice_get, Some, Contains}
 use Rattle.hs_scheme.specs.declared.flow.HeadPair.{HeadPair}
-use Rattle.hs_scheme.specs.declared.flow.Pair.{Pair}
 use Rattle.hs_scheme.specs.declared.term.Head.TheVariants.{Var}
 use Rattle.hs_scheme.specs.Points.{point_at}
 use Rattle.hs_scheme.specs.Problem.{ProblemData}
 use Rattle.hs_table.specs.Entries.{EntryData}
-use Rattle.hs_checker.specs.PassedOn.{DemandsAt}
 
 pub record IsSilent (heads : List HeadPair) (E : List EntryData) (u : ℕ) : Type 0 where
   pub becomes : (h : HeadPair) → Contains heads h → h.point ≡ u → ⊥
@@ -25,6 +22,3 @@ pub record IsInert (p : ProblemData) (E : List EntryData) (point : ℕ) : Type 0
 
 abbrev pub AreInert : ProblemData → List EntryData → List Bool → Type 0
 AreInert p E marks = (point : ℕ) → slice_get marks point ≡ Some true → IsInert p E point
-
-abbrev pub DemandNothing : ProblemData → List Bool → Type 0
-DemandNothing p marks = (point : ℕ) (pair : Pair) → slice_get marks point ≡ Some true → DemandsAt p point pair → ⊥

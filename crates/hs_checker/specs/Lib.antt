@@ -1,5 +1,3 @@
-pub mod Gaps
-pub mod PassedOn
 pub mod Inert
 pub mod Order
 pub mod Shape

@@ -13,13 +13,12 @@ ghost use Rattle.hs_checker.specs.Inert.{AreInert};
 
 use crate::bodies::count_at_rule;
 use crate::fault::CheckFault;
-use crate::flow::first_gap;
-use crate::head_pairs::HeadPairs;
 use crate::index::EntryIndex;
 use crate::inert::inert_points;
 use crate::instances::instances;
 use crate::missing::missing_at;
-use crate::terminals::{complete_terminals, is_marked};
+use crate::terminals::complete_terminals;
+use hs_flow_checker::{HeadPairs, first_gap, is_marked};
 use hs_scheme::{Head, Pair, Problem};
 use hs_table::{Entry, Shape};
 use hs_verdict::is_sorted_problem;

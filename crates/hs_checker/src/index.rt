@@ -1,7 +1,7 @@
 //! The entries of a table in order, so that those of a point and a type stand together.
 
 ghost use Rattle.std.specs.Prelude.{◌≡◌, ◌↔◌, ◌<◌, ◌≤◌, ℕ, false, slice_index_or, length, map};
-ghost use Rattle.std.specs.Prelude.{Contains, IsTrue, IfOk, IfSome, OnOk, MatchOption};
+ghost use Rattle.std.specs.Prelude.{Contains, IsTrue, IfOk, IfSome, MatchOption};
 ghost use Rattle.std.specs.Borrow.{Bor};
 ghost use Rattle.std.specs.declared.cmp.Ordering.TheVariants.{Equal};
 ghost use Rattle.hs_scheme.specs.declared.flow.FlowPair.{FlowPair as AnyFlow};
@@ -12,7 +12,7 @@ ghost use Rattle.hs_checker.specs.Order.{index_cmp, key_cmp, IsInIndexOrder, Are
 ghost use Rattle.hs_checker.specs.Slots.{HasTypeAt};
 
 use crate::shape::is_in_shape;
-use crate::starts::from_first_with;
+use hs_flow_checker::from_first_with;
 use hs_scheme::{FlowPair, OutOfMemory, Problem};
 use hs_table::{Entry, Shape, Ty};
 use std::alloc::Global;

@@ -2,13 +2,13 @@
 //! entry, which become nothing, may stand for it. What is demanded is looked for at the others only, and so
 //! are instances.
 
-ghost use Rattle.std.specs.Prelude.{◌≡◌, ◌<◌, ℕ, List, Contains, IsTrue, IfOk, Some, true, length, slice_get};
+ghost use Rattle.std.specs.Prelude.{◌≡◌, ◌<◌, List, Contains, IsTrue, IfOk, Some, true, length, slice_get};
 ghost use Rattle.hs_scheme.specs.declared.flow.FlowPair.{FlowPair as AnyFlow};
 ghost use Rattle.hs_table.specs.Entries.{EntryData};
 ghost use Rattle.hs_checker.specs.Inert.{IsSilent, AreSilent, IsInert, AreInert};
 
-use crate::head_pairs::HeadPairs;
 use crate::index::EntryIndex;
+use hs_flow_checker::HeadPairs;
 use hs_scheme::{FlowPair, Head, OutOfMemory, Problem};
 use std::alloc::Global;
 

@@ -1,16 +1,15 @@
 //! A checker for tables: whether a flow holds all that is demanded, and a table all that follows
 //! from it, without the start entry.
 //!
+//! What a flow lacks is looked for in `hs_flow_checker`; here stands the look at the table.
+//!
 //! It works on types as trees and calls nothing of what makes tables, so that its answer stands
 //! alone.
 #![tactic(auto)]
 
 mod bodies;
 mod checking;
-mod distances;
 mod fault;
-mod flow;
-mod head_pairs;
 mod heads;
 mod index;
 mod inert;
@@ -18,7 +17,6 @@ mod instances;
 mod laws;
 mod missing;
 mod shape;
-mod starts;
 mod terminals;
 mod unions;
 

@@ -11,6 +11,7 @@ ghost use Rattle.hs_table_plain.specs.Enumeration as plain;
 use crate::index::EntryIndex;
 use crate::instances::add_fitting;
 use crate::shape::states;
+use hs_flow_checker::is_marked;
 use hs_scheme::{Automaton, OutOfMemory, Problem, Transition};
 use hs_table::{Shape, Ty, rank};
 use hs_table_plain::child_type;
@@ -159,16 +160,6 @@ fn moving(
         }
     }
     Ok(marks)
-}
-
-/// Whether the state is marked.
-pub(crate) fn is_marked(marks: &[bool], q: u32) -> bool
-    ensures { IsTrue result → slice_get marks.now q ≡ Some true }
-{
-    match marks.get(q as usize) {
-        None => false,
-        Some(mark) => *mark,
-    }
 }
 
 /// The automaton of the problem.

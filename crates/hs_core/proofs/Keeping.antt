@@ -5,20 +5,20 @@ use Rattle.hs_history.specs.declared.step.Event.TheVariants.{Take, Added, PastBu
 use Rattle.hs_core.specs.declared.journal.Actor.{Actor}
 use Rattle.hs_core.specs.declared.journal.Due.{Due}
 use Rattle.hs_core.specs.declared.journal.Mark.{Mark}
-use Rattle.hs_core.specs.Journal.{due_after, kind_of, ticket_of, due_for, event_of, pick, left, Has, only, Reader, step_of, step_at, beyond, steps_read, opened, EndsAtRest, IsKept}
+use Rattle.hs_core.specs.Journal.{due_after, kind_of, ticket_of, due_for, event_of, pick, left, HasNext, only, Reader, step_of, step_at, beyond, steps_read, opened, ReadsToEnd, IsJournalOf}
 
 module _ {X : Type 0} where
-  pick_more : (b : Bool) (x : X) (xs ys : List X) → Has b xs → pick b x (xs ++ ys) ≡ pick b x xs
+  pick_more : (b : Bool) (x : X) (xs ys : List X) → HasNext b xs → pick b x (xs ++ ys) ≡ pick b x xs
   pick_more true x [] ys has = absurd has
   pick_more true x (y ∷ xs) ys has = refl
   pick_more false x xs ys has = refl
 
-  left_more : (b : Bool) (xs ys : List X) → Has b xs → left b (xs ++ ys) ≡ left b xs ++ ys
+  left_more : (b : Bool) (xs ys : List X) → HasNext b xs → left b (xs ++ ys) ≡ left b xs ++ ys
   left_more true [] ys has = absurd has
   left_more true (y ∷ xs) ys has = refl
   left_more false xs ys has = refl
 
-  has_more : (b : Bool) (xs ys : List X) → Has b xs → Has b (xs ++ ys)
+  has_more : (b : Bool) (xs ys : List X) → HasNext b xs → HasNext b (xs ++ ys)
   has_more true [] ys has = absurd has
   has_more true (y ∷ xs) ys has = tt
   has_more false xs ys has = tt
@@ -31,7 +31,7 @@ module _ {X : Type 0} where
   left_only true y = refl
   left_only false y = refl
 
-  has_only : (b : Bool) (y : X) → Has b (only b y)
+  has_only : (b : Bool) (y : X) → HasNext b (only b y)
   has_only true y = tt
   has_only false y = tt
 
@@ -43,10 +43,10 @@ module _ (m : Mark) (actor : Actor) (due : Due) where
   abbrev with_more : Reader → Reader
   with_more r = more r (only m.changed actor) (only m.jumped due)
 
-  step_more : (r : Reader) (n : Mark) → Has n.changed r.actors → Has n.jumped r.dues → step_at (with_more r) n ≡ step_at r n
+  step_more : (r : Reader) (n : Mark) → HasNext n.changed r.actors → HasNext n.jumped r.dues → step_at (with_more r) n ≡ step_at r n
   step_more r n h k = λ i. step_of n.kind (pick_more n.changed r.actor r.actors (only m.changed actor) h i) (pick_more n.jumped r.due r.dues (only m.jumped due) k i)
 
-  beyond_more : (r : Reader) (n : Mark) → Has n.changed r.actors → Has n.jumped r.dues → beyond (with_more r) n ≡ with_more (beyond r n)
+  beyond_more : (r : Reader) (n : Mark) → HasNext n.changed r.actors → HasNext n.jumped r.dues → beyond (with_more r) n ≡ with_more (beyond r n)
   beyond_more r n h k = λ i. record {
     actor = pick_more n.changed r.actor r.actors (only m.changed actor) h i;
     due = due_after n.kind (pick_more n.jumped r.due r.dues (only m.jumped due) k i);
@@ -61,7 +61,7 @@ module _ (m : Mark) (actor : Actor) (due : Due) where
     step_last : step_at (with_more at_end) m ≡ step_of m.kind actor due
     step_last = λ i. step_of m.kind (pick_only m.changed last actor actors_same i) (pick_only m.jumped was due dues_same i)
 
-    ends_last : EndsAtRest (with_more at_end) (m ∷ []) actor (due_after m.kind due)
+    ends_last : ReadsToEnd (with_more at_end) (m ∷ []) actor (due_after m.kind due)
     ends_last = (
       has_only m.changed actor,
       has_only m.jumped due,
@@ -73,23 +73,23 @@ module _ (m : Mark) (actor : Actor) (due : Due) where
       }),
     )
 
-    pub steps_pushed : (r : Reader) (marks : List Mark) → EndsAtRest r marks last was → steps_read (with_more r) (marks ++ m ∷ []) ≡ steps_read r marks ++ step_of m.kind actor due ∷ []
+    pub steps_pushed : (r : Reader) (marks : List Mark) → ReadsToEnd r marks last was → steps_read (with_more r) (marks ++ m ∷ []) ≡ steps_read r marks ++ step_of m.kind actor due ∷ []
     steps_pushed r [] ends = ap (λ (x : Reader). step_at (with_more x) m ∷ []) ends ∙ ap (λ s. s ∷ []) step_last
     steps_pushed r (n ∷ marks) (h, k, ends) =
         (λ i. step_more r n h k i ∷ steps_read (beyond_more r n h k i) (marks ++ m ∷ [])) ∙ ap (λ rest. step_at r n ∷ rest) (steps_pushed (beyond r n) marks ends)
 
-    pub ends_pushed : (r : Reader) (marks : List Mark) → EndsAtRest r marks last was → EndsAtRest (with_more r) (marks ++ m ∷ []) actor (due_after m.kind due)
-    ends_pushed r [] ends = subst (λ (x : Reader). EndsAtRest (with_more x) (m ∷ []) actor (due_after m.kind due)) (sym ends) ends_last
+    pub ends_pushed : (r : Reader) (marks : List Mark) → ReadsToEnd r marks last was → ReadsToEnd (with_more r) (marks ++ m ∷ []) actor (due_after m.kind due)
+    ends_pushed r [] ends = subst (λ (x : Reader). ReadsToEnd (with_more x) (m ∷ []) actor (due_after m.kind due)) (sym ends) ends_last
     ends_pushed r (n ∷ marks) (h, k, ends) = (
       has_more n.changed r.actors (only m.changed actor) h,
       has_more n.jumped r.dues (only m.jumped due) k,
-      subst (λ (x : Reader). EndsAtRest x (marks ++ m ∷ []) actor (due_after m.kind due)) (sym (beyond_more r n h k)) (ends_pushed (beyond r n) marks ends),
+      subst (λ (x : Reader). ReadsToEnd x (marks ++ m ∷ []) actor (due_after m.kind due)) (sym (beyond_more r n h k)) (ends_pushed (beyond r n) marks ends),
     )
 
 -- the lists of a journal once a step is added
-module _ (actors others : List Actor) (dues later : List Due) (marks all : List Mark) (m : Mark) (actor last : Actor) (due was : Due) (kept : IsKept actors dues marks last was) (actors_same : m.changed ≡ false → actor ≡ last)
+module _ (actors others : List Actor) (dues later : List Due) (marks all : List Mark) (m : Mark) (actor last : Actor) (due was : Due) (kept : IsJournalOf actors dues marks last was) (actors_same : m.changed ≡ false → actor ≡ last)
     (dues_same : m.jumped ≡ false → due ≡ was) (more_actors : others ≡ actors ++ only m.changed actor) (more_dues : later ≡ dues ++ only m.jumped due) (more_marks : all ≡ marks ++ m ∷ []) where
-  pub kept_pushed : (next : Due) → next ≡ due_after m.kind due → IsKept others later all actor next
+  pub kept_pushed : (next : Due) → next ≡ due_after m.kind due → IsJournalOf others later all actor next
   kept_pushed next is = rw (more_actors, more_dues, more_marks, is) (ends_pushed m actor due last was actors_same dues_same (opened actors dues) marks kept)
 
   pub read_pushed : steps_read (opened others later) all ≡ steps_read (opened actors dues) marks ++ step_of m.kind actor due ∷ []

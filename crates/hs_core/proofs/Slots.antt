@@ -1,5 +1,5 @@
 -- Works under tickets, counted; and lists by their places.
-use Rattle.std.proofs.Common.{◌≡◌, refl, ◌∙◌, ap, ℕ, zero, suc, ◌+◌, List, [], ◌∷◌, ◌++◌, length, take, slice_get, get_or, Option, Some, None, is_some, count_by, cond, false, arith}
+use Rattle.std.proofs.Common.{◌≡◌, refl, ◌∙◌, ap, ℕ, zero, suc, ◌+◌, List, [], ◌∷◌, ◌++◌, take, slice_get, get_or, Option, Some, None, is_some, count_by, cond, false, arith}
 use Rattle.std.proofs.lemmas.List.Sums.{sum_by-cons}
 use Rattle.std.proofs.lemmas.List.{take_more}
 use Rattle.std.proofs.lemmas.Option.{get_or_from_slice_get}
@@ -26,10 +26,6 @@ module _ {X : Type 0} where
   none_counted [] h = refl
   none_counted (None ∷ xs) h = omega (arith, count_by-cons None xs, none_counted xs (λ k. h (suc k)))
   none_counted (Some x ∷ xs) h = absurd (let e : Some x ≡ None = h zero in cc)
-
-  pub no_items : (xs : List X) → length xs ≡ 0 → xs ≡ []
-  no_items [] e = refl
-  no_items (x ∷ xs) e = absurd (omega arith)
 
   pub not_some : (o : Option X) → is_some o ≡ false → o ≡ None
   not_some None e = refl

@@ -1,12 +1,12 @@
 -- How a journal keeps steps in few bytes.
---     JournalData                  what contracts see: the steps, and for how many more there is room
---     kind_of, ticket_of           what is done at an event, and under which ticket
---     due_for, due_after           what has to be due at an event; what is due after it
---     Reader                       who acts and what is due, with the changes of these that are still to come
---     taken_at, finished_at        the two steps of a seed that is taken and closed at once
---     step_at, beyond              the step that a mark stands for; the reader behind it
---     steps_read                   the steps that marks stand for
---     IsKept                       the changes are just those that the marks name, and behind the last mark this is who acted and what is due
+--     JournalData            what contracts see: the steps, and for how many more there is room
+--     kind_of, ticket_of     what is done at an event, and under which ticket
+--     due_for, due_after     what has to be due at an event; what is due after it
+--     Reader                 who acts and what is due, with the changes of these that are still to come
+--     taken_at, finished_at  the two steps of a seed that is taken and closed at once
+--     step_at, beyond        the step that a mark stands for; the reader behind it
+--     steps_read             the steps that marks stand for
+--     IsJournalOf            the changes are just those that the marks name, and behind the last mark this is who acted and what is due
 use Rattle.std.specs.Prelude.{◌≡◌, ℕ, ◌+◌, ◌-◌, ◌^◌, min, Bool, true, false, List, [], ◌∷◌}
 use Rattle.hs_history.specs.declared.step.Work.{Work}
 use Rattle.hs_history.specs.declared.step.Work.TheVariants.{Seed, Place}
@@ -77,10 +77,10 @@ left true [] = []
 left true (y ∷ ys) = ys
 left false ys = ys
 
-abbrev pub Has : {X : Type 0} → Bool → List X → Type 0
-Has true [] = ⊥
-Has true (y ∷ ys) = Unit {0}
-Has false ys = Unit {0}
+abbrev pub HasNext : {X : Type 0} → Bool → List X → Type 0
+HasNext true [] = ⊥
+HasNext true (y ∷ ys) = Unit {0}
+HasNext false ys = Unit {0}
 
 abbrev pub only : {X : Type 0} → Bool → X → List X
 only true x = x ∷ []
@@ -120,9 +120,10 @@ abbrev pub steps_read : Reader → List Mark → List Step
 steps_read r [] = []
 steps_read r (m ∷ marks) = step_at r m ∷ steps_read (beyond r m) marks
 
-abbrev pub EndsAtRest : Reader → List Mark → Actor → Due → Type 0
-EndsAtRest r [] actor due = r ≡ record { actor = actor; due = due; actors = []; dues = [] }
-EndsAtRest r (m ∷ marks) actor due = Has m.changed r.actors × Has m.jumped r.dues × EndsAtRest (beyond r m) marks actor due
+-- the marks name all the changes that the reader has, and behind the last mark this is who acted and what is due
+abbrev pub ReadsToEnd : Reader → List Mark → Actor → Due → Type 0
+ReadsToEnd r [] actor due = r ≡ record { actor = actor; due = due; actors = []; dues = [] }
+ReadsToEnd r (m ∷ marks) actor due = HasNext m.changed r.actors × HasNext m.jumped r.dues × ReadsToEnd (beyond r m) marks actor due
 
-abbrev pub IsKept : List Actor → List Due → List Mark → Actor → Due → Type 0
-IsKept actors dues marks actor due = EndsAtRest (opened actors dues) marks actor due
+abbrev pub IsJournalOf : List Actor → List Due → List Mark → Actor → Due → Type 0
+IsJournalOf actors dues marks actor due = ReadsToEnd (opened actors dues) marks actor due

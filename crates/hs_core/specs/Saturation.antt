@@ -1,13 +1,14 @@
 -- What saturation answers.
 --     IsDrained                  of a core that was drained
---     GivesBack, Drains          what draining adds to a story: works are given back, and then worker 0 does some steps
+--     GivesBack, Drains          what draining adds to a story: all works in flight are given back, and then worker 0 does some steps
 --     IsDone                     of a new core
 --     IsVerdict                  what the core of a least answer says of the automaton
-use Rattle.std.specs.Prelude.{◌≡◌, ◌↔◌, ℕ, ◌++◌, All}
+use Rattle.std.specs.Prelude.{◌≡◌, ◌↔◌, ℕ, ◌++◌, None, All}
 use Rattle.hs_scheme.specs.Problem.{ProblemData}
 use Rattle.hs_scheme.specs.Run.{Accepts}
 use Rattle.hs_table.specs.Tables.{HasStart}
 use Rattle.hs_history.specs.Story.{Base, gives_back, CoreStep, Story}
+use Rattle.hs_history.specs.History.{state_after}
 use Rattle.hs_core.specs.declared.answers.Drained.{Drained}
 use Rattle.hs_core.specs.declared.answers.Drained.TheVariants.{Quiet, Over as PastBudget, Found}
 use Rattle.hs_core.specs.declared.answers.Done.{Done}
@@ -24,11 +25,13 @@ IsDrained c (Found place) = IsFound c place
 abbrev pub GivesBack : CoreStep → Type 0
 GivesBack step = (ticket : ℕ) × (step.action ≡ gives_back ticket)
 
-pub record Drains (old new : Story) : Type 0 where
+-- once works are given back, none is in flight, and the rest is done by worker 0
+pub record Drains (base : Base) (old new : Story) : Type 0 where
   pub given_back : Story
   pub own : Story
   pub story : new ≡ old ++ (given_back ++ own)
   pub gives : All GivesBack given_back
+  pub flight : (ticket : ℕ) → (state_after base (old ++ given_back)).flight ticket ≡ None
   pub alone : AreOfWorker 0 own
 
 -- a core for this, in which worker 0 did everything

@@ -282,7 +282,7 @@ pub fn drain(
     requires { HasDependents core.old.base.problem.points core.old.base.problem.flow.pairs dependents.now }
     ensures drained { IfOk result (IsDrained core.new) }
     ensures base { core.new.base ≡ core.old.base }
-    ensures story { Drains core.old.story core.new.story }
+    ensures story { Drains core.old.base core.old.story core.new.story }
     ensures flight { NothingFlies core.new }
 {
     give_back_all(core);

@@ -74,7 +74,7 @@ pub struct Journal {
 impl Model for Journal {
     ghost use Rattle.std.specs.Prelude.{◌+◌, ◌≤◌};
     ghost use Rattle.std.specs.Vec.{vec_len, vec_capacity};
-    ghost use Rattle.hs_core.specs.Journal.{JournalData, opened, steps_read, IsKept};
+    ghost use Rattle.hs_core.specs.Journal.{JournalData, opened, steps_read, IsJournalOf};
 
     ghost Value = { JournalData };
 
@@ -84,7 +84,7 @@ impl Model for Journal {
     } };
 
     ghost invariant = { λ a.
-        IsKept a.actors.items a.dues.items a.marks.items a.actor a.due
+        IsJournalOf a.actors.items a.dues.items a.marks.items a.actor a.due
         × (vec_len a.marks + a.room ≤ vec_capacity a.marks)
         × (vec_len a.actors + a.room ≤ vec_capacity a.actors)
         × (vec_len a.dues + a.room ≤ vec_capacity a.dues) };

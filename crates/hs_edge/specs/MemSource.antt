@@ -57,7 +57,7 @@ pub record Starts
       new ≡ record old { calls = one_more old.calls; own_faults = one_more old.own_faults })
 
 -- what `read` does
-pub record Reads
+pub record ReadsMemory
     (old : SourceState) (buf : List ℕ) (result : Result ℕ Failed) (filled : List ℕ) (new : SourceState)
     : Type 0 where
   pub fails : IsErr result ↔ (IsSome old.reading.begun × NextFails old.failing old.calls)

@@ -1,7 +1,7 @@
 //! A source in memory.
 
 ghost use Rattle.std.specs.Prelude.{◌≡◌, ◌<◌, ◌≤◌, ◌++◌, length, drop, Some, IfOk};
-ghost use Rattle.hs_edge.specs.MemSource.{new_source, file_of, faults_of, Starts, Reads};
+ghost use Rattle.hs_edge.specs.MemSource.{new_source, file_of, faults_of, Starts, ReadsMemory};
 
 use crate::{Failed, OutOfMemory, Reading, Source};
 use std::alloc::Global;
@@ -93,7 +93,7 @@ impl Source for MemSource {
 
     ghost start_gives = { Starts };
 
-    ghost read_gives = { Reads };
+    ghost read_gives = { ReadsMemory };
 
     fn start(&mut self, name: &str) -> Result<(), Failed> {
         self.calls = self.calls.saturating_add(1);

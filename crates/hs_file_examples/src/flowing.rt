@@ -1,6 +1,7 @@
 //! The flow of small schemes.
 
 use crate::told::{Asked, see_told};
+use hs_fixtures::PARTIAL;
 use hs_flow::analyse;
 use hs_scheme::{FlowTable, OutOfMemory, Points, Scheme};
 use std::alloc::Global;
@@ -41,9 +42,6 @@ pub(crate) fn push_flow(
         Err(fault) => Ok(write!(out, "{fault}")?),
     }
 }
-
-/// A partial application.
-pub(crate) const PARTIAL: &str = "S -> Ap (K c) c. Ap f x -> f x. K x y -> x.";
 
 /// Three functions, each handed to the one before.
 const THREE: &str = "S -> F G. F a -> a H. G b -> b K. H d -> d c. K x -> x.";

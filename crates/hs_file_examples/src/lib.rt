@@ -1,8 +1,10 @@
-//! Tests on files: sources, sinks, the words of the command line and generated files; and of the
+//! Tests on files: sources, sinks, the words of the command line, generated and canonical files; and of the
 //! schemes of small files their cuts, points, sorts and flow, plain reduction and passes, each worked
 //! out by hand.
 #![tactic(auto)]
 
+#[cfg(test)]
+mod canonical;
 #[cfg(test)]
 mod cutting;
 #[cfg(test)]

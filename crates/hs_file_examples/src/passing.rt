@@ -3,7 +3,7 @@
 ghost use Rattle.std.specs.Prelude.{◌≡◌, All, IfOk};
 
 use crate::seeing::see;
-use hs_fixtures::{name_of, sorted_of};
+use hs_fixtures::{PARTIAL, name_of, sorted_of};
 use hs_passes::{DropUnreachable, DropUnused, FoldAliases, Pass, add, simplify};
 use hs_scheme::{Head, Names, OutOfMemory, Sorted, Term};
 use std::alloc::Global;
@@ -214,7 +214,7 @@ const EACH: [(Which, &str, &str); 8] = [
     // K occurs with one argument, so that its second parameter stays.
     (
         Which::Unused,
-        "S -> Ap (K c) c. Ap f x -> f x. K x y -> x.",
+        PARTIAL,
         "S 0 -> Ap(K(c))(c)\nAp 2 -> x0(x1)\nK 2 -> x0\n 0",
     ),
     // It is used only in an argument that goes: each can go after the one before.

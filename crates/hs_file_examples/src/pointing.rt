@@ -3,9 +3,8 @@
 
 ghost use Rattle.std.specs.Prelude.{◌≡◌, length};
 
-use crate::flowing::PARTIAL;
 use crate::seeing::see;
-use hs_fixtures::{problem_of, unsorted_of};
+use hs_fixtures::{BRANCHING, PARTIAL, problem_of, unsorted_of};
 use hs_flow::Dependents;
 use hs_scheme::{
     Argument, FlowPair, FlowTable, Head, OutOfMemory, Points, Problem, Rule, Unsorted, scheme_of,
@@ -115,12 +114,7 @@ fn see_rules(rt: &impl Abort, alloc: Global, rules: &str, of: Of) -> Result<(), 
 #[test]
 fn points_pairs_and_dependents(rt: HostRuntime) -> Result<(), Fail> {
     let alloc = rt.alloc();
-    see_rules(
-        &rt,
-        alloc,
-        "S -> F c. F x -> br x (a (F (b x))).",
-        Of::Branching,
-    )?;
+    see_rules(&rt, alloc, BRANCHING, Of::Branching)?;
     see_rules(&rt, alloc, PARTIAL, Of::Partial)?;
     see_rules(&rt, alloc, "S -> c.", Of::NoParameter)
 }

@@ -1,6 +1,7 @@
 //! Reduction of small files, along paths and up to a number of steps, each worked out by hand.
 
 use crate::told::{Asked, see_told};
+use hs_fixtures::{BRANCHING, BRANCHING_ACCEPTED, BRANCHING_REJECTED};
 use hs_reduce::{MAX_CUT, MAX_STEPS, bounded, replay};
 use hs_scheme::Sorted;
 use std::alloc::Global;
@@ -38,15 +39,7 @@ pub(crate) fn push_first_error(
     Ok(pushed?)
 }
 
-/// Its terminals are c, br, a and b.
-const BRANCHING: &str = "S -> F c. F x -> br x (a (F (b x))).";
-
-const BRANCHING_REJECTED: &str = "q0 br -> q0 q0. q0 a -> q0. q0 b -> q1. q0 c -> . q1 c -> .";
-
-const BRANCHING_ACCEPTED: &str =
-    "q0 br -> q0 q0. q0 a -> q0. q0 b -> q1. q1 b -> q1. q0 c -> . q1 c -> .";
-
-/// A path in the branching scheme.
+/// A path in the branching scheme, whose terminals are c, br, a and b.
 const FAILING: [u32; 6] = [2, 1, 2, 1, 1, 1];
 
 #[test]

@@ -6,7 +6,7 @@ ghost use Rattle.hs_scheme.specs.Automaton.{IsAutomaton};
 use hs_flow::analyse;
 use hs_gen::{MAX_CYCLE, cycle_file};
 use hs_reader::{MAX_BYTES, read_file};
-use hs_resolve::resolve_owned;
+use hs_resolve::resolve;
 use hs_scheme::{Points, Problem, Sorted, Unsorted};
 use hs_sorts::infer;
 use std::alloc::Global;
@@ -28,13 +28,15 @@ fn text_of(alloc: Global, rules: &str, transitions: &str) -> Result<String, Fail
     Ok(format!(in alloc; "%BEGING\n{rules}\n%ENDG\n%BEGINA\n{transitions}\n%ENDA\n")?)
 }
 
-/// The scheme of a text, before its sorts are known.
-fn unsorted_of_text(alloc: Global, text: &[u8]) -> Result<Unsorted, Fail> {
+/// The scheme of a whole file, before its sorts are known.
+pub fn unsorted_of_text(alloc: Global, text: &[u8]) -> Result<Unsorted, Fail> {
     if text.len() > MAX_BYTES {
         return Err("a longer text")?;
     }
     let raw = read_file(alloc, text)?;
-    Ok(resolve_owned(alloc, raw)?)
+    let unsorted = resolve(alloc, &raw);
+    forget(raw);
+    Ok(unsorted?)
 }
 
 /// The same scheme with its sorts.

@@ -121,9 +121,7 @@ pub(crate) fn lists_of(
 }
 
 impl Dependents {
-    /// The dependents of each point. Memory is in proportion to the points and the dependents, and
-    /// so is time, but for a look-up at each point with a parameter at its head, which takes the
-    /// logarithm of the number of flow pairs.
+    /// The dependents of each point. Memory and time are in proportion to the points and the dependents.
     pub fn of(alloc: Global, problem: &Problem) -> Result<Dependents, OutOfMemory>
         ensures { IfOk result (HasDependents problem.now.points problem.now.flow.pairs) }
     {

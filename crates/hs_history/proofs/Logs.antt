@@ -1,12 +1,12 @@
 -- Logs that grow at their end.
-use Rattle.std.proofs.Common.{◌≡◌, ◌≢◌, refl, ap, sym, ◌∙◌, subst, ℕ, zero, suc, ◌+◌, ◌<◌, List, [], ◌∷◌, ◌++◌, length, take, slice_get, Some, arith, Contains, length-append, ◌⊎◌, inl, inr}
+use Rattle.std.proofs.Common.{◌≡◌, ◌≢◌, ap, sym, ◌∙◌, subst, ℕ, zero, suc, ◌+◌, ◌<◌, List, [], ◌∷◌, ◌++◌, length, take, slice_get, Some, arith, Contains, length-append, ◌⊎◌, inl, inr}
 use Rattle.std.proofs.lemmas.Bool.{cases_lt}
 use Rattle.std.proofs.lemmas.List.{take-append-le}
 use Rattle.std.proofs.Math.Seq.{take-append_seam}
 use Rattle.std.proofs.lemmas.List.Elements.{Contains-append_left, Contains-get_or}
 use Rattle.std.proofs.lemmas.List.Quantifiers.{all_pairs_push}
-use Rattle.std.proofs.lemmas.Option.{same_Some}
 use Rattle.hs_scheme.specs.Problem.{ProblemData}
+use Rattle.hs_scheme.proofs.Lists.{push_cases}
 use Rattle.hs_table.specs.Entries.{EntryData}
 use Rattle.hs_table.specs.Follows.{Support, FollowsBy}
 use Rattle.hs_table.specs.Tables.{HasSupports}
@@ -15,16 +15,6 @@ use Rattle.hs_history.specs.CoreStep.{IsClosedWork}
 use Rattle.hs_history.specs.declared.step.Work.{Work}
 use Rattle.hs_history.specs.declared.step.Work.TheVariants.{Seed, Place}
 use Rattle.hs_history.specs.History.{IsWork}
-
--- the last of a list, and what is before it
-pub at_push : {X : Type 0} (xs : List X) (x y : X) (i : ℕ) → slice_get (xs ++ x ∷ []) i ≡ Some y → (slice_get xs i ≡ Some y) ⊎ ((i ≡ length xs) × (y ≡ x))
-at_push [] x y zero e = inr (refl, sym (same_Some x y e))
-at_push [] x y (suc i) e = absurd (cc)
-at_push (z ∷ xs) x y zero e = inl e
-at_push (z ∷ xs) x y (suc i) e = elim (at_push xs x y i e) [
-  | inl before ↦ inl before
-  | inr last ↦ inr (ap suc last.0, last.1)
-]
 
 pub at_within : {X : Type 0} (xs ys : List X) (i : ℕ) (x : X) → i < length xs → slice_get (xs ++ ys) i ≡ Some x → slice_get xs i ≡ Some x
 at_within [] ys i x lt e = absurd (omega arith)
@@ -37,15 +27,15 @@ module _ (p : ProblemData) where
   supports_more log supports e s h new follows = record {
     distinct = all_pairs_push (λ a b. a ≢ b) log e h.distinct (λ k d lt same. new (subst (λ x. Contains log x) same (Contains-get_or log k d lt)));
     each = omega (arith, h.each, length-append supports (s ∷ []), length-append log (e ∷ []));
-    follows = λ i t x support_at at. elim (at_push supports s t i support_at) [
+    follows = λ i t x support_at at. elim (push_cases supports s t i support_at) [
       | inl before ↦
           let lt : i < length log = omega (arith, h.each, within_from supports i t before) in
           subst (λ front. FollowsBy p front t x) (sym (take-append-le i log (e ∷ []) (omega arith))) (h.follows i t x before (at_within log (e ∷ []) i x lt at))
       | inr last ↦
           let end : i ≡ length log = last.0 ∙ h.each in
-          let is : x ≡ e = elim (at_push log e x i at) [ inl there ↦ absurd (omega (arith, within_from log i x there)) | inr last ↦ last.1 ] in
+          let is : x ≡ e = elim (push_cases log e x i at) [ inl there ↦ absurd (omega (arith, within_from log i x there)) | inr last ↦ sym last.1 ] in
           let front : take i (log ++ e ∷ []) ≡ log = ap (λ n. take n (log ++ e ∷ [])) end ∙ take-append_seam log (e ∷ []) in
-          subst (λ z. FollowsBy p (take i (log ++ e ∷ [])) z x) (sym last.1)
+          subst (λ z. FollowsBy p (take i (log ++ e ∷ [])) z x) last.1
           (subst (λ z. FollowsBy p (take i (log ++ e ∷ [])) s z) (sym is) (subst (λ E. FollowsBy p E s e) (sym front) follows))
     ];
   }

@@ -1,5 +1,5 @@
 -- A place of a log realizes its entry where the places before it do.
-use Rattle.std.proofs.Common.{◌≡◌, refl, sym, ◌∙◌, ap, ℕ, suc, ◌+◌, ◌<◌, false, nat_eq, if◌then◌else◌, List, [], ◌∷◌, ◌++◌, map, take, length, replicate, set, slice_get, Option, Some, None, unwrap_or, arith, inl, inr}
+use Rattle.std.proofs.Common.{◌≡◌, refl, sym, ◌∙◌, ap, ℕ, suc, ◌+◌, ◌<◌, false, nat_eq, List, [], ◌∷◌, ◌++◌, map, take, length, replicate, set, slice_get, Option, Some, None, unwrap_or, arith, inl, inr, if◌then◌else◌}
 use Rattle.std.proofs.Common.{subst as along}
 use Rattle.std.proofs.lemmas.Bool.{eq-eqb}
 use Rattle.std.proofs.lemmas.Option.{slice_get_within, same_Some, get_or_from_slice_get}
@@ -11,13 +11,13 @@ use Rattle.hs_scheme.specs.Problem.{ProblemData}
 use Rattle.hs_table.specs.declared.support.HeadBy.{HeadBy}
 use Rattle.hs_table.specs.declared.support.HeadBy.TheVariants.{Terminal, Rule, Param}
 use Rattle.hs_table.specs.Types.{TypeTree, state, arrows}
-use Rattle.hs_table.specs.Entries.{Env, EntryData, Has, InShape, params_of}
+use Rattle.hs_table.specs.Entries.{Env, EntryData, Has, InShape, params_of, entry_at}
 use Rattle.hs_table.specs.Follows.{rank_of, LacksTransition, RejectsChild, IsAt, FromBody, FromFlow, IsHeadType, HeadHas, Chosen, done, next_argument, choose, AnyHas, Support}
 use Rattle.hs_table_laws.proofs.Places.{at_take}
 use Rattle.hs_verdict.specs.Premises.{IsSortedProblem}
 use Rattle.hs_naming.specs.Evidence.{Evidence, Packs, Pack, evidence, no_packs, put, also, stacked, first, pack_at, child_pack, own_evidence, packs_for}
-use Rattle.hs_naming.specs.Naming.{entry_at, terminal_of, chosen_pack, argument_packs}
-use Rattle.hs_naming.specs.Leading.{Turn, Leads}
+use Rattle.hs_naming.specs.Naming.{terminal_of, chosen_pack, argument_packs}
+use Rattle.hs_naming.specs.Leading.{LeadsBy, Leads}
 use Rattle.hs_naming.proofs.Arrows.{rest_of, one_at}
 use Rattle.hs_naming.proofs.Failures.{replacement, descent}
 use Rattle.hs_naming.proofs.Bodies.{rules, term, body_at, long_at_body, in_scope}
@@ -101,7 +101,7 @@ module _ (p : ProblemData) (T : List EntryData) (supports : List Support) (known
     module _ (rule : ℕ) (long_env : length env ≡ params_of p rule) (sets : Env) (t : TypeTree) (args : List (Tree Head)) (packs : Packs) (fit : RealizesAll p T supports sets args packs) where
       abbrev pub Goes : Head → HeadBy → Type 0
       Goes h by = (moves q : ℕ) (t : Tree Head) (stack : Packs)
-          → Turn p (Leads p T supports moves) by (terminal_of h) (λ x m. own_evidence env own x (entry_at T m).ty) q t (stacked packs stack)
+          → LeadsBy p (Leads p T supports moves) by (terminal_of h) (λ x m. own_evidence env own x (entry_at T m).ty) q t (stacked packs stack)
           → Leads p T supports (suc moves) q t (evidence i own) stack
 
       abbrev pub Whole : Head → Type 0

@@ -5,7 +5,7 @@ use Rattle.std.proofs.lemmas.Option.{slice_get_within, slice_get-get_or, same_So
 use Rattle.hs_scheme.specs.declared.term.Head.{Head}
 use Rattle.hs_scheme.specs.Tree.{Tree, more, forest}
 use Rattle.hs_scheme.specs.Replacement.{subst, substs, applied, replaced}
-use Rattle.hs_scheme.specs.Points.{PointData}
+use Rattle.hs_scheme.specs.Points.{PointData, point_at}
 use Rattle.hs_scheme.specs.declared.term.Rule.{Rule}
 use Rattle.hs_scheme.specs.Problem.{ProblemData}
 use Rattle.hs_scheme.specs.Run.{start, Accepts}
@@ -14,7 +14,7 @@ use Rattle.hs_scheme.proofs.Lists.{Contains-at}
 use Rattle.hs_table.specs.declared.support.HeadBy.{HeadBy}
 use Rattle.hs_table.specs.declared.support.HeadBy.TheVariants.{Terminal, Rule as ByRule, Param}
 use Rattle.hs_table.specs.Types.{TypeTree, state}
-use Rattle.hs_table.specs.Entries.{EntryData}
+use Rattle.hs_table.specs.Entries.{EntryData, entry_at}
 use Rattle.hs_table.specs.Follows.{Support, FollowsBy}
 use Rattle.hs_table.specs.Tables.{IsSupportedTable, HasSupports, IsStart, HasStart}
 use Rattle.hs_table_laws.proofs.Places.{place_of}
@@ -23,8 +23,8 @@ use Rattle.hs_verdict.specs.Premises.{IsSortedProblem}
 use Rattle.hs_verdict.proofs.Supports.{with_supports}
 use Rattle.hs_verdict.proofs.Verdict.{never_fails}
 use Rattle.hs_naming.specs.Evidence.{Evidence, Packs, evidence, no_packs, stacked, first, child_pack, own_evidence, packs_for}
-use Rattle.hs_naming.specs.Naming.{entry_at, support_at, point_at, terminal_of, argument_packs, Move, Named, IsFirstStart, NamesPath, IsLong}
-use Rattle.hs_naming.specs.Leading.{Turn, Leads, StartLeads}
+use Rattle.hs_naming.specs.Naming.{support_at, terminal_of, argument_packs, Move, Named, IsFirstStart, NamesPath, IsLong}
+use Rattle.hs_naming.specs.Leading.{LeadsBy, Leads, StartLeads}
 use Rattle.hs_naming.proofs.Bodies.{rules, term, whole, Body, body_at, long_at_argument}
 use Rattle.hs_naming.proofs.Failures.{replacement}
 use Rattle.hs_naming.proofs.Realizing.{Ends, Realizes, RealizesAll, moved}
@@ -44,7 +44,7 @@ pub record NamedAndFails (p : ProblemData) (To : ℕ → Path → Type 0) (q : �
 
 module _ (p : ProblemData) (go : ℕ → Tree Head → Evidence → Packs → Type 0) (to : Evidence → Packs → ℕ → Path → Type 0)
     (each : (q : ℕ) (t : Tree Head) (e : Evidence) (stack : Packs) → go q t e stack → NamedAndFails p (to e stack) q t) where
-  turned : (by : HeadBy) (terminal : ℕ) (own : ℕ → ℕ → Evidence) (q : ℕ) (t : Tree Head) (stack : Packs) → Turn p go by terminal own q t stack
+  turned : (by : HeadBy) (terminal : ℕ) (own : ℕ → ℕ → Evidence) (q : ℕ) (t : Tree Head) (stack : Packs) → LeadsBy p go by terminal own q t stack
       → NamedAndFails p (Move to by terminal own stack) q t
   turned (Terminal r None) terminal own q t stack (is, (us, whole), none_there) = record {
     steps = 0;
@@ -80,7 +80,7 @@ module _ (p : ProblemData) (known : IsSortedProblem p) (T : List EntryData) (sup
   -- one move, seen at the entry of the place and at its point
   abbrev TurnAt : Support → Packs → ℕ → ℕ → Tree Head → Packs → EntryData → PointData → Type 0
   TurnAt s own moves q t stack e d =
-      Turn p (Leads p T supports moves) s.head (terminal_of d.head) (λ x m. own_evidence e.env own x (entry_at T m).ty) q t
+      LeadsBy p (Leads p T supports moves) s.head (terminal_of d.head) (λ x m. own_evidence e.env own x (entry_at T m).ty) q t
       (stacked (argument_packs (λ m. evidence m (packs_for (own_evidence e.env own) 0 (entry_at T m).env)) 0 d.args s.args) stack)
 
   place_realizes : (i : ℕ) → ((m : ℕ) → m < i → Good p T supports known m) → Good p T supports known i
@@ -89,7 +89,7 @@ module _ (p : ProblemData) (known : IsSortedProblem p) (T : List EntryData) (sup
       let within : i < length supports = omega (arith, slice_get_within T i e at, log.each) in
       let f : FollowsBy p (take i T) s e = log.follows i s e (slice_get-get_or supports i _ within) at in
       let is_e : entry_at T i ≡ e = get_or_from_slice_get T i e _ at in
-      let is_d : point_at p e.point ≡ f.of = get_or_from_slice_get p.points.points e.point f.of _ f.at in
+      let is_d : point_at p.points e.point ≡ f.of = get_or_from_slice_get p.points.points e.point f.of _ f.at in
       let args : List (Tree Head) = at_args p T supports known ds f.of.args in
       let packs : Packs = argument_packs (premise p T supports known i good e.env ds own have) 0 f.of.args s.args in
       let fit : RealizesAll p T supports f.sets args packs =
@@ -102,7 +102,7 @@ module _ (p : ProblemData) (known : IsSortedProblem p) (T : List EntryData) (sup
       (by_head p T supports known i good e.env ds own have f.of.rule f.env.long f.sets e.ty args packs fit f.of.head s.head f.head
       (λ j a lt h. (f.union j a lt).1 (inl h))
       (λ moves q t stack m.
-      along (λ (x : EntryData). TurnAt s own moves q t stack x (point_at p x.point)) (sym is_e)
+      along (λ (x : EntryData). TurnAt s own moves q t stack x (point_at p.points x.point)) (sym is_e)
       (along (λ (d : PointData). TurnAt s own moves q t stack e d) (sym is_d) m)))
 
   all_realize : (n place : ℕ) → place < n → Good p T supports known place

@@ -6,29 +6,22 @@
 --     IsFirstStart       the first place of the start entry
 --     NamesPath          the naming of the log, from there with an empty stack, names this path and needs so many steps
 --     IsLong             some least log with its supports needs more steps than that
-use Rattle.std.specs.Prelude.{◌≡◌, ℕ, zero, suc, ◌+◌, ◌<◌, List, [], ◌∷◌, get_or, slice_get, Some, None, if◌then◌else◌, nat_eq}
+use Rattle.std.specs.Prelude.{◌≡◌, ℕ, zero, suc, ◌+◌, ◌<◌, List, [], ◌∷◌, get_or, slice_get, Some, None, nat_eq, if◌then◌else◌}
 use Rattle.hs_scheme.specs.declared.term.Head.{Head}
 use Rattle.hs_scheme.specs.declared.term.Head.TheVariants.{Var, Nt, Tm}
-use Rattle.hs_scheme.specs.Points.{PointData}
+use Rattle.hs_scheme.specs.Points.{PointData, point_at}
 use Rattle.hs_scheme.specs.Problem.{ProblemData}
 use Rattle.hs_scheme.specs.Steps.{Path}
 use Rattle.hs_table.specs.declared.support.HeadBy.{HeadBy}
 use Rattle.hs_table.specs.declared.support.HeadBy.TheVariants.{Terminal, Rule, Param}
-use Rattle.hs_table.specs.Types.{state}
-use Rattle.hs_table.specs.Entries.{EntryData}
+use Rattle.hs_table.specs.Entries.{EntryData, entry_at}
 use Rattle.hs_table.specs.Follows.{Support}
 use Rattle.hs_table.specs.Tables.{IsLeastTable, HasSupports, IsStart}
 use Rattle.hs_naming.specs.Evidence.{Evidence, Packs, Pack, evidence, no_packs, put, empty, also, stacked, first, child_pack, own_evidence, packs_for}
 
--- what stands at a place, or at a point; and anything else where nothing stands
-abbrev pub entry_at : List EntryData → ℕ → EntryData
-entry_at T place = get_or T place (record { point = 0; env = []; ty = state 0 })
-
+-- the support at a place; anything else where there is none
 abbrev pub support_at : List Support → ℕ → Support
 support_at supports place = get_or supports place (record { head = Terminal 0 None; args = [] })
-
-abbrev pub point_at : ProblemData → ℕ → PointData
-point_at p point = get_or p.points.points point (record { rule = 0; head = Tm 0; args = [] })
 
 abbrev pub terminal_of : Head → ℕ
 terminal_of (Var j) = 0
@@ -64,7 +57,7 @@ Named p T supports zero e stack steps path = ⊥
 Named p T supports (suc moves) (evidence place own) stack steps path =
     let e : EntryData = entry_at T place in
     let s : Support = support_at supports place in
-    let d : PointData = point_at p e.point in
+    let d : PointData = point_at p.points e.point in
     let give : ℕ → Evidence = λ m. evidence m (packs_for (own_evidence e.env own) 0 (entry_at T m).env) in
     Move (Named p T supports moves) s.head (terminal_of d.head) (λ x m. own_evidence e.env own x (entry_at T m).ty) (stacked (argument_packs give 0 d.args s.args) stack) steps path
 

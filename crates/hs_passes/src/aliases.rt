@@ -138,7 +138,7 @@ fn roots(alloc: Global, links: &mut [u32]) -> Result<Vec<u32>, OutOfMemory>
 /// What stands for each nonterminal, where the aliases are folded. In time and memory nearly in
 /// proportion to the size of the rules (Robert E. Tarjan and Jan van Leeuwen, Worst-case analysis of
 /// set union algorithms, 1984: path halving).
-pub fn representatives(alloc: Global, scheme: &Scheme) -> Result<Vec<u32>, OutOfMemory>
+pub(crate) fn representatives(alloc: Global, scheme: &Scheme) -> Result<Vec<u32>, OutOfMemory>
     ensures each { IfOk result (λ reps. vec_len reps ≡ length scheme.now.rules) }
     ensures is { IfOk result (λ reps. (h : ℕ) → h < length scheme.now.rules →
         number_in reps.items h ≡ scanned scheme.now.rules (length scheme.now.rules) h) }

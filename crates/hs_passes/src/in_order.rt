@@ -125,7 +125,7 @@ fn staying(alloc: Global, ranks: &[u32]) -> Result<Vec<bool>, OutOfMemory>
 /// The flags of parameters that may stay, of which none is lacking that stays where those that
 /// nothing needs are dropped until there is none. They are found by counting, and hold just those;
 /// but it isn't claimed here that there are no others.
-pub fn droppable(
+pub(crate) fn droppable(
     alloc: Global,
     parameters: &Parameters,
     scheme: &Scheme,

@@ -9,14 +9,14 @@ ghost use Rattle.hs_passes.specs.Selection.{place};
 use hs_scheme::{Head, Parameters};
 
 /// The flag of this number, or `false` past the end.
-pub fn flag_at(flags: &[bool], number: u32) -> bool
+pub(crate) fn flag_at(flags: &[bool], number: u32) -> bool
     ensures { result ≡ definition.stays flags.now number }
 {
     flags.get(number as usize).copied().unwrap_or(false)
 }
 
 /// Whether the parameter stays, as one does that the rule doesn't have.
-pub fn is_kept(parameters: &Parameters, flags: &[bool], rule: u32, param: usize) -> bool
+pub(crate) fn is_kept(parameters: &Parameters, flags: &[bool], rule: u32, param: usize) -> bool
     ensures { result ≡ kept parameters.now flags.now rule param }
 {
     if param >= parameters.count_of(rule) as usize {
@@ -29,7 +29,7 @@ pub fn is_kept(parameters: &Parameters, flags: &[bool], rule: u32, param: usize)
 }
 
 /// Whether an argument behind this head stays.
-pub fn stays_behind(parameters: &Parameters, flags: &[bool], head: Head, arg: usize) -> bool
+pub(crate) fn stays_behind(parameters: &Parameters, flags: &[bool], head: Head, arg: usize) -> bool
     ensures { result ≡ keeps (kept parameters.now flags.now) head arg }
 {
     match head {
@@ -39,7 +39,7 @@ pub fn stays_behind(parameters: &Parameters, flags: &[bool], head: Head, arg: us
 }
 
 /// How many of the rule's parameters before this one stay, at most 64 in a scheme.
-pub fn place_of(parameters: &Parameters, flags: &[bool], rule: u32, param: u32) -> u32
+pub(crate) fn place_of(parameters: &Parameters, flags: &[bool], rule: u32, param: u32) -> u32
     ensures { result ≡ place (kept parameters.now flags.now rule) param }
 {
     let mut place = 0;

@@ -180,7 +180,7 @@ fn all_names_left(
 /// The scheme with the parameters that stay, which are the greatest set of parameters each of which
 /// what is left needs. In time and memory in proportion to the size of the scheme, where each
 /// occurrence of a parameter counts with the parameters before it.
-pub fn with_parameters(
+pub(crate) fn with_parameters(
     alloc: Global,
     parameters: &Parameters,
     flags: &[bool],

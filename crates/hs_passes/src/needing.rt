@@ -60,7 +60,7 @@ fn mark_term(parameters: &Parameters, flags: &[bool], rule: u32, term: &Term, ne
 }
 
 /// The same flag for each parameter.
-pub fn all_flags(
+pub(crate) fn all_flags(
     alloc: Global,
     parameters: &Parameters,
     flag: bool,
@@ -116,7 +116,7 @@ fn narrow(flags: &mut [bool], needed: &[bool]) -> bool
 /// The parameters that stay where those that nothing needs are dropped until there is none, begun
 /// with flags that no parameter lacks which stays then. In time in proportion to the size of the
 /// scheme for each time that there is one more.
-pub fn settled(
+pub(crate) fn settled(
     alloc: Global,
     parameters: &Parameters,
     rules: &[Rule],

@@ -12,7 +12,7 @@ use std::alloc::Global;
 use std::mem::replace;
 
 /// The rank of a parameter that isn't dropped, higher than there are parameters.
-pub const NEVER: u32 = 2_000_000_000;
+pub(crate) const NEVER: u32 = 2_000_000_000;
 
 /// Parameters of one rule, from the first of them on to the last but one.
 #[derive(Clone, Copy)]
@@ -284,7 +284,7 @@ fn rank_all(
 /// Ranks of the parameters by their numbers: lower ones for those that go earlier, and `NEVER` for
 /// those that stay, as all do in a scheme with more points than `Points` take. In time and memory in
 /// proportion to the size of the scheme, where each point counts with the parameters that it needs.
-pub fn ranks(
+pub(crate) fn ranks(
     alloc: Global,
     parameters: &Parameters,
     scheme: &Scheme,

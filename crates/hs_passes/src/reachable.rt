@@ -55,7 +55,7 @@ fn no_marks(alloc: Global, count: usize) -> Result<Vec<bool>, OutOfMemory>
 
 /// For each rule whether a chain of occurrences in bodies leads from the start to it. In time and
 /// memory in proportion to the size of the scheme.
-pub fn reachable(alloc: Global, scheme: &Scheme) -> Result<Vec<bool>, OutOfMemory>
+pub(crate) fn reachable(alloc: Global, scheme: &Scheme) -> Result<Vec<bool>, OutOfMemory>
     ensures each { IfOk result (λ kept. vec_len kept ≡ length scheme.now.rules) }
     ensures is { IfOk result (λ kept. (f : ℕ) → stays kept.items f ≡ is_reachable scheme.now.rules f) }
 {

@@ -11,7 +11,7 @@ use hs_scheme::{Head, Name, Names, OutOfMemory, Rule, Scheme, Sort, Sorted, Term
 use std::alloc::Global;
 
 /// For each rule how many of those before it stay, which is its new number where it stays.
-pub fn places(alloc: Global, keep: &[bool]) -> Result<Vec<u32>, OutOfMemory>
+pub(crate) fn places(alloc: Global, keep: &[bool]) -> Result<Vec<u32>, OutOfMemory>
     requires { length keep.now ≤ 20000 }
     ensures each { IfOk result (λ numbers. vec_len numbers ≡ length keep.now) }
     ensures is { IfOk result (λ numbers. (f : ℕ) → f < length keep.now
@@ -29,7 +29,7 @@ pub fn places(alloc: Global, keep: &[bool]) -> Result<Vec<u32>, OutOfMemory>
 }
 
 /// The new number of this one, or 0 past the end.
-pub fn number_at(numbers: &[u32], number: u32) -> u32
+pub(crate) fn number_at(numbers: &[u32], number: u32) -> u32
     ensures { result ≡ number_in numbers.now number }
 {
     numbers.get(number as usize).copied().unwrap_or(0)
@@ -189,14 +189,14 @@ fn names_left(alloc: Global, names: &Names, keep: &[bool]) -> Result<Names, OutO
 }
 
 /// What holds of each scheme. It does nothing.
-pub fn is_scheme(scheme: &Scheme)
+pub(crate) fn is_scheme(scheme: &Scheme)
     ensures { IsScheme scheme.now }
 {
     let _ = &scheme.rules;
 }
 
 /// What holds of each sorted scheme. It does nothing.
-pub fn is_sorted(sorted: &Sorted)
+pub(crate) fn is_sorted(sorted: &Sorted)
     ensures scheme { IsScheme sorted.now.scheme }
     ensures sorted { IsSorted sorted.now }
 {
@@ -205,7 +205,7 @@ pub fn is_sorted(sorted: &Sorted)
 
 /// The scheme with the rules that stay, in which each nonterminal has its new number. In time and
 /// memory in proportion to the size of the scheme.
-pub fn selection(
+pub(crate) fn selection(
     alloc: Global,
     sorted: &Sorted,
     keep: &[bool],

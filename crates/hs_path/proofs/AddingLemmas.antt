@@ -9,21 +9,21 @@ use Rattle.hs_naming.specs.Evidence.{Evidence, Packs, Pack, evidence, no_packs, 
 use Rattle.hs_naming.specs.Naming.{chosen_pack, argument_packs}
 use Rattle.hs_path.specs.declared.evidence.Node.{Node}
 use Rattle.hs_path.specs.declared.evidence.Store.{Store}
-use Rattle.hs_path.specs.Stored.{Stands, Piled, Members, IsPack, Grows, KnowsCurrent, ArePremises}
+use Rattle.hs_path.specs.Stored.{Stands, Piled, Members, IsPack, GrowsStore, KnowsCurrent, ArePremises}
 use Rattle.hs_path.proofs.StoredLemmas.{stands_grow, piled_grow, members_grow, begins_pushed, pushed_at}
 
-pub knows_grow : (bound : ℕ) (old new : Store) (g : Grows old new) (below more_ : ℕ) (n : Node) (own : Packs) → below ≤ more_ → KnowsCurrent bound old below n own → KnowsCurrent bound new more_ n own
+pub knows_grow : (bound : ℕ) (old new : Store) (g : GrowsStore old new) (below more_ : ℕ) (n : Node) (own : Packs) → below ≤ more_ → KnowsCurrent bound old below n own → KnowsCurrent bound new more_ n own
 knows_grow bound old new g below more_ n own le k = record {
   nothing = stands_grow bound old new g 0 (evidence 0 no_packs) k.nothing;
   some = omega (arith, k.some);
   packs = piled_grow bound old new g below more_ old.owns.items new.owns.items n.own.from n.own.to own le g.owns k.packs;
 }
 
-pub premises_grow : (bound : ℕ) (old new : Store) (g : Grows old new) (first : ℕ) (give : ℕ → Evidence) (chosen : List (ℕ × ℕ)) → ArePremises bound old first give chosen → ArePremises bound new first give chosen
+pub premises_grow : (bound : ℕ) (old new : Store) (g : GrowsStore old new) (first : ℕ) (give : ℕ → Evidence) (chosen : List (ℕ × ℕ)) → ArePremises bound old first give chosen → ArePremises bound new first give chosen
 premises_grow bound old new g first give chosen are = record { each = λ k argument place at. stands_grow bound old new g (first + k) (give place) (are.each k argument place at) }
 
 -- a member more, in front of a pack
-pub also_pushed : (bound : ℕ) (old new : Store) (g : Grows old new) (below from number : ℕ) (e : Evidence) (pack : Pack) → new.members.items ≡ old.members.items ++ number ∷ []
+pub also_pushed : (bound : ℕ) (old new : Store) (g : GrowsStore old new) (below from number : ℕ) (e : Evidence) (pack : Pack) → new.members.items ≡ old.members.items ++ number ∷ []
     → number < below → Stands bound old number e → Members bound old below from (length old.members.items) pack → Members bound new below from (length new.members.items) (also e pack)
 also_pushed bound old new g below from number e pack is lower stands members = (
   length old.members.items,
@@ -36,7 +36,7 @@ also_pushed bound old new g below from number e pack is lower stands members = (
 )
 
 -- a pack more, in front of others
-pub put_pushed : (bound : ℕ) (old new : Store) (g : Grows old new) (below more_ : ℕ) (numbers longer : List ℕ) (from number : ℕ) (pack : Pack) (packs : Packs) → longer ≡ numbers ++ number ∷ []
+pub put_pushed : (bound : ℕ) (old new : Store) (g : GrowsStore old new) (below more_ : ℕ) (numbers longer : List ℕ) (from number : ℕ) (pack : Pack) (packs : Packs) → longer ≡ numbers ++ number ∷ []
     → below ≤ more_ → IsPack bound new more_ number pack → Piled bound old below numbers from (length numbers) packs → Piled bound new more_ longer from (length longer) (put pack packs)
 put_pushed bound old new g below more_ numbers longer from number pack packs is le made piled = (
   length numbers,
@@ -68,7 +68,7 @@ module _ (give : ℕ → Evidence) (i : ℕ) (chosen : List (ℕ × ℕ)) (k : �
   chosen_from e = ap (chosen_pack give i) (drop_more chosen k (0, 0) lt) ∙ ap (λ b. if b then also (give Choice.1) Rest else Rest) (eq-eqb Choice.0 i e)
 
 -- the choice at place n has its evidence, too
-pub each_chosen : (bound : ℕ) (old new : Store) (g : Grows old new) (first : ℕ) (give : ℕ → Evidence) (chosen : List (ℕ × ℕ)) (n : ℕ)
+pub each_chosen : (bound : ℕ) (old new : Store) (g : GrowsStore old new) (first : ℕ) (give : ℕ → Evidence) (chosen : List (ℕ × ℕ)) (n : ℕ)
     → ((k argument place : ℕ) → k < n → slice_get chosen k ≡ Some (argument, place) → Stands bound old (first + k) (give place))
     → Stands bound new (first + n) (give (get_or chosen n (0, 0)).1)
     → (k argument place : ℕ) → k < n + 1 → slice_get chosen k ≡ Some (argument, place) → Stands bound new (first + k) (give place)

@@ -13,7 +13,7 @@ use Rattle.hs_naming.proofs.Realizing.{equal_same, same_equal}
 use Rattle.hs_path.specs.declared.evidence.Span.{Span}
 use Rattle.hs_path.specs.declared.evidence.Node.{Node}
 use Rattle.hs_path.specs.declared.evidence.Store.{Store}
-use Rattle.hs_path.specs.Stored.{Stands, Piled, Members, IsNode, IsPack, Grows}
+use Rattle.hs_path.specs.Stored.{Stands, Piled, Members, IsNode, IsPack, GrowsStore}
 
 at_behind : (front numbers : List ℕ) (n at x : ℕ) → length front ≡ n → slice_get numbers at ≡ Some x → slice_get (front ++ numbers) (n + at) ≡ Some x
 at_behind front numbers n at x long e = let same : length front + at ≡ n + at = omega (arith, long) in ap (λ k. slice_get (front ++ numbers) k) (sym same) ∙ (back_at front numbers at ∙ e)
@@ -27,10 +27,10 @@ begins_more xs ys = λ i x e. at_append xs ys i x e
 pub begins_same : {X : Type 0} (xs ys : List X) → xs ≡ ys → Begins xs ys
 begins_same xs ys e = λ i x h. sym (ap (λ l. slice_get l i) e) ∙ h
 
-pub grows_refl : (s : Store) → Grows s s
+pub grows_refl : (s : Store) → GrowsStore s s
 grows_refl s = record { nodes = begins_refl s.nodes.items; owns = begins_refl s.owns.items; packs = begins_refl s.packs.items; members = begins_refl s.members.items }
 
-pub grows_then : (a b c : Store) → Grows a b → Grows b c → Grows a c
+pub grows_then : (a b c : Store) → GrowsStore a b → GrowsStore b c → GrowsStore a c
 grows_then a b c g h = record {
   nodes = λ i x e. h.nodes i x (g.nodes i x e);
   owns = λ i x e. h.owns i x (g.owns i x e);
@@ -42,7 +42,7 @@ abbrev pub tail : Pack → Pack
 tail empty = empty
 tail (also e pack) = pack
 
-module _ (bound : ℕ) (old new : Store) (g : Grows old new) where
+module _ (bound : ℕ) (old new : Store) (g : GrowsStore old new) where
   mutual
     pub stands_grow : (number : ℕ) (e : Evidence) → Stands bound old number e → Stands bound new number e
     stands_grow number (evidence place own) (n, at, is, within, packs) =

@@ -9,18 +9,17 @@ use Rattle.hs_scheme.specs.Problem.{ProblemData}
 use Rattle.hs_table.specs.declared.support.HeadBy.{HeadBy}
 use Rattle.hs_table.specs.declared.support.HeadBy.TheVariants.{Terminal, Rule, Param}
 use Rattle.hs_table.specs.Types.{TypeTree}
-use Rattle.hs_table.specs.Entries.{Env, EntryData}
+use Rattle.hs_table.specs.Entries.{Env, EntryData, entry_at}
 use Rattle.hs_table.specs.Follows.{IsHeadType, Chosen, done, next_argument, choose, Support}
 use Rattle.hs_table.specs.Tables.{HasSupports}
 use Rattle.hs_table_laws.proofs.Places.{at_take}
-use Rattle.hs_naming.specs.Naming.{entry_at}
 use Rattle.hs_naming.specs.Evidence.{Evidence, Packs, evidence}
 use Rattle.hs_types.specs.Interned.{Begins}
 use Rattle.hs_path.specs.declared.evidence.Spot.{Spot}
 use Rattle.hs_path.specs.declared.evidence.Store.{Store}
 use Rattle.hs_path.specs.declared.turning.Turn.{Turn}
 use Rattle.hs_path.specs.declared.turning.Turn.TheVariants.{End, Silent, Step}
-use Rattle.hs_path.specs.Stored.{Piled, Grows, Nothing, KnowsCurrent}
+use Rattle.hs_path.specs.Stored.{Piled, GrowsStore, Nothing, KnowsCurrent}
 use Rattle.hs_path.specs.Turned.{HeadBefore, PremisesWithin, IsSpotAt, Turns}
 use Rattle.hs_path.proofs.StoredLemmas.{piled_grow}
 
@@ -54,7 +53,7 @@ pub begins_longer : {X : Type 0} (xs ys : List X) → Begins xs ys → length xs
 begins_longer [] ys b = omega arith
 begins_longer (x ∷ xs) ys b = let r = slice_get_within ys (length xs) (get_or (x ∷ xs) (length xs) x) (b (length xs) _ (slice_get-get_or (x ∷ xs) (length xs) x (omega arith))) in omega (arith, r)
 
-pub spot_grows : (bound : ℕ) (old new : Store) (g : Grows old new) (spot : Spot) (e : Evidence) → IsSpotAt bound old spot e → IsSpotAt bound new spot e
+pub spot_grows : (bound : ℕ) (old new : Store) (g : GrowsStore old new) (spot : Spot) (e : Evidence) → IsSpotAt bound old spot e → IsSpotAt bound new spot e
 spot_grows bound old new g spot e at = record {
   node = record {
     own = at.node.own;

@@ -17,13 +17,13 @@ use Rattle.hs_table.specs.Follows.{Support}
 use Rattle.hs_table.specs.Tables.{HasSupports}
 use Rattle.hs_naming.specs.Evidence.{Evidence, Packs, evidence, no_packs, first, child_pack}
 use Rattle.hs_naming.specs.Naming.{support_at, Move, Named, IsFirstStart, NamesPath}
-use Rattle.hs_naming.specs.Leading.{Turn as Led, Leads, StartLeads}
+use Rattle.hs_naming.specs.Leading.{LeadsBy as Led, Leads, StartLeads}
 use Rattle.hs_naming.proofs.Ending.{named_and_fails}
 use Rattle.hs_core.specs.Core.{StartsAt}
 use Rattle.hs_trace.specs.Path.{PathData}
 use Rattle.hs_path.specs.declared.evidence.Store.{Store}
 use Rattle.hs_path.specs.declared.evidence.Spot.{Spot}
-use Rattle.hs_path.specs.Stored.{Piled, Grows, Nothing}
+use Rattle.hs_path.specs.Stored.{Piled, GrowsStore, Nothing}
 use Rattle.hs_path.specs.Turned.{IsSpotAt, owns, stack_at, terminal_at, IsStepBy, IsSilentTo, IsStepTo}
 use Rattle.hs_path.specs.Walked.{IsNamedPath, IsLongerPath}
 use Rattle.hs_path.specs.Walking.{listed, IsWalking}
@@ -148,7 +148,7 @@ module _ (p : ProblemData) (T : List EntryData) (supports : List Support) where
     pub at_place : IsSpotAt (length T) s spot (evidence spot.node.place w.at.node.own)
     at_place = along (λ (e : Evidence). IsSpotAt (length T) s spot e) w.at.node.is w.at
 
-    pub walk_silent : (new : Store) (others : List ℕ) (next : Spot) → Grows s new
+    pub walk_silent : (new : Store) (others : List ℕ) (next : Spot) → GrowsStore s new
         → IsSilentTo (length T) new spot.number Here (owns T spot.node.place w.at.node.own) Stack others next → IsWalking p T supports new others next trail used
     walk_silent new others next g is =
         let k = silenced Here (terminal_at p T spot.node.place) (owns T spot.node.place w.at.node.own) w.state w.term Stack w.steps w.rest open_ is.x is.m is.is in
@@ -173,7 +173,7 @@ module _ (p : ProblemData) (T : List EntryData) (supports : List Support) where
           leads = k.leads;
         }
 
-    module _ (new : Store) (others : List ℕ) (label : Option (ℕ × ℕ)) (next : Spot) (g : Grows s new)
+    module _ (new : Store) (others : List ℕ) (label : Option (ℕ × ℕ)) (next : Spot) (g : GrowsStore s new)
         (is : IsStepTo (length T) new Here (terminal_at p T spot.node.place) Stack others label next) where
       once : Stepped label w.state w.term is.e w.steps w.rest
       once = stepped Here (terminal_at p T spot.node.place) (owns T spot.node.place w.at.node.own) w.state w.term Stack w.steps w.rest open_ label is.e is.is

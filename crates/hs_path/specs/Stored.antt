@@ -5,16 +5,15 @@
 --     Members       the evidences of a pack, likewise
 --     IsNode        a node is this evidence; its packs are of evidences below this number
 --     IsPack        the pack stands under this number
---     Grows         what stood under a number still does
+--     GrowsStore    what stood under a number still does
 --     Nothing       what look-ups that find nothing give stands under number 0
 --     KnowsCurrent  what is known of the current evidence, beside its place
 --     premise       the evidence of a place that is made of the packs of another
 --     ArePremises   from a number on stand the evidences of chosen places
 use Rattle.std.specs.Prelude.{◌≡◌, ℕ, ◌+◌, ◌<◌, List, slice_get, Some}
-use Rattle.hs_table.specs.Entries.{EntryData}
+use Rattle.hs_table.specs.Entries.{EntryData, entry_at}
 use Rattle.hs_types.specs.Interned.{Begins}
 use Rattle.hs_naming.specs.Evidence.{Evidence, Packs, Pack, evidence, no_packs, put, empty, also, no_evidence, own_evidence, packs_for}
-use Rattle.hs_naming.specs.Naming.{entry_at}
 use Rattle.hs_path.specs.declared.evidence.Span.{Span}
 use Rattle.hs_path.specs.declared.evidence.Node.{Node}
 use Rattle.hs_path.specs.declared.evidence.Store.{Store}
@@ -47,7 +46,7 @@ pub record IsPack (bound : ℕ) (s : Store) (below number : ℕ) (pack : Pack) :
   pub at : slice_get s.packs.items number ≡ Some span
   pub members : Members bound s below span.from span.to pack
 
-pub record Grows (old new : Store) : Type 0 where
+pub record GrowsStore (old new : Store) : Type 0 where
   pub nodes : Begins old.nodes.items new.nodes.items
   pub owns : Begins old.owns.items new.owns.items
   pub packs : Begins old.packs.items new.packs.items

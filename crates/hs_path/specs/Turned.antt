@@ -8,12 +8,13 @@
 --     TurnsAt           so by the support of a place
 use Rattle.std.specs.Prelude.{◌≡◌, ℕ, ◌<◌, ◌≤◌, List, [], length, All, Option, Some, None}
 use Rattle.hs_scheme.specs.Problem.{ProblemData}
+use Rattle.hs_scheme.specs.Points.{point_at}
 use Rattle.hs_table.specs.declared.support.HeadBy.{HeadBy}
 use Rattle.hs_table.specs.declared.support.HeadBy.TheVariants.{Terminal, Rule, Param}
-use Rattle.hs_table.specs.Entries.{EntryData}
+use Rattle.hs_table.specs.Entries.{EntryData, entry_at}
 use Rattle.hs_table.specs.Follows.{Support}
 use Rattle.hs_naming.specs.Evidence.{Evidence, Packs, evidence, stacked, first, child_pack, own_evidence}
-use Rattle.hs_naming.specs.Naming.{entry_at, support_at, point_at, terminal_of, argument_packs}
+use Rattle.hs_naming.specs.Naming.{support_at, terminal_of, argument_packs}
 use Rattle.hs_path.specs.declared.evidence.Store.{Store}
 use Rattle.hs_path.specs.declared.evidence.Spot.{Spot}
 use Rattle.hs_path.specs.declared.turning.Turn.{Turn}
@@ -40,10 +41,10 @@ owns T place own x m = own_evidence (entry_at T place).env own x (entry_at T m).
 
 abbrev pub stack_at : ProblemData → List EntryData → List Support → ℕ → Packs → Packs → Packs
 stack_at p T supports place own packs =
-    stacked (argument_packs (premise T place own) 0 (point_at p (entry_at T place).point).args (support_at supports place).args) packs
+    stacked (argument_packs (premise T place own) 0 (point_at p.points (entry_at T place).point).args (support_at supports place).args) packs
 
 abbrev pub terminal_at : ProblemData → List EntryData → ℕ → ℕ
-terminal_at p T place = terminal_of (point_at p (entry_at T place).point).head
+terminal_at p T place = terminal_of (point_at p.points (entry_at T place).point).head
 
 abbrev pub IsStepBy : HeadBy → ℕ → Packs → Option (ℕ × ℕ) → Evidence → Type 0
 IsStepBy head terminal packs None e = (m : ℕ) × (head ≡ Rule m) × (e ≡ evidence m packs)

@@ -1,12 +1,12 @@
 //! Evidences that are made of the packs of another.
 
 ghost use Rattle.std.specs.Prelude.{◌≡◌, ◌+◌, ◌<◌, ◌≤◌, [], ℕ, length, All, IfOk, OnOk};
-ghost use Rattle.hs_table.specs.Entries.{set_at};
+ghost use Rattle.hs_table.specs.Entries.{set_at, entry_at};
 ghost use Rattle.hs_types.specs.Interned.{type_of_id};
 ghost use Rattle.hs_naming.specs.Evidence.{Evidence, Packs, evidence, stacked, own_evidence, pack_for};
-ghost use Rattle.hs_naming.specs.Naming.{entry_at, chosen_pack, argument_packs};
+ghost use Rattle.hs_naming.specs.Naming.{chosen_pack, argument_packs};
 ghost use Rattle.hs_core.specs.Core.{log_of};
-ghost use Rattle.hs_path.specs.Stored.{Stands, Piled, IsPack, Grows, Nothing, KnowsCurrent, premise, ArePremises};
+ghost use Rattle.hs_path.specs.Stored.{Stands, Piled, IsPack, GrowsStore, Nothing, KnowsCurrent, premise, ArePremises};
 ghost use Rattle.hs_path.specs.Turned.{IsSpotAt};
 
 use crate::asking::{asked, asked_params};
@@ -39,7 +39,7 @@ fn add_own_pack(
 ) -> Result<u32, OutOfMemory>
     requires node { node.place < length (log_of core.now) }
     requires place { place < length (log_of core.now) }
-    ensures grows { IfOk result (λ pack. Grows store.old store.new) }
+    ensures grows { IfOk result (λ pack. GrowsStore store.old store.new) }
     ensures owns { IfOk result (λ pack. store.new.owns.items ≡ store.old.owns.items) }
     ensures nodes { IfOk result (λ pack. store.new.nodes.items ≡ store.old.nodes.items) }
     ensures pack { IfOk result (λ pack. (below : ℕ) (own : Packs) →
@@ -62,7 +62,7 @@ fn add_own_pack(
 fn add(store: &mut Store, core: &Core, node: Node, place: u32) -> Result<(), OutOfMemory>
     requires node { node.place < length (log_of core.now) }
     requires place { place < length (log_of core.now) }
-    ensures grows { OnOk result (Grows store.old store.new) }
+    ensures grows { OnOk result (GrowsStore store.old store.new) }
     ensures one { OnOk result (length store.new.nodes.items ≡ length store.old.nodes.items + 1) }
     ensures evidence { OnOk result ((own : Packs) →
         KnowsCurrent (length (log_of core.now)) store.old (length store.old.nodes.items) node own →
@@ -91,7 +91,7 @@ fn add_chosen(
 ) -> Result<usize, OutOfMemory>
     requires node { node.place < length (log_of core.now) }
     requires places { All (λ c. c.1 < length (log_of core.now)) chosen.now }
-    ensures grows { IfOk result (λ first. Grows store.old store.new) }
+    ensures grows { IfOk result (λ first. GrowsStore store.old store.new) }
     ensures count { IfOk result (λ first. first + length chosen.now ≡ length store.new.nodes.items) }
     ensures premises { IfOk result (λ first. (own : Packs) →
         KnowsCurrent (length (log_of core.now)) store.old (length store.old.nodes.items) node own →
@@ -115,7 +115,7 @@ fn add_argument_pack(
 ) -> Result<u32, OutOfMemory>
     requires { first + length chosen.now ≤ length store.old.nodes.items }
     ensures nodes { IfOk result (λ pack. store.new.nodes.items ≡ store.old.nodes.items) }
-    ensures grows { IfOk result (λ pack. Grows store.old store.new) }
+    ensures grows { IfOk result (λ pack. GrowsStore store.old store.new) }
     ensures pack { IfOk result (λ pack. (bound : ℕ) (give : ℕ → Evidence) →
         ArePremises bound store.old first give chosen.now →
         IsPack bound store.new (length store.old.nodes.items) pack (chosen_pack give argument chosen.now)) }
@@ -141,7 +141,7 @@ pub(crate) fn put_arguments(
 ) -> Result<(), OutOfMemory>
     requires node { node.place < length (log_of core.now) }
     requires places { All (λ c. c.1 < length (log_of core.now)) chosen.now }
-    ensures grows { OnOk result (Grows store.old store.new) }
+    ensures grows { OnOk result (GrowsStore store.old store.new) }
     ensures stack { OnOk result ((own packs : Packs) →
         KnowsCurrent (length (log_of core.now)) store.old (length store.old.nodes.items) node own →
         Piled (length (log_of core.now)) store.old (length store.old.nodes.items)
@@ -165,7 +165,7 @@ pub(crate) fn of_stack(
     stack: &mut Vec<u32>,
     place: u32,
 ) -> Result<Spot, OutOfMemory>
-    ensures grows { IfOk result (λ spot. Grows store.old store.new) }
+    ensures grows { IfOk result (λ spot. GrowsStore store.old store.new) }
     ensures cleared { IfOk result (λ spot. stack.new.items ≡ []) }
     ensures spot { IfOk result (λ spot. (bound : ℕ) (packs : Packs) →
         Nothing bound store.old → place < bound →

@@ -1,9 +1,8 @@
 //! What the entries of a core ask of parameters.
 
 ghost use Rattle.std.specs.Prelude.{◌≡◌, ◌<◌, length, All, map};
-ghost use Rattle.hs_table.specs.Entries.{set_at};
+ghost use Rattle.hs_table.specs.Entries.{set_at, entry_at};
 ghost use Rattle.hs_types.specs.Interned.{type_of_id, IsRow, entry_of};
-ghost use Rattle.hs_naming.specs.Naming.{entry_at};
 ghost use Rattle.hs_core.specs.Core.{log_of};
 
 use hs_core::Core;

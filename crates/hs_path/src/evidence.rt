@@ -3,7 +3,7 @@
 ghost use Rattle.std.specs.Prelude.{◌≡◌, ◌<◌, ◌++◌, ◌∷◌, [], ℕ, List, length, All, IfOk, map};
 ghost use Rattle.hs_types.specs.Interned.{type_of_id};
 ghost use Rattle.hs_naming.specs.Evidence.{Evidence, Packs, Pack, pack_at, pick, first};
-ghost use Rattle.hs_path.specs.Stored.{Stands, IsNode, Piled, Members, IsPack, Grows, Nothing};
+ghost use Rattle.hs_path.specs.Stored.{Stands, IsNode, Piled, Members, IsPack, GrowsStore, Nothing};
 
 use hs_scheme::OutOfMemory;
 use hs_types::{Interner, TyId};
@@ -154,7 +154,7 @@ impl Store {
 
     /// Makes a pack of the evidences whose numbers stand from `from` on, and answers its number.
     pub(crate) fn close_pack(&mut self, from: u32) -> Result<u32, OutOfMemory>
-        ensures grows { IfOk result (λ pack. Grows self.old self.new) }
+        ensures grows { IfOk result (λ pack. GrowsStore self.old self.new) }
         ensures owns { IfOk result (λ pack. self.new.owns.items ≡ self.old.owns.items) }
         ensures nodes { IfOk result (λ pack. self.new.nodes.items ≡ self.old.nodes.items) }
         ensures pack { IfOk result (λ pack. (bound below : ℕ) (p : Pack) →

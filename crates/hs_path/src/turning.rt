@@ -1,11 +1,12 @@
 //! One move of the naming.
 
 ghost use Rattle.std.specs.Prelude.{◌≡◌, ◌<◌, ℕ, length, IfOk};
+ghost use Rattle.hs_scheme.specs.Points.{point_at};
 ghost use Rattle.hs_table.specs.Tables.{HasSupports};
 ghost use Rattle.hs_naming.specs.Evidence.{Evidence, Packs, evidence, first, child_pack};
-ghost use Rattle.hs_naming.specs.Naming.{point_at, terminal_of};
+ghost use Rattle.hs_naming.specs.Naming.{terminal_of};
 ghost use Rattle.hs_core.specs.Core.{log_of, state_of};
-ghost use Rattle.hs_path.specs.Stored.{Stands, Piled, KnowsCurrent, Grows, Nothing};
+ghost use Rattle.hs_path.specs.Stored.{Stands, Piled, KnowsCurrent, GrowsStore, Nothing};
 ghost use Rattle.hs_path.specs.Turned.{HeadBefore, IsSpotAt, owns, Turns, TurnsAt};
 
 use crate::adding::{of_stack, own_evidence, put_arguments};
@@ -29,7 +30,7 @@ pub(crate) enum Turn {
 /// The terminal at the head of this point.
 fn terminal_at(problem: &Problem, point: u32) -> u32
     requires { point < length problem.now.points.points }
-    ensures { result ≡ terminal_of (point_at problem.now point).head }
+    ensures { result ≡ terminal_of (point_at problem.now.points point).head }
 {
     match problem.points.head_of(point) {
         Head::Tm(terminal) => terminal,
@@ -74,7 +75,7 @@ fn by_head(
 ) -> Result<Turn, OutOfMemory>
     requires node { node.place < length (log_of core.now) }
     requires head { HeadBefore (length (log_of core.now)) head }
-    ensures grows { IfOk result (λ turn. Grows store.old store.new) }
+    ensures grows { IfOk result (λ turn. GrowsStore store.old store.new) }
     ensures turn { IfOk result (λ turn. (below : ℕ) (own packs : Packs) →
         KnowsCurrent (length (log_of core.now)) store.old below node own →
         Piled (length (log_of core.now)) store.old (length store.old.nodes.items)
@@ -114,7 +115,7 @@ pub(crate) fn next_turn(
 ) -> Result<Turn, OutOfMemory>
     requires log { HasSupports problem.now (log_of core.now) (state_of core.now).supports }
     requires place { spot.node.place < length (log_of core.now) }
-    ensures grows { IfOk result (λ turn. Grows store.old store.new) }
+    ensures grows { IfOk result (λ turn. GrowsStore store.old store.new) }
     ensures turn { IfOk result (λ turn. (own packs : Packs) → Nothing (length (log_of core.now)) store.old →
         IsSpotAt (length (log_of core.now)) store.old spot (evidence spot.node.place own) →
         Piled (length (log_of core.now)) store.old (length store.old.nodes.items)

@@ -13,7 +13,7 @@ use Rattle.hs_reader.specs.Grammar.{applied_to}
 use Rattle.hs_reader.specs.Faults.{arguments}
 use Rattle.hs_reader.specs.ReadingStages.{in_body, closes, leaf, added, is_full}
 use Rattle.hs_reader.specs.Preorder.{preorder}
-use Rattle.hs_reader.specs.Building.{Begun, nodes_of, term_at, terms_from, begun_at, AreBegun, HasRoom, IsWide, IsBuilding}
+use Rattle.hs_reader.specs.Building.{Begun, nodes_of, term_at, terms_from, begun_at, AreBegun, HasRoomFor, IsWide, IsBuilding}
 use Rattle.hs_reader.proofs.Nodes.{first-whole, applied-nodes, applied-count, head-count, head-changed}
 
 -- ---- what lies in memory gives back the terms
@@ -107,7 +107,7 @@ module _ (ns : List RawNode) (places others : List ℕ) (start at : ℕ) (b : Be
     pub more-closed : (c : Begun) × (closed b.outer b.top ≡ Some c) × IsBuilding grown others at c × (n.args < 64)
     more-closed = go b.top b.outer are h.room some
       where
-        go : (t : Option (Tree RawName)) (outer : List (Option (Tree RawName))) → AreBegun ns (start ∷ (at ∷ reverse others)) (t ∷ outer) → AllByRecursion HasRoom outer → is_none t ≡ false
+        go : (t : Option (Tree RawName)) (outer : List (Option (Tree RawName))) → AreBegun ns (start ∷ (at ∷ reverse others)) (t ∷ outer) → AllByRecursion HasRoomFor outer → is_none t ≡ false
             → (c : Begun) × (closed outer t ≡ Some c) × IsBuilding grown others at c × (n.args < 64)
         go None outer h room some = absurd cc
         go (Some t) [] h room some = absurd h.3

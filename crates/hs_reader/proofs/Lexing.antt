@@ -4,7 +4,7 @@ use Rattle.std.specs.Prelude.{codes}
 use Rattle.std.specs.List.{list_all}
 use Rattle.std.proofs.lemmas.Bool.{eqb-true, and_parts}
 use Rattle.std.proofs.lemmas.Bool.Decides.{nat_tests}
-use Rattle.hs_reader.specs.Tokens.{is_blank, is_name_byte, Token, Placed, word, rules_begin, rules_end, automaton_begin, automaton_end, arrow, dot, left, right, end_of_file, bad, Piece, blank, comment, token, token_bytes, piece_bytes, line_ends, IsWholeToken, Begins, IsLast, IsCut, placed, Lexes}
+use Rattle.hs_reader.specs.Tokens.{is_blank, is_name_byte, Token, Placed, word, rules_begin, rules_end, automaton_begin, automaton_end, arrow, dot, left, right, end_of_file, bad, Piece, blank, comment, token, token_bytes, piece_bytes, line_ends, IsWholeToken, BeginsWith, IsLast, IsCut, placed, Lexes}
 use Rattle.hs_reader.specs.Reading.{front, line_behind, comment_rest, slash_rest, gap_rest, place, from_token, from_gap, tokens_within, tokens}
 use Rattle.hs_reader.proofs.Cutting.{chosen, gap_shorter, front_shorter, tokens_behind, tokens_front}
 use Rattle.hs_reader.proofs.Pieces.{line_ends-append, line_behind_is, NoEnd, IsComment, comment_is, comment_read, front_is, IsTokenRead, front_read}
@@ -13,7 +13,7 @@ use Rattle.hs_reader.proofs.Pieces.{line_ends-append, line_behind_is, NoEnd, IsC
 
 pub record IsGap (line : ℕ) (bytes : List ℕ) (x : ℕ × List ℕ) : Type 0 where
   pub piece : Piece
-  pub begins : Begins line bytes piece x.1
+  pub begins : BeginsWith line bytes piece x.1
   pub line_is : x.0 ≡ line + line_ends (piece_bytes piece)
   pub skips : (pieces : List Piece) (last : Token) → placed line (piece ∷ pieces) last ≡ placed (line + line_ends (piece_bytes piece)) pieces last
 
@@ -62,7 +62,7 @@ comment_gap line text rest h = ap (gap_rest line) (sym (comment_spelled text res
 no_token : (t : Token) (line : ℕ) (rest : List ℕ) → t ≡ bad → IsWholeToken t line rest → ⊥
 no_token t line rest e h = subst (λ (w : Token). IsWholeToken w line rest) e h
 
-no_piece : (piece : Piece) (line : ℕ) (bytes rest : List ℕ) → gap_rest line bytes ≡ None → (front line bytes).0 ≡ bad → Begins line bytes piece rest → ⊥
+no_piece : (piece : Piece) (line : ℕ) (bytes rest : List ℕ) → gap_rest line bytes ≡ None → (front line bytes).0 ≡ bad → BeginsWith line bytes piece rest → ⊥
 no_piece (blank b) line bytes rest gap stops begins = let some = ap (gap_rest line) begins.spelled ∙ blank_gap line b rest begins.whole in cc
 no_piece (comment text) line bytes rest gap stops begins = let some = ap (gap_rest line) begins.spelled ∙ comment_gap line text rest begins.whole in cc
 no_piece (token t) line bytes rest gap stops begins =
@@ -101,7 +101,7 @@ after_gap line bytes x ts g c = record {
   are = c.are ∙ ap (λ (k : ℕ). placed k c.pieces c.last) g.line_is ∙ sym (g.skips c.pieces c.last);
 }
 
-after_token : (t : Token) (line : ℕ) (bytes rest : List ℕ) (ts : List Placed) → Begins line bytes (token t) rest → IsCutting line rest ts → IsCutting line bytes (place line t ∷ ts)
+after_token : (t : Token) (line : ℕ) (bytes rest : List ℕ) (ts : List Placed) → BeginsWith line bytes (token t) rest → IsCutting line rest ts → IsCutting line bytes (place line t ∷ ts)
 after_token t line bytes rest ts begins c =
     let same = sym (token_lines t line rest begins.whole) in
     record {
@@ -111,11 +111,11 @@ after_token t line bytes rest ts begins c =
       are = ap (λ (us : List Placed). place line t ∷ us) (c.are ∙ ap (λ (k : ℕ). placed k c.pieces c.last) same);
     }
 
-stands : (t : Token) (line : ℕ) (bytes rest : List ℕ) → (t ≡ bad → ⊥) → IsTokenRead line bytes (t, rest) → Begins line bytes (token t) rest
+stands : (t : Token) (line : ℕ) (bytes rest : List ℕ) → (t ≡ bad → ⊥) → IsTokenRead line bytes (t, rest) → BeginsWith line bytes (token t) rest
 stands t line bytes rest good (inl e) = absurd (good e)
 stands t line bytes rest good (inr begins) = begins
 
-front_cutting : (t : Token) (f : ℕ → List ℕ → List Placed) (line b : ℕ) (bytes rest : List ℕ) → (t ≡ bad → (piece : Piece) (after : List ℕ) → Begins line (b ∷ bytes) piece after → ⊥) → IsCutting line rest (f line rest) → IsTokenRead line (b ∷ bytes) (t, rest) → IsCutting line (b ∷ bytes) (from_token f line (t, rest))
+front_cutting : (t : Token) (f : ℕ → List ℕ → List Placed) (line b : ℕ) (bytes rest : List ℕ) → (t ≡ bad → (piece : Piece) (after : List ℕ) → BeginsWith line (b ∷ bytes) piece after → ⊥) → IsCutting line rest (f line rest) → IsTokenRead line (b ∷ bytes) (t, rest) → IsCutting line (b ∷ bytes) (from_token f line (t, rest))
 front_cutting bad f line b bytes rest stop later here = record { pieces = []; last = bad; cut = ((λ e. cc), stop refl); are = refl }
 front_cutting end_of_file f line b bytes rest stop later here = absurd (stands end_of_file line (b ∷ bytes) rest (λ h. cc) here).whole
 front_cutting (word n) f line b bytes rest stop later here = after_token (word n) line (b ∷ bytes) rest (f line rest) (stands (word n) line (b ∷ bytes) rest (λ h. cc) here) later
@@ -153,7 +153,7 @@ token_first end_of_file line rest h = absurd h
 token_first bad line rest h = absurd h
 token_first t line rest h = refl
 
-bad_last : (line : ℕ) (bytes : List ℕ) (o : Option (ℕ × List ℕ)) → gap_rest line bytes ≡ o → bytes ≢ [] → ((piece : Piece) (rest : List ℕ) → Begins line bytes piece rest → ⊥) → tokens line bytes ≡ place line bad ∷ []
+bad_last : (line : ℕ) (bytes : List ℕ) (o : Option (ℕ × List ℕ)) → gap_rest line bytes ≡ o → bytes ≢ [] → ((piece : Piece) (rest : List ℕ) → BeginsWith line bytes piece rest → ⊥) → tokens line bytes ≡ place line bad ∷ []
 bad_last line bytes (Some x) e some stop = let g = gap_is line bytes x e in absurd (stop g.piece x.1 g.begins)
 bad_last line [] None e some stop = absurd (some refl)
 bad_last line (b ∷ bytes) None e some stop = tokens_front line (b ∷ bytes) e ∙ is_bad (front line (b ∷ bytes)) (front_read line b bytes)

@@ -7,7 +7,7 @@ use Rattle.std.proofs.lemmas.Bool.{eqb-true, and_parts}
 use Rattle.std.proofs.lemmas.Bool.Decides.{nat_tests}
 use Rattle.std.proofs.lemmas.Slice.Eq.{bytes_eq-Decides}
 use Rattle.std.proofs.lemmas.List.{take-append-drop, take_at, drop_at}
-use Rattle.hs_reader.specs.Tokens.{is_blank, is_name_byte, Token, word, rules_begin, rules_end, automaton_begin, automaton_end, arrow, dot, left, right, end_of_file, bad, token, token_bytes, line_ends, IsWholeToken, Begins}
+use Rattle.hs_reader.specs.Tokens.{is_blank, is_name_byte, Token, word, rules_begin, rules_end, automaton_begin, automaton_end, arrow, dot, left, right, end_of_file, bad, token, token_bytes, line_ends, IsWholeToken, BeginsWith}
 use Rattle.hs_reader.specs.Reading.{marker, arrow_front, sign_front, run_front, as_word, front, line_behind, starts_with, comment_rest, slash_rest, gap_rest}
 use Rattle.hs_reader.proofs.Runs.{prefix_yes, run_passes, run_ends, run_whole}
 use Rattle.hs_reader.proofs.Cutting.{chosen, not_chosen}
@@ -152,7 +152,7 @@ front_is bad line rest h = absurd h
 
 -- what is read is bad, or stands there
 abbrev pub IsTokenRead : ℕ → List ℕ → Token × List ℕ → Type 0
-IsTokenRead line bytes x = (x.0 ≡ bad) ⊎ Begins line bytes (token x.0) x.1
+IsTokenRead line bytes x = (x.0 ≡ bad) ⊎ BeginsWith line bytes (token x.0) x.1
 
 read_if : (line : ℕ) (bytes : List ℕ) (t : Bool) (x y : Token × List ℕ) → (t ≡ true → IsTokenRead line bytes x) → (t ≡ false → IsTokenRead line bytes y) → IsTokenRead line bytes (cond t x y)
 read_if line bytes true x y p q = p refl

@@ -1,10 +1,10 @@
 -- The terms of a right side that are begun, as they lie in one list of nodes.
---     Begun         the terms before each open parenthesis, the innermost first, and the term behind it
---     nodes_of      the nodes of a term, where one is begun
---     AreBegun      the nodes are those of the terms begun, the outermost first, and each begins at its place
---     HasRoom       one more argument is allowed
---     IsBuilding    what holds while a right side is read
---     Takes         what a function says that takes a token of it: reading goes on behind it, or ends there
+--     Begun       the terms before each open parenthesis, the innermost first, and the term behind it
+--     nodes_of    the nodes of a term, where one is begun
+--     AreBegun    the nodes are those of the terms begun, the outermost first, and each begins at its place
+--     HasRoomFor  one more argument is allowed
+--     IsBuilding  what holds while a right side is read
+--     TakesToken  what a function says that takes a token of it: reading goes on behind it, or ends there
 use Rattle.std.specs.Prelude.{◌≡◌, refl, ℕ, ◌<◌, ◌≤◌, List, [], ◌∷◌, ◌++◌, length, take, drop, reverse, Option, Some, None, Result}
 use Rattle.std.specs.List.{AllByRecursion}
 use Rattle.std.specs.Coded.{Coded, code_by, coded×, coded_list, coded_option}
@@ -48,9 +48,9 @@ AreBegun ns [] [] = ns ≡ []
 AreBegun ns (at ∷ starts) (t ∷ ts) = (before : List RawNode) × (ns ≡ before ++ nodes_of t) × (length before ≡ at) × AreBegun before starts ts
 AreBegun ns starts ts = ⊥
 
-abbrev pub HasRoom : Option (Tree RawName) → Type 0
-HasRoom None = Unit {0}
-HasRoom (Some t) = arguments t < 64
+abbrev pub HasRoomFor : Option (Tree RawName) → Type 0
+HasRoomFor None = Unit {0}
+HasRoomFor (Some t) = arguments t < 64
 
 abbrev pub IsWide : Option (Tree RawName) → Type 0
 IsWide None = Unit {0}
@@ -59,9 +59,9 @@ IsWide (Some t) = arguments t ≤ 64
 pub record IsBuilding (ns : List RawNode) (places : List ℕ) (start : ℕ) (begun : Begun) : Type 0 where
   pub are : AreBegun ns (start ∷ reverse places) (begun.top ∷ begun.outer)
   pub wide : IsWide begun.top
-  pub room : AllByRecursion HasRoom begun.outer
+  pub room : AllByRecursion HasRoomFor begun.outer
 
-abbrev pub Takes : {X : Type 0} → Placed → (old new : Begun) → Result X ReadFault → Type 0
-Takes token old new result =
+abbrev pub TakesToken : {X : Type 0} → Placed → (old new : Begun) → Result X ReadFault → Type 0
+TakesToken token old new result =
     (rs : List Rule) (n : RawName) (ps : List RawName) (rest : List Placed)
     → Goes (λ _. run (in_body rs n ps new.outer new.top) rest) result (run (in_body rs n ps old.outer old.top) (token ∷ rest))

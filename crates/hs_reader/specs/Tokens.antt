@@ -93,14 +93,14 @@ IsWhole (comment text) line rest = (before after : List ℕ) → text ≡ before
 IsWhole (token t) line rest = IsWholeToken t line rest
 
 -- the piece stands at the front of the bytes of a line on, and the rest behind it
-pub record Begins (line : ℕ) (bytes : List ℕ) (piece : Piece) (rest : List ℕ) : Type 0 where
+pub record BeginsWith (line : ℕ) (bytes : List ℕ) (piece : Piece) (rest : List ℕ) : Type 0 where
   pub spelled : bytes ≡ piece_bytes piece ++ rest
   pub whole : IsWhole piece line rest
 
 -- the last token, and where it stands
 abbrev pub IsLast : Token → ℕ → List ℕ → Type 0
 IsLast end_of_file line bytes = bytes ≡ []
-IsLast bad line bytes = (bytes ≢ []) × ((piece : Piece) (rest : List ℕ) → Begins line bytes piece rest → ⊥)
+IsLast bad line bytes = (bytes ≢ []) × ((piece : Piece) (rest : List ℕ) → BeginsWith line bytes piece rest → ⊥)
 IsLast t line bytes = ⊥
 
 -- The bytes are these pieces, one after another, and then the last token. A piece is as many lines
@@ -108,7 +108,7 @@ IsLast t line bytes = ⊥
 abbrev pub IsCut : ℕ → List ℕ → List Piece → Token → Type 0
 IsCut line bytes [] last = IsLast last line bytes
 IsCut line bytes (piece ∷ pieces) last =
-    (rest : List ℕ) × Begins line bytes piece rest × IsCut (line + line_ends (piece_bytes piece)) rest pieces last
+    (rest : List ℕ) × BeginsWith line bytes piece rest × IsCut (line + line_ends (piece_bytes piece)) rest pieces last
 
 abbrev pub placed : ℕ → List Piece → Token → List Placed
 placed line [] last = record { token = last; line = line } ∷ []

@@ -8,7 +8,7 @@ ghost use Rattle.hs_reader.specs.declared.fault.ReadFault.{ReadFault};
 ghost use Rattle.hs_reader.specs.Faults.{IsFileWithin, IsFaultOf, IsAnswer};
 ghost use Rattle.hs_reader.specs.Tokens.{dot, left, right};
 ghost use Rattle.hs_reader.specs.Reading.{place, tokens};
-ghost use Rattle.hs_reader.specs.Building.{Takes};
+ghost use Rattle.hs_reader.specs.Building.{TakesToken};
 ghost use Rattle.hs_reader.specs.ReadingStages.{start, in_rules, in_head, in_body, between, in_transitions, in_transition, in_children, closed, added, is_full, named, run, read, Goes, GivesName, GivesCased, IsMemory, with_rule, with_transition};
 
 use crate::building::Building;
@@ -68,7 +68,7 @@ fn parameters<'a>(alloc: Global, cursor: &mut Cursor<'a>) -> Result<Vec<RawName<
 
 /// Puts a name into the right side that is read.
 fn add_name<'a>(building: &mut Building<'a>, bytes: &'a [u8], line: u32) -> Result<(), ReadFault>
-    ensures { Takes (named line bytes.now) building.old building.new result }
+    ensures { TakesToken (named line bytes.now) building.old building.new result }
 {
     let name = short_name(bytes, line)?;
     if building.is_full() {
@@ -81,7 +81,7 @@ fn add_name<'a>(building: &mut Building<'a>, bytes: &'a [u8], line: u32) -> Resu
 
 /// Opens a parenthesis in the right side that is read.
 fn open_parenthesis(building: &mut Building) -> Result<(), ReadFault>
-    ensures { (line : ℕ) → Takes (place line left) building.old building.new result }
+    ensures { (line : ℕ) → TakesToken (place line left) building.old building.new result }
 {
     if building.depth() == MAX_DEPTH {
         return Err(ReadFault::Limit {
@@ -98,7 +98,7 @@ fn open_parenthesis(building: &mut Building) -> Result<(), ReadFault>
 
 /// Closes a parenthesis in the right side that is read.
 fn close_parenthesis(building: &mut Building, line: u32) -> Result<(), ReadFault>
-    ensures { Takes (place line right) building.old building.new result }
+    ensures { TakesToken (place line right) building.old building.new result }
 {
     if !building.close() {
         return Err(ReadFault::Syntax { line });
@@ -111,7 +111,8 @@ fn up_to_dot<'a>(building: &mut Building<'a>, cursor: &mut Cursor<'a>) -> Result
     ensures value { (rs : List Rule) (n : RawName) (ps : List RawName) → Goes
         (λ _. run (in_body rs n ps building.new.outer building.new.top)
         (place cursor.new.line dot ∷ tokens cursor.new.line cursor.new.rest.now))
-        result (read (in_body rs n ps building.old.outer building.old.top) cursor.old.line cursor.old.rest.now) }
+        result
+        (read (in_body rs n ps building.old.outer building.old.top) cursor.old.line cursor.old.rest.now) }
     ensures within { OnOk result (length cursor.new.rest.now ≤ length cursor.old.rest.now) }
 {
     loop {

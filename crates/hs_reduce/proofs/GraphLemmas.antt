@@ -10,7 +10,7 @@ use Rattle.hs_scheme.specs.declared.term.Head.TheVariants.{Nt}
 use Rattle.hs_scheme.specs.Tree.{Tree, node, none, forest, children-forest}
 use Rattle.hs_scheme.proofs.Lists.{push_cases}
 use Rattle.hs_reduce.specs.declared.graph.Node.{Node}
-use Rattle.hs_reduce.specs.Graph.{term_at, terms_at, head_of, arguments_of, places_of, tree_of, trees_of, IsNode, AreNodes, NamesTerms, AddsTerm}
+use Rattle.hs_reduce.specs.Graph.{term_at, terms_at, head_of, arguments_of, places_of, tree_of, trees_of, IsGraphNode, AreGraphNodes, NamesTerms, AddsTerm}
 
 -- the same terms at places that have them
 pub terms_same : (old new : List (Tree Head)) (n : ℕ) (places : List ℕ) → ((i : ℕ) → i < n → term_at new i ≡ term_at old i) → All (λ i. i < n) places → terms_at new places ≡ terms_at old places
@@ -64,14 +64,14 @@ module _ (links : List ℕ) where
         let fits : n.to - n.from ≤ length (drop n.from links) = grind (arith, common_steps) in
         ap (take (n.to - n.from)) (drop-append-le n.from links more from) ∙ take-append-le (n.to - n.from) (drop n.from links) more fits
 
-    node_stays : (i : ℕ) (n : Node) → IsNode links i n → IsNode (links ++ more) i n
+    node_stays : (i : ℕ) (n : Node) → IsGraphNode links i n → IsGraphNode (links ++ more) i n
     node_stays i n is = record {
       ordered = is.ordered;
       within = omega (arith, is.within, length-append links more);
       before = subst (λ (ps : List ℕ). All (λ j. j < i) ps) (sym (same_places n is.ordered is.within)) is.before;
     }
 
-    pub nodes_stay : (ns : List Node) → AreNodes links ns → AreNodes (links ++ more) ns
+    pub nodes_stay : (ns : List Node) → AreGraphNodes links ns → AreGraphNodes (links ++ more) ns
     nodes_stay ns are = λ i n e. node_stays i n (are i n e)
 
     same_trees : (made : List (Tree Head)) (ns : List Node) → ((i : ℕ) (n : Node) → slice_get ns i ≡ Some n → (n.from ≤ n.to) × (n.to ≤ length links)) → trees_of (links ++ more) made ns ≡ trees_of links made ns
@@ -81,11 +81,11 @@ module _ (links : List ℕ) where
         ap (λ (ps : List ℕ). trees_of (links ++ more) (made ++ node n.head (forest (terms_at made ps)) ∷ []) ns) (same_places n here.0 here.1)
         ∙ same_trees (made ++ tree_of links made n ∷ []) ns (λ i m e. are (suc i) m e)
 
-    pub trees_stay : (ns : List Node) → AreNodes links ns → trees_of (links ++ more) [] ns ≡ trees_of links [] ns
+    pub trees_stay : (ns : List Node) → AreGraphNodes links ns → trees_of (links ++ more) [] ns ≡ trees_of links [] ns
     trees_stay ns are = same_trees [] ns (λ i n e. ((are i n e).ordered, (are i n e).within))
 
 -- a node whose arguments stand at the end of the links
-module _ (links : List ℕ) (ns : List Node) (are : AreNodes links ns) (head : Head) (args : List ℕ) (within : All (λ j. j < length ns) args) where
+module _ (links : List ℕ) (ns : List Node) (are : AreGraphNodes links ns) (head : Head) (args : List ℕ) (within : All (λ j. j < length ns) args) where
   abbrev Last : Node → Type 0
   Last n = (n.head ≡ head) × (n.from ≡ length links) × (n.to ≡ length links + length args)
 
@@ -95,17 +95,17 @@ module _ (links : List ℕ) (ns : List Node) (are : AreNodes links ns) (head : H
       let few : length args ≤ n.to - n.from = omega arith in
       ap (take (n.to - n.from)) (drop_at links args n.from start) ∙ take_all (n.to - n.from) args few
 
-  node_last : (n : Node) → Last n → IsNode (links ++ args) (length ns) n
+  node_last : (n : Node) → Last n → IsGraphNode (links ++ args) (length ns) n
   node_last n last = record {
     ordered = omega (arith, last.1, last.2);
     within = omega (arith, length-append links args, last.2);
     before = subst (λ (ps : List ℕ). All (λ j. j < length ns) ps) (sym (places_last n last)) within;
   }
 
-  pub nodes_more : (n : Node) → Last n → AreNodes (links ++ args) (ns ++ n ∷ [])
+  pub nodes_more : (n : Node) → Last n → AreGraphNodes (links ++ args) (ns ++ n ∷ [])
   nodes_more n last i m e = elim (push_cases ns n m i e) [
     | inl h ↦ nodes_stay links args ns are i m h
-    | inr (h, k) ↦ subst (λ j. IsNode (links ++ args) j m) (sym h) (subst (λ (x : Node). IsNode (links ++ args) (length ns) x) k (node_last n last))
+    | inr (h, k) ↦ subst (λ j. IsGraphNode (links ++ args) j m) (sym h) (subst (λ (x : Node). IsGraphNode (links ++ args) (length ns) x) k (node_last n last))
   ]
 
   pub trees_more : (n : Node) → Last n → trees_of (links ++ args) [] (ns ++ n ∷ []) ≡ trees_of links [] ns ++ node head (forest (terms_at (trees_of links [] ns) args)) ∷ []
@@ -122,7 +122,7 @@ AddsTerm-push old t = record {
 }
 
 -- a node's parts, at its place
-module _ (links : List ℕ) (nodes : List Node) (trees : List (Tree Head)) (view : trees_of links [] nodes ≡ trees) (are : AreNodes links nodes) (place : ℕ) where
+module _ (links : List ℕ) (nodes : List Node) (trees : List (Tree Head)) (view : trees_of links [] nodes ≡ trees) (are : AreGraphNodes links nodes) (place : ℕ) where
   pub in_nodes : place < length trees → place < length nodes
   in_nodes lt = omega (arith, count links nodes, ap length view)
 

@@ -12,37 +12,37 @@ use Rattle.hs_scheme.specs.Replacement.{replaced, subst, applied}
 use Rattle.hs_scheme.specs.Cut.{unfolded, body_of}
 use Rattle.hs_scheme.proofs.PlainLemmas.{subst-node}
 use Rattle.hs_steps.proofs.Terms.{applied-none, unfolds}
-use Rattle.hs_reduce.specs.Graph.{term_at, terms_at, head_of, arguments_of, Grows, AddsTerm, Unfolds}
+use Rattle.hs_reduce.specs.Graph.{term_at, terms_at, head_of, arguments_of, GrowsTrees, AddsTerm, Unfolds}
 use Rattle.hs_reduce.proofs.GraphLemmas.{terms_same}
 
 -- a term is its head and its arguments
 pub whole : (t : Tree Head) → node (head_of t) (forest (arguments_of t)) ≡ t
 whole (node h us) = ap (node h) (forest-children us)
 
-pub Grows-refl : (trees : List (Tree Head)) → Grows trees trees
+pub Grows-refl : (trees : List (Tree Head)) → GrowsTrees trees trees
 Grows-refl trees = record { longer = omega arith; same = λ i lt. refl }
 
-pub Grows-then : (old mid new : List (Tree Head)) → Grows old mid → Grows mid new → Grows old new
+pub Grows-then : (old mid new : List (Tree Head)) → GrowsTrees old mid → GrowsTrees mid new → GrowsTrees old new
 Grows-then old mid new g h = record {
   longer = omega (arith, g.longer, h.longer);
   same = λ i lt. let there : i < length mid = omega (arith, g.longer) in h.same i there ∙ g.same i lt;
 }
 
-pub unfolds_nothing : (old new : List (Tree Head)) (o : Option ℕ) (t : Option (Tree Head)) → ((place : ℕ) → o ≡ Some place → ⊥) → Unfolds old new o t → (t ≡ None) × Grows old new
+pub unfolds_nothing : (old new : List (Tree Head)) (o : Option ℕ) (t : Option (Tree Head)) → ((place : ℕ) → o ≡ Some place → ⊥) → Unfolds old new o t → (t ≡ None) × GrowsTrees old new
 unfolds_nothing old new None t nowhere h = h
 unfolds_nothing old new (Some place) t nowhere h = absurd (nowhere place refl)
 
-pub AddsTerm-after : (old mid new : List (Tree Head)) (place : ℕ) (t u : Tree Head) → Grows old mid → t ≡ u → AddsTerm mid new place t → AddsTerm old new place u
+pub AddsTerm-after : (old mid new : List (Tree Head)) (place : ℕ) (t u : Tree Head) → GrowsTrees old mid → t ≡ u → AddsTerm mid new place t → AddsTerm old new place u
 AddsTerm-after old mid new place t u g e a = record { grows = Grows-then old mid new g a.grows; within = a.within; term = a.term ∙ e }
 
 -- what is there already
 pub AddsTerm-there : (trees : List (Tree Head)) (place : ℕ) (t : Tree Head) → place < length trees → term_at trees place ≡ t → AddsTerm trees trees place t
 AddsTerm-there trees place t lt e = record { grows = Grows-refl trees; within = lt; term = e }
 
-pub All-grows : (old new : List (Tree Head)) (places : List ℕ) → Grows old new → All (λ i. i < length old) places → All (λ i. i < length new) places
+pub All-grows : (old new : List (Tree Head)) (places : List ℕ) → GrowsTrees old new → All (λ i. i < length old) places → All (λ i. i < length new) places
 All-grows old new places g within k d lt = omega (arith, within k d lt, g.longer)
 
-pub terms-grow : (old new : List (Tree Head)) (places : List ℕ) → Grows old new → All (λ i. i < length old) places → terms_at new places ≡ terms_at old places
+pub terms-grow : (old new : List (Tree Head)) (places : List ℕ) → GrowsTrees old new → All (λ i. i < length old) places → terms_at new places ≡ terms_at old places
 terms-grow old new places g within = terms_same old new (length old) places g.same within
 
 -- the term of a parameter
@@ -77,7 +77,7 @@ pub All-one_more : (n place : ℕ) (places more : List ℕ) → more ≡ places 
 All-one_more n place places more e within lt = along (λ (ps : List ℕ). All (λ i. i < n) ps) (sym e) (All-push (λ i. i < n) places place within lt)
 
 -- the arguments of a term, replaced one after another behind those of what stands for its head
-module _ (old mid new : List (Tree Head)) (with : List ℕ) (within : All (λ i. i < length old) with) (grown : Grows old mid) (own us : List (Tree Head)) (i : ℕ) (args : List ℕ)
+module _ (old mid new : List (Tree Head)) (with : List ℕ) (within : All (λ i. i < length old) with) (grown : GrowsTrees old mid) (own us : List (Tree Head)) (i : ℕ) (args : List ℕ)
     (terms : terms_at mid args ≡ own ++ map (λ t. subst t (terms_at old with)) (take i us)) where
   pub one_more_argument : (d : Tree Head) (place : ℕ) (arg : Tree Head) (more : List ℕ) → All (λ j. j < length mid) args → i < length us → arg ≡ get_or us i d → more ≡ args ++ place ∷ []
       → AddsTerm mid new place (subst arg (terms_at mid with)) → terms_at new more ≡ own ++ map (λ t. subst t (terms_at old with)) (take (i + 1) us)

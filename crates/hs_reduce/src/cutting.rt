@@ -4,7 +4,7 @@ ghost use Rattle.std.specs.Prelude.{◌≡◌, ◌<◌, ◌≤◌, ◌+◌, ◌�
 ghost use Rattle.hs_scheme.specs.TreeTerms.{IsTreeTerm};
 ghost use Rattle.hs_scheme.specs.Sorted.{sorts_of};
 ghost use Rattle.hs_trace.specs.Path.{PathData};
-ghost use Rattle.hs_reduce.specs.Graph.{term_at, Grows};
+ghost use Rattle.hs_reduce.specs.Graph.{term_at, GrowsTrees};
 ghost use Rattle.hs_reduce.specs.Advances.{HasKnownSorts};
 ghost use Rattle.hs_reduce.specs.Bounds.{IsFoundWithin, IsBoundedAnswer};
 
@@ -75,7 +75,7 @@ fn first_error(
     requires few { n ≤ MAX_CUT }
     requires place { place < length graph.old }
     requires tree { IsTreeTerm (sorts_of sorted.now.sorts sorted.now.scheme.ranks) (term_at graph.old place) }
-    ensures grows { OnOk result (Grows graph.old graph.new) }
+    ensures grows { OnOk result (GrowsTrees graph.old graph.new) }
     ensures found { IfOk result (IsFoundWithin sorted.now n state (term_at graph.old place)) }
 {
     if n == 0 {

@@ -14,17 +14,17 @@ use std::marker::Model;
 
 /// A head, and where the places of its arguments stand among the links: from `from` up to `to`.
 #[derive(Clone, Copy, Drop)]
-pub struct Node {
-    pub head: Head,
-    pub from: usize,
-    pub to: usize,
+pub(crate) struct Node {
+    pub(crate) head: Head,
+    pub(crate) from: usize,
+    pub(crate) to: usize,
 }
 
 /// A list of terms. It only grows.
 ///
 /// Contracts see the list of the terms, by their places.
 #[derive(Drop)]
-pub struct Graph {
+pub(crate) struct Graph {
     nodes: Vec<Node>,
     links: Vec<usize>,
 }
@@ -40,11 +40,11 @@ impl Model for Graph {
 
     ghost coded = { coded_list (tree_code coded_head) };
 
-    ghost use Rattle.hs_reduce.specs.Graph.{trees_of, AreNodes};
+    ghost use Rattle.hs_reduce.specs.Graph.{trees_of, AreGraphNodes};
 
     ghost view = { λ a. trees_of a.links.items [] a.nodes.items };
 
-    ghost invariant = { λ a. AreNodes a.links.items a.nodes.items };
+    ghost invariant = { λ a. AreGraphNodes a.links.items a.nodes.items };
 }
 
 /// The places of the node's arguments.
@@ -58,7 +58,7 @@ fn part(links: &[usize], node: Node) -> &[usize]
 
 impl Graph {
     /// No terms.
-    pub fn new(alloc: Global) -> Graph
+    pub(crate) fn new(alloc: Global) -> Graph
         ensures { result ≡ [] }
     {
         Graph {
@@ -68,7 +68,7 @@ impl Graph {
     }
 
     /// The head of the term at this place.
-    pub fn head(&self, place: usize) -> Head
+    pub(crate) fn head(&self, place: usize) -> Head
         requires { place < length self.now }
         ensures { result ≡ head_of (term_at self.now place) }
     {
@@ -76,7 +76,7 @@ impl Graph {
     }
 
     /// The places of the arguments of the term at this place.
-    pub fn arguments(&self, place: usize) -> &[usize]
+    pub(crate) fn arguments(&self, place: usize) -> &[usize]
         requires { place < length self.now }
         ensures { NamesTerms self.now result.now (arguments_of (term_at self.now place)) }
     {
@@ -86,7 +86,7 @@ impl Graph {
 
     /// Adds the term with this head and the terms at these places as its arguments, and answers its
     /// place.
-    pub fn add(&mut self, head: Head, args: &[usize]) -> Result<usize, OutOfMemory>
+    pub(crate) fn add(&mut self, head: Head, args: &[usize]) -> Result<usize, OutOfMemory>
         requires { All (λ i. i < length self.old) args.now }
         ensures { IfOk result (λ place. AddsTerm self.old self.new place
             (node head (forest (terms_at self.old args.now)))) }

@@ -13,9 +13,9 @@ use std::alloc::Global;
 
 /// A head, and the places of its arguments so far.
 #[derive(Drop)]
-pub struct Front {
-    pub head: Head,
-    pub args: Vec<usize>,
+pub(crate) struct Front {
+    pub(crate) head: Head,
+    pub(crate) args: Vec<usize>,
 }
 
 /// The place that stands for the term where it is a parameter without arguments.
@@ -56,7 +56,7 @@ fn front_of(alloc: Global, graph: &Graph, head: Head, with: &[usize]) -> Result<
 
 /// Adds the term of a rule's body with the terms at these places for its parameters, and answers
 /// its place. Shares those terms. Recurses as deep as the body.
-pub fn substitute(
+pub(crate) fn substitute(
     alloc: Global,
     graph: &mut Graph,
     term: &Term,
@@ -123,7 +123,7 @@ fn unfold(
 
 /// Adds what the nonterminal at the head of the term at this place is replaced by, and answers its
 /// place.
-pub fn replace(
+pub(crate) fn replace(
     alloc: Global,
     sorted: &Sorted,
     graph: &mut Graph,

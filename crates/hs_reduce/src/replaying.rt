@@ -17,16 +17,16 @@ use std::alloc::Global;
 /// How far a reduction has come: the place of the term, the state, and how many children were
 /// followed and steps made.
 #[derive(Clone, Copy, Drop)]
-pub struct Spot {
-    pub place: usize,
-    pub state: u32,
-    pub at: usize,
-    pub used: u64,
+pub(crate) struct Spot {
+    pub(crate) place: usize,
+    pub(crate) state: u32,
+    pub(crate) at: usize,
+    pub(crate) used: u64,
 }
 
 /// What comes of a spot: what is met there, nothing, or one step.
 #[derive(Drop)]
-pub enum Advance {
+pub(crate) enum Advance {
     Met(Replay),
     Stays,
     Moved(Spot),

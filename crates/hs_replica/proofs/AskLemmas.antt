@@ -9,7 +9,7 @@ use Rattle.hs_types.specs.Interned.{InternerData, RowData, type_of_id, env_of_id
 use Rattle.hs_replica.specs.declared.key.Key.{Key}
 use Rattle.hs_replica.specs.declared.key.Key.TheVariants.{At}
 use Rattle.hs_replica.specs.Places.{Question, here, typed, asks, takes, Meets}
-use Rattle.hs_replica.specs.Index.{log_of, reach, IsIndex, Gains, HasAll, AsksIn, AsksBy}
+use Rattle.hs_replica.specs.Index.{log_of, reach, IsIndex, Gains, ListsAll, AsksIn, AsksBy}
 use Rattle.hs_replica.proofs.SetLemmas.{gains_weaker}
 use Rattle.hs_replica.proofs.RowLemmas.{entry_at, index_kept}
 use Rattle.hs_replica.proofs.ReachLemmas.{AsksOf, asks_stand, asks_move, number_written, index_next, next_reached}
@@ -19,10 +19,10 @@ module _ (ids : InternerData) (row : RowData) (place : ℕ) (new : Key → List 
   pub state_gains : (q : ℕ) → type_of_id ids row.ty ≡ state q → (old : Key → List ℕ) → Gains ids (AsksIn row.point (env_of_id ids row.env)) place old new → Gains ids (AsksBy ids row) place old new
   state_gains q is old = gains_weaker ids (AsksIn row.point (env_of_id ids row.env)) (AsksBy ids row) place old new (λ k h. ((q, is), h))
 
-  pub state_all : HasAll ids (AsksIn row.point (env_of_id ids row.env)) place new → HasAll ids (AsksBy ids row) place new
+  pub state_all : ListsAll ids (AsksIn row.point (env_of_id ids row.env)) place new → ListsAll ids (AsksBy ids row) place new
   state_all all q h = all q h.1
 
-  pub arrow_all : (s : List TypeTree) (r : TypeTree) → type_of_id ids row.ty ≡ arrow s r → HasAll ids (AsksBy ids row) place new
+  pub arrow_all : (s : List TypeTree) (r : TypeTree) → type_of_id ids row.ty ≡ arrow s r → ListsAll ids (AsksBy ids row) place new
   arrow_all s r is q h = absurd (state_no_arrow h.0.0 s r (sym h.0.1 ∙ is))
 
 -- what the row asks for
@@ -72,7 +72,7 @@ module _ (ids : InternerData) (is : IsInterner ids) (rows : List RowData) (by_ty
   pub asks_stopped : IsIndex ids log (reach by_type now n) new
   asks_stopped = index_kept ids log place (entry_of ids row) entry (reach by_type now n) (AsksBy ids row) (met ids log place row) its_due list new reached gains
 
-  pub asks_more : HasAll ids (AsksBy ids row) place new → IsIndex ids log (reach by_type (set now point (place + 1)) n) new
+  pub asks_more : ListsAll ids (AsksBy ids row) place new → IsIndex ids log (reach by_type (set now point (place + 1)) n) new
   asks_more all =
       let later : point < length now = omega (arith, length-set asked point place, long) in
       index_next ids log by_type now n list reached (AsksOf point) (AsksBy ids row) place (entry_of ids row) by_type (set now point (place + 1)) entry (met ids log place row) its_due

@@ -1,6 +1,6 @@
 -- Rows that are to go behind a log.
 use Rattle.std.proofs.Common.{◌≡◌, ◌≢◌, refl, sym, ◌∙◌, ap, subst, ℕ, ◌+◌, ◌-◌, ◌<◌, ◌≤◌, ◌^◌, List, ◌++◌, length, map, get_or, take, drop, All, AllPairs, Contains, arith, append_assoc, length-append}
-use Rattle.std.proofs.lemmas.List.{take-append-drop, take_all, length-drop, drop-map, map-append, length-map, get_or-map, get_or_append_left, get_or-append_right, length-take-le}
+use Rattle.std.proofs.lemmas.List.{take-append-drop, drop-map, map-append, length-map, get_or-map, get_or_append_left, get_or-append_right, length-take-le}
 use Rattle.std.proofs.Math.Seq.{drop-append_seam}
 use mathlib.Core.List.{IsPrefix}
 use Rattle.hs_table.specs.Entries.{EntryData}
@@ -52,7 +52,3 @@ module _ (r : ReplicaData) (from : ReplicaData) (F : RowData → EntryData) (row
     short = subst (λ (xs : List EntryData). length xs < 2 ^ 32) (sym read_whole) is.short;
     room = room;
   }
-
--- all that is left
-pub take_rest : {X : Type 0} (n : ℕ) (xs : List X) → take (length xs - n) (drop n xs) ≡ drop n xs
-take_rest n xs = take_all (length xs - n) (drop n xs) (omega (arith, length-drop n xs))

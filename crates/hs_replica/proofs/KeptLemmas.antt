@@ -1,5 +1,5 @@
 -- What a replica keeps, while its interner grows and rows are added.
-use Rattle.std.proofs.Common.{◌≡◌, ◌≢◌, refl, sym, ◌∙◌, ap, subst, ℕ, suc, ◌+◌, ◌<◌, ◌≤◌, ◌^◌, Bool, true, false, true≢false, ◌&&◌, nat_eq, List, [], ◌∷◌, ◌++◌, length, get_or, slice_get, Some, cond, map, arith, Contains, All, AllPairs, length-append, position, ◌↔◌, Result, Ok, Err, OnErr, IfOk}
+use Rattle.std.proofs.Common.{◌≡◌, ◌≢◌, refl, sym, ◌∙◌, ap, subst, ℕ, suc, ◌+◌, ◌<◌, ◌≤◌, ◌^◌, Bool, true, false, true≢false, ◌&&◌, nat_eq, List, [], ◌∷◌, ◌++◌, length, get_or, slice_get, Some, cond, map, arith, Contains, All, AllPairs, length-append, position, ◌↔◌, Result, Ok, IfOk}
 use Rattle.std.specs.Bool.{Decides}
 use Rattle.std.specs.List.{list_any}
 use Rattle.std.specs.List.Sorted.{IsStrictlyIncreasing}
@@ -202,10 +202,6 @@ is_replica ids rows room reserved indexed by_type asked list kept was is = subst
 pub kept_room : (ids : InternerData) (rows : List RowData) (room later reserved indexed : ℕ) (by_type asked : List ℕ) (list : Key → List ℕ) → IsKept ids rows room reserved indexed by_type asked list → reserved ≤ later → IsKept ids rows later reserved indexed by_type asked list
 kept_room ids rows room later reserved indexed by_type asked list was fits =
     record { known = was.known; distinct = was.distinct; short = was.short; fits = fits; within = was.within; index = was.index }
-
-pub on_err : {T E P : Type 0} (r : Result T E) → P → OnErr r P
-on_err (Ok x) p = tt
-on_err (Err e) p = p
 
 pub at_ok : {T E : Type 0} (r : Result T E) (x : T) (P : T → Type 0) → r ≡ Ok x → IfOk r P → P x
 at_ok {T} {E} r x P is h = subst (λ (s : Result T E). IfOk s P) is h

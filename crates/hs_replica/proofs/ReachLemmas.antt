@@ -7,7 +7,7 @@ use Rattle.hs_types.specs.Interned.{InternerData, IsInterner}
 use Rattle.hs_replica.specs.declared.key.Key.{Key}
 use Rattle.hs_replica.specs.declared.key.Key.TheVariants.{At}
 use Rattle.hs_replica.specs.Places.{Question, here, typed, asks, takes, Meets, Answers}
-use Rattle.hs_replica.specs.Index.{reach, IsIndex, HasAsked, Gains, HasAll}
+use Rattle.hs_replica.specs.Index.{reach, IsIndex, HasAsked, Gains, ListsAll}
 use Rattle.hs_replica.proofs.RowLemmas.{same_key, index_to, index_more}
 
 -- questions about the types of entries at the point, and about what they ask for
@@ -107,7 +107,7 @@ module _ (ids : InternerData) (log : List EntryData) (by_type asked : List ℕ) 
   -- what is asked about the place that comes next is listed
   pub index_next : (K P : Question → Type 0) (place : ℕ) (e : EntryData) (types later : List ℕ) → slice_get log place ≡ Some e → ((q : Question) → P q → Meets log place e q)
       → ((q : Question) → P q → reach by_type asked n q ≡ place) → ((q : Question) → K q → Meets log place e q → P q) → Moves K place (place + 1) (reach by_type asked n) (reach types later n) → place < n
-      → (new : Key → List ℕ) → Gains ids P place list new → HasAll ids P place new → IsIndex ids log (reach types later n) new
+      → (new : Key → List ℕ) → Gains ids P place list new → ListsAll ids P place new → IsIndex ids log (reach types later n) new
   index_next K P place e types later at meets due each moves lt new gains all = index_more ids log place e at (reach by_type asked n) P meets due list new was gains all (reach types later n)
       (λ q p. elim (moves q) [ inl same ↦ omega (arith, same, was.within q p) | inr w ↦ omega (arith, w.1.1, lt) ])
       (λ q. elim (moves q) [ inl same ↦ inl same | inr w ↦ inr (w.1.0, (w.1.1, each q w.0)) ])

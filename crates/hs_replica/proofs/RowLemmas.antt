@@ -13,7 +13,7 @@ use Rattle.hs_types.proofs.Numbers.{same_type}
 use Rattle.hs_replica.specs.declared.key.Key.{Key}
 use Rattle.hs_replica.specs.declared.key.Key.TheVariants.{At, Typed, Asking, Taking}
 use Rattle.hs_replica.specs.Places.{Question, here, typed, asks, takes, IsFirst, Meets, Answers}
-use Rattle.hs_replica.specs.Index.{log_of, question, reach, IsKey, RisesTo, IsListed, IsIndex, IsNextTyped, AddsAt, Gains, HasAll, OfTypes, TakesBy, TakesFirst}
+use Rattle.hs_replica.specs.Index.{log_of, question, reach, IsKey, RisesTo, IsListed, IsIndex, IsNextTyped, AddsAt, Gains, ListsAll, OfTypes, TakesBy, TakesFirst}
 use Rattle.hs_replica.proofs.SetLemmas.{gains_then, gains_weaker, gains_one, still_listed}
 
 -- the first of an ascending list is the least
@@ -33,10 +33,10 @@ module _ (ids : InternerData) (row : RowData) (list : Key → List ℕ) (place :
       → Gains ids (TakesFirst ids row list place) place old new
   first_gains first old = gains_weaker ids (TakesBy row.point (type_of_id ids row.ty)) (TakesFirst ids row list place) place old new (λ q h. (first, h))
 
-  pub first_all : HasAll ids (TakesBy row.point (type_of_id ids row.ty)) place new → HasAll ids (TakesFirst ids row list place) place new
+  pub first_all : ListsAll ids (TakesBy row.point (type_of_id ids row.ty)) place new → ListsAll ids (TakesFirst ids row list place) place new
   first_all all q h = all q h.1
 
-  pub later_all : (slice_get (list (Typed row.point row.ty)) 0 ≡ Some place → ⊥) → HasAll ids (TakesFirst ids row list place) place new
+  pub later_all : (slice_get (list (Typed row.point row.ty)) 0 ≡ Some place → ⊥) → ListsAll ids (TakesFirst ids row list place) place new
   later_all later q h = absurd (later h.0)
 
 -- a question has one key
@@ -103,14 +103,14 @@ module _ (ids : InternerData) (log : List EntryData) (place : ℕ) (e : EntryDat
     rises = λ k. gains.rises k (reached (question ids k)) (due (question ids k)) (was.rises k);
   }
 
-  answered : HasAll ids P place new → (i : ℕ) (q : Question) → i ≡ place → (Meets log place e q → P q) → Answers log i q → IsListed ids new i q
+  answered : ListsAll ids P place new → (i : ℕ) (q : Question) → i ≡ place → (Meets log place e q → P q) → Answers log i q → IsListed ids new i q
   answered all i q same holds a =
       let is : a.entry ≡ e = same_Some a.entry e (sym a.at ∙ (ap (slice_get log) same ∙ at)) in
       subst (λ j. IsListed ids new j q) (sym same)
       (all q (holds (subst (λ j. Meets log j e q) same (subst (λ (d : EntryData). Meets log i d q) is a.meets))))
 
   -- these then reach beyond it, and all others stay
-  pub index_more : HasAll ids P place new → (later : Question → ℕ) → ((q : Question) (p : ℕ) → later q ≤ later (here p))
+  pub index_more : ListsAll ids P place new → (later : Question → ℕ) → ((q : Question) (p : ℕ) → later q ≤ later (here p))
       → ((q : Question) → (later q ≡ reached q) ⊎ ((reached q ≡ place) × ((later q ≡ place + 1) × (Meets log place e q → P q)))) → IsIndex ids log later new
   index_more all later within moves = index_to ids log reached later new
       (λ q. elim (moves q) [ inl e ↦ omega (arith, e) | inr m ↦ omega (arith, m.0, m.1.0) ])
@@ -155,7 +155,7 @@ module _ (ids : InternerData) (log : List EntryData) (by_type asked : List ℕ) 
   within (asks k j a) p = omega (arith, was.within (asks k j a) p)
   within (takes k j a) p = omega (arith, was.within (takes k j a) p)
 
-  all_here : Contains (new (At e.point)) place → HasAll ids (IsHere log place e) place new
+  all_here : Contains (new (At e.point)) place → ListsAll ids (IsHere log place e) place new
   all_here there (here p) h = record { key = At e.point; known = tt; for = ap here h; among = there }
   all_here there (typed p a) h = absurd h
   all_here there (asks p j a) h = absurd h
@@ -234,7 +234,7 @@ module _ (ids : InternerData) (is : IsInterner ids) (log : List EntryData) (plac
         pub all_gains : Gains ids Met place old new
         all_gains = gains_then ids Met (TakesFirst ids row list place) Met place old list new (λ q h. h) takes_met typed_gains firsts
 
-        pub all_met : HasAll ids (TakesFirst ids row list place) place new → HasAll ids Met place new
+        pub all_met : ListsAll ids (TakesFirst ids row list place) place new → ListsAll ids Met place new
         all_met all (typed p a) h =
             let m = answered_by log place e at (typed p a) h in
             record {

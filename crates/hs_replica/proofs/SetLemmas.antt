@@ -7,7 +7,7 @@ use Rattle.hs_types.specs.Interned.{InternerData, type_of_id}
 use Rattle.hs_replica.specs.declared.key.Key.{Key}
 use Rattle.hs_replica.specs.declared.key.Key.TheVariants.{Asking, Taking}
 use Rattle.hs_replica.specs.Places.{Question, here, typed, asks, takes}
-use Rattle.hs_replica.specs.Index.{question, IsKey, IsListed, AddsAt, Gains, HasAll, AsksAt, TakesAt}
+use Rattle.hs_replica.specs.Index.{question, IsKey, IsListed, AddsAt, Gains, ListsAll, AsksAt, TakesAt}
 
 pub gains_nothing : (ids : InternerData) (P : Question → Type 0) (place : ℕ) (old : Key → List ℕ) → Gains ids P place old old
 gains_nothing ids P place old = record { only = λ k i h. inl h; keeps = λ k i h. h; rises = λ k n h r. r }
@@ -95,7 +95,7 @@ member_in ids members s is t h =
     (h.0, omega (arith, length-map members (type_of_id ids), h.1), get_or-map (type_of_id ids) members h.0 t (type_of_id ids t) h.1 ∙ ap (type_of_id ids) h.2)
 
 pub asked_all : (ids : InternerData) (members : List ℕ) (s : List TypeTree) → map (type_of_id ids) members ≡ s → (point j place : ℕ) (new : Key → List ℕ)
-    → ((t : ℕ) → Contains members t → IsListed ids new place (question ids (Asking point j t))) → HasAll ids (AsksAt point j s) place new
+    → ((t : ℕ) → Contains members t → IsListed ids new place (question ids (Asking point j t))) → ListsAll ids (AsksAt point j s) place new
 asked_all ids members s is point j place new all (asks p i a) h =
     let m = member_of ids members s is a h.1.1 in
     subst (λ (q : Question). IsListed ids new place q) (λ k. asks (sym h.0 k) (sym h.1.0 k) (m.1.1 k)) (all m.0 m.1.0)
@@ -104,7 +104,7 @@ asked_all ids members s is point j place new all (typed p a) h = absurd h
 asked_all ids members s is point j place new all (takes p i a) h = absurd h
 
 pub taken_all : (ids : InternerData) (members : List ℕ) (s : List TypeTree) → map (type_of_id ids) members ≡ s → (point j place : ℕ) (new : Key → List ℕ)
-    → ((t : ℕ) → Contains members t → IsListed ids new place (question ids (Taking point j t))) → HasAll ids (TakesAt point j s) place new
+    → ((t : ℕ) → Contains members t → IsListed ids new place (question ids (Taking point j t))) → ListsAll ids (TakesAt point j s) place new
 taken_all ids members s is point j place new all (takes p i a) h =
     let m = member_of ids members s is a h.1.1 in
     subst (λ (q : Question). IsListed ids new place q) (λ k. takes (sym h.0 k) (sym h.1.0 k) (m.1.1 k)) (all m.0 m.1.0)

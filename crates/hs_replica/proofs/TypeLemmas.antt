@@ -10,7 +10,7 @@ use Rattle.hs_types.specs.Interned.{InternerData, type_of_id, set_of_id, IsView}
 use Rattle.hs_types.specs.declared.ids.View.TheVariants.{Arrow}
 use Rattle.hs_replica.specs.declared.key.Key.{Key}
 use Rattle.hs_replica.specs.Places.{Question, here, typed, asks, takes}
-use Rattle.hs_replica.specs.Index.{Gains, HasAll, TakesAt, TakesBy}
+use Rattle.hs_replica.specs.Index.{Gains, ListsAll, TakesAt, TakesBy}
 use Rattle.hs_replica.proofs.SetLemmas.{gains_then, still_listed}
 
 abbrev set_of : Tree (Option ℕ) → List TypeTree
@@ -41,7 +41,7 @@ pub record TypeSoFar (ids : InternerData) (point : ℕ) (ty : TypeTree) (rest ar
   pub long : length taken ≡ arg
   pub is : ty ≡ arrows taken (type_of_id ids rest)
   pub gains : Gains ids (TakesBy point ty) place old new
-  pub all : (j : ℕ) → j < arg → HasAll ids (TakesAt point j (set_at taken j)) place new
+  pub all : (j : ℕ) → j < arg → ListsAll ids (TakesAt point j (set_at taken j)) place new
 
 at_by : (point n : ℕ) (ty : TypeTree) (taken : Env) (s : List TypeTree) (t : TypeTree) → length taken ≡ n → ty ≡ arrows taken (arrow s t) → (q : Question) → TakesAt point n s q → TakesBy point ty q
 at_by point n ty taken s t long is (takes p j a) h = (
@@ -66,7 +66,7 @@ module _ (ids : InternerData) (point : ℕ) (ty : TypeTree) (rest arg place : �
     type_stopped = gains_then ids (TakesBy point ty) (TakesAt point arg (set_of_id ids set)) (TakesBy point ty) place old mid new (λ q h. h)
         (at_by point arg ty was.taken (set_of_id ids set) (type_of_id ids next) was.long splits) was.gains gains
 
-    pub type_more : HasAll ids (TakesAt point arg (set_of_id ids set)) place new → TypeSoFar ids point ty next (arg + 1) place old new
+    pub type_more : ListsAll ids (TakesAt point arg (set_of_id ids set)) place new → TypeSoFar ids point ty next (arg + 1) place old new
     type_more all =
         let s = set_of_id ids set in
         record {
@@ -78,16 +78,16 @@ module _ (ids : InternerData) (point : ℕ) (ty : TypeTree) (rest arg place : �
           all = λ j less. elim (cases_lt j arg) [
             | inl before ↦
                 let e : set_at (was.taken ++ s ∷ []) j ≡ set_at was.taken j = get_or_append_left was.taken (s ∷ []) [] j (omega (arith, was.long)) in
-                subst (λ (r : List TypeTree). HasAll ids (TakesAt point j r) place new) (sym e)
+                subst (λ (r : List TypeTree). ListsAll ids (TakesAt point j r) place new) (sym e)
                 (λ q h. still_listed ids (TakesAt point arg s) place place mid new q gains (was.all j before q h))
             | inr last ↦
                 let same : arg ≡ j = omega arith in
                 let e : set_at (was.taken ++ s ∷ []) j ≡ s = get_or_push was.taken s [] j (was.long ∙ same) in
-                subst (λ (r : List TypeTree). HasAll ids (TakesAt point j r) place new) (sym e) (subst (λ (k : ℕ). HasAll ids (TakesAt point k s) place new) same all)
+                subst (λ (r : List TypeTree). ListsAll ids (TakesAt point j r) place new) (sym e) (subst (λ (k : ℕ). ListsAll ids (TakesAt point k s) place new) same all)
           ];
         }
 
-  pub type_all : (q : ℕ) → type_of_id ids rest ≡ state q → HasAll ids (TakesBy point ty) place mid
+  pub type_all : (q : ℕ) → type_of_id ids rest ≡ state q → ListsAll ids (TakesBy point ty) place mid
   type_all q end (takes p j a) h =
       let b = begins h.1.sets h.1.rest was.taken q (sym h.1.is ∙ (was.is ∙ ap (arrows was.taken) end)) in
       let in_sets : j < length h.1.sets = has_within h.1.sets j a h.1.has in

@@ -8,7 +8,7 @@ use Rattle.hs_types.specs.Interned.{InternerData, IsInterner}
 use Rattle.hs_replica.specs.declared.key.Key.{Key}
 use Rattle.hs_replica.specs.declared.key.Key.TheVariants.{At}
 use Rattle.hs_replica.specs.Places.{Question, here, typed, asks, takes, Meets, Answers}
-use Rattle.hs_replica.specs.Index.{reach, IsIndex, IsNextTyped, Gains, HasAll, OfTypes}
+use Rattle.hs_replica.specs.Index.{reach, IsIndex, IsNextTyped, Gains, ListsAll, OfTypes}
 use Rattle.hs_replica.proofs.RowLemmas.{answers, answered_by, index_kept}
 use Rattle.hs_replica.proofs.ReachLemmas.{TypesOf, types_stand, types_move, number_read, number_written, number_grows, index_skip, index_next, none_behind, next_reached}
 
@@ -62,7 +62,7 @@ module _ (ids : InternerData) (is : IsInterner ids) (log : List EntryData) (by_t
     pub types_stopped : IsIndex ids log (reach now asked n) new
     types_stopped = index_kept ids log place stands.entry stands.at (reach now asked n) (OfTypes log place) (met log place stands.entry stands.at) its_due list new reached gains
 
-    pub types_more : HasAll ids (OfTypes log place) place new → IsIndex ids log (reach (set now point (place + 1)) asked n) new
+    pub types_more : ListsAll ids (OfTypes log place) place new → IsIndex ids log (reach (set now point (place + 1)) asked n) new
     types_more all =
         let later : point < length now = omega (arith, length-set by_type point place, long) in
         index_next ids log now asked n list reached (TypesOf point) (OfTypes log place) place stands.entry (set now point (place + 1)) asked stands.at (met log place stands.entry stands.at) its_due

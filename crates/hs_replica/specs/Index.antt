@@ -1,9 +1,9 @@
 -- How places are kept by what they answer.
---     list_at lists k       the list of this key, by `row_at` or `keyed_at`
---     question ids k        what the key asks for
+--     list_at lists k  the list of this key, by `row_at` or `keyed_at`
+--     question ids k   what the key asks for
 --     reach types asked n q so many places, from the first, are listed by the question; by types and by what entries ask for, when these are wanted of a point
---     IsIndex               the lists have just the places that answer what their keys ask for, as far as these are reached
---     Gains, HasAll         lists that gain a place
+--     IsIndex          the lists have just the places that answer what their keys ask for, as far as these are reached
+--     Gains, ListsAll  lists that gain a place
 use Rattle.std.specs.Prelude.{◌≡◌, ◌≢◌, ◌^◌, AllPairs, Some, slice_get, slice_index_or, ℕ, ◌<◌, ◌≤◌, List, [], length, map, All, Contains, ◌⊎◌}
 use Rattle.std.specs.Option.{option_map_or}
 use Rattle.std.specs.List.Sorted.{IsStrictlyIncreasing}
@@ -16,7 +16,7 @@ use Rattle.hs_replica.specs.declared.lists.Lists.{Lists}
 use Rattle.hs_replica.specs.declared.key.Key.{Key}
 use Rattle.hs_replica.specs.declared.key.Key.TheVariants.{At, Typed, Asking, Taking}
 use Rattle.hs_replica.specs.contracts.key.KeyPartialEq.TheImpl.{eq-value}
-use Rattle.hs_replica.specs.Places.{Question, here, typed, asks, takes, IsState, Takes, Answers}
+use Rattle.hs_replica.specs.Places.{Question, here, typed, asks, takes, IsState, HasArgumentType, Answers}
 
 -- the entries of these rows
 abbrev pub log_of : InternerData → List RowData → List EntryData
@@ -130,8 +130,8 @@ pub record Gains (ids : InternerData) (P : Question → Type 0) (place : ℕ) (o
   pub rises : (k : Key) (n : ℕ) → (P (question ids k) → n ≡ place) → RisesTo n (old k) → RisesTo n (new k)
 
 -- all that P holds of is listed
-abbrev pub HasAll : InternerData → (Question → Type 0) → ℕ → (Key → List ℕ) → Type 0
-HasAll ids P place list = (q : Question) → P q → IsListed ids list place q
+abbrev pub ListsAll : InternerData → (Question → Type 0) → ℕ → (Key → List ℕ) → Type 0
+ListsAll ids P place list = (q : Question) → P q → IsListed ids list place q
 
 -- the entry at this place answers it, and it is about types
 abbrev pub OfTypes : List EntryData → ℕ → Question → Type 0
@@ -155,7 +155,7 @@ TakesAt point j s (takes p i a) = (p ≡ point) × ((i ≡ j) × Contains s a)
 TakesAt point j s q = ⊥
 
 abbrev pub TakesBy : ℕ → TypeTree → Question → Type 0
-TakesBy point ty (takes p j a) = (p ≡ point) × Takes ty j a
+TakesBy point ty (takes p j a) = (p ≡ point) × HasArgumentType ty j a
 TakesBy point ty q = ⊥
 
 -- the list of the row's point and type begins with the place

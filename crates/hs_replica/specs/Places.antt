@@ -19,7 +19,7 @@ abbrev pub IsState : TypeTree → Type 0
 IsState ty = (q : ℕ) × (ty ≡ state q)
 
 -- by this type, argument number j, from 0, is to be rejected by the type a
-pub record Takes (ty : TypeTree) (j : ℕ) (a : TypeTree) : Type 0 where
+pub record HasArgumentType (ty : TypeTree) (j : ℕ) (a : TypeTree) : Type 0 where
   pub sets : Env
   pub rest : TypeTree
   pub is : ty ≡ arrows sets rest
@@ -44,7 +44,7 @@ abbrev pub Meets : List EntryData → ℕ → EntryData → Question → Type 0
 Meets log i e (here p) = e.point ≡ p
 Meets log i e (typed p a) = (e.point ≡ p) × (e.ty ≡ a)
 Meets log i e (asks p j a) = (e.point ≡ p) × (IsState e.ty × Has e.env j a)
-Meets log i e (takes p j a) = (e.point ≡ p) × (Takes e.ty j a × IsFirst log i e)
+Meets log i e (takes p j a) = (e.point ≡ p) × (HasArgumentType e.ty j a × IsFirst log i e)
 
 pub record Answers (log : List EntryData) (i : ℕ) (q : Question) : Type 0 where
   pub entry : EntryData

@@ -2,7 +2,7 @@
 
 ghost use Rattle.std.specs.Prelude.{◌≡◌, ◌<◌, ◌≤◌, All, IfOk, OnOk, length};
 ghost use Rattle.hs_types.specs.Interned.{set_of_id, env_of_id, IsRow};
-ghost use Rattle.hs_replica.specs.Index.{list_at, log_of, IsAskedIndex, KeepsAsked, HasAsked, Gains, HasAll, AsksAt, AsksIn, AsksBy};
+ghost use Rattle.hs_replica.specs.Index.{list_at, log_of, IsAskedIndex, KeepsAsked, HasAsked, Gains, ListsAll, AsksAt, AsksIn, AsksBy};
 
 use crate::key::Key;
 use crate::lists::{Lists, add_once};
@@ -22,7 +22,7 @@ fn add_asked(
     requires { set < length interner.now.sets }
     ensures gains { Gains interner.now (AsksAt point param (set_of_id interner.now set)) place
         (list_at lists.old) (list_at lists.new) }
-    ensures all { OnOk result (HasAll interner.now (AsksAt point param (set_of_id interner.now set)) place
+    ensures all { OnOk result (ListsAll interner.now (AsksAt point param (set_of_id interner.now set)) place
         (list_at lists.new)) }
 {
     for ty in interner.members(set) {
@@ -52,7 +52,7 @@ fn add_asking(
     requires { env < length interner.now.envs }
     ensures gains { Gains interner.now (AsksIn point (env_of_id interner.now env)) place (list_at lists.old)
         (list_at lists.new) }
-    ensures all { OnOk result (HasAll interner.now (AsksIn point (env_of_id interner.now env)) place
+    ensures all { OnOk result (ListsAll interner.now (AsksIn point (env_of_id interner.now env)) place
         (list_at lists.new)) }
 {
     for (param, set) in interner.sets(env).iter().enumerate() {
@@ -67,7 +67,7 @@ fn add_row(lists: &mut Lists, interner: &Interner, row: Row, place: u32) -> Resu
     requires { IsRow interner.now row }
     ensures gains { Gains interner.now (AsksBy interner.now row) place (list_at lists.old)
         (list_at lists.new) }
-    ensures all { OnOk result (HasAll interner.now (AsksBy interner.now row) place (list_at lists.new)) }
+    ensures all { OnOk result (ListsAll interner.now (AsksBy interner.now row) place (list_at lists.new)) }
 {
     if let View::State(_) = interner.view(row.ty) {
         return add_asking(lists, interner, row.point, row.env, place);

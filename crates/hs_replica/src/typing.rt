@@ -2,7 +2,7 @@
 
 ghost use Rattle.std.specs.Prelude.{◌≡◌, ℕ, ◌<◌, ◌≤◌, ◌↔◌, All, OnOk, IsTrue, length, slice_index_or};
 ghost use Rattle.hs_types.specs.Interned.{type_of_id, set_of_id, IsRow};
-ghost use Rattle.hs_replica.specs.Index.{list_at, log_of, IsTypedIndex, KeepsTyped, IsNextTyped, Gains, HasAll, OfTypes, TakesAt, TakesBy, BeginsTyped, TakesFirst};
+ghost use Rattle.hs_replica.specs.Index.{list_at, log_of, IsTypedIndex, KeepsTyped, IsNextTyped, Gains, ListsAll, OfTypes, TakesAt, TakesBy, BeginsTyped, TakesFirst};
 
 use crate::key::Key;
 use crate::lists::{Lists, add_once};
@@ -22,7 +22,7 @@ fn add_taken(
     requires { set < length interner.now.sets }
     ensures gains { Gains interner.now (TakesAt point arg (set_of_id interner.now set)) place
         (list_at lists.old) (list_at lists.new) }
-    ensures all { OnOk result (HasAll interner.now (TakesAt point arg (set_of_id interner.now set)) place
+    ensures all { OnOk result (ListsAll interner.now (TakesAt point arg (set_of_id interner.now set)) place
         (list_at lists.new)) }
 {
     for ty in interner.members(set) {
@@ -42,7 +42,7 @@ fn add_taking(
     requires { ty < length interner.now.types }
     ensures gains { Gains interner.now (TakesBy point (type_of_id interner.now ty)) place (list_at lists.old)
         (list_at lists.new) }
-    ensures all { OnOk result (HasAll interner.now (TakesBy point (type_of_id interner.now ty)) place
+    ensures all { OnOk result (ListsAll interner.now (TakesBy point (type_of_id interner.now ty)) place
         (list_at lists.new)) }
 {
     let mut rest = ty;
@@ -72,7 +72,7 @@ fn add_first(
     requires first { IsTrue first ↔ BeginsTyped row place (list_at lists.old) }
     ensures gains { Gains interner.now (TakesFirst interner.now row (list_at lists.old) place) place
         (list_at lists.old) (list_at lists.new) }
-    ensures all { OnOk result (HasAll interner.now
+    ensures all { OnOk result (ListsAll interner.now
         (TakesFirst interner.now row (list_at lists.old) place) place (list_at lists.new)) }
 {
     if first {
@@ -94,7 +94,7 @@ fn add_typed(
     requires next { IsNextTyped interner.now (log_of interner.now rows.now) place (list_at lists.old) }
     ensures gains { Gains interner.now (OfTypes (log_of interner.now rows.now) place) place
         (list_at lists.old) (list_at lists.new) }
-    ensures all { OnOk result (HasAll interner.now (OfTypes (log_of interner.now rows.now) place) place
+    ensures all { OnOk result (ListsAll interner.now (OfTypes (log_of interner.now rows.now) place) place
         (list_at lists.new)) }
 {
     interner.numbers_are_exact();

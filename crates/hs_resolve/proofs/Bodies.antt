@@ -17,7 +17,7 @@ use Rattle.hs_resolve.specs.Numbering.{is_terminal, head_of, numbered}
 use Rattle.hs_resolve.specs.Least.{IsLeast, earliest, Before}
 use Rattle.hs_resolve.specs.LineFaults.{Somewhere, IsUndefined}
 use Rattle.hs_resolve.specs.Tables.{scoped_rule}
-use Rattle.hs_resolve.specs.Bodies.{unknown_at, undefined_at, undefined_in, IsNumbered, AreNumbered, IsScoped, AreScoped, IsHead}
+use Rattle.hs_resolve.specs.Bodies.{unknown_at, undefined_at, undefined_in, IsNumberedTerm, AreNumbered, IsScoped, AreScoped, IsHead}
 use Rattle.hs_resolve.proofs.Lists.{is_some-position, take-push, pushed-more}
 use Rattle.hs_resolve.proofs.Growing.{extends, behind_all, all-behind, with_names-append}
 use Rattle.hs_resolve.proofs.Leasts.{least-same, least-either, least-next}
@@ -55,7 +55,7 @@ module _ (items : List (Tree RawName)) (n : ℕ) (arg : Tree RawName) (at : slic
       ∙ (sym (undefined-append left first (terms_names (forest (take n items))) (term_names arg)) ∙ ap (undefined_in left first) (sym names-more)))
 
   pub terms-more : (left params xs old_terminals new_terminals : List (List ℕ)) (old new : List (Tree Head)) (term : Tree Head) → new_terminals ≡ with_names old_terminals xs
-      → AreNumbered left params old_terminals (take n items) old → IsNumbered left params new_terminals arg term → new ≡ old ++ term ∷ []
+      → AreNumbered left params old_terminals (take n items) old → IsNumberedTerm left params new_terminals arg term → new ≡ old ++ term ∷ []
       → AreNumbered left params new_terminals (take (n + 1) items) new
   terms-more left params xs old_terminals new_terminals old new term grows was is e = λ later.
       let all : old_terminals ++ behind_all old_terminals xs later ≡ new_terminals ++ later = all-behind old_terminals xs later ∙ ap (λ ns. ns ++ later) (sym grows) in

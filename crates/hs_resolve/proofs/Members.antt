@@ -6,16 +6,12 @@ use Rattle.std.proofs.lemmas.List.{take_all, length-map}
 use Rattle.std.proofs.lemmas.List.Folds.{list_any-append}
 use Rattle.std.proofs.lemmas.Option.{get_or_from_slice_get, slice_get_within, same_Some}
 use Rattle.std.proofs.lemmas.Bool.{or_left, or_right}
+use Rattle.hs_scheme.proofs.Lists.{some_at}
 use Rattle.hs_reader.specs.declared.raw.RawName.{RawName}
 use Rattle.hs_resolve.specs.Names.{texts, is_among, number_of, number, distinct, with_name}
 use Rattle.hs_resolve.specs.LineFaults.{Repeats}
 use Rattle.hs_resolve.proofs.Lists.{at_map, position-cons, is_some-position, take-push}
 use Rattle.hs_resolve.proofs.Distinct.{same, distinct-push}
-
-pub some_at : {A : Type 0} (xs : List A) (n : ℕ) → n < length xs → (x : A) × (slice_get xs n ≡ Some x)
-some_at [] n h = absurd (omega arith)
-some_at (x ∷ xs) zero h = (x, refl)
-some_at (x ∷ xs) (suc n) h = some_at xs n (omega arith)
 
 -- what holds of each image, by places
 pub all-map : {A B : Type 0} (P : B → Type 0) (f : A → B) (xs : List A) → ((i : ℕ) (x : A) → slice_get xs i ≡ Some x → P (f x)) → All P (map f xs)

@@ -16,6 +16,7 @@ use Rattle.hs_scheme.specs.Automaton.{IsAutomaton, IsDeterministic}
 use Rattle.hs_scheme.specs.Scheme.{HeadInRange, TermInRange, TermsInRange, AreRules}
 use Rattle.hs_scheme.specs.Unsorted.{UnsortedData, IsUnsorted, HasNames, AgreesWithRanks}
 use Rattle.hs_scheme.proofs.TransitionLemmas.{mapped}
+use Rattle.hs_scheme.proofs.Lists.{some_at}
 use Rattle.hs_reader.specs.declared.raw.RawName.{RawName}
 use Rattle.hs_reader.specs.Raw.{Rule, Transition, File}
 use Rattle.hs_reader.specs.Limits.{IsRaw, term_names, terms_names, HasFewArguments, HaveFewArguments}
@@ -29,7 +30,7 @@ use Rattle.hs_resolve.specs.Lengths.{length_of}
 use Rattle.hs_resolve.specs.Tables.{scoped_rule, IsResolved, made_of}
 use Rattle.hs_resolve.proofs.Lists.{at_map, is_some-position, map-map}
 use Rattle.hs_resolve.proofs.Distinct.{same_self, among-distinct, distinct-le}
-use Rattle.hs_resolve.proofs.Members.{some_at, all-map, all-same, all-append, map-same, any-before, any-filter, any-flat_map, position-at, number-name, number-within, apart-distinct, recursion-at, not-empty}
+use Rattle.hs_resolve.proofs.Members.{all-map, all-same, all-append, map-same, any-before, any-filter, any-flat_map, position-at, number-name, number-within, apart-distinct, recursion-at, not-empty}
 
 len-numbered : (head : RawName → Head) (ts : Trees RawName) → length (children (numbered_each head ts)) ≡ length (children ts)
 len-numbered head none = refl

@@ -2,7 +2,7 @@
 --     unknown_at     the line of a name that isn't among the left names
 --     undefined_at   the line of an upper name that isn't among them
 --     undefined_in   the least of those lines, and of one that was known before
---     IsHead, IsNumbered, IsScoped
+--     IsHead, IsNumberedTerm, IsScoped
 --                    the head of a name, the term of a body and the rule, whatever terminals are met later
 use Rattle.std.specs.Prelude.{◌≡◌, ℕ, ◌&&◌, not, List, [], ◌∷◌, ◌++◌, map, Option, Some, None, if◌then◌else◌}
 use Rattle.hs_scheme.specs.declared.term.Head.{Head}
@@ -29,8 +29,8 @@ undefined_in left o (n ∷ ns) = undefined_in left (earliest o (undefined_at lef
 abbrev pub IsHead : (left params terminals : List (List ℕ)) → RawName → Head → Type 0
 IsHead left params terminals name head = (later : List (List ℕ)) → head ≡ head_of left params (terminals ++ later) name
 
-abbrev pub IsNumbered : (left params terminals : List (List ℕ)) → Tree RawName → Tree Head → Type 0
-IsNumbered left params terminals raw term = (later : List (List ℕ)) → term ≡ numbered (head_of left params (terminals ++ later)) raw
+abbrev pub IsNumberedTerm : (left params terminals : List (List ℕ)) → Tree RawName → Tree Head → Type 0
+IsNumberedTerm left params terminals raw term = (later : List (List ℕ)) → term ≡ numbered (head_of left params (terminals ++ later)) raw
 
 abbrev pub AreNumbered : (left params terminals : List (List ℕ)) → List (Tree RawName) → List (Tree Head) → Type 0
 AreNumbered left params terminals raw terms =

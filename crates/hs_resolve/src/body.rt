@@ -13,7 +13,7 @@ ghost use Rattle.hs_resolve.specs.Least as least;
 ghost use Rattle.hs_resolve.specs.Least.{IsLeast};
 ghost use Rattle.hs_resolve.specs.LineFaults.{Somewhere, IsUndefined};
 ghost use Rattle.hs_resolve.specs.Tables.{HasNumbers};
-ghost use Rattle.hs_resolve.specs.Bodies.{unknown_at, undefined_at, undefined_in, IsHead, IsNumbered, IsScoped, AreScoped};
+ghost use Rattle.hs_resolve.specs.Bodies.{unknown_at, undefined_at, undefined_in, IsHead, IsNumberedTerm, IsScoped, AreScoped};
 
 use crate::line::earliest;
 use crate::name_index::NameIndex;
@@ -97,7 +97,7 @@ fn term_of<'a>(
     ensures undefined { OnOk result (undefined.new
         ≡ undefined_in left.now undefined.old (term_names (first_term ahead.old.nodes.now))) }
     ensures term { IfOk result (λ term.
-        IsNumbered left.now params.now terminals.new (first_term ahead.old.nodes.now) term) }
+        IsNumberedTerm left.now params.now terminals.new (first_term ahead.old.nodes.now) term) }
 {
     let [node, behind @ ..] = ahead.nodes else {
         unreachable!()

@@ -4,7 +4,7 @@ use Rattle.hs_scheme.proofs.Lists.{none_in}
 use Rattle.hs_table.specs.Types.{TypeTree, state, arrow, arrows}
 use Rattle.hs_table.specs.Entries.{Env, Has}
 use Rattle.hs_table_laws.proofs.Arrows.{arrow_same, state_no_arrow}
-use Rattle.hs_replica.specs.Places.{Takes}
+use Rattle.hs_replica.specs.Places.{HasArgumentType}
 
 -- a type that is a state behind its sets has no more of them
 pub arrows_long : (ss rs : Env) (q : ℕ) (u : TypeTree) → arrows ss (state q) ≡ arrows rs u → length rs ≤ length ss
@@ -39,5 +39,5 @@ in_sets (s ∷ ss) [] t u j a e h lt = absurd (none_in a h)
 in_sets (s ∷ ss) (r ∷ rs) t u zero a e h lt = subst (λ (x : List TypeTree). Contains x a) (sym (arrow_same s r (arrows ss t) (arrows rs u) e).0) h
 in_sets (s ∷ ss) (r ∷ rs) t u (suc j) a e h lt = in_sets ss rs t u j a (arrow_same s r (arrows ss t) (arrows rs u) e).1 h (omega arith)
 
-pub takes_has : (ss : Env) (t : TypeTree) (j : ℕ) (a : TypeTree) → Takes (arrows ss t) j a → j < length ss → Has ss j a
+pub takes_has : (ss : Env) (t : TypeTree) (j : ℕ) (a : TypeTree) → HasArgumentType (arrows ss t) j a → j < length ss → Has ss j a
 takes_has ss t j a k lt = in_sets ss k.sets t k.rest j a k.is k.has lt

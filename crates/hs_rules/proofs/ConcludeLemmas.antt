@@ -9,7 +9,7 @@ use Rattle.hs_scheme.specs.Problem.{ProblemData}
 use Rattle.hs_scheme.proofs.Lists.{here}
 use Rattle.hs_table.specs.declared.support.HeadBy.{HeadBy}
 use Rattle.hs_table.specs.Types.{TypeTree, state, arrows, IsSet}
-use Rattle.hs_table.specs.Entries.{Env, EntryData, Has, InShape, set_at, params_of}
+use Rattle.hs_table.specs.Entries.{Env, EntryData, Has, InShape, set_at, params_of, entry_at}
 use Rattle.hs_table.specs.Follows.{IsHeadType, Support, FollowsBy, head_premise, premises}
 use Rattle.hs_table_laws.proofs.Places.{at_take}
 use Rattle.hs_table_laws.proofs.Sets.{no_set}
@@ -18,10 +18,10 @@ use Rattle.hs_types.proofs.Numbers.{type_within, type_stays, row_stays, row_with
 use Rattle.hs_rules.specs.declared.search.Fixed.{Fixed}
 use Rattle.hs_rules.specs.Conclusions.{DeducedData, IsDeduced}
 use Rattle.hs_rules.specs.Slots.{SlotData, slots, FixedData, IsCandidate, Picked, IsOwn, Concludes}
-use Rattle.hs_rules.specs.Filling.{entry_at, fixed_of}
-use Rattle.hs_rules.specs.Found.{SearchData, HeadData, HaveEnvs, RowsAre, HeadLeadsTo, IsConclusion, HasEnvFound}
+use Rattle.hs_rules.specs.Filling.{fixed_of}
+use Rattle.hs_rules.specs.Found.{SearchData, HeadData, HaveEnvs, RowsAre, HeadLeadsTo, IsDeducedBy, HasEnvFound}
 use Rattle.hs_rules.specs.Parts.{ArePart, HasRowFor, HasAll, UsesArgument, IsOnlyPlaceOf}
-use Rattle.hs_rules.specs.Heads.{head_type, IsHead, AreHeads}
+use Rattle.hs_rules.specs.Heads.{head_type, IsHeadAt, AreHeads}
 use Rattle.hs_rules.proofs.SlotLemmas.{filled_by, used_fixed, fixed_used, slot_of, into_slots, slots_differ}
 use Rattle.hs_rules.proofs.FollowLemmas.{chosen_picked, chosen_long, concludes_follows, follows_concludes}
 
@@ -36,20 +36,20 @@ module _ (p : ProblemData) (log : List EntryData) (s : SearchData) (of : PointDa
   E = take s.limit log
 
   -- the same environment, for as many parameters as the rule has
-  to_rule : (ids : InternerData) (h : HeadData) (args : List (ℕ × ℕ)) (env : Env) → IsHead p E of ids h → HeadLeadsTo ids log s h args env
+  to_rule : (ids : InternerData) (h : HeadData) (args : List (ℕ × ℕ)) (env : Env) → IsHeadAt p E of ids h → HeadLeadsTo ids log s h args env
       → Concludes E (fixed_of log s.fixed) (params_of p of.rule) of.args (env_of_id ids h.own) (map (set_of_id ids) h.sets) args env
   to_rule ids h args env head leads =
       subst (λ (us : List ℕ). Concludes E (fixed_of log s.fixed) (params_of p of.rule) us (env_of_id ids h.own) (map (set_of_id ids) h.sets) args env) (sym args_are)
       (subst (λ (n : ℕ). Concludes E (fixed_of log s.fixed) n s.args (env_of_id ids h.own) (map (set_of_id ids) h.sets) args env) head.own.is_env.long leads)
 
-  from_rule : (ids : InternerData) (h : HeadData) (args : List (ℕ × ℕ)) (env : Env) → IsHead p E of ids h
+  from_rule : (ids : InternerData) (h : HeadData) (args : List (ℕ × ℕ)) (env : Env) → IsHeadAt p E of ids h
       → Concludes E (fixed_of log s.fixed) (params_of p of.rule) of.args (env_of_id ids h.own) (map (set_of_id ids) h.sets) args env → HeadLeadsTo ids log s h args env
   from_rule ids h args env head c =
       subst (λ (n : ℕ). Concludes E (fixed_of log s.fixed) n s.args (env_of_id ids h.own) (map (set_of_id ids) h.sets) args env) (sym head.own.is_env.long)
       (subst (λ (us : List ℕ). Concludes E (fixed_of log s.fixed) (params_of p of.rule) us (env_of_id ids h.own) (map (set_of_id ids) h.sets) args env) args_are c)
 
   module _ (J K : InternerData) (g : Grows J K) where
-    pub deduced : (h : HeadData) → IsHead p E of J h → (d : DeducedData) → IsConclusion J K log s h d → IsDeduced p K E d
+    pub deduced : (h : HeadData) → IsHeadAt p E of J h → (d : DeducedData) → IsDeducedBy J K log s h d → IsDeduced p K E d
     deduced h head d c =
         let known = subst (λ (t : ℕ). t < length J.types) (sym c.ty) head.known.rest in
         let ty_is : type_of_id K d.row.ty ≡ type_of_id J h.rest = type_stays J K g d.row.ty known ∙ ap (type_of_id J) c.ty in
@@ -87,8 +87,8 @@ module _ (p : ProblemData) (log : List EntryData) (s : SearchData) (of : PointDa
 
     -- what is found stays deduced, and what is added is
     pub part_more : (I : InternerData) → Grows I J → (Counts : Support → Type 0) (Wanted : HeadBy → Env → Type 0) (heads : List HeadData) (rows more : List RowData) (old new : List DeducedData) → AreHeads p E of J Wanted heads
-        → ((h : HeadData) (d : DeducedData) → Contains heads h → Wanted h.by (map (set_of_id J) h.sets) → IsConclusion J K log s h d → Counts d.support)
-        → ArePart p I E s.point Counts rows old → RowsAre more new → ((d : DeducedData) → Contains new d → Contains old d ⊎ ((h : HeadData) × Contains heads h × IsConclusion J K log s h d))
+        → ((h : HeadData) (d : DeducedData) → Contains heads h → Wanted h.by (map (set_of_id J) h.sets) → IsDeducedBy J K log s h d → Counts d.support)
+        → ArePart p I E s.point Counts rows old → RowsAre more new → ((d : DeducedData) → Contains new d → Contains old d ⊎ ((h : HeadData) × Contains heads h × IsDeducedBy J K log s h d))
         → ArePart p K E s.point Counts more new
     part_more I gi Counts Wanted heads rows more old new are counts part rows_are some = record {
       once = rows_are;

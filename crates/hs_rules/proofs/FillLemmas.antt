@@ -7,14 +7,14 @@ use Rattle.std.proofs.lemmas.Bool.{cases_lt, cases_order, ltb-true, ltb-false}
 use Rattle.std.proofs.lemmas.Option.{get_or_from_slice_get, same_Some}
 use Rattle.hs_scheme.proofs.Lists.{none_in, here, later, uncons, Contains-at, only}
 use Rattle.hs_table.specs.Types.{TypeTree, state}
-use Rattle.hs_table.specs.Entries.{Env, EntryData, set_at}
+use Rattle.hs_table.specs.Entries.{Env, EntryData, set_at, entry_at}
 use Rattle.hs_table_laws.proofs.Places.{place_of, at_take, to_take, within_from}
 use Rattle.hs_table_laws.proofs.Members.{taken_next}
 use Rattle.hs_types.specs.Interned.{InternerData, type_of_id, set_of_id}
 use Rattle.hs_replica.specs.Places.{typed, ArePlaces}
 use Rattle.hs_rules.specs.declared.search.Fixed.{Fixed}
 use Rattle.hs_rules.specs.Slots.{SlotData, slots_of, slots, FixedData, FilledData, Respects, IsCandidate, Picked, none_left, pick}
-use Rattle.hs_rules.specs.Filling.{entry_at, fixed_of, IsFilled, AreFilled, GainsFilled, LacksCandidate, LacksSlot, IsWithin}
+use Rattle.hs_rules.specs.Filling.{fixed_of, IsFilled, AreFilled, GainsFilled, LacksCandidate, LacksSlot, IsWithin}
 use Rattle.hs_rules.specs.Shut.{AreShut}
 use Rattle.hs_rules.proofs.Lists.{read_other}
 use Rattle.hs_rules.proofs.SlotLemmas.{into_slots}

@@ -16,7 +16,7 @@ use Rattle.hs_rules.specs.Conclusions.{DeducedData}
 use Rattle.hs_rules.specs.Slots.{SlotData, slots, FixedData, FilledData, IsCandidate, Picked, none_left, pick, Concludes}
 use Rattle.hs_rules.specs.Filling.{fixed_of, IsFilled, AreFilled}
 use Rattle.hs_rules.specs.Joins.{PartialData, FillsBy, ArePlaced, AreJoined}
-use Rattle.hs_rules.specs.Found.{SearchData, HeadData, HasKnownNumbers, HaveEnvs, RowsAre, IsRowOf, HasRow, HeadLeadsTo, IsConclusion, HasEnvFound}
+use Rattle.hs_rules.specs.Found.{SearchData, HeadData, HasKnownNumbers, HaveEnvs, RowsAre, IsRowOf, HasRow, HeadLeadsTo, IsDeducedBy, HasEnvFound}
 use Rattle.hs_rules.specs.declared.joining.TheConstants.{FEW}
 use Rattle.hs_rules.proofs.Lists.{taken_cases}
 use Rattle.hs_rules.proofs.SlotLemmas.{slot_of}
@@ -182,11 +182,11 @@ module _ (log : List EntryData) (limit : ℕ) (fixed : Option FixedData) where
 module _ (I K : InternerData) (log : List EntryData) (s : SearchData) (h : HeadData) (fs : List FilledData) (partials : List PartialData)
     (filled : AreFilled (take s.limit log) (fixed_of log s.fixed) (slots 0 s.args (map (set_of_id I) h.sets)) fs)
     (joined : AreJoined K log (length (env_of_id I h.own)) (env_of_id I h.own) fs partials) where
-  pub rows_conclude : (d : DeducedData) → IsRowOf s.point h partials d → IsConclusion I K log s h d
+  pub rows_conclude : (d : DeducedData) → IsRowOf s.point h partials d → IsDeducedBy I K log s h d
   rows_conclude d r =
       let x = r.from in
       let j = joined.sound x r.among in
-      subst (λ (z : DeducedData). IsConclusion I K log s h z) (sym r.is) (record {
+      subst (λ (z : DeducedData). IsDeducedBy I K log s h z) (sym r.is) (record {
         point = refl;
         ty = refl;
         within = j.within;
@@ -258,7 +258,7 @@ module _ (I J : InternerData) (log later : List EntryData) (s : SearchData) (h :
       (subst (λ (own : Env). Leads later own (map (set_of_id I) h.sets)) (sym (env_stays I J g h.own k.own))
       (subst (λ (l : List EntryData). Leads l (env_of_id I h.own) (map (set_of_id I) h.sets)) (sym same) c))
 
-pub conclusion_earlier : (I J K : InternerData) (log later : List EntryData) (s : SearchData) (h : HeadData) → Grows I J → later ≡ log → HasKnownNumbers I s.args h → (d : DeducedData) → IsConclusion J K later s h d → IsConclusion I K log s h d
+pub conclusion_earlier : (I J K : InternerData) (log later : List EntryData) (s : SearchData) (h : HeadData) → Grows I J → later ≡ log → HasKnownNumbers I s.args h → (d : DeducedData) → IsDeducedBy J K later s h d → IsDeducedBy I K log s h d
 conclusion_earlier I J K log later s h g same k d c = record {
   point = c.point;
   ty = c.ty;
@@ -267,7 +267,7 @@ conclusion_earlier I J K log later s h g same k d c = record {
   leads = leads_earlier I J log later s h g same k d.support.args (env_of_id K d.row.env) c.leads;
 }
 
-pub conclusion_later : (I J K : InternerData) (log : List EntryData) (s : SearchData) (h : HeadData) → Grows J K → (d : DeducedData) → IsConclusion I J log s h d → IsConclusion I K log s h d
+pub conclusion_later : (I J K : InternerData) (log : List EntryData) (s : SearchData) (h : HeadData) → Grows J K → (d : DeducedData) → IsDeducedBy I J log s h d → IsDeducedBy I K log s h d
 conclusion_later I J K log s h g d c = record {
   point = c.point;
   ty = c.ty;

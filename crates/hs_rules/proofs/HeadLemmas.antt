@@ -13,7 +13,7 @@ use Rattle.hs_types.specs.Interned.{InternerData, type_of_id, set_of_id, env_of_
 use Rattle.hs_types.proofs.Numbers.{type_within, type_stays, env_within, env_stays}
 use Rattle.hs_replica.specs.Places.{Question, Answers, ArePlaces}
 use Rattle.hs_rules.specs.Found.{HeadData}
-use Rattle.hs_rules.specs.Heads.{head_type, IsWholeHead, HasType, GainsHeads, ParamAt, AtSome, AtFlow, BodyAt}
+use Rattle.hs_rules.specs.Heads.{head_type, IsWholeHead, HasTypeAmong, GainsHeads, ParamAt, AtSome, AtFlow, BodyAt}
 use Rattle.hs_rules.proofs.Lists.{read_again, taken_cases}
 use Rattle.hs_rules.proofs.ArrowLemmas.{arrows_first, arrows_parts}
 use Rattle.hs_rules.proofs.FoundLemmas.{sets_stay, sets_within}
@@ -31,7 +31,7 @@ whole_later I J count h g w = record {
 pub type_later : (I J : InternerData) (count : ℕ) (h : HeadData) → Grows I J → IsWholeHead I count h → head_type J h ≡ head_type I h
 type_later I J count h g w = λ i. arrows (sets_stay I J h.sets g w.sets i) (type_stays I J g h.rest w.rest i)
 
-pub has_later : (I J : InternerData) (count : ℕ) (sets : Env) (rest : TypeTree) (old new : List HeadData) → Grows I J → ((h : HeadData) → Contains old h → Contains new h) → HasType I count sets rest old → HasType J count sets rest new
+pub has_later : (I J : InternerData) (count : ℕ) (sets : Env) (rest : TypeTree) (old new : List HeadData) → Grows I J → ((h : HeadData) → Contains old h → Contains new h) → HasTypeAmong I count sets rest old → HasTypeAmong J count sets rest new
 has_later I J count sets rest old new g keeps t = record {
   item = t.item;
   there = keeps t.item t.there;

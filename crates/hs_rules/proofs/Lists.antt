@@ -1,8 +1,8 @@
 -- Members of lists.
-use Rattle.std.proofs.Common.{Bool, true, false, cond, filter, ◌≡◌, refl, sym, ◌∙◌, ap, subst, ℕ, ◌+◌, ◌<◌, List, [], ◌∷◌, ◌++◌, length, get_or, take, Option, Some, None, MatchOption, Result, Ok, Err, OnOk, All, Contains, ◌⊎◌, inl, inr}
+use Rattle.std.proofs.Common.{◌≡◌, sym, ◌∙◌, ap, subst, ℕ, ◌+◌, ◌<◌, List, [], ◌∷◌, ◌++◌, length, get_or, take, Result, Ok, Err, OnOk, All, Contains, ◌⊎◌, inl, inr}
 use Rattle.std.proofs.lemmas.List.Elements.{Contains-append_cases, Contains-append_left, Contains-get_or}
 use Rattle.std.proofs.lemmas.List.{get_or_default}
-use Rattle.hs_scheme.proofs.Lists.{none_in, here, later, uncons}
+use Rattle.hs_scheme.proofs.Lists.{none_in, uncons}
 use Rattle.hs_table_laws.proofs.Members.{taken_next}
 
 pub read_other : {X : Type 0} (xs : List X) (k : ℕ) (x d : X) → k < length xs → get_or xs k x ≡ x → get_or xs k d ≡ x
@@ -31,35 +31,6 @@ all_from P xs f = λ k d lt. f (get_or xs k d) (Contains-get_or xs k d lt)
 -- equal types have the same values
 pub along : {A B : Type 0} → A ≡ B → A → B
 along e a = subst (λ (X : Type 0). X) e a
-
-pub match_some : {X : Type 0} (o : Option X) (x : X) (P : Type 0) (Q : X → Type 0) → o ≡ Some x → MatchOption o P Q → Q x
-match_some o x P Q is h = subst (λ r. MatchOption r P Q) is h
-
-pub match_none : {X : Type 0} (o : Option X) (P : Type 0) (Q : X → Type 0) → o ≡ None → MatchOption o P Q → P
-match_none o P Q is h = subst (λ r. MatchOption r P Q) is h
-
-pub from_filter : {X : Type 0} (test : X → Bool) (xs : List X) (x : X) → Contains (filter test xs) x → Contains xs x × (test x ≡ true)
-from_filter test [] x c = absurd (none_in x c)
-from_filter test (y ∷ xs) x c = elim (test y) as (λ b. test y ≡ b → Contains (cond b (y ∷ filter test xs) (filter test xs)) x → Contains (y ∷ xs) x × (test x ≡ true)) [
-  | true ↦ λ e k. elim (uncons y x (filter test xs) k) [
-    | inl is ↦ (subst (λ z. Contains (y ∷ xs) z) (sym is) (here y xs), ap test is ∙ e)
-    | inr there ↦ let r = from_filter test xs x there in (later y x xs r.0, r.1)
-  ]
-  | false ↦ λ e k. let r = from_filter test xs x k in (later y x xs r.0, r.1)
-] refl c
-
-pub into_filter : {X : Type 0} (test : X → Bool) (xs : List X) (x : X) → Contains xs x → test x ≡ true → Contains (filter test xs) x
-into_filter test [] x c h = c
-into_filter test (y ∷ xs) x c h = elim (test y) as (λ b. test y ≡ b → Contains (cond b (y ∷ filter test xs) (filter test xs)) x) [
-  | true ↦ λ e. elim (uncons y x xs c) [
-    | inl is ↦ subst (λ z. Contains (y ∷ filter test xs) z) (sym is) (here y (filter test xs))
-    | inr there ↦ later y x (filter test xs) (into_filter test xs x there h)
-  ]
-  | false ↦ λ e. elim (uncons y x xs c) [
-    | inl is ↦ absurd (let f : true ≡ false = sym h ∙ (ap test is ∙ e) in cc)
-    | inr there ↦ into_filter test xs x there h
-  ]
-] refl
 
 pub on_ok_both : {X E : Type 0} (r : Result X E) (P Q R : Type 0) → (P → Q → R) → OnOk r P → OnOk r Q → OnOk r R
 on_ok_both (Ok x) P Q R f h k = f h k

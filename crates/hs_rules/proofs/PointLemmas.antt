@@ -11,9 +11,9 @@ use Rattle.hs_scheme.specs.Points.{PointData, IsArgument, size, numbers, term_po
 use Rattle.hs_scheme.specs.Parameters.{counts_of}
 use Rattle.hs_scheme.proofs.PointLemmas.{length-term_points}
 use Rattle.hs_scheme.proofs.PlaceLemmas.{once}
-use Rattle.hs_scheme.proofs.Lists.{here, later}
+use Rattle.hs_scheme.proofs.Lists.{here, later, place-append}
 use Rattle.hs_table_laws.proofs.Places.{fewer}
-use Rattle.hs_table_laws.proofs.Standing.{StandsFrom, place-append, stands_front, stands_back, stands_tail, stands_head}
+use Rattle.hs_table_laws.proofs.Standing.{StandsFrom, stands_front, stands_back, stands_tail, stands_head}
 
 module _ (points : List PointData) where
   abbrev InRule : ℕ → ℕ → Type 0

@@ -1,5 +1,5 @@
 -- Transitions agree with ranks.
-use Rattle.std.proofs.Common.{◌≡◌, refl, sym, ◌∙◌, ap, ℕ, zero, suc, true, false, nat_eq, cond, List, [], ◌∷◌, length, find, slice_get, unwrap_or, Option, Some, option_map, Contains}
+use Rattle.std.proofs.Common.{◌≡◌, refl, sym, ◌∙◌, ap, ℕ, true, false, nat_eq, cond, List, [], ◌∷◌, length, find, slice_get, unwrap_or, Option, Some, option_map, Contains}
 use Rattle.std.proofs.lemmas.Bool.{eqb-true, and_parts}
 use Rattle.std.proofs.lemmas.List.Elements.{All-contains}
 use Rattle.std.proofs.lemmas.Option.{same_Some}
@@ -7,6 +7,7 @@ use Rattle.hs_scheme.specs.Transition.{TransitionData}
 use Rattle.hs_scheme.specs.Automaton.{next, is_of}
 use Rattle.hs_scheme.specs.Sorted.{SortedData, IsSorted, known}
 use Rattle.hs_scheme.proofs.Lists.{here, later}
+use Rattle.hs_scheme.proofs.Sortings.{known_at}
 
 pub record Moved (ts : List TransitionData) (a : ℕ) (to : List ℕ) : Type 0 where
   pub transition : TransitionData
@@ -21,14 +22,9 @@ moved (t ∷ ts) q a to e = elim (is_of q a t) as (λ b. is_of q a t ≡ b → o
   | false ↦ λ is k. let m = moved ts q a to k in record { transition = m.transition; among = later t m.transition ts m.among; terminal = m.terminal; leads = m.leads }
 ] refl e
 
-from_known : (ranks : List ℕ) (a n : ℕ) → slice_get (known ranks) a ≡ Some (Some n) → slice_get ranks a ≡ Some n
-from_known [] a n e = absurd (cc)
-from_known (r ∷ ranks) zero n e = same_Some (Some r) (Some n) e
-from_known (r ∷ ranks) (suc a) n e = from_known ranks a n e
-
 pub ranks_agree : (s : SortedData) → IsSorted s → (q a : ℕ) (to : List ℕ) → next s.automaton.transitions q a ≡ Some to → length to ≡ unwrap_or (slice_get s.scheme.ranks a) 0
 ranks_agree s is q a to e =
     let m = moved s.automaton.transitions q a to e in
     let r = All-contains (λ (t : TransitionData). slice_get (known s.scheme.ranks) t.terminal ≡ Some (Some (length t.to))) s.automaton.transitions m.transition is.ranks m.among in
-    let k = from_known s.scheme.ranks m.transition.terminal (length m.transition.to) r in
+    let k = known_at s.scheme.ranks m.transition.terminal (length m.transition.to) r in
     ap (λ (xs : List ℕ). length xs) (sym m.leads) ∙ sym (ap (λ (o : Option ℕ). unwrap_or o 0) (ap (λ x. slice_get s.scheme.ranks x) (sym m.terminal) ∙ k))

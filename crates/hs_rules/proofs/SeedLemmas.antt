@@ -16,7 +16,7 @@ use Rattle.hs_table_laws.proofs.Places.{within_from}
 use Rattle.hs_table_laws.proofs.Arrows.{empties_has, one_long, one_has, has_within}
 use Rattle.hs_types.specs.Interned.{InternerData}
 use Rattle.hs_rules.specs.Found.{HeadData}
-use Rattle.hs_rules.specs.Heads.{HasType, GainsHeads, AtRange, InState, AreHeads, AsksNothing}
+use Rattle.hs_rules.specs.Heads.{HasTypeAmong, GainsHeads, AtRange, InState, AreHeads, AsksNothing}
 use Rattle.hs_rules.specs.Conclusions.{DeducedData, AnySupport, AreConclusions}
 use Rattle.hs_rules.specs.Parts.{HasRowFor}
 use Rattle.hs_rules.proofs.ArrowLemmas.{arrows_long, takes_has}
@@ -36,7 +36,7 @@ module _ (p : ProblemData) (log : List EntryData) (rule : ℕ) (args : List ℕ)
   pub bodies_nothing : (f : ℕ) → heads ≡ [] → AreHeads p [] (record { rule = rule; head = Nt f; args = args }) ids AsksNothing heads
   bodies_nothing f none = record { sound = λ h c. absurd (none_in h (subst (λ (hs : List HeadData). Contains hs h) none c)); all = all }
     where
-      all : (by : HeadBy) (sets : Env) (rest : TypeTree) → length sets ≡ length args → IsHeadType p [] rule (Nt f) by (arrows sets rest) → AsksNothing by sets → HasType ids (length args) sets rest heads
+      all : (by : HeadBy) (sets : Env) (rest : TypeTree) → length sets ≡ length args → IsHeadType p [] rule (Nt f) by (arrows sets rest) → AsksNothing by sets → HasTypeAmong ids (length args) sets rest heads
       all (Terminal q child) sets rest long h want = absurd h
       all (Rule k) sets rest long h want = absurd (let e = h.holds.at in cc)
       all (Param y k) sets rest long h want = absurd h
@@ -44,7 +44,7 @@ module _ (p : ProblemData) (log : List EntryData) (rule : ℕ) (args : List ℕ)
   pub params_nothing : (x : ℕ) → heads ≡ [] → AreHeads p [] (record { rule = rule; head = Var x; args = args }) ids AsksNothing heads
   params_nothing x none = record { sound = λ h c. absurd (none_in h (subst (λ (hs : List HeadData). Contains hs h) none c)); all = all }
     where
-      all : (by : HeadBy) (sets : Env) (rest : TypeTree) → length sets ≡ length args → IsHeadType p [] rule (Var x) by (arrows sets rest) → AsksNothing by sets → HasType ids (length args) sets rest heads
+      all : (by : HeadBy) (sets : Env) (rest : TypeTree) → length sets ≡ length args → IsHeadType p [] rule (Var x) by (arrows sets rest) → AsksNothing by sets → HasTypeAmong ids (length args) sets rest heads
       all (Terminal q child) sets rest long h want = absurd h
       all (Rule k) sets rest long h want = absurd h
       all (Param y k) sets rest long h want = absurd (let e = h.1.holds.at in cc)

@@ -1,5 +1,5 @@
 -- The types of a point's head, as they are wanted.
-use Rattle.std.proofs.Common.{◌≡◌, refl, sym, ◌∙◌, ap, subst, ℕ, ◌+◌, ◌<◌, ◌&&◌, nat_eq, None, Some, List, [], ◌∷◌, length, map, take, filter, replicate, set, slice_get, arith, Contains, inl, inr, ◌↔◌}
+use Rattle.std.proofs.Common.{◌≡◌, refl, sym, ◌∙◌, ap, subst, ℕ, ◌+◌, ◌<◌, ◌&&◌, nat_eq, None, Some, List, [], ◌∷◌, length, map, take, filter, replicate, set, slice_get, arith, Contains, inl, inr, ◌↔◌, Bool}
 use Rattle.std.proofs.lemmas.Bool.{eqb-true, eq-eqb, and_parts, and_from}
 use Rattle.std.proofs.lemmas.List.{length-map}
 use Rattle.std.proofs.lemmas.Option.{same_Some}
@@ -9,7 +9,7 @@ use Rattle.hs_scheme.specs.Points.{PointData}
 use Rattle.hs_scheme.specs.Automaton.{next}
 use Rattle.hs_scheme.specs.Transitions.{Reads}
 use Rattle.hs_scheme.specs.Problem.{ProblemData}
-use Rattle.hs_scheme.proofs.Lists.{none_in, Contains-at}
+use Rattle.hs_scheme.proofs.Lists.{none_in, Contains-at, filter_keeps, filter_has, filter_passes}
 use Rattle.hs_table.specs.declared.support.HeadBy.{HeadBy}
 use Rattle.hs_table.specs.declared.support.HeadBy.TheVariants.{Terminal, Rule, Param}
 use Rattle.hs_table.specs.Types.{TypeTree, state, arrows}
@@ -18,12 +18,11 @@ use Rattle.hs_table.specs.Follows.{rank_of, LacksTransition, RejectsChild, IsAt,
 use Rattle.hs_table_laws.proofs.Places.{at_take, to_take, within_from}
 use Rattle.hs_table_laws.proofs.Arrows.{empties_has, one_long, one_has, label_of}
 use Rattle.hs_types.specs.Interned.{InternerData, type_of_id, set_of_id, env_of_id}
-use Rattle.hs_replica.specs.Places.{here as entries_at, takes, asks, Takes, ArePlaces}
+use Rattle.hs_replica.specs.Places.{here as entries_at, takes, asks, HasArgumentType, ArePlaces}
 use Rattle.hs_replica.proofs.Firsts.{first_like}
 use Rattle.hs_rules.specs.Slots.{IsOwn}
 use Rattle.hs_rules.specs.Found.{HeadData}
-use Rattle.hs_rules.specs.Heads.{head_type, HasType, GainsHeads, BodyAt, ParamAt, AtSome, AtRange, ChildIn, ReadIn, Lacks, InState, AtFlow, AreHeads, Asks, ComesFrom, AnyHead}
-use Rattle.hs_rules.proofs.Lists.{from_filter, into_filter}
+use Rattle.hs_rules.specs.Heads.{head_type, HasTypeAmong, GainsHeads, BodyAt, ParamAt, AtSome, AtRange, ChildIn, ReadIn, StopsIn, InState, AtFlow, AreHeads, Asks, ComesFrom, AnyHead}
 use Rattle.hs_rules.proofs.ArrowLemmas.{arrows_long, takes_has}
 use Rattle.hs_rules.proofs.OwnLemmas.{own_body, own_terminal, own_param}
 
@@ -165,15 +164,16 @@ module _ (p : ProblemData) (log : List EntryData) (limit rule : ℕ) (args : Lis
 
     flow_in : (f : FlowPair) → Contains pairs f → Contains p.flow.pairs (record { rule = rule; param = x; point = f.point })
     flow_in f c =
-        let k = from_filter (λ (g : FlowPair). nat_eq g.rule rule && nat_eq g.param x) p.flow.pairs f (subst (λ (fs : List FlowPair). Contains fs f) are_pairs c) in
-        let t = and_parts (nat_eq f.rule rule) (nat_eq f.param x) k.1 in
-        subst (λ (g : FlowPair). Contains p.flow.pairs g) (λ i. record { rule = eqb-true f.rule rule t.0 i; param = eqb-true f.param x t.1 i; point = f.point }) k.0
+        let test : FlowPair → Bool = λ g. nat_eq g.rule rule && nat_eq g.param x in
+        let k = subst (λ (fs : List FlowPair). Contains fs f) are_pairs c in
+        let t = and_parts (nat_eq f.rule rule) (nat_eq f.param x) (filter_passes test p.flow.pairs f k) in
+        subst (λ (g : FlowPair). Contains p.flow.pairs g) (λ i. record { rule = eqb-true f.rule rule t.0 i; param = eqb-true f.param x t.1 i; point = f.point }) (filter_has test p.flow.pairs f k)
 
     in_flow : (u : ℕ) → Contains p.flow.pairs (record { rule = rule; param = x; point = u }) → Contains pairs (record { rule = rule; param = x; point = u })
     in_flow u c =
         let f : FlowPair = record { rule = rule; param = x; point = u } in
         subst (λ (fs : List FlowPair). Contains fs f) (sym are_pairs)
-        (into_filter (λ (g : FlowPair). nat_eq g.rule rule && nat_eq g.param x) p.flow.pairs f c (and_from (nat_eq rule rule) (nat_eq x x) (eq-eqb rule rule refl) (eq-eqb x x refl)))
+        (filter_keeps (λ (g : FlowPair). nat_eq g.rule rule && nat_eq g.param x) p.flow.pairs f (and_from (nat_eq rule rule) (nat_eq x x) (eq-eqb rule rule refl) (eq-eqb x x refl)) c)
 
     -- those that take an argument of a type
     pub params_taking : (arg : ℕ) (a : TypeTree) → arg < length args → GainsHeads ids (length args) (AtFlow log n x limit (λ u. takes u arg a) pairs) [] heads → AreHeads p E at_parameter ids (Asks arg a) heads
@@ -186,7 +186,7 @@ module _ (p : ProblemData) (log : List EntryData) (limit rule : ℕ) (args : Lis
         (λ by o sets rest s long.
         let same = same_Some s.answers.entry s.source.entry (sym s.answers.at ∙ s.source.at) in
         let ty = ap (λ (z : EntryData). z.ty) same ∙ sym s.source.just.2 in
-        takes_has sets rest arg a (subst (λ (t : TypeTree). Takes t arg a) ty s.answers.meets.1.0) (omega (arith, lt, long)))
+        takes_has sets rest arg a (subst (λ (t : TypeTree). HasArgumentType t arg a) ty s.answers.meets.1.0) (omega (arith, lt, long)))
         into
       where
         into : (by : HeadBy) (sets : Env) (rest : TypeTree) → length sets ≡ length args → IsHeadType p E rule (Var x) by (arrows sets rest) → Asks arg a by sets → (b : HeadBy) × (o : Env) × AtFlow log n x limit (λ u. takes u arg a) pairs b o (arrows sets rest)
@@ -196,7 +196,7 @@ module _ (p : ProblemData) (log : List EntryData) (limit rule : ℕ) (args : Lis
             let k = h.1 in
             let t = at_take limit log place k.entry k.holds.at in
             let f = first_like log place k.entry t.1 in
-            let takes_it : Takes f.entry.ty arg a = record { sets = sets; rest = rest; is = f.ty ∙ sym k.is; has = want } in (
+            let takes_it : HasArgumentType f.entry.ty arg a = record { sets = sets; rest = rest; is = f.ty ∙ sym k.is; has = want } in (
               Param x f.place,
               set (replicate n []) x (f.entry.ty ∷ []),
               record {
@@ -270,7 +270,7 @@ module _ (p : ProblemData) (log : List EntryData) (limit rule : ℕ) (args : Lis
         let h : RejectsChild p a q (place + 1) t = record { qs = s.to; place = place; r = s.child.r; moves = s.moves; at = s.child.at; counted = refl; is = j.2 } in
         (subst (λ (b : HeadBy). IsHeadType p E rule (Tm a) b t) (sym j.0) (lt, h), subst (λ (e : Env). IsOwn n (Tm a) t e) (sym j.1) (own_terminal n a t))
 
-    pub lacking_type : (q : ℕ) (by : HeadBy) (o : Env) (t : TypeTree) → q < p.sorted.automaton.states → Lacks p.sorted.automaton.transitions a (rank_of p a) own q by o t → IsHeadType p E rule (Tm a) by t × IsOwn n (Tm a) t o
+    pub lacking_type : (q : ℕ) (by : HeadBy) (o : Env) (t : TypeTree) → q < p.sorted.automaton.states → StopsIn p.sorted.automaton.transitions a (rank_of p a) own q by o t → IsHeadType p E rule (Tm a) by t × IsOwn n (Tm a) t o
     lacking_type q by o t lt s =
         let j = s.just in
         let h : LacksTransition p a q t = record { moves = s.moves; is = j.2 } in
@@ -339,7 +339,7 @@ module _ (p : ProblemData) (log : List EntryData) (limit rule : ℕ) (args : Lis
         all = all;
       }
         where
-          all : (by : HeadBy) (sets : Env) (rest : TypeTree) → length sets ≡ length args → IsHeadType p E rule (Tm a) by (arrows sets rest) → Asks arg t by sets → HasType ids (length args) sets rest heads
+          all : (by : HeadBy) (sets : Env) (rest : TypeTree) → length sets ≡ length args → IsHeadType p E rule (Tm a) by (arrows sets rest) → Asks arg t by sets → HasTypeAmong ids (length args) sets rest heads
           all (Terminal q None) sets rest long h want =
               let more = arrows_long (replicate (rank_of p a) []) sets q rest (sym h.1.is) in
               absurd (empties_has (rank_of p a) arg t (takes_has (replicate (rank_of p a) []) (state q) arg t (record { sets = sets; rest = rest; is = sym h.1.is; has = want }) (omega (arith, arg_lt, long, more))))

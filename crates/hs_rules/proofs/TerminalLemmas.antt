@@ -13,7 +13,7 @@ use Rattle.hs_table_laws.proofs.Places.{within_from}
 use Rattle.hs_table_laws.proofs.Sets.{sets_same, one_set}
 use Rattle.hs_types.specs.Interned.{InternerData, IsSetOf, Grows}
 use Rattle.hs_rules.specs.Found.{HeadData}
-use Rattle.hs_rules.specs.Heads.{GainsHeads, AtRange, ChildAt, ChildIn, ReadIn, Lacks, InState}
+use Rattle.hs_rules.specs.Heads.{GainsHeads, AtRange, ChildAt, ChildIn, ReadIn, StopsIn, InState}
 use Rattle.hs_rules.proofs.HeadLemmas.{heads_then, heads_same}
 
 pub set_none : (s : List TypeTree) → IsSetOf [] s → s ≡ []
@@ -58,9 +58,9 @@ heads_children ids count own q to from k old new le =
     (λ by o t a. record { place = a.place; least = a.least; most = omega (arith, a.most, le); source = a.source })
 
 module _ (ids : InternerData) (count : ℕ) (ts : List TransitionData) (a rank from : ℕ) (own : Env) (q : ℕ) (old new : List HeadData) where
-  pub heads_lack : next ts q a ≡ None → GainsHeads ids count (Lacks ts a rank own q) old new → GainsHeads ids count (InState ts a rank from own q) old new
+  pub heads_lack : next ts q a ≡ None → GainsHeads ids count (StopsIn ts a rank own q) old new → GainsHeads ids count (InState ts a rank from own q) old new
   heads_lack none =
-      heads_same ids count (Lacks ts a rank own q) (InState ts a rank from own q) old new (λ by o t l. inl l)
+      heads_same ids count (StopsIn ts a rank own q) (InState ts a rank from own q) old new (λ by o t l. inl l)
       (λ by o t s. elim s [ inl l ↦ l | inr r ↦ absurd (let e : Some r.source.to ≡ None = sym r.source.moves ∙ none in cc) ])
 
   pub heads_move : (to : List ℕ) → next ts q a ≡ Some to → length to ≡ rank → GainsHeads ids count (AtRange (ChildAt own q to) from (length to)) old new → GainsHeads ids count (InState ts a rank from own q) old new

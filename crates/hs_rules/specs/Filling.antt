@@ -1,21 +1,17 @@
 -- The candidates for slots, found in a log.
---     fixed_of       what has to fill the slot of its type
---     CanSearch      the look-ups tell of the whole log, and what is fixed is in it
---     IsFilled       the places are those of the slot's candidates
---     AreFilled      so it is for slots, one by one
---     GainsFilled    so it is for what was added
---     LacksCandidate   for a type of a set the log has nothing at the point
---     LacksSlot        the slot of a type of a set has no candidates
-use Rattle.std.specs.Prelude.{◌≡◌, ℕ, ◌^◌, ◌<◌, ◌≤◌, List, [], ◌∷◌, ◌++◌, length, slice_get, slice_index_or, Option, Some, None, Contains, ◌↔◌}
-use Rattle.hs_table.specs.Types.{TypeTree, state}
-use Rattle.hs_table.specs.Entries.{EntryData}
+--     fixed_of        what has to fill the slot of its type
+--     CanSearch       the look-ups tell of the whole log, and what is fixed is in it
+--     IsFilled        the places are those of the slot's candidates
+--     AreFilled       so it is for slots, one by one
+--     GainsFilled     so it is for what was added
+--     LacksCandidate  for a type of a set the log has nothing at the point
+--     LacksSlot       the slot of a type of a set has no candidates
+use Rattle.std.specs.Prelude.{◌≡◌, ℕ, ◌^◌, ◌<◌, ◌≤◌, List, [], ◌∷◌, ◌++◌, length, slice_get, Option, Some, None, Contains, ◌↔◌}
+use Rattle.hs_table.specs.Types.{TypeTree}
+use Rattle.hs_table.specs.Entries.{EntryData, entry_at}
 use Rattle.hs_replica.specs.Replica.{ReplicaData}
 use Rattle.hs_rules.specs.declared.search.Fixed.{Fixed}
 use Rattle.hs_rules.specs.Slots.{SlotData, FixedData, FilledData, IsCandidate}
-
--- the entry at a place
-abbrev pub entry_at : List EntryData → ℕ → EntryData
-entry_at log place = slice_index_or log place (record { point = 0; env = []; ty = state 0 })
 
 abbrev pub fixed_of : List EntryData → Option Fixed → Option FixedData
 fixed_of log None = None

@@ -1,13 +1,13 @@
 -- What the types of a head lead to.
---     SearchData, seek    where conclusions are sought
---     HeadData            a type of the head in numbers, with where it comes from and what it asks for
---     HasKnownNumbers     its numbers are known, and it has a set for each argument
---     HaveEnvs            entries at the arguments have environments for n parameters
---     RowsAre             the rows of what is found but for the first few; each row is found once
---     IsRowOf, HasRow     rows for joined environments
---     HeadLeadsTo         the head's type leads to the environment, by these arguments
---     IsConclusion        what is found comes of the head's type
---     HasEnvFound         the environment is found, with the point and the type
+--     SearchData, seek  where conclusions are sought
+--     HeadData          a type of the head in numbers, with where it comes from and what it asks for
+--     HasKnownNumbers   its numbers are known, and it has a set for each argument
+--     HaveEnvs          entries at the arguments have environments for n parameters
+--     RowsAre           the rows of what is found but for the first few; each row is found once
+--     IsRowOf, HasRow   rows for joined environments
+--     HeadLeadsTo       the head's type leads to the environment, by these arguments
+--     IsDeducedBy       what is found comes of the head's type
+--     HasEnvFound       the environment is found, with the point and the type
 use Rattle.std.specs.Prelude.{◌≡◌, ◌≢◌, ℕ, ◌<◌, List, length, map, take, drop, Option, All, AllPairs, Contains}
 use Rattle.hs_table.specs.declared.support.HeadBy.{HeadBy}
 use Rattle.hs_table.specs.Entries.{Env, EntryData, IsEnv}
@@ -65,7 +65,7 @@ abbrev pub HeadLeadsTo : InternerData → List EntryData → SearchData → Head
 HeadLeadsTo ids log s h args env =
     Concludes (take s.limit log) (fixed_of log s.fixed) (length (env_of_id ids h.own)) s.args (env_of_id ids h.own) (map (set_of_id ids) h.sets) args env
 
-pub record IsConclusion (old new : InternerData) (log : List EntryData) (s : SearchData) (h : HeadData) (d : DeducedData) : Type 0 where
+pub record IsDeducedBy (old new : InternerData) (log : List EntryData) (s : SearchData) (h : HeadData) (d : DeducedData) : Type 0 where
   pub point : d.row.point ≡ s.point
   pub ty : d.row.ty ≡ h.rest
   pub within : d.row.env < length new.envs

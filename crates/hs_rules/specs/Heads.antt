@@ -1,17 +1,17 @@
 -- The types of a head, in numbers.
---     head_type                                 the type that the numbers stand for
---     IsWholeHead                               its numbers are known, and it has so many sets
---     HasType                                   a type with these sets is there
---     GainsHeads                                types from these sources were added, and all of them
---     Just                                      the source is this one
---     BodyAt, ParamAt                           the sources at a place of the log: an entry at a nonterminal's body, and one at a point that may stand for a parameter
---     AtSome, AtRange                           a source at one of these places; at one in a range
---     ChildAt, ChildIn, ReadIn, Lacks, InState  the sources of a terminal: a child that is rejected, or no transition
---     AtFlow                                    a source at a point that may stand for a parameter
---     IsSplit                                   a type is that with these sets
---     IsHead, AreHeads                          a type of the point's head; just those that are wanted
---     IsParameterSpot, IsHeadWithin             what the searches for types rely on
---     Asks, ComesFrom, AsksNothing, AnyHead     what is wanted: a type in the set of an argument; that they come from a place; anything
+--     head_type                                   the type that the numbers stand for
+--     IsWholeHead                                 its numbers are known, and it has so many sets
+--     HasTypeAmong                                a type with these sets is there
+--     GainsHeads                                  types from these sources were added, and all of them
+--     Just                                        the source is this one
+--     BodyAt, ParamAt                             the sources at a place of the log: an entry at a nonterminal's body, and one at a point that may stand for a parameter
+--     AtSome, AtRange                             a source at one of these places; at one in a range
+--     ChildAt, ChildIn, ReadIn, StopsIn, InState  the sources of a terminal: a child that is rejected, or no transition
+--     AtFlow                                      a source at a point that may stand for a parameter
+--     IsSplit                                     a type is that with these sets
+--     IsHeadAt, AreHeads                          a type of the point's head; just those that are wanted
+--     IsParameterSpot, IsHeadWithin               what the searches for types rely on
+--     Asks, ComesFrom, AsksNothing, AnyHead       what is wanted: a type in the set of an argument; that they come from a place; anything
 use Rattle.std.specs.Prelude.{◌≡◌, ℕ, ◌+◌, ◌<◌, ◌≤◌, List, [], ◌∷◌, length, map, replicate, set, slice_get, None, Some, All, Contains, ◌⊎◌}
 use Rattle.hs_scheme.specs.declared.term.Head.{Head}
 use Rattle.hs_scheme.specs.declared.term.Head.TheVariants.{Var, Nt, Tm}
@@ -39,7 +39,7 @@ pub record IsWholeHead (ids : InternerData) (count : ℕ) (h : HeadData) : Type 
   pub rest : h.rest < length ids.types
   pub long : length h.sets ≡ count
 
-pub record HasType (ids : InternerData) (count : ℕ) (sets : Env) (rest : TypeTree) (heads : List HeadData) : Type 0 where
+pub record HasTypeAmong (ids : InternerData) (count : ℕ) (sets : Env) (rest : TypeTree) (heads : List HeadData) : Type 0 where
   pub item : HeadData
   pub there : Contains heads item
   pub whole : IsWholeHead ids count item
@@ -49,7 +49,7 @@ pub record HasType (ids : InternerData) (count : ℕ) (sets : Env) (rest : TypeT
 pub record GainsHeads (ids : InternerData) (count : ℕ) (From : HeadBy → Env → TypeTree → Type 0) (old new : List HeadData) : Type 0 where
   pub sound : (h : HeadData) → Contains new h → Contains old h ⊎ (IsWholeHead ids count h × From h.by (env_of_id ids h.own) (head_type ids h))
   pub keeps : (h : HeadData) → Contains old h → Contains new h
-  pub all : (by : HeadBy) (own : Env) (ty : TypeTree) → From by own ty → (sets : Env) (rest : TypeTree) → length sets ≡ count → ty ≡ arrows sets rest → HasType ids count sets rest new
+  pub all : (by : HeadBy) (own : Env) (ty : TypeTree) → From by own ty → (sets : Env) (rest : TypeTree) → length sets ≡ count → ty ≡ arrows sets rest → HasTypeAmong ids count sets rest new
 
 abbrev pub Just : HeadBy → Env → TypeTree → HeadBy → Env → TypeTree → Type 0
 Just by own ty b o t = (b ≡ by) × (o ≡ own) × (t ≡ ty)
@@ -94,13 +94,13 @@ abbrev pub ReadIn : ℕ → List TransitionData → ℕ → Env → ℕ → ℕ 
 ReadIn states ts a own place q b o t = (q < states) × ChildIn ts a own place q b o t
 
 -- the terminal of this rank has no transition in state q
-pub record Lacks (ts : List TransitionData) (a rank : ℕ) (own : Env) (q : ℕ) (b : HeadBy) (o : Env) (t : TypeTree) : Type 0 where
+pub record StopsIn (ts : List TransitionData) (a rank : ℕ) (own : Env) (q : ℕ) (b : HeadBy) (o : Env) (t : TypeTree) : Type 0 where
   pub moves : next ts q a ≡ None
   pub just : Just (Terminal q None) own (arrows (replicate rank []) (state q)) b o t
 
 -- in state q the terminal has no transition, or one, and one of its children from a place on is rejected
 abbrev pub InState : List TransitionData → ℕ → ℕ → ℕ → Env → ℕ → HeadBy → Env → TypeTree → Type 0
-InState ts a rank from own q b o t = Lacks ts a rank own q b o t ⊎ AtRange (λ place. ChildIn ts a own place q) from rank b o t
+InState ts a rank from own q b o t = StopsIn ts a rank own q b o t ⊎ AtRange (λ place. ChildIn ts a own place q) from rank b o t
 
 -- a source at a place below the limit that answers what is asked for a pair's point
 pub record AtFlow (log : List EntryData) (n x limit : ℕ) (asked : ℕ → Question) (pairs : List FlowPair) (b : HeadBy) (o : Env) (t : TypeTree) : Type 0 where
@@ -117,15 +117,15 @@ pub record IsSplit (ids : InternerData) (ty count : ℕ) (sets : List ℕ) (rest
   pub long : length sets ≡ count
   pub is : type_of_id ids ty ≡ arrows (map (set_of_id ids) sets) (type_of_id ids rest)
 
-pub record IsHead (p : ProblemData) (E : List EntryData) (of : PointData) (ids : InternerData) (h : HeadData) : Type 0 where
+pub record IsHeadAt (p : ProblemData) (E : List EntryData) (of : PointData) (ids : InternerData) (h : HeadData) : Type 0 where
   pub known : HasKnownNumbers ids of.args h
   pub type : IsHeadType p E of.rule of.head h.by (head_type ids h)
   pub own : IsOwn (params_of p of.rule) of.head (head_type ids h) (env_of_id ids h.own)
 
 -- just the types of the head that are wanted
 pub record AreHeads (p : ProblemData) (E : List EntryData) (of : PointData) (ids : InternerData) (Wanted : HeadBy → Env → Type 0) (heads : List HeadData) : Type 0 where
-  pub sound : (h : HeadData) → Contains heads h → IsHead p E of ids h × Wanted h.by (map (set_of_id ids) h.sets)
-  pub all : (by : HeadBy) (sets : Env) (rest : TypeTree) → length sets ≡ length of.args → IsHeadType p E of.rule of.head by (arrows sets rest) → Wanted by sets → HasType ids (length of.args) sets rest heads
+  pub sound : (h : HeadData) → Contains heads h → IsHeadAt p E of ids h × Wanted h.by (map (set_of_id ids) h.sets)
+  pub all : (by : HeadBy) (sets : Env) (rest : TypeTree) → length sets ≡ length of.args → IsHeadType p E of.rule of.head by (arrows sets rest) → Wanted by sets → HasTypeAmong ids (length of.args) sets rest heads
 
 -- the ones with this type in the set of this argument
 abbrev pub Asks : ℕ → TypeTree → HeadBy → Env → Type 0

@@ -7,7 +7,7 @@ ghost use Rattle.hs_replica.specs.Replica.{KeepsLog};
 ghost use Rattle.hs_rules.specs.Conclusions.{DeducedData};
 ghost use Rattle.hs_rules.specs.Filling.{CanSearch};
 ghost use Rattle.hs_rules.specs.Joins.{PartialData};
-ghost use Rattle.hs_rules.specs.Found.{HeadData, seek, HasKnownNumbers, HaveEnvs, RowsAre, IsRowOf, HasRow, HeadLeadsTo, IsConclusion, HasEnvFound};
+ghost use Rattle.hs_rules.specs.Found.{HeadData, seek, HasKnownNumbers, HaveEnvs, RowsAre, IsRowOf, HasRow, HeadLeadsTo, IsDeducedBy, HasEnvFound};
 
 use crate::deduced::Deduced;
 use crate::joining::{FEW, Partial, PartialList, joined};
@@ -186,7 +186,7 @@ fn conclude(
         → Contains found.new.list.items d) }
     ensures only { OnOk result ((d : DeducedData) → Contains found.new.list.items d
         → Contains found.old.list.items d
-        ⊎ IsConclusion replica.old.ids replica.new.ids replica.old.log (seek search.now) head.now d) }
+        ⊎ IsDeducedBy replica.old.ids replica.new.ids replica.old.log (seek search.now) head.now d) }
     ensures all { OnOk result ((args : List (ℕ × ℕ)) (env : Env)
         → HeadLeadsTo replica.old.ids replica.old.log (seek search.now) head.now args env →
         HasEnvFound replica.new.ids (seek search.now) head.now env found.new.list.items) }
@@ -226,7 +226,7 @@ pub(crate) fn conclude_all(
     ensures only { OnOk result ((d : DeducedData) → Contains found.new.list.items d
         → Contains found.old.list.items d
         ⊎ ((h : HeadData) × Contains heads.now h
-        × IsConclusion replica.old.ids replica.new.ids replica.old.log (seek search.now) h d)) }
+        × IsDeducedBy replica.old.ids replica.new.ids replica.old.log (seek search.now) h d)) }
     ensures all { OnOk result ((h : HeadData) → Contains heads.now h → (args : List (ℕ × ℕ)) (env : Env) →
         HeadLeadsTo replica.old.ids replica.old.log (seek search.now) h args env →
         HasEnvFound replica.new.ids (seek search.now) h env found.new.list.items) }

@@ -1,10 +1,9 @@
 -- The pairs of one parameter in a flow stand together, between two starts.
-use Rattle.std.proofs.Common.{◌≡◌, refl, sym, ◌∙◌, ap, subst, ℕ, zero, suc, ◌+◌, ◌-◌, ◌<◌, ◌≤◌, ◌⊎◌, inl, inr, max, Bool, true, false, nat_eq, List, [], ◌∷◌, length, get_or, take, drop, filter, cond, sum, slice_index, Contains, arith}
+use Rattle.std.proofs.Common.{◌≡◌, refl, sym, ◌∙◌, ap, subst, ℕ, ◌+◌, ◌-◌, ◌<◌, ◌≤◌, ◌⊎◌, inl, inr, max, Bool, true, false, nat_eq, List, [], length, get_or, take, drop, filter, sum, slice_index, arith}
 use Rattle.std.proofs.Math.Nat.{eq-or-lt_of_le}
 use Rattle.std.proofs.lemmas.Bool.{cases_lt, eqb-true, eq-eqb, and_parts}
 use Rattle.std.proofs.lemmas.Bool.Decides.{nat_tests}
 use Rattle.std.proofs.lemmas.List.{get_or_default}
-use Rattle.std.proofs.lemmas.List.Elements.{All-filter, Contains-get_or}
 use Rattle.std.specs.declared.cmp.Ordering.TheVariants.{Less}
 use Rattle.hs_scheme.specs.declared.flow.FlowPair.{FlowPair}
 use Rattle.hs_scheme.specs.Parameters.{IsParameter, parameter_of}
@@ -137,16 +136,3 @@ none_of counts pairs rule param of nowhere = filter-middle (is_of rule param) pa
         go false e = refl
         go true e = let s = and_parts (nat_eq p.rule rule) (nat_eq p.param param) e in
             absurd (nowhere (subst (λ (x : ℕ). IsParameter counts rule x) (eqb-true p.param param s.1) (subst (λ (r : ℕ). IsParameter counts r p.param) (eqb-true p.rule rule s.0) at)))
-
-kept : {X : Type 0} (b : Bool) (y : X) (ys : List X) (x : X) → Contains ys x → Contains (cond b (y ∷ ys) ys) x
-kept true y ys x (k, lt, is) = (suc k, omega arith, is)
-kept false y ys x there = there
-
--- what passes is in what is filtered, and what is there was in the list
-pub filter_keeps : {X : Type 0} (m : X → Bool) (xs : List X) (x : X) → m x ≡ true → Contains xs x → Contains (filter m xs) x
-filter_keeps m [] x passes (k, lt, is) = absurd (omega arith)
-filter_keeps m (y ∷ ys) x passes (zero, lt, is) = rw (subst (λ z. m z ≡ true) (sym is) passes) (0, omega arith, is)
-filter_keeps m (y ∷ ys) x passes (suc k, lt, is) = kept (m y) y (filter m ys) x (filter_keeps m ys x passes (k, omega arith, is))
-
-pub filter_has : {X : Type 0} (m : X → Bool) (xs : List X) (x : X) → Contains (filter m xs) x → Contains xs x
-filter_has {X} m xs x (k, lt, is) = subst (Contains xs) is (All-filter m (Contains xs) xs (λ i d l. Contains-get_or xs i d l) k x lt)

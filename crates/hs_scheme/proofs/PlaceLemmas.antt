@@ -9,7 +9,7 @@ use Rattle.hs_scheme.specs.declared.term.Rule.{Rule}
 use Rattle.hs_scheme.specs.declared.points.Argument.{Argument}
 use Rattle.hs_scheme.specs.Tree.{Tree, Trees, node, none, more}
 use Rattle.hs_scheme.specs.Points.{PointData, PointsData, size, sizes, numbers, term_points, terms_points, rules_points, points_of, IsArgument, point_at}
-use Rattle.hs_scheme.specs.Rows.{ArePlaces, term_places, terms_places, rules_places}
+use Rattle.hs_scheme.specs.Rows.{ArePlacesOfArguments, term_places, terms_places, rules_places}
 use Rattle.hs_scheme.proofs.PointLemmas.{length-term_points}
 
 -- the item of number m, where the items are numbered from n, and P holds of it
@@ -247,7 +247,7 @@ module _ (q i a : ℕ) where
     | inr ge ↦ absurd (no_argument p ge h)
   ]
 
-pub exact : (rules : List Rule) → ArePlaces (points_of rules) (rules_places 0 rules)
+pub exact : (rules : List Rule) → ArePlacesOfArguments (points_of rules) (rules_places 0 rules)
 exact rules a q i = (λ h. has_argument q i a (points_of rules) (in_rules q i a 0 0 rules (rules_placed q i a 0 rules (a, (Some (record { point = q; place = i }), (omega arith, (h, refl)))))), λ h. at_number q i a (rules_places 0 rules) (placed_rules q i a 0 rules (rules_in q i a 0 0 rules (argument_has q i a (points_of rules) h))))
 
 same_argument : (x y : Argument) → Some (Some x) ≡ Some (Some y) → (x.point ≡ y.point) × (x.place ≡ y.place)

@@ -120,7 +120,7 @@ module _ (i : ℕ) (rules : List Rule) (r : Rule) (p : List PointData) (lt : i <
   rule_many max too_many = omega (arith, rule_length, total-take rules i r lt is, length-rules_points 0 0 rules)
 
 -- the numbers of terms side by side, and what stands in the points of terms and rules, are in range
-at_least_one : (t : Tree Head) → 1 ≤ size t
+pub at_least_one : (t : Tree Head) → 1 ≤ size t
 at_least_one (node h ts) = omega arith
 
 numbers_within : (n m : ℕ) (ts : Trees Head) → n + sizes ts ≤ m → All (λ a. a < m) (numbers n ts)

@@ -1,11 +1,23 @@
--- Two sortings have a common part, which is a sorting; so the least one is unique.
-use Rattle.std.proofs.Common.{◌≡◌, refl, sym, ◌∙◌, ap, subst, ℕ, zero, suc, ◌≤◌, List, length, Option, All, arith}
+-- Ranks and lengthened rules by their places; and two sortings have a common part, which is a sorting, so the least one is unique.
+use Rattle.std.proofs.Common.{◌≡◌, refl, sym, ◌∙◌, ap, subst, ℕ, zero, suc, ◌≤◌, List, [], ◌∷◌, length, slice_get, Option, Some, All, arith}
 use Rattle.std.proofs.lemmas.List.Elements.{All-nil, All-cons, All-head, All-tail}
 use Rattle.hs_scheme.specs.declared.term.Head.{Head}
 use Rattle.hs_scheme.specs.declared.term.Head.TheVariants.{Var, Nt, Tm}
 use Rattle.hs_scheme.specs.declared.term.Rule.{Rule}
 use Rattle.hs_scheme.specs.Tree.{Tree, Trees, node, none, more, children}
 use Rattle.hs_scheme.specs.Sorting.{SortTree, o, arrow, arrows, arguments, ranked, without, behind, size, sizes, Sorts, heads, HasSort, Applied, IsSorting, IsLeastSorting, AreEqual, IsFirstOrder, AreFirstOrder, IsWellSorted}
+use Rattle.hs_scheme.specs.Sorted.{known}
+use Rattle.hs_scheme.specs.Lengthening.{lengthening}
+
+pub known_at : (ranks : List ℕ) (a n : ℕ) → slice_get (known ranks) a ≡ Some (Some n) → slice_get ranks a ≡ Some n
+known_at [] a n e = absurd (cc)
+known_at (r ∷ ranks) zero n e = cc
+known_at (r ∷ ranks) (suc a) n e = known_at ranks a n e
+
+pub length-lengthening : (rules : List Rule) (ks : List SortTree) → length (lengthening rules ks) ≡ length rules
+length-lengthening [] ks = refl
+length-lengthening (r ∷ rules) [] = refl
+length-lengthening (r ∷ rules) (k ∷ ks) = ap suc (length-lengthening rules ks)
 
 pub length-arrow : (a b : SortTree) → length (arguments (arrow a b)) ≡ suc (length (arguments b))
 length-arrow a (node u ks) = refl

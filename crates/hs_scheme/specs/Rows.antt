@@ -24,13 +24,13 @@ pub record Fits (args : List ℕ) (row : Row) : Type 0 where
   pub within : row.to ≤ length args
 
 -- whose argument each point is
-abbrev pub ArePlaces : PointsData → List (Option Argument) → Type 0
-ArePlaces points places = (a q i : ℕ) → (slice_get places a ≡ Some (Some (record { point = q; place = i }))) ↔ IsArgument points q i a
+abbrev pub ArePlacesOfArguments : PointsData → List (Option Argument) → Type 0
+ArePlacesOfArguments points places = (a q i : ℕ) → (slice_get places a ≡ Some (Some (record { point = q; place = i }))) ↔ IsArgument points q i a
 
 pub record AreRows (rows : List Row) (args : List ℕ) (points : PointsData) : Type 0 where
   pub are_points : IsPoints points
   pub ranges : All (Fits args) rows
-  pub places : ArePlaces points (places_in rows)
+  pub places : ArePlacesOfArguments points (places_in rows)
 
 -- for the points of a term, at n, which is itself an argument or none, and of terms that stand side by side, from the argument at i of q on
 abbrev mutual

@@ -83,6 +83,7 @@ impl Parameters {
         }
         Some(self.firsts[rule as usize] + param)
     }
+
     /// Equal parameters, in time and memory in proportion to the rules.
     pub fn copy(&self, alloc: Global) -> Result<Parameters, OutOfMemory>
         ensures { IfOk result (λ copy. copy ≡ self.now) }

@@ -75,6 +75,7 @@ module _ (old held mid new : SeatData) (core left : CoreData) (is_held : held �
       base = f.base ∙ ap (λ b. Some b) (sym base);
       begins = subst (λ (xs : Story). IsPrefix old.known.seen xs) (sym story) f.begins;
       own = ap (told_by worker_of old.known.number) story ∙ f.own;
+      seen_own = f.seen_own;
       is_core = is_core;
     };
     left = left;

@@ -15,7 +15,7 @@ use Rattle.hs_history.proofs.Histories.{legal_front, grown, holds_after, tickets
 use Rattle.hs_history.specs.CoreStep.{opening}
 use Rattle.hs_core.specs.Core.{CoreData, state_of, log_of}
 use Rattle.hs_turn.specs.Story.{told_by}
-use Rattle.hs_shared.specs.Seats.{SeatData, worker_of, Sees, HasSeenOwn}
+use Rattle.hs_shared.specs.Seats.{SeatData, worker_of, Sees}
 use Rattle.hs_shared.specs.Calls.{Finds}
 
 not_first : (b : Bool) (x : CoreStep) (xs : Story) → cond b (x ∷ xs) xs ≡ [] → (b ≡ false) × (xs ≡ [])
@@ -66,25 +66,25 @@ module _ (s : SeatData) (core : CoreData) (f : Finds s core) where
       subst (λ xs. FollowsBy core.base.problem xs t e) p.1 (by_append core.base.problem log p.0 t e (sees (λ base state. FollowsBy base.problem log t e) h))
 
   -- the rest of the story is of others
-  pub others : HasSeenOwn s → All (λ (x : CoreStep). x.worker ≢ s.known.number) f.begins.0
-  others own =
+  pub others : All (λ (x : CoreStep). x.worker ≢ s.known.number) f.begins.0
+  others =
       let n = s.known.number in
       let split : told_by worker_of n s.known.seen ++ told_by worker_of n f.begins.0 ≡ told_by worker_of n s.known.seen ++ [] =
-      sym (filter-append (λ (x : CoreStep). eqb x.worker n) s.known.seen f.begins.0) ∙ ap (told_by worker_of n) f.begins.1 ∙ f.own ∙ sym own ∙ sym (append-nil (told_by worker_of n s.known.seen)) in
+      sym (filter-append (λ (x : CoreStep). eqb x.worker n) s.known.seen f.begins.0) ∙ ap (told_by worker_of n) f.begins.1 ∙ f.own ∙ sym f.seen_own ∙ sym (append-nil (told_by worker_of n s.known.seen)) in
       none_by n f.begins.0 (append_cancel_left (told_by worker_of n s.known.seen) _ _ split)
 
-  pub still_holds : (ticket : ℕ) → HasSeenOwn s → Sees s (λ base state. Holds state s.known.number ticket) → Holds (state_of core) s.known.number ticket
-  still_holds ticket own h =
+  pub still_holds : (ticket : ℕ) → Sees s (λ base state. Holds state s.known.number ticket) → Holds (state_of core) s.known.number ticket
+  still_holds ticket h =
       let t = sees (λ base state. Holds state s.known.number ticket) h in
-      (t.0, ap (λ (x : State). x.flight ticket) (sym later) ∙ tickets_after core.base s.known.seen f.begins.0 s.known.number ticket t.0 (subst (IsLegal core.base) (sym f.begins.1) f.is_core.legal) (others own) t.1)
+      (t.0, ap (λ (x : State). x.flight ticket) (sym later) ∙ tickets_after core.base s.known.seen f.begins.0 s.known.number ticket t.0 (subst (IsLegal core.base) (sym f.begins.1) f.is_core.legal) others t.1)
 
-  pub may_finish : (ticket : ℕ) → HasSeenOwn s → Sees s (λ base state. CanFinish base state s.known.number ticket) → CanFinish core.base (state_of core) s.known.number ticket
-  may_finish ticket own h =
+  pub may_finish : (ticket : ℕ) → Sees s (λ base state. CanFinish base state s.known.number ticket) → CanFinish core.base (state_of core) s.known.number ticket
+  may_finish ticket h =
       let t = sees (λ base state. CanFinish base state s.known.number ticket) h in
       let is_work = (holds_after core.base s.known.seen legal_seen).sound.real t.work (inr (inl (ticket, s.known.number, t.holds))) in
       let closed = closed_after core.base s.known.seen f.begins.0 t.work is_work t.closed in
       record {
         work = t.work;
-        holds = ap (λ (x : State). x.flight ticket) (sym later) ∙ tickets_after core.base s.known.seen f.begins.0 s.known.number ticket t.work (subst (IsLegal core.base) (sym f.begins.1) f.is_core.legal) (others own) t.holds;
+        holds = ap (λ (x : State). x.flight ticket) (sym later) ∙ tickets_after core.base s.known.seen f.begins.0 s.known.number ticket t.work (subst (IsLegal core.base) (sym f.begins.1) f.is_core.legal) others t.holds;
         closed = subst (λ (x : State). IsClosedWork core.base.problem x.log t.work) later closed;
       }

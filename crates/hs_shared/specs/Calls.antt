@@ -12,11 +12,12 @@ use Rattle.hs_turn.specs.Story.{told_by}
 use Rattle.hs_shared.specs.Seats.{SeatData, worker_of, HasSeenOwn}
 
 -- it has the seat's base, its story begins with all that the seat has seen, and the steps in it under the seat's number are exactly the
--- seat's own
+-- seat's own, all of which the seat has seen
 pub record Finds (s : SeatData) (core : CoreData) : Type 0 where
   pub base : s.known.base ≡ Some core.base
   pub begins : IsPrefix s.known.seen core.story
   pub own : told_by worker_of s.known.number core.story ≡ s.known.own
+  pub seen_own : HasSeenOwn s
   pub is_core : IsCore core
 
 -- the seat has seen this story, these steps are its own, and all else that it knows is as before

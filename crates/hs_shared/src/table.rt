@@ -10,7 +10,7 @@ ghost use Rattle.hs_core.specs.Core.{CoreData, IsCore, log_of, deduction_of, ste
 ghost use Rattle.hs_core.specs.Answers.{Takes, Publishes};
 ghost use Rattle.hs_turn.specs.Story.{told_by};
 ghost use Rattle.hs_turn.specs.Views.{first_seat, having_split, split_off, having_joined};
-ghost use Rattle.hs_shared.specs.Seats.{worker_of, IsSeatOf, Sees, HasSeenOwn};
+ghost use Rattle.hs_shared.specs.Seats.{worker_of, IsSeatOf, Sees};
 ghost use Rattle.hs_shared.specs.Calls.{Finds, Does, Looks};
 ghost use Rattle.hs_shared.specs.Holding.{holding, IsHolding};
 
@@ -106,7 +106,6 @@ impl<'p> SharedTable<'p> {
         deduced: &Deduced,
     ) -> Result<Published, OutOfMemory>
         requires seat { IsSeatOf self.now seat.old }
-        requires own { HasSeenOwn seat.old }
         requires ticket { Sees seat.old (λ base state. Holds state seat.old.known.number ticket) }
         requires replica { Sees seat.old (λ base state. IsPrefix replica.now.log state.log) }
         requires row { IsRow replica.now.ids deduced.now.row }
@@ -129,7 +128,6 @@ impl<'p> SharedTable<'p> {
     /// memory.
     pub fn finish<R: Wait>(&self, rt: &R, seat: &mut Seat<Held<'p>>, ticket: u32)
         requires seat { IsSeatOf self.now seat.old }
-        requires own { HasSeenOwn seat.old }
         requires closed { Sees seat.old (λ base state. CanFinish base state seat.old.known.number ticket) }
         ensures { Does (λ found left. left ≡ stepped found seat.old.known.number
             (finishes ticket) found.spare) seat.old seat.new }
@@ -143,7 +141,6 @@ impl<'p> SharedTable<'p> {
     /// work nor given it back. Takes no memory.
     pub fn give_back<R: Wait>(&self, rt: &R, seat: &mut Seat<Held<'p>>, ticket: u32)
         requires seat { IsSeatOf self.now seat.old }
-        requires own { HasSeenOwn seat.old }
         requires ticket { Sees seat.old (λ base state. Holds state seat.old.known.number ticket) }
         ensures { Does (λ found left. left ≡ stepped found seat.old.known.number
             (gives_back ticket) found.spare) seat.old seat.new }

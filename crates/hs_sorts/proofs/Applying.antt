@@ -7,7 +7,7 @@ use Rattle.hs_scheme.proofs.Lists.{at_append}
 use Rattle.hs_sorts.specs.declared.store.Shape.TheVariants.{Open, Base, Arrow}
 use Rattle.hs_sorts.specs.declared.store.Node.{Node}
 use Rattle.hs_sorts.specs.declared.store.Node.TheVariants.{Root}
-use Rattle.hs_sorts.specs.Nodes.{Valuation, Respects, FitsNode, IsStore, IsRootOf, Equates, with_arrow}
+use Rattle.hs_sorts.specs.Nodes.{Valuation, IsValuationOf, FitsNode, IsStore, IsRootOf, Equates, with_arrow}
 use Rattle.hs_sorts.specs.Constraints.{Agree, AddsNode, Refutes, TakesArgument}
 use Rattle.hs_sorts.proofs.Lists.{get_set_same}
 use Rattle.hs_sorts.proofs.Joining.{arrow_parts}
@@ -38,7 +38,7 @@ module _ (old mid : List Node) (function argument root : ℕ) (found : IsRootOf 
   was_open : slice_get with_rest root ≡ Some (Root Open)
   was_open = at_append mid (Root Open ∷ []) root (Root Open) found.at
 
-  module _ (v : Valuation) (k : SortTree) (was : Respects v old) (takes : TakesArgument function argument v k) where
+  module _ (v : Valuation) (k : SortTree) (was : IsValuationOf v old) (takes : TakesArgument function argument v k) where
     abbrev later : Valuation
     later = over (length mid) v (λ _. k)
 
@@ -48,7 +48,7 @@ module _ (old mid : List Node) (function argument root : ℕ) (found : IsRootOf 
     agrees : Agree (length mid) v later
     agrees = over_agrees (length mid) v (λ _. k)
 
-    respects_rest : Respects later with_rest
+    respects_rest : IsValuationOf later with_rest
     respects_rest = respects_more mid (Root Open ∷ []) v later is agrees (found.same.onward v was) (λ j n h.
         subst (λ (m : Node). FitsNode later (later (length mid + j)) m) (one_place (Root Open) n j h).1 tt)
 
@@ -61,8 +61,8 @@ module _ (old mid : List Node) (function argument root : ℕ) (found : IsRootOf 
     few = omega (arith, few, length-set with_rest root top, one_more);
     within = omega (arith, length-set with_rest root top, one_more);
     sound = λ v r.
-        let unset : Respects v with_rest = respects_unset with_rest root top v in_wide r (λ x h. subst (λ (n : Node). FitsNode v (v root) n) (same_Some (Root Open) x (sym was_open ∙ h)) tt) in
-        let before : Respects v old = found.same.back v (respects_fewer mid (Root Open ∷ []) v unset) in
+        let unset : IsValuationOf v with_rest = respects_unset with_rest root top v in_wide r (λ x h. subst (λ (n : Node). FitsNode v (v root) n) (same_Some (Root Open) x (sym was_open ∙ h)) tt) in
+        let before : IsValuationOf v old = found.same.back v (respects_fewer mid (Root Open ∷ []) v unset) in
         (before, found.equal v before ∙ r.fits root top (get_set_same with_rest root top in_wide));
     complete = λ v k r t. record {
       valuation = later v k r t;
@@ -86,7 +86,7 @@ base_not_applied old mid function argument root found v k r t =
 
 -- a function that is known to take an argument
 module _ (old mid : List Node) (function argument root expected rest : ℕ) (found : IsRootOf old mid function root (Arrow expected rest)) where
-  taken_apart : (v : Valuation) → Respects v mid → v function ≡ arrow (v expected) (v rest)
+  taken_apart : (v : Valuation) → IsValuationOf v mid → v function ≡ arrow (v expected) (v rest)
   taken_apart v r = found.equal v (found.same.back v r) ∙ r.fits root (Root (Arrow expected rest)) found.at
 
   pub known_applied : (new : List Node) → Equates expected argument mid new → length old ≤ 2 ^ 32 → AddsNode old new rest (TakesArgument function argument)
@@ -103,7 +103,7 @@ module _ (old mid : List Node) (function argument root expected rest : ℕ) (fou
         record { valuation = v; agrees = record { at = λ i h. refl }; respects = e.onward v was parts.0; gives = parts.1 };
   }
 
-  pub known_not_applied : ((v : Valuation) → Respects v mid → v expected ≡ v argument → ⊥) → Refutes old (TakesArgument function argument)
+  pub known_not_applied : ((v : Valuation) → IsValuationOf v mid → v expected ≡ v argument → ⊥) → Refutes old (TakesArgument function argument)
   known_not_applied never v k r t =
       let was = found.same.onward v r in
       never v was (arrow_parts (v expected) (v rest) (v argument) k (sym (taken_apart v was) ∙ t)).0

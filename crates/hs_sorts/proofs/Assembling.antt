@@ -11,10 +11,10 @@ use Rattle.hs_scheme.specs.Sorting.{SortTree, o, size, sizes, arguments}
 use Rattle.hs_scheme.specs.Sorted.{IsSorted, known, sort_at}
 use Rattle.hs_scheme.specs.Lengthening.{lengthening}
 use Rattle.hs_sorts.specs.Naming.{lengthened_names}
-use Rattle.hs_sorts.specs.Least.{IsLeast}
+use Rattle.hs_sorts.specs.Least.{AreLeastSorts}
 use Rattle.hs_sorts.proofs.FullRules.{long_sorting, are_full, as_many, long_params}
 
-pub is_sorted : (u : UnsortedData) (sorts : List SortTree) (arities : List ℕ) → IsUnsorted u → IsLeast u.rules u.ranks sorts arities
+pub is_sorted : (u : UnsortedData) (sorts : List SortTree) (arities : List ℕ) → IsUnsorted u → AreLeastSorts u.rules u.ranks sorts arities
     → IsSorted (record { scheme = record { rules = lengthening u.rules sorts; ranks = arities }; automaton = u.automaton; names = lengthened_names u.names sorts; sorts = sorts })
 is_sorted u sorts arities is l = record {
   each_rule = as_many u.rules u.ranks sorts arities l;
@@ -42,7 +42,7 @@ few_arguments : (k : SortTree) → length (arguments k) ≤ size k
 few_arguments (node u ks) = omega (arith, few-size ks)
 
 -- what the functions that lengthen ask for
-module _ (u : UnsortedData) (sorts : List SortTree) (arities : List ℕ) (is : IsUnsorted u) (l : IsLeast u.rules u.ranks sorts arities) where
+module _ (u : UnsortedData) (sorts : List SortTree) (arities : List ℕ) (is : IsUnsorted u) (l : AreLeastSorts u.rules u.ranks sorts arities) where
   pub one_sort_each : length sorts ≡ length u.names.params
   one_sort_each = l.each_rule ∙ sym (many_names u.names.params u.rules is.names.each_param)
 

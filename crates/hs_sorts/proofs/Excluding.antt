@@ -10,21 +10,21 @@ use Rattle.hs_scheme.specs.Unsorted.{UnsortedData}
 use Rattle.hs_scheme.proofs.Sortings.{least_first_order, least_unique}
 use Rattle.hs_sorts.specs.declared.fault.SortFault.{SortFault}
 use Rattle.hs_sorts.specs.declared.fault.SortFault.TheVariants.{IllSorted, TerminalNotFirstOrder, SortTooLarge, RuleTooLong, OutOfMemory}
-use Rattle.hs_sorts.specs.Inference.{IsInferable, IsInferred, IsFirstIllSorted, IsFirstHigherTerminal, IsFirstTooLarge, IsTooLong, IsFirstTooLong, IsFaultOf}
+use Rattle.hs_sorts.specs.Inference.{IsInferable, IsInferred, IsFirstIllSorted, IsFirstHigherTerminal, IsFirstTooLarge, IsTooLong, IsFirstTooLong, IsSortFault}
 use Rattle.hs_sorts.proofs.Weighing.{first_order_more}
 
 -- a sorting of all rules is one of the first k
 fewer : (rules : List Rule) (ranks : List (Option ℕ)) (k : ℕ) → HasSorting rules ranks (length rules) → HasSorting rules ranks k
 fewer rules ranks k (s, p) = (s, record { nonterminals = p.nonterminals; bodies = λ f rule below at. p.bodies f rule (slice_get_within rules f rule at) at; start = p.start; terminals = p.terminals })
 
-pub only_memory : (rules : List Rule) (ranks : List (Option ℕ)) (fault : SortFault) → IsInferable rules ranks → IsFaultOf rules ranks fault → fault ≡ OutOfMemory
+pub only_memory : (rules : List Rule) (ranks : List (Option ℕ)) (fault : SortFault) → IsInferable rules ranks → IsSortFault rules ranks fault → fault ≡ OutOfMemory
 only_memory rules ranks (IllSorted rule) h f = absurd (f.with_it (fewer rules ranks (rule + 1) (h.well_sorted.0, h.well_sorted.1)))
 only_memory rules ranks (TerminalNotFirstOrder terminal) h f = absurd (f.higher (least_first_order rules ranks f.sorts f.least h.well_sorted terminal f.in_range))
 only_memory rules ranks (SortTooLarge rule) h f = absurd (omega (arith, h.small f.sorts f.least rule f.in_range, f.large))
 only_memory rules ranks (RuleTooLong rule) h f = absurd (h.none_too_long f.sorts f.least rule f.rule f.at f.long)
 only_memory rules ranks OutOfMemory h f = refl
 
-pub only_memory_in : {A : Type 0} (rules : List Rule) (ranks : List (Option ℕ)) (r : Result A SortFault) → IsInferable rules ranks → IfErr r (IsFaultOf rules ranks) → IfErr r (λ fault. fault ≡ OutOfMemory)
+pub only_memory_in : {A : Type 0} (rules : List Rule) (ranks : List (Option ℕ)) (r : Result A SortFault) → IsInferable rules ranks → IfErr r (IsSortFault rules ranks) → IfErr r (λ fault. fault ≡ OutOfMemory)
 only_memory_in rules ranks (Ok x) h f = tt
 only_memory_in rules ranks (Err fault) h f = only_memory rules ranks fault h f
 
@@ -92,7 +92,7 @@ module _ (rules : List Rule) (ranks : List (Option ℕ)) where
       let small : size (p.sorts.nonterminal a) ≤ 1000 = subst (λ (k : SortTree). size k ≤ 1000) (same.nonterminals a p.in_range) (q.small a p.in_range) in
       omega (arith, small, p.large)
 
-  pub one_fault_is : (a b : SortFault) → IsFaultOf rules ranks a → IsFaultOf rules ranks b → (a ≡ OutOfMemory) ⊎ ((b ≡ OutOfMemory) ⊎ (a ≡ b))
+  pub one_fault_is : (a b : SortFault) → IsSortFault rules ranks a → IsSortFault rules ranks b → (a ≡ OutOfMemory) ⊎ ((b ≡ OutOfMemory) ⊎ (a ≡ b))
   one_fault_is OutOfMemory b p q = inl refl
   one_fault_is (IllSorted r) OutOfMemory p q = inr (inl refl)
   one_fault_is (TerminalNotFirstOrder a) OutOfMemory p q = inr (inl refl)

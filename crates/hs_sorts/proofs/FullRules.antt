@@ -11,17 +11,12 @@ use Rattle.hs_scheme.specs.Scheme.{HeadInRange, TermInRange, TermsInRange, AreRu
 use Rattle.hs_scheme.specs.Sorting.{SortTree, arrow, arrows, without, behind, arguments, heads, HasSort, Applied, IsSorting}
 use Rattle.hs_scheme.specs.Sorted.{sort_at, sorts_of, known, AreFull}
 use Rattle.hs_scheme.specs.Lengthening.{missing, parameters, lengthened, lengthening}
-use Rattle.hs_scheme.proofs.Sortings.{length-arrow}
+use Rattle.hs_scheme.proofs.Sortings.{length-arrow, length-lengthening}
 use Rattle.hs_sorts.specs.Naming.{added_name, added_names, lengthened_params}
 use Rattle.hs_sorts.specs.Inference.{head_arguments, IsTooLong}
-use Rattle.hs_sorts.specs.Least.{IsLeast}
+use Rattle.hs_sorts.specs.Least.{AreLeastSorts}
 use Rattle.hs_sorts.proofs.Lengthenings.{head_arguments_more}
 use Rattle.hs_sorts.proofs.Solutions.{All_at}
-
-lengthening_long : (rules : List Rule) (ks : List SortTree) → length (lengthening rules ks) ≡ length rules
-lengthening_long [] ks = refl
-lengthening_long (r ∷ rules) [] = refl
-lengthening_long (r ∷ rules) (k ∷ ks) = ap suc (lengthening_long rules ks)
 
 lengthened_get : (rules : List Rule) (ks : List SortTree) (f : ℕ) (r : Rule) → length ks ≡ length rules → slice_get rules f ≡ Some r
     → slice_get (lengthening rules ks) f ≡ Some (lengthened (missing r.params (sort_at ks f)) r)
@@ -38,7 +33,7 @@ record Was (rules : List Rule) (ks : List SortTree) (f : ℕ) (long : Rule) : Ty
 
 was : (rules : List Rule) (ks : List SortTree) (f : ℕ) (long : Rule) → length ks ≡ length rules → slice_get (lengthening rules ks) f ≡ Some long → Was rules ks f long
 was rules ks f long e at =
-    let below : f < length rules = omega (arith, slice_get_within (lengthening rules ks) f long at, lengthening_long rules ks) in
+    let below : f < length rules = omega (arith, slice_get_within (lengthening rules ks) f long at, length-lengthening rules ks) in
     let r = get_or rules f long in
     let there = slice_get-get_or rules f long below in
     record { rule = r; at = there; is = same_Some _ _ (sym (lengthened_get rules ks f r e there) ∙ at) }
@@ -129,7 +124,7 @@ fits rule k not_long narrow few =
       ]
     ]
 
-module _ (rules : List Rule) (ranks : List (Option ℕ)) (sorts : List SortTree) (arities : List ℕ) (l : IsLeast rules ranks sorts arities) where
+module _ (rules : List Rule) (ranks : List (Option ℕ)) (sorts : List SortTree) (arities : List ℕ) (l : AreLeastSorts rules ranks sorts arities) where
   abbrev longer : List Rule
   longer = lengthening rules sorts
 
@@ -162,7 +157,7 @@ module _ (rules : List Rule) (ranks : List (Option ℕ)) (sorts : List SortTree)
   }
 
   pub as_many : length sorts ≡ length longer
-  as_many = l.each_rule ∙ sym (lengthening_long rules sorts)
+  as_many = l.each_rule ∙ sym (length-lengthening rules sorts)
 
   module _ (are : AreRules rules (length ranks)) where
     rule_fits : (f : ℕ) (rule : Rule) → slice_get rules f ≡ Some rule
@@ -176,7 +171,7 @@ module _ (rules : List Rule) (ranks : List (Option ℕ)) (sorts : List SortTree)
     long_in_range f rule at =
         let d = missing rule.params (sort_at sorts f) in
         let was_in_range = All_at (λ r. TermInRange r.params (length rules) (length ranks) r.body) rules f rule are.bodies at in
-        subst (λ (n : ℕ). TermInRange (rule.params + d) n (length arities) (applied rule.body (parameters rule.params d))) (sym (lengthening_long rules sorts))
+        subst (λ (n : ℕ). TermInRange (rule.params + d) n (length arities) (applied rule.body (parameters rule.params d))) (sym (length-lengthening rules sorts))
         (subst (λ (n : ℕ). TermInRange (rule.params + d) (length rules) n (applied rule.body (parameters rule.params d))) (sym l.each_terminal)
         (applied_in_range (rule.params + d) (length rules) (length ranks) rule.body rule.params d (omega arith) (rule_fits f rule at).1
         (term_wider rule.params (rule.params + d) (length rules) (length ranks) (omega arith) rule.body was_in_range)))
@@ -191,7 +186,7 @@ module _ (rules : List Rule) (ranks : List (Option ℕ)) (sorts : List SortTree)
           let at = slice_get-get_or longer f d below in
           let w = was rules sorts f (get_or longer f d) l.each_rule at in
           subst (λ (r : Rule). TermInRange r.params (length longer) (length arities) r.body) w.is (long_in_range f w.rule w.at);
-      few_rules = omega (arith, lengthening_long rules sorts, are.few_rules);
+      few_rules = omega (arith, length-lengthening rules sorts, are.few_rules);
       few_params = λ f d below.
           let at = slice_get-get_or longer f d below in
           let w = was rules sorts f (get_or longer f d) l.each_rule at in

@@ -19,9 +19,9 @@ use Rattle.hs_sorts.specs.Nodes.{Valuation}
 use Rattle.hs_sorts.specs.Weights.{Describes}
 use Rattle.hs_sorts.specs.Reading.{size_at}
 use Rattle.hs_sorts.specs.Solving.{sorts_at}
-use Rattle.hs_sorts.specs.Finding.{Finds, IsFinding, IsFirstHigherOrder, IsFirstLarge, IsFirstLong, AreSorts, AreArities}
+use Rattle.hs_sorts.specs.Finding.{FindsSorting, IsFinding, IsFirstHigherOrder, IsFirstLarge, IsFirstLong, AreSorts, AreArities}
 use Rattle.hs_sorts.specs.Inference.{IsFirstHigherTerminal, IsFirstTooLarge, IsTooLong, IsFirstTooLong}
-use Rattle.hs_sorts.specs.Least.{IsLeast}
+use Rattle.hs_sorts.specs.Least.{AreLeastSorts}
 use Rattle.hs_sorts.proofs.Arrows.{arrows_same, left_behind}
 use Rattle.hs_sorts.proofs.Ranges.{has_in_range}
 use Rattle.hs_sorts.proofs.Solutions.{All_at}
@@ -51,7 +51,7 @@ no_rules_sorted rules ranks are = (
     rank_of (Some (Some n)) = n
 
 -- what was found is a sorting
-pub found_sorting : (rules : List Rule) (ranks : List (Option ℕ)) (k : ℕ) (found : WeighedNodes) → Finds rules ranks k found → HasSorting rules ranks k
+pub found_sorting : (rules : List Rule) (ranks : List (Option ℕ)) (k : ℕ) (found : WeighedNodes) → FindsSorting rules ranks k found → HasSorting rules ranks k
 found_sorting rules ranks k found f = (
   sorts_at (length rules) f.weighing.valuation,
   f.solves.sound f.weighing.valuation (reading_respects f.weighing.valuation found.store f.weighing.reading),
@@ -105,7 +105,7 @@ module _ (rules : List Rule) (ranks : List (Option ℕ)) (are : AreRules rules (
         };
   }
 
-module _ (rules : List Rule) (ranks : List (Option ℕ)) (are : AreRules rules (length ranks)) (found : WeighedNodes) (f : Finds rules ranks (length rules) found) where
+module _ (rules : List Rule) (ranks : List (Option ℕ)) (are : AreRules rules (length ranks)) (found : WeighedNodes) (f : FindsSorting rules ranks (length rules) found) where
   abbrev nodes : List Node
   nodes = found.store
 
@@ -247,7 +247,7 @@ module _ (rules : List Rule) (ranks : List (Option ℕ)) (are : AreRules rules (
           by_get None e = absurd (cc)
           by_get (Some m) e = let same : m ≡ n = cc in ap ranked same
 
-      pub is_least : IsLeast rules ranks sorts arities
+      pub is_least : AreLeastSorts rules ranks sorts arities
       is_least = record {
         each_rule = are_sorts.as_long;
         each_terminal = are_arities.as_long;

@@ -9,7 +9,7 @@ use Rattle.hs_sorts.specs.declared.store.Shape.{Shape}
 use Rattle.hs_sorts.specs.declared.store.Shape.TheVariants.{Arrow}
 use Rattle.hs_sorts.specs.declared.store.Node.{Node}
 use Rattle.hs_sorts.specs.declared.store.Node.TheVariants.{Root, Link}
-use Rattle.hs_sorts.specs.Nodes.{Valuation, FitsShape, FitsNode, Respects, ShapeInRange, IsRootOf, root_count, linked, AreOne, PairsInRange, Merges, Joins, Equates, IsEquation}
+use Rattle.hs_sorts.specs.Nodes.{Valuation, FitsShape, FitsNode, IsValuationOf, ShapeInRange, IsRootOf, root_count, linked, AreOne, PairsInRange, Merges, Joins, Equates, IsEquation}
 use Rattle.hs_sorts.proofs.Lists.{get_set_same, get_set_other}
 use Rattle.hs_sorts.proofs.NodeLemmas.{respects_set, respects_unset, roots_set}
 
@@ -51,9 +51,9 @@ arrows_merge a b c d old mid new first second = record {
 pub record Linked (old new : List Node) (a b : ℕ) (left right shape : Shape) : Type 0 where
   pub as_long : length new ≡ length old
   pub roots : root_count new + 1 ≡ root_count old
-  pub onward : (v : Valuation) → Respects v old → v a ≡ v b → FitsShape v (v a) shape → Respects v new
-  pub back : (v : Valuation) → Respects v new → (v a ≡ v b) × FitsShape v (v a) shape
-  pub restores : (v : Valuation) → Respects v new → FitsShape v (v a) left → FitsShape v (v b) right → Respects v old
+  pub onward : (v : Valuation) → IsValuationOf v old → v a ≡ v b → FitsShape v (v a) shape → IsValuationOf v new
+  pub back : (v : Valuation) → IsValuationOf v new → (v a ≡ v b) × FitsShape v (v a) shape
+  pub restores : (v : Valuation) → IsValuationOf v new → FitsShape v (v a) left → FitsShape v (v b) right → IsValuationOf v old
 
 module _ (old : List Node) (a b : ℕ) (left right shape : Shape) (apart : a ≢ b) (at_a : slice_get old a ≡ Some (Root left)) (at_b : slice_get old b ≡ Some (Root right)) where
   in_a : a < length old
@@ -112,16 +112,16 @@ linked_either old a b left right shape apart at_a at_b = elim (cases_lt b a) [
 
 -- the roots of two nodes
 module _ (old mid now : List Node) (a b root_a root_b : ℕ) (left right : Shape) (find_a : IsRootOf old mid a root_a left) (find_b : IsRootOf mid now b root_b right) where
-  same_value : (v : Valuation) → Respects v old → v a ≡ v b → v root_a ≡ v root_b
+  same_value : (v : Valuation) → IsValuationOf v old → v a ≡ v b → v root_a ≡ v root_b
   same_value v r e = sym (find_a.equal v r) ∙ (e ∙ find_b.equal v (find_a.same.onward v r))
 
-  same_node : (v : Valuation) → Respects v old → v root_a ≡ v root_b → v a ≡ v b
+  same_node : (v : Valuation) → IsValuationOf v old → v root_a ≡ v root_b → v a ≡ v b
   same_node v r e = find_a.equal v r ∙ (e ∙ sym (find_b.equal v (find_a.same.onward v r)))
 
-  both_onward : (v : Valuation) → Respects v old → Respects v now
+  both_onward : (v : Valuation) → IsValuationOf v old → IsValuationOf v now
   both_onward v r = find_b.same.onward v (find_a.same.onward v r)
 
-  both_back : (v : Valuation) → Respects v now → Respects v old
+  both_back : (v : Valuation) → IsValuationOf v now → IsValuationOf v old
   both_back v r = find_a.same.back v (find_b.same.back v r)
 
   at_a : slice_get now root_a ≡ Some (Root left)
@@ -144,7 +144,7 @@ module _ (old mid now : List Node) (a b root_a root_b : ℕ) (left right : Shape
   }
   equates_roots new false e = λ v r h. e v (both_onward v r) (same_value v r h)
 
-  pub not_joined : ((v : Valuation) (s : SortTree) → FitsShape v s left → FitsShape v s right → ⊥) → (v : Valuation) → Respects v old → v a ≡ v b → ⊥
+  pub not_joined : ((v : Valuation) (s : SortTree) → FitsShape v s left → FitsShape v s right → ⊥) → (v : Valuation) → IsValuationOf v old → v a ≡ v b → ⊥
   not_joined clash v r e =
       let now_r = both_onward v r in
       clash v (v root_a) (now_r.fits root_a (Root left) at_a)
@@ -181,8 +181,8 @@ module _ (old mid now : List Node) (a b root_a root_b : ℕ) (left right : Shape
 pub record Pending (start now : List Node) (a b : ℕ) (pairs : List (ℕ × ℕ)) : Type 0 where
   pub as_long : length now ≡ length start
   pub in_range : PairsInRange (length now) pairs
-  pub onward : (v : Valuation) → Respects v start → v a ≡ v b → Respects v now × AreOne v pairs
-  pub back : (v : Valuation) → Respects v now → AreOne v pairs → Respects v start × (v a ≡ v b)
+  pub onward : (v : Valuation) → IsValuationOf v start → v a ≡ v b → IsValuationOf v now × AreOne v pairs
+  pub back : (v : Valuation) → IsValuationOf v now → AreOne v pairs → IsValuationOf v start × (v a ≡ v b)
 
 pub pending_less : (start now next : List Node) (a b x y : ℕ) (pairs rest after : List (ℕ × ℕ)) → pairs ≡ rest ++ (x, y) ∷ [] → Pending start now a b pairs → Joins x y now next rest after
     → Pending start next a b after

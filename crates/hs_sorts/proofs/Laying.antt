@@ -3,13 +3,14 @@ use Rattle.std.proofs.Common.{◌≡◌, refl, sym, ◌∙◌, ap, subst, ℕ, �
 use Rattle.std.proofs.lemmas.List.{length-replicate}
 use Rattle.std.proofs.lemmas.Option.{same_Some}
 use Rattle.hs_scheme.proofs.TransitionIndex.{le_last}
+use Rattle.hs_scheme.proofs.Lists.{place-append}
 use Rattle.hs_sorts.specs.declared.store.Shape.TheVariants.{Open}
 use Rattle.hs_sorts.specs.declared.store.Node.{Node}
 use Rattle.hs_sorts.specs.declared.store.Node.TheVariants.{Root}
-use Rattle.hs_sorts.specs.Nodes.{Valuation, Respects, FitsNode, IsStore}
+use Rattle.hs_sorts.specs.Nodes.{Valuation, IsValuationOf, FitsNode, IsStore}
 use Rattle.hs_sorts.specs.Constraints.{Agree, Claims, IsRankedIf}
 use Rattle.hs_sorts.specs.Solving.{LaysOut, EachBefore}
-use Rattle.hs_sorts.proofs.Lists.{get_replicate, get_append}
+use Rattle.hs_sorts.proofs.Lists.{get_replicate}
 use Rattle.hs_sorts.proofs.NodeLemmas.{agree_trans, over, over_agrees, over_later, respects_more}
 
 -- no claim yet
@@ -34,8 +35,8 @@ claims_chain old now next P Q R a b stable both parts = record {
       record { valuation = z.valuation; agrees = agree_trans (length old) (length now) v w.valuation z.valuation a.longer w.agrees z.agrees; respects = z.respects };
 }
 
-pub claims_clash : (old now : List Node) (P Q : Valuation → Type 0) → Claims old now P → ((v : Valuation) → Respects v now → Q v → ⊥) → ((v w : Valuation) → Agree (length old) v w → Q v → Q w)
-    → (v : Valuation) → Respects v old → P v → Q v → ⊥
+pub claims_clash : (old now : List Node) (P Q : Valuation → Type 0) → Claims old now P → ((v : Valuation) → IsValuationOf v now → Q v → ⊥) → ((v w : Valuation) → Agree (length old) v w → Q v → Q w)
+    → (v : Valuation) → IsValuationOf v old → P v → Q v → ⊥
 claims_clash old now P Q a never stable v r p q = let w = a.complete v r p in never w.valuation w.respects (stable v w.valuation w.agrees q)
 
 module _ {A : Type 0} (Q : ℕ → A → Valuation → Type 0) (xs : List A) (old : List Node)
@@ -52,11 +53,11 @@ module _ {A : Type 0} (Q : ℕ → A → Valuation → Type 0) (xs : List A) (ol
         ])
         (λ v h. ((λ f y l there. h f y (omega arith) there), h i x (omega arith) at))
 
-    pub each_clash : (n : ℕ) → i < n → ((v : Valuation) → Respects v now → Q i x v → ⊥) → (v : Valuation) → Respects v old → EachBefore Q xs n v → ⊥
+    pub each_clash : (n : ℕ) → i < n → ((v : Valuation) → IsValuationOf v now → Q i x v → ⊥) → (v : Valuation) → IsValuationOf v old → EachBefore Q xs n v → ⊥
     each_clash n l never v r h = claims_clash old now (EachBefore Q xs i) (Q i x) so_far never (λ u w. stable i x u w at) v r (λ f y less there. h f y (omega arith) there) (h i x l at)
 
 -- open nodes are respected whatever their sorts
-pub open_respected : (v : Valuation) (nodes : List Node) (n : ℕ) → IsStore nodes → (w : Valuation) → Agree (length nodes) v w → Respects v nodes → Respects w (nodes ++ replicate n (Root Open))
+pub open_respected : (v : Valuation) (nodes : List Node) (n : ℕ) → IsStore nodes → (w : Valuation) → Agree (length nodes) v w → IsValuationOf v nodes → IsValuationOf w (nodes ++ replicate n (Root Open))
 open_respected v nodes n is w same r = respects_more nodes (replicate n (Root Open)) v w is same r (λ j m h.
     subst (λ (x : Node). FitsNode w (w (length nodes + j)) x) (sym (get_replicate n j (Root Open) m h)) tt)
 
@@ -71,7 +72,7 @@ module _ (rules terminals : ℕ) where
   parts_long = row_long ([] ++ replicate rules (Root Open)) terminals ∙ ap (λ m. m + terminals) (length-replicate rules (Root Open))
 
   is_open : (i : ℕ) (n : Node) → slice_get parts i ≡ Some n → n ≡ Root Open
-  is_open i n h = elim (get_append ([] ++ replicate rules (Root Open)) (replicate terminals (Root Open)) i n h) [
+  is_open i n h = elim (place-append ([] ++ replicate rules (Root Open)) (replicate terminals (Root Open)) i n h) [
     | inl e ↦ get_replicate rules i (Root Open) n e
     | inr l ↦ get_replicate terminals l.place (Root Open) n l.at
   ]

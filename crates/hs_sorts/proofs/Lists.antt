@@ -1,19 +1,5 @@
 -- What stands where in a list that was lengthened or changed at a place.
-use Rattle.std.proofs.Common.{◌≡◌, ◌≢◌, refl, ap, ℕ, zero, suc, ◌+◌, ◌<◌, List, [], ◌∷◌, ◌++◌, length, set, slice_get, replicate, Some, ◌⊎◌, inl, inr, arith}
-
--- where it stands in xs ++ ys
-pub record Later {A : Type 0} (xs ys : List A) (i : ℕ) (x : A) : Type 0 where
-  pub place : ℕ
-  pub is : i ≡ length xs + place
-  pub at : slice_get ys place ≡ Some x
-
-pub get_append : {A : Type 0} (xs ys : List A) (i : ℕ) (x : A) → slice_get (xs ++ ys) i ≡ Some x → (slice_get xs i ≡ Some x) ⊎ Later xs ys i x
-get_append [] ys i x h = inr (record { place = i; is = omega arith; at = h })
-get_append (z ∷ xs) ys zero x h = inl h
-get_append (z ∷ xs) ys (suc i) x h = elim (get_append xs ys i x h) [
-  | inl e ↦ inl e
-  | inr l ↦ inr (record { place = l.place; is = omega (arith, l.is); at = l.at })
-]
+use Rattle.std.proofs.Common.{◌≡◌, ◌≢◌, refl, ap, ℕ, zero, suc, ◌<◌, List, [], ◌∷◌, length, set, slice_get, replicate, Some, arith}
 
 pub get_replicate : {A : Type 0} (n i : ℕ) (y x : A) → slice_get (replicate n y) i ≡ Some x → x ≡ y
 get_replicate zero i y x h = absurd (cc)

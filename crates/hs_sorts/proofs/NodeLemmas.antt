@@ -4,14 +4,14 @@ use Rattle.std.proofs.lemmas.Option.{same_Some, slice_get_within, get_or_from_sl
 use Rattle.std.proofs.lemmas.Bool.{eqb-true, eqb-false, lt-ltb, le-ltb}
 use Rattle.std.proofs.lemmas.List.Sums.{sum_by-set}
 use Rattle.hs_scheme.specs.Sorting.{SortTree, arrow}
-use Rattle.hs_scheme.proofs.Lists.{at_append}
+use Rattle.hs_scheme.proofs.Lists.{at_append, place-append}
 use Rattle.hs_sorts.specs.declared.store.Shape.{Shape}
 use Rattle.hs_sorts.specs.declared.store.Shape.TheVariants.{Open, Base, Arrow}
 use Rattle.hs_sorts.specs.declared.store.Node.{Node}
 use Rattle.hs_sorts.specs.declared.store.Node.TheVariants.{Root, Link}
-use Rattle.hs_sorts.specs.Nodes.{Valuation, FitsShape, FitsNode, Respects, ShapeInRange, NodeInRange, IsStore, IsSameStore, unlinked, root_count}
+use Rattle.hs_sorts.specs.Nodes.{Valuation, FitsShape, FitsNode, IsValuationOf, ShapeInRange, NodeInRange, IsStore, IsSameStore, unlinked, root_count}
 use Rattle.hs_sorts.specs.Constraints.{Agree}
-use Rattle.hs_sorts.proofs.Lists.{get_append, get_set_same, get_set_other}
+use Rattle.hs_sorts.proofs.Lists.{get_set_same, get_set_other}
 
 pub shape_wider : (n m : ℕ) (s : Shape) → n ≤ m → ShapeInRange n s → ShapeInRange m s
 shape_wider n m Open h r = tt
@@ -29,7 +29,7 @@ one_place x y (suc j) h = absurd (cc)
 pub store_more : (nodes : List Node) (s : Shape) → length nodes < 2 ^ 32 → IsStore nodes → ShapeInRange (length nodes) s → IsStore (nodes ++ Root s ∷ [])
 store_more nodes s few is r = record {
   few = omega (arith, length-append nodes (Root s ∷ []));
-  in_range = λ i n h. elim (get_append nodes (Root s ∷ []) i n h) [
+  in_range = λ i n h. elim (place-append nodes (Root s ∷ []) i n h) [
     | inl e ↦ node_wider (length nodes) (length (nodes ++ Root s ∷ [])) i n (omega (arith, length-append nodes (Root s ∷ []))) (is.in_range i n e)
     | inr l ↦
         let e = one_place (Root s) n l.place l.at in
@@ -63,10 +63,10 @@ over_later n j v x =
     ∙ ap x (omega arith)
 
 -- a valuation that agrees on the nodes there are, and fits those that are added
-pub respects_more : (nodes added : List Node) (v w : Valuation) → IsStore nodes → Agree (length nodes) v w → Respects v nodes
-    → ((j : ℕ) (n : Node) → slice_get added j ≡ Some n → FitsNode w (w (length nodes + j)) n) → Respects w (nodes ++ added)
+pub respects_more : (nodes added : List Node) (v w : Valuation) → IsStore nodes → Agree (length nodes) v w → IsValuationOf v nodes
+    → ((j : ℕ) (n : Node) → slice_get added j ≡ Some n → FitsNode w (w (length nodes + j)) n) → IsValuationOf w (nodes ++ added)
 respects_more nodes added v w is same was fit = record {
-  fits = λ i n h. elim (get_append nodes added i n h) [
+  fits = λ i n h. elim (place-append nodes added i n h) [
     | inl e ↦
         let below = slice_get_within nodes i n e in
         node_same (length nodes) i v w (w i) n (omega (arith, below)) same (is.in_range i n e) (subst (λ (s : SortTree). FitsNode v s n) (sym (same.at i below)) (was.fits i n e))
@@ -74,7 +74,7 @@ respects_more nodes added v w is same was fit = record {
   ];
 }
 
-pub respects_fewer : (nodes added : List Node) (v : Valuation) → Respects v (nodes ++ added) → Respects v nodes
+pub respects_fewer : (nodes added : List Node) (v : Valuation) → IsValuationOf v (nodes ++ added) → IsValuationOf v nodes
 respects_fewer nodes added v r = record { fits = λ i n h. r.fits i n (at_append nodes added i n h) }
 
 pub same_trans : (xs ys zs : List Node) → IsSameStore xs ys → IsSameStore ys zs → IsSameStore xs zs
@@ -105,7 +105,7 @@ here_or_not i j = elim (nat_eq j i) as (λ b. nat_eq j i ≡ b → (j ≡ i) ⊎
 ] refl
 
 -- a node is changed to one that the same sorts fit
-pub respects_set : (nodes : List Node) (i : ℕ) (y : Node) (v : Valuation) → i < length nodes → Respects v nodes → FitsNode v (v i) y → Respects v (set nodes i y)
+pub respects_set : (nodes : List Node) (i : ℕ) (y : Node) (v : Valuation) → i < length nodes → IsValuationOf v nodes → FitsNode v (v i) y → IsValuationOf v (set nodes i y)
 respects_set nodes i y v within r fit = record {
   fits = λ j n h.
       let w = written nodes i j y n within h in
@@ -116,7 +116,7 @@ respects_set nodes i y v within r fit = record {
 }
 
 -- the other way round, where the old node is fitted too
-pub respects_unset : (nodes : List Node) (i : ℕ) (y : Node) (v : Valuation) → i < length nodes → Respects v (set nodes i y) → ((x : Node) → slice_get nodes i ≡ Some x → FitsNode v (v i) x) → Respects v nodes
+pub respects_unset : (nodes : List Node) (i : ℕ) (y : Node) (v : Valuation) → i < length nodes → IsValuationOf v (set nodes i y) → ((x : Node) → slice_get nodes i ≡ Some x → FitsNode v (v i) x) → IsValuationOf v nodes
 respects_unset nodes i y v within r fit = record {
   fits = λ j n h. elim (here_or_not i j) [
     | inl same ↦ subst (λ (k : ℕ). FitsNode v (v k) n) (sym same) (fit n (ap (slice_get nodes) (sym same) ∙ h))
@@ -144,7 +144,7 @@ root_is_no_link : (s : Shape) (n : ℕ) → Root s ≡ Link n → ⊥
 root_is_no_link s n h = cc
 
 module _ (nodes : List Node) (at up top : ℕ) (is : IsStore nodes) (first : slice_get nodes at ≡ Some (Link up)) (second : slice_get nodes up ≡ Some (Link top)) where
-  shorter_fits : (v : Valuation) → Respects v nodes → v at ≡ v top
+  shorter_fits : (v : Valuation) → IsValuationOf v nodes → v at ≡ v top
   shorter_fits v r = r.fits at (Link up) first ∙ r.fits up (Link top) second
 
   -- the link from `up` still stands

@@ -10,10 +10,10 @@ use Rattle.hs_sorts.specs.declared.store.Shape.TheVariants.{Open, Base, Arrow}
 use Rattle.hs_sorts.specs.declared.store.Node.{Node}
 use Rattle.hs_sorts.specs.declared.store.Node.TheVariants.{Root, Link}
 use Rattle.hs_sorts.specs.declared.weights.Weight.{Weight}
-use Rattle.hs_sorts.specs.Nodes.{Valuation, FitsNode, Respects, IsStore, IsFlat}
+use Rattle.hs_sorts.specs.Nodes.{Valuation, FitsNode, IsValuationOf, IsStore, IsFlat}
 use Rattle.hs_sorts.specs.Weights.{ReadsNode, IsReading}
 use Rattle.hs_sorts.specs.Search.{rank, Weighing}
-use Rattle.hs_sorts.specs.Reading.{size_at, parts, IsArrow, IsSplit}
+use Rattle.hs_sorts.specs.Reading.{size_at, parts, IsArrowAt, IsSplitAt}
 use Rattle.hs_sorts.proofs.Applying.{no_arrow}
 use Rattle.hs_sorts.proofs.Joining.{arrow_parts}
 use Rattle.hs_sorts.proofs.Weighing.{size-arrow, size_positive}
@@ -26,11 +26,11 @@ read_fits v s (Root (Arrow a b)) h = h
 read_fits v s (Link up) h = h
 
 -- what is read from the nodes respects them
-pub reading_respects : (v : Valuation) (nodes : List Node) → IsReading v nodes → Respects v nodes
+pub reading_respects : (v : Valuation) (nodes : List Node) → IsReading v nodes → IsValuationOf v nodes
 reading_respects v nodes r = record { fits = λ i n h. read_fits v (v i) n (r.reads i n h) }
 
 -- no sort that is read is larger than one that respects the nodes
-module _ (nodes : List Node) (is : IsStore nodes) (low v : Valuation) (reading : IsReading low nodes) (respects : Respects v nodes) where
+module _ (nodes : List Node) (is : IsStore nodes) (low v : Valuation) (reading : IsReading low nodes) (respects : IsValuationOf v nodes) where
   smaller_at : (i : ℕ) (n : Node) → slice_get nodes i ≡ Some n → ((j : ℕ) → j < length nodes → rank low (length nodes) j < rank low (length nodes) i → size (low j) ≤ size (v j)) → size (low i) ≤ size (v i)
   smaller_at i (Root Open) at below = let e : low i ≡ o = reading.reads i (Root Open) at in omega (arith, ap size e, size_positive (v i))
   smaller_at i (Root Base) at below = let e : low i ≡ o = reading.reads i (Root Base) at in omega (arith, ap size e, size_positive (v i))
@@ -117,7 +117,7 @@ counted nodes weights w i within = by_get (slice_get weights i) refl
     by_get (Some x) e = ap (λ f. unwrap_or (option_map (λ y. y.size) f) 0) e ∙ (w.describes i x e).sized
 
 -- the parts of a small arrow are smaller
-pub parts_smaller : (nodes : List Node) (weights : List Weight) (w : Weighing nodes weights) (i a b : ℕ) → i < length nodes → IsArrow nodes i a b → size_at weights i ≤ 1000
+pub parts_smaller : (nodes : List Node) (weights : List Weight) (w : Weighing nodes weights) (i a b : ℕ) → i < length nodes → IsArrowAt nodes i a b → size_at weights i ≤ 1000
     → (size_at weights a < size_at weights i) × (size_at weights b < size_at weights i)
 parts_smaller nodes weights w i a b within s small =
     let e = s.reads w.valuation w.reading in
@@ -134,10 +134,10 @@ argument_read whole args longer a k l m was split same pushed =
 
 -- the sort of a node whose root is known
 pub split_at : (nodes : List Node) (i root : ℕ) (shape : Shape) (answer : Option (ℕ × ℕ)) → IsStore nodes → slice_get nodes root ≡ Some (Root shape) → ((v : Valuation) → IsReading v nodes → v i ≡ v root)
-    → answer ≡ parts shape → IsSplit nodes i answer
-split_at nodes i root shape answer is at same e = subst (IsSplit nodes i) (sym e) (by_shape shape at)
+    → answer ≡ parts shape → IsSplitAt nodes i answer
+split_at nodes i root shape answer is at same e = subst (IsSplitAt nodes i) (sym e) (by_shape shape at)
   where
-    by_shape : (s : Shape) → slice_get nodes root ≡ Some (Root s) → IsSplit nodes i (parts s)
+    by_shape : (s : Shape) → slice_get nodes root ≡ Some (Root s) → IsSplitAt nodes i (parts s)
     by_shape Open at = λ v r. same v r ∙ r.reads root (Root Open) at
     by_shape Base at = λ v r. same v r ∙ r.reads root (Root Base) at
     by_shape (Arrow a b) at =

@@ -8,8 +8,8 @@ use Rattle.hs_scheme.specs.Sorting.{SortTree, HasSort}
 use Rattle.hs_sorts.specs.declared.store.Shape.TheVariants.{Open}
 use Rattle.hs_sorts.specs.declared.store.Node.{Node}
 use Rattle.hs_sorts.specs.declared.store.Node.TheVariants.{Root}
-use Rattle.hs_sorts.specs.Nodes.{Valuation, Respects, IsStore}
-use Rattle.hs_sorts.specs.Constraints.{node_of, NodesBelow, Agree, AddsNode, Refutes, Claims, IsClaim, Leaves, HasSortAt, sorts_with, IsRuled, BodyWithin}
+use Rattle.hs_sorts.specs.Nodes.{Valuation, IsValuationOf, IsStore}
+use Rattle.hs_sorts.specs.Constraints.{node_of, NodesBelow, Agree, AddsNode, Refutes, Claims, IsClaim, LeavesSort, HasSortAt, sorts_with, IsRuled, BodyWithin}
 use Rattle.hs_sorts.proofs.Arrows.{arrows_same}
 use Rattle.hs_sorts.proofs.NodeLemmas.{agree_trans, over, over_agrees, over_later, respects_fewer}
 use Rattle.hs_sorts.proofs.Ranges.{has_in_range, term_below}
@@ -50,9 +50,9 @@ module _ (old : List Node) (is : IsStore old) (rules k f : ℕ) (rule : Rule) (b
 
   -- some sort is left behind those of the parameters' nodes, and the body has it
   abbrev pub Both : Valuation → Type 0
-  Both v = (s : SortTree) × Leaves f first rule.params v s × HasSortAt (node_of rules first) rule.body v s
+  Both v = (s : SortTree) × LeavesSort f first rule.params v s × HasSortAt (node_of rules first) rule.body v s
 
-  module _ (v : Valuation) (was : Respects v old) (q : IsRuled rules k f rule v) where
+  module _ (v : Valuation) (was : IsValuationOf v old) (q : IsRuled rules k f rule v) where
     abbrev opened : Valuation
     opened = over (length old) v q.parameters
 
@@ -62,10 +62,10 @@ module _ (old : List Node) (is : IsStore old) (rules k f : ℕ) (rule : Rule) (b
     opened_at : (j : ℕ) → opened (first + j) ≡ q.parameters j
     opened_at j = ap (λ n. opened (n + j)) first_is ∙ over_later (length old) j v q.parameters
 
-    opened_respects : Respects opened wide
-    opened_respects = subst (Respects opened) (sym wide_is) (open_respected v old rule.params is opened agrees was)
+    opened_respects : IsValuationOf opened wide
+    opened_respects = subst (IsValuationOf opened) (sym wide_is) (open_respected v old rule.params is opened agrees was)
 
-    opened_leaves : Leaves f first rule.params opened q.rest
+    opened_leaves : LeavesSort f first rule.params opened q.rest
     opened_leaves = agrees.at f below ∙ (q.begins ∙ arrows_same rule.params q.parameters (λ j. opened (first + j)) q.rest (λ j l. sym (opened_at j)))
 
     opened_same : (h : Head) → HeadInRange rule.params rules b.terminals h → opened (node_of rules first h) ≡ sorts_with rules q.parameters v h
@@ -80,19 +80,19 @@ module _ (old : List Node) (is : IsStore old) (rules k f : ℕ) (rule : Rule) (b
       has_in_range rule.params rules b.terminals (sorts_with rules q.parameters v) (λ h. opened (node_of rules first h)) opened_same rule.body q.rest b.body (q.body l),
     )
 
-  was_respected : (v : Valuation) → Respects v wide → Respects v old
-  was_respected v r = respects_fewer old (replicate rule.params (Root Open)) v (subst (Respects v) wide_is r)
+  was_respected : (v : Valuation) → IsValuationOf v wide → IsValuationOf v old
+  was_respected v r = respects_fewer old (replicate rule.params (Root Open)) v (subst (IsValuationOf v) wide_is r)
 
   sorts_are : (v : Valuation) (h : Head) → v (node_of rules first h) ≡ sorts_with rules (λ j. v (first + j)) v h
   sorts_are v (Var j) = refl
   sorts_are v (Nt g) = refl
   sorts_are v (Tm a) = refl
 
-  pub none_left : Refutes wide (Leaves f first rule.params) → (v : Valuation) → Respects v old → IsRuled rules k f rule v → ⊥
+  pub none_left : Refutes wide (LeavesSort f first rule.params) → (v : Valuation) → IsValuationOf v old → IsRuled rules k f rule v → ⊥
   none_left never v r q = never (opened v r q) q.rest (opened_respects v r q) (opened_leaves v r q)
 
   -- the rule's body isn't asked for
-  pub begun : (mid : List Node) (rest : ℕ) → k ≤ f → AddsNode wide mid rest (Leaves f first rule.params) → Claims old mid (IsRuled rules k f rule)
+  pub begun : (mid : List Node) (rest : ℕ) → k ≤ f → AddsNode wide mid rest (LeavesSort f first rule.params) → Claims old mid (IsRuled rules k f rule)
   begun mid rest past a = record {
     longer = omega (arith, long, a.longer);
     few = a.few;

@@ -7,7 +7,7 @@ use Rattle.std.proofs.lemmas.List.Sums.{sum_by-set}
 use Rattle.std.specs.Option.{option_map}
 use Rattle.std.proofs.lemmas.Option.{same_Some, slice_get_within, slice_get-map, get_or_from_slice_get, slice_get-get_or}
 use Rattle.hs_scheme.specs.Sorting.{SortTree, o, arrow, size}
-use Rattle.hs_scheme.proofs.Lists.{at_append, back_at}
+use Rattle.hs_scheme.proofs.Lists.{at_append, back_at, place-append}
 use Rattle.hs_sorts.specs.declared.store.Shape.TheVariants.{Open, Base, Arrow}
 use Rattle.hs_sorts.specs.declared.store.Node.{Node}
 use Rattle.hs_sorts.specs.declared.store.Node.TheVariants.{Root, Link}
@@ -15,10 +15,10 @@ use Rattle.hs_sorts.specs.declared.weights.Weight.{Weight}
 use Rattle.hs_sorts.specs.declared.weights.Mark.{Mark}
 use Rattle.hs_sorts.specs.declared.weights.Mark.TheVariants.{New, Entered, Weighed}
 use Rattle.hs_sorts.specs.declared.weights.Step.TheVariants.{Done, Child}
-use Rattle.hs_sorts.specs.Nodes.{Valuation, Respects, IsStore}
-use Rattle.hs_sorts.specs.Weights.{ReadsNode, Describes, weighed, weight_in, weights_in, IsWeighed, IsReadBy, ChildrenBelow, IsWeighingStep}
-use Rattle.hs_sorts.specs.Search.{rank, newness, new_count, PartReading, IsSearch, IsStarted, IsLastOnPath, Advances, IsAdvance, IsEntry, Weighing}
-use Rattle.hs_sorts.proofs.Lists.{get_set_same, get_set_other, get_append, get_replicate}
+use Rattle.hs_sorts.specs.Nodes.{Valuation, IsValuationOf, IsStore}
+use Rattle.hs_sorts.specs.Weights.{ReadsNode, Describes, weighed, weight_in, weights_in, IsWeighed, IsChildOf, ChildrenBelow, IsWeighingStep}
+use Rattle.hs_sorts.specs.Search.{rank, newness, new_count, PartReading, IsSearch, IsStarted, IsLastOnPath, AdvancesSearch, IsAdvance, IsEntry, Weighing}
+use Rattle.hs_sorts.proofs.Lists.{get_set_same, get_set_other, get_replicate}
 use Rattle.hs_sorts.proofs.NodeLemmas.{here_or_not, written, one_place}
 use Rattle.hs_sorts.proofs.Weighing.{size-arrow}
 
@@ -33,7 +33,7 @@ child_below nodes i (Link up) is at c e = let r : up < i = is.in_range i (Link u
 smaller_rank : (count s t c i : ℕ) → s + 1 ≤ t → c < count → s * (count + 1) + c < t * (count + 1) + i
 smaller_rank count s t c i h l = omega (arith, mul-le-mul_left (count + 1) h)
 
-pub child_lower : (nodes : List Node) (v : Valuation) (i c : ℕ) (n : Node) → IsStore nodes → Respects v nodes → slice_get nodes i ≡ Some n → IsReadBy n c → rank v (length nodes) c < rank v (length nodes) i
+pub child_lower : (nodes : List Node) (v : Valuation) (i c : ℕ) (n : Node) → IsStore nodes → IsValuationOf v nodes → slice_get nodes i ≡ Some n → IsChildOf n c → rank v (length nodes) c < rank v (length nodes) i
 child_lower nodes v i c (Root Open) is r at h = absurd h
 child_lower nodes v i c (Root Base) is r at h = absurd h
 child_lower nodes v i c (Root (Arrow a b)) is r at (inl e) =
@@ -75,7 +75,7 @@ weighed_after marks i j y never (w, h) = (w, get_set_other marks i j y (λ e. ne
 
 module _ (nodes : List Node) (marks : List Mark) (path : List ℕ) (s : IsSearch nodes marks path) where
   -- a new node is put on the path
-  module _ (c : ℕ) (is_new : slice_get marks c ≡ Some New) (lower : (v : Valuation) → Respects v nodes → (p i : ℕ) → slice_get path p ≡ Some i → rank v (length nodes) c ≤ rank v (length nodes) i) where
+  module _ (c : ℕ) (is_new : slice_get marks c ≡ Some New) (lower : (v : Valuation) → IsValuationOf v nodes → (p i : ℕ) → slice_get path p ≡ Some i → rank v (length nodes) c ≤ rank v (length nodes) i) where
     in_marks : c < length marks
     in_marks = slice_get_within marks c New is_new
 
@@ -83,7 +83,7 @@ module _ (nodes : List Node) (marks : List Mark) (path : List ℕ) (s : IsSearch
     not_on_path p h = new_not_entered (sym is_new ∙ s.entered p c h)
 
     entry_place : (p i : ℕ) → slice_get (path ++ c ∷ []) p ≡ Some i → (slice_get path p ≡ Some i) ⊎ ((p ≡ length path) × (i ≡ c))
-    entry_place p i h = elim (get_append path (c ∷ []) p i h) [
+    entry_place p i h = elim (place-append path (c ∷ []) p i h) [
       | inl e ↦ inl e
       | inr l ↦ let e = one_place c i l.place l.at in inr (omega (arith, l.is, e.0), sym e.1)
     ]
@@ -137,7 +137,7 @@ module _ (nodes : List Node) (marks : List Mark) (path : List ℕ) (s : IsSearch
     started_now : IsStarted (set marks c Entered) c
     started_now e = new_not_entered (sym e ∙ get_set_same marks c Entered in_marks)
 
-    pub entry_advances : Advances nodes marks path (set marks c Entered) (path ++ c ∷ [])
+    pub entry_advances : AdvancesSearch nodes marks path (set marks c Entered) (path ++ c ∷ [])
     entry_advances = record {
       search = entered_search;
       smaller = omega (arith, count_set marks c New Entered is_new, length-append path (c ∷ []));
@@ -160,7 +160,7 @@ reads_of v (Root Base) = refl
 reads_of v (Root (Arrow a b)) = refl
 reads_of v (Link up) = refl
 
-reads_same : (v w : Valuation) (s : SortTree) (n : Node) → ((c : ℕ) → IsReadBy n c → w c ≡ v c) → ReadsNode v s n → ReadsNode w s n
+reads_same : (v w : Valuation) (s : SortTree) (n : Node) → ((c : ℕ) → IsChildOf n c → w c ≡ v c) → ReadsNode v s n → ReadsNode w s n
 reads_same v w s (Root Open) same h = h
 reads_same v w s (Root Base) same h = h
 reads_same v w s (Root (Arrow a b)) same h = h ∙ (λ i. arrow (sym (same a (inl refl)) i) (sym (same b (inr refl)) i))
@@ -203,7 +203,7 @@ module _ (nodes : List Node) (marks : List Mark) (path rest : List ℕ) (top : �
   top_below = slice_get_within marks top Entered top_entered
 
   -- a child that is on the path is a part of itself
-  pub cycle : (c : ℕ) → IsStore nodes → IsReadBy n c → IsStarted marks c → ((w : Weight) → slice_get marks c ≡ Some (weighed w) → ⊥) → (v : Valuation) → Respects v nodes → ⊥
+  pub cycle : (c : ℕ) → IsStore nodes → IsChildOf n c → IsStarted marks c → ((w : Weight) → slice_get marks c ≡ Some (weighed w) → ⊥) → (v : Valuation) → IsValuationOf v nodes → ⊥
   cycle c store child started never v r =
       let below = child_below nodes top n store at_node c child in
       elim (mark_cases marks c (omega (arith, s.as_long, below))) [
@@ -219,7 +219,7 @@ module _ (nodes : List Node) (marks : List Mark) (path rest : List ℕ) (top : �
       ]
 
   -- so a child that is new goes on the path
-  pub child_entered : (c : ℕ) → IsStore nodes → IsReadBy n c → slice_get marks c ≡ Some New → Advances nodes marks path (set marks c Entered) (path ++ c ∷ [])
+  pub child_entered : (c : ℕ) → IsStore nodes → IsChildOf n c → slice_get marks c ≡ Some New → AdvancesSearch nodes marks path (set marks c Entered) (path ++ c ∷ [])
   child_entered c store child is_new = entry_advances nodes marks path s c is_new (λ v r p i h.
       let place = slice_get_within path p i h in
       let le : p ≤ length rest = omega (arith, place, ap length last, length-append rest (top ∷ [])) in
@@ -286,7 +286,7 @@ module _ (nodes : List Node) (marks : List Mark) (path rest : List ℕ) (top : �
       children = λ i m h there c child. elim (weighed_place i h.0 h.1) [
         | inl (same, is) ↦
             let e = same_node m (ap (slice_get nodes) (sym same) ∙ there) in
-            still_weighed c (step.0 c (subst (λ (x : Node). IsReadBy x c) (sym e) child))
+            still_weighed c (step.0 c (subst (λ (x : Node). IsChildOf x c) (sym e) child))
         | inr before ↦ still_weighed c (s.reading.children i m (h.0, before) there c child)
       ];
     }
@@ -303,7 +303,7 @@ module _ (nodes : List Node) (marks : List Mark) (path rest : List ℕ) (top : �
       on_path = λ i h.
           let x = entered_elsewhere i h in
           let p = s.on_path i x.0 in
-          elim (get_append rest (top ∷ []) p.0 i (ap (λ (xs : List ℕ). slice_get xs p.0) (sym last) ∙ p.1)) [
+          elim (place-append rest (top ∷ []) p.0 i (ap (λ (xs : List ℕ). slice_get xs p.0) (sym last) ∙ p.1)) [
             | inl e ↦ (p.0, e)
             | inr l ↦ absurd (x.1 (sym (one_place top i l.place l.at).1))
           ];
@@ -312,7 +312,7 @@ module _ (nodes : List Node) (marks : List Mark) (path rest : List ℕ) (top : �
       reading = more_reading;
     }
 
-    pub weighed_advances : Advances nodes marks path (set marks top (weighed w)) rest
+    pub weighed_advances : AdvancesSearch nodes marks path (set marks top (weighed w)) rest
     weighed_advances = record {
       search = weighed_search;
       smaller = omega (arith, count_set marks top Entered (weighed w) top_entered, ap length last, length-append rest (top ∷ []));
@@ -348,8 +348,8 @@ popped path now rest top m last is long =
 pub child_advances : (nodes : List Node) (marks : List Mark) (path : List ℕ) (top : ℕ) (n : Node) (c : ℕ) (new : List Mark) (longer : List ℕ) (answer : Bool) → IsSearch nodes marks path → IsLastOnPath path top → slice_get nodes top ≡ Some n
     → IsStore nodes → IsWeighingStep marks n (Child c) → IsEntry marks path c new longer answer → IsAdvance nodes marks path new longer answer
 child_advances nodes marks path top n c new longer true s (rest, last) at store step (is_new, marked, pushed) =
-    subst (λ (ms : List Mark). Advances nodes marks path ms longer) (sym marked)
-    (subst (λ (xs : List ℕ). Advances nodes marks path (set marks c Entered) xs) (sym pushed) (child_entered nodes marks path rest top n s last at c store step.0 is_new))
+    subst (λ (ms : List Mark). AdvancesSearch nodes marks path ms longer) (sym marked)
+    (subst (λ (xs : List ℕ). AdvancesSearch nodes marks path (set marks c Entered) xs) (sym pushed) (child_entered nodes marks path rest top n s last at c store step.0 is_new))
 child_advances nodes marks path top n c new longer false s (rest, last) at store step (started, marked, pushed) =
     cycle nodes marks path rest top n s last at c store step.0 started step.1
 
@@ -358,10 +358,10 @@ nothing_on path p i e h = let f : slice_get [] p ≡ Some i = ap (λ (xs : List 
 
 -- a walk begins with a new node on an empty path
 pub begun : (nodes : List Node) (marks : List Mark) (path : List ℕ) (start : ℕ) (new : List Mark) (longer : List ℕ) → IsSearch nodes marks path → path ≡ [] → IsEntry marks path start new longer true
-    → Advances nodes marks path new longer × IsStarted new start
+    → AdvancesSearch nodes marks path new longer × IsStarted new start
 begun nodes marks path start new longer s empty (is_new, marked, pushed) =
-    let lower : (v : Valuation) → Respects v nodes → (p i : ℕ) → slice_get path p ≡ Some i → rank v (length nodes) start ≤ rank v (length nodes) i = λ v r p i h. absurd (nothing_on path p i empty h) in (
-      subst (λ (ms : List Mark). Advances nodes marks path ms longer) (sym marked) (subst (λ (xs : List ℕ). Advances nodes marks path (set marks start Entered) xs) (sym pushed) (entry_advances nodes marks path s start is_new lower)),
+    let lower : (v : Valuation) → IsValuationOf v nodes → (p i : ℕ) → slice_get path p ≡ Some i → rank v (length nodes) start ≤ rank v (length nodes) i = λ v r p i h. absurd (nothing_on path p i empty h) in (
+      subst (λ (ms : List Mark). AdvancesSearch nodes marks path ms longer) (sym marked) (subst (λ (xs : List ℕ). AdvancesSearch nodes marks path (set marks start Entered) xs) (sym pushed) (entry_advances nodes marks path s start is_new lower)),
       subst (λ (ms : List Mark). IsStarted ms start) (sym marked) (entry_started nodes marks path s start is_new lower),
     )
 

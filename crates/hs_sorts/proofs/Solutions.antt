@@ -8,7 +8,7 @@ use Rattle.hs_scheme.specs.Scheme.{HeadInRange, TermInRange, AreRules}
 use Rattle.hs_scheme.specs.Sorting.{arrows, behind, arguments, Sorts, heads, HasSort, IsSorting, HasSorting}
 use Rattle.hs_scheme.specs.Sorted.{sort_at}
 use Rattle.hs_sorts.specs.declared.store.Node.{Node}
-use Rattle.hs_sorts.specs.Nodes.{Valuation, Respects}
+use Rattle.hs_sorts.specs.Nodes.{Valuation, IsValuationOf}
 use Rattle.hs_sorts.specs.Constraints.{Agree, Claims, IsBaseSort, IsRankedIf, sorts_with, IsRuled, BodiesWithin}
 use Rattle.hs_sorts.specs.Solving.{Realizes, Realization, LaysOut, sorts_at, Solves, EachBefore, AreRuled}
 use Rattle.hs_sorts.proofs.Arrows.{arrows_same, left_behind, argument_is}
@@ -94,7 +94,7 @@ module _ (rules : List Rule) (ranks : List (Option ℕ)) (k : ℕ) (are : AreRul
       record { valuation = w.valuation; respects = w.respects; realizes = realizes_stable (length nodes) room s r.valuation w.valuation w.agrees r.realizes }
 
   module _ (laid : List Node) (out : LaysOut (length rules) (length ranks) laid) where
-    pub no_start : ((v : Valuation) → Respects v laid → IsBaseSort 0 v → ⊥) → HasSorting rules ranks k → ⊥
+    pub no_start : ((v : Valuation) → IsValuationOf v laid → IsBaseSort 0 v → ⊥) → HasSorting rules ranks k → ⊥
     no_start never (s, sorting) =
         let v = out.any s in
         never v.valuation v.respects (start_base s sorting v.valuation v.realizes)
@@ -106,7 +106,7 @@ module _ (rules : List Rule) (ranks : List (Option ℕ)) (k : ℕ) (are : AreRul
       at_started : (s : Sorts) → IsSorting rules ranks k s → Realization (length rules) (length ranks) started s
       at_started s sorting = let v = out.any s in go_on laid started (IsBaseSort 0) out.room a s v (start_base s sorting v.valuation v.realizes)
 
-      pub no_ranks : ((v : Valuation) → Respects v started → AreRanked ranks (length rules) v → ⊥) → HasSorting rules ranks k → ⊥
+      pub no_ranks : ((v : Valuation) → IsValuationOf v started → AreRanked ranks (length rules) v → ⊥) → HasSorting rules ranks k → ⊥
       no_ranks never (s, sorting) =
           let v = at_started s sorting in
           never v.valuation v.respects (are_ranked s sorting v.valuation v.realizes)
@@ -118,7 +118,7 @@ module _ (rules : List Rule) (ranks : List (Option ℕ)) (k : ℕ) (are : AreRul
         at_ranked : (s : Sorts) → IsSorting rules ranks k s → Realization (length rules) (length ranks) ranked s
         at_ranked s sorting = let v = at_started s sorting in go_on started ranked (AreRanked ranks (length rules)) room_started b s v (are_ranked s sorting v.valuation v.realizes)
 
-        pub no_rules : ((v : Valuation) → Respects v ranked → AreRuled k rules v → ⊥) → HasSorting rules ranks k → ⊥
+        pub no_rules : ((v : Valuation) → IsValuationOf v ranked → AreRuled k rules v → ⊥) → HasSorting rules ranks k → ⊥
         no_rules never (s, sorting) =
             let v = at_ranked s sorting in
             never v.valuation v.respects (are_ruled s sorting v.valuation v.realizes)

@@ -10,7 +10,7 @@ use Rattle.hs_scheme.specs.declared.term.Rule.{Rule}
 use Rattle.hs_scheme.specs.Scheme.{TermInRange}
 use Rattle.hs_scheme.specs.Sorting.{SortTree, o, arrow, arrows, ranked, HasSort}
 use Rattle.hs_sorts.specs.declared.store.Node.{Node}
-use Rattle.hs_sorts.specs.Nodes.{Valuation, Respects}
+use Rattle.hs_sorts.specs.Nodes.{Valuation, IsValuationOf}
 
 -- the nonterminals' nodes come first, by rule, then the terminals'; those of a rule's parameters are in a row
 abbrev pub node_of : ℕ → ℕ → Head → ℕ
@@ -35,7 +35,7 @@ pub record Agree (count : ℕ) (v w : Valuation) : Type 0 where
 pub record Extension (old new : List Node) (i : ℕ) (v : Valuation) (k : SortTree) : Type 0 where
   pub valuation : Valuation
   pub agrees : Agree (length old) v valuation
-  pub respects : Respects valuation new
+  pub respects : IsValuationOf valuation new
   pub gives : valuation i ≡ k
 
 -- The new store's valuations are those of the old one that have a sort k of which P holds, with that
@@ -44,12 +44,12 @@ pub record AddsNode (old new : List Node) (i : ℕ) (P : Valuation → SortTree 
   pub longer : length old ≤ length new
   pub few : length new ≤ 2 ^ 32
   pub within : i < length new
-  pub sound : (v : Valuation) → Respects v new → Respects v old × P v (v i)
-  pub complete : (v : Valuation) (k : SortTree) → Respects v old → P v k → Extension old new i v k
+  pub sound : (v : Valuation) → IsValuationOf v new → IsValuationOf v old × P v (v i)
+  pub complete : (v : Valuation) (k : SortTree) → IsValuationOf v old → P v k → Extension old new i v k
 
 -- no valuation has a sort of which P holds
 abbrev pub Refutes : List Node → (Valuation → SortTree → Type 0) → Type 0
-Refutes old P = (v : Valuation) (k : SortTree) → Respects v old → P v k → ⊥
+Refutes old P = (v : Valuation) (k : SortTree) → IsValuationOf v old → P v k → ⊥
 
 abbrev pub IsNodeFor : List Node → List Node → (Valuation → SortTree → Type 0) → Option ℕ → Type 0
 IsNodeFor old new P (Some i) = AddsNode old new i P
@@ -67,26 +67,26 @@ HasSortAt at t v k = HasSort (λ h. v (at h)) t k
 pub record Continuation (old new : List Node) (v : Valuation) : Type 0 where
   pub valuation : Valuation
   pub agrees : Agree (length old) v valuation
-  pub respects : Respects valuation new
+  pub respects : IsValuationOf valuation new
 
 -- the new store's valuations are those of the old one of which P holds
 pub record Claims (old new : List Node) (P : Valuation → Type 0) : Type 0 where
   pub longer : length old ≤ length new
   pub few : length new ≤ 2 ^ 32
-  pub sound : (v : Valuation) → Respects v new → Respects v old × P v
-  pub complete : (v : Valuation) → Respects v old → P v → Continuation old new v
+  pub sound : (v : Valuation) → IsValuationOf v new → IsValuationOf v old × P v
+  pub complete : (v : Valuation) → IsValuationOf v old → P v → Continuation old new v
 
 abbrev pub IsClaim : List Node → List Node → (Valuation → Type 0) → Bool → Type 0
 IsClaim old new P true = Claims old new P
-IsClaim old new P false = (v : Valuation) → Respects v old → P v → ⊥
+IsClaim old new P false = (v : Valuation) → IsValuationOf v old → P v → ⊥
 
 -- the node's sort is o
 abbrev pub IsBaseSort : ℕ → Valuation → Type 0
 IsBaseSort i v = v i ≡ o
 
 -- k is what is left of the node's sort behind the sorts of `count` nodes in a row, its first arguments
-abbrev pub Leaves : ℕ → ℕ → ℕ → Valuation → SortTree → Type 0
-Leaves i first count v k = v i ≡ arrows count (λ j. v (first + j)) k
+abbrev pub LeavesSort : ℕ → ℕ → ℕ → Valuation → SortTree → Type 0
+LeavesSort i first count v k = v i ≡ arrows count (λ j. v (first + j)) k
 
 -- the node's sort is that of a terminal of this rank
 abbrev pub IsRanked : ℕ → ℕ → Valuation → Type 0

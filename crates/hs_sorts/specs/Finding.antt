@@ -11,7 +11,7 @@ use Rattle.hs_sorts.specs.Search.{Weighing}
 use Rattle.hs_sorts.specs.Solving.{Solves}
 use Rattle.hs_sorts.specs.Inference.{IsTooLong}
 
-pub record Finds (rules : List Rule) (ranks : List (Option ℕ)) (k : ℕ) (found : WeighedNodes) : Type 0 where
+pub record FindsSorting (rules : List Rule) (ranks : List (Option ℕ)) (k : ℕ) (found : WeighedNodes) : Type 0 where
   pub store : IsStore found.store
   pub flat : IsFlat found.store
   pub solves : Solves rules ranks k found.store
@@ -19,7 +19,7 @@ pub record Finds (rules : List Rule) (ranks : List (Option ℕ)) (k : ℕ) (foun
 
 -- they are found exactly where the first k rules have a sorting
 abbrev pub IsFinding : List Rule → List (Option ℕ) → ℕ → Option WeighedNodes → Type 0
-IsFinding rules ranks k (Some found) = Finds rules ranks k found
+IsFinding rules ranks k (Some found) = FindsSorting rules ranks k found
 IsFinding rules ranks k None = HasSorting rules ranks k → ⊥
 
 -- the first of `count` weights from the one at `start` on of which Fails is true, where Holds is true of those before it

@@ -1,8 +1,8 @@
 -- What inference answers for a scheme.
---     IsTooLong       a rule that is shorter than its sort, and that with the missing parameters would pass a limit
---     IsInferred      the lengthening and the least sorting, where it has sorts of terminals and is small enough
---     IsFaultOf       why there is none
---     IsInferable     there is no fault
+--     IsTooLong    a rule that is shorter than its sort, and that with the missing parameters would pass a limit
+--     IsInferred   the lengthening and the least sorting, where it has sorts of terminals and is small enough
+--     IsSortFault  why there is none
+--     IsInferable  there is no fault
 use Rattle.std.specs.Prelude.{◌≡◌, ◌<◌, ◌≤◌, ◌+◌, ℕ, List, length, Option, slice_get, Some, ◌⊎◌}
 use Rattle.hs_scheme.specs.declared.term.Head.{Head}
 use Rattle.hs_scheme.specs.Tree.{Tree, node, children}
@@ -73,12 +73,12 @@ pub record IsFirstTooLong (rules : List Rule) (ranks : List (Option ℕ)) (numbe
   pub long : IsTooLong rule (sorts.nonterminal number)
   pub before : (f : ℕ) (r : Rule) → f < number → slice_get rules f ≡ Some r → IsTooLong r (sorts.nonterminal f) → ⊥
 
-abbrev pub IsFaultOf : List Rule → List (Option ℕ) → SortFault → Type 0
-IsFaultOf rules ranks (IllSorted rule) = IsFirstIllSorted rules ranks rule
-IsFaultOf rules ranks (TerminalNotFirstOrder terminal) = IsFirstHigherTerminal rules ranks terminal
-IsFaultOf rules ranks (SortTooLarge rule) = IsFirstTooLarge rules ranks rule
-IsFaultOf rules ranks (RuleTooLong rule) = IsFirstTooLong rules ranks rule
-IsFaultOf rules ranks OutOfMemory = Unit {0}
+abbrev pub IsSortFault : List Rule → List (Option ℕ) → SortFault → Type 0
+IsSortFault rules ranks (IllSorted rule) = IsFirstIllSorted rules ranks rule
+IsSortFault rules ranks (TerminalNotFirstOrder terminal) = IsFirstHigherTerminal rules ranks terminal
+IsSortFault rules ranks (SortTooLarge rule) = IsFirstTooLarge rules ranks rule
+IsSortFault rules ranks (RuleTooLong rule) = IsFirstTooLong rules ranks rule
+IsSortFault rules ranks OutOfMemory = Unit {0}
 
 -- the scheme is well-sorted, no nonterminal's least sort is larger than 1,000, and no rule is too long
 pub record IsInferable (rules : List Rule) (ranks : List (Option ℕ)) : Type 0 where

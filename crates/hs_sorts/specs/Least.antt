@@ -5,7 +5,7 @@ use Rattle.hs_scheme.specs.Sorting.{SortTree, IsSorting, IsLeastSorting}
 use Rattle.hs_scheme.specs.Sorted.{sorts_of, known}
 use Rattle.hs_sorts.specs.Inference.{AreSmall, NoneTooLong}
 
-pub record IsLeast (rules : List Rule) (ranks : List (Option ℕ)) (sorts : List SortTree) (arities : List ℕ) : Type 0 where
+pub record AreLeastSorts (rules : List Rule) (ranks : List (Option ℕ)) (sorts : List SortTree) (arities : List ℕ) : Type 0 where
   pub each_rule : length sorts ≡ length rules
   pub each_terminal : length arities ≡ length ranks
   pub agrees : (a n : ℕ) → slice_get ranks a ≡ Some (Some n) → slice_get arities a ≡ Some n

@@ -1,6 +1,6 @@
 -- Nodes that stand for sorts, and what unification does to them.
 --     FitsShape, FitsNode  a sort is as a node says, where v gives the sorts of the nodes
---     Respects             so is the sort that v gives to each node
+--     IsValuationOf        so is the sort that v gives to each node
 --     IsStore              links and arrows lead to nodes, links to smaller numbers
 --     IsFlat               no link leads to a link
 use Rattle.std.specs.Prelude.{◌≡◌, ◌≢◌, ℕ, ◌+◌, ◌*◌, ◌^◌, ◌<◌, ◌≤◌, List, [], ◌∷◌, ◌++◌, All, length, slice_get, slice_set, sum_by, Option, Some, None, Bool, true, false}
@@ -24,7 +24,7 @@ FitsNode v s (Root shape) = FitsShape v s shape
 FitsNode v s (Link up) = s ≡ v up
 
 -- the sort of each node is as the node says
-pub record Respects (v : Valuation) (nodes : List Node) : Type 0 where
+pub record IsValuationOf (v : Valuation) (nodes : List Node) : Type 0 where
   pub fits : (i : ℕ) (n : Node) → slice_get nodes i ≡ Some n → FitsNode v (v i) n
 
 abbrev pub ShapeInRange : ℕ → Shape → Type 0
@@ -55,8 +55,8 @@ pub record IsSameStore (old new : List Node) : Type 0 where
   pub as_long : length new ≡ length old
   pub roots : root_count new ≡ root_count old
   pub kept : (i : ℕ) (s : Shape) → slice_get old i ≡ Some (Root s) → slice_get new i ≡ Some (Root s)
-  pub onward : (v : Valuation) → Respects v old → Respects v new
-  pub back : (v : Valuation) → Respects v new → Respects v old
+  pub onward : (v : Valuation) → IsValuationOf v old → IsValuationOf v new
+  pub back : (v : Valuation) → IsValuationOf v new → IsValuationOf v old
 
 -- the links of the first `count` nodes lead to nodes without one
 abbrev pub FlatBelow : ℕ → List Node → Type 0
@@ -71,7 +71,7 @@ pub record IsRootOf (old new : List Node) (node root : ℕ) (shape : Shape) : Ty
   pub same : IsSameStore old new
   pub at : slice_get new root ≡ Some (Root shape)
   pub in_range : ShapeInRange (length old) shape
-  pub equal : (v : Valuation) → Respects v old → v node ≡ v root
+  pub equal : (v : Valuation) → IsValuationOf v old → v node ≡ v root
 
 -- two nodes without links, apart from each other
 pub record AreRoots (nodes : List Node) (a b : ℕ) : Type 0 where
@@ -111,19 +111,19 @@ pub record Joins (a b : ℕ) (old new : List Node) (before after : List (ℕ × 
   pub as_long : length new ≡ length old
   pub smaller : 2 * root_count new + length after ≤ 2 * root_count old + length before
   pub in_range : PairsInRange (length old) before → PairsInRange (length new) after
-  pub onward : (v : Valuation) → Respects v old → v a ≡ v b → AreOne v before → Respects v new × AreOne v after
-  pub back : (v : Valuation) → Respects v new → AreOne v after → Respects v old × (v a ≡ v b) × AreOne v before
+  pub onward : (v : Valuation) → IsValuationOf v old → v a ≡ v b → AreOne v before → IsValuationOf v new × AreOne v after
+  pub back : (v : Valuation) → IsValuationOf v new → AreOne v after → IsValuationOf v old × (v a ≡ v b) × AreOne v before
 
-abbrev pub IsJoin : ℕ → ℕ → List Node → List Node → List (ℕ × ℕ) → List (ℕ × ℕ) → Bool → Type 0
-IsJoin a b old new before after true = Joins a b old new before after
-IsJoin a b old new before after false = (v : Valuation) → Respects v old → v a ≡ v b → ⊥
+abbrev pub JoinsOrRefuses : ℕ → ℕ → List Node → List Node → List (ℕ × ℕ) → List (ℕ × ℕ) → Bool → Type 0
+JoinsOrRefuses a b old new before after true = Joins a b old new before after
+JoinsOrRefuses a b old new before after false = (v : Valuation) → IsValuationOf v old → v a ≡ v b → ⊥
 
 -- the two nodes are made one
 pub record Equates (a b : ℕ) (old new : List Node) : Type 0 where
   pub as_long : length new ≡ length old
-  pub onward : (v : Valuation) → Respects v old → v a ≡ v b → Respects v new
-  pub back : (v : Valuation) → Respects v new → Respects v old × (v a ≡ v b)
+  pub onward : (v : Valuation) → IsValuationOf v old → v a ≡ v b → IsValuationOf v new
+  pub back : (v : Valuation) → IsValuationOf v new → IsValuationOf v old × (v a ≡ v b)
 
 abbrev pub IsEquation : ℕ → ℕ → List Node → List Node → Bool → Type 0
 IsEquation a b old new true = Equates a b old new
-IsEquation a b old new false = (v : Valuation) → Respects v old → v a ≡ v b → ⊥
+IsEquation a b old new false = (v : Valuation) → IsValuationOf v old → v a ≡ v b → ⊥

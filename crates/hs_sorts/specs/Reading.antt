@@ -20,11 +20,11 @@ parts Base = None
 parts (Arrow a b) = Some (a, b)
 
 -- the sort that is read from a node takes an argument, or is o
-pub record IsArrow (nodes : List Node) (i a b : ℕ) : Type 0 where
+pub record IsArrowAt (nodes : List Node) (i a b : ℕ) : Type 0 where
   pub argument : a < length nodes
   pub rest : b < length nodes
   pub reads : (v : Valuation) → IsReading v nodes → v i ≡ arrow (v a) (v b)
 
-abbrev pub IsSplit : List Node → ℕ → Option (ℕ × ℕ) → Type 0
-IsSplit nodes i (Some p) = IsArrow nodes i p.0 p.1
-IsSplit nodes i None = (v : Valuation) → IsReading v nodes → v i ≡ o
+abbrev pub IsSplitAt : List Node → ℕ → Option (ℕ × ℕ) → Type 0
+IsSplitAt nodes i (Some p) = IsArrowAt nodes i p.0 p.1
+IsSplitAt nodes i None = (v : Valuation) → IsReading v nodes → v i ≡ o

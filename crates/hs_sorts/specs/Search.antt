@@ -7,7 +7,7 @@ use Rattle.hs_sorts.specs.declared.store.Node.{Node}
 use Rattle.hs_sorts.specs.declared.weights.Weight.{Weight}
 use Rattle.hs_sorts.specs.declared.weights.Mark.{Mark}
 use Rattle.hs_sorts.specs.declared.weights.Mark.TheVariants.{New, Entered, Weighed}
-use Rattle.hs_sorts.specs.Nodes.{Valuation, Respects}
+use Rattle.hs_sorts.specs.Nodes.{Valuation, IsValuationOf}
 use Rattle.hs_sorts.specs.Weights.{ReadsNode, IsReading, DescribeAll, MarksDescribe, IsWeighed, ChildrenWeighed}
 
 abbrev pub rank : Valuation → ℕ → ℕ → ℕ
@@ -34,7 +34,7 @@ pub record IsSearch (nodes : List Node) (marks : List Mark) (path : List ℕ) : 
   pub entered : (p i : ℕ) → slice_get path p ≡ Some i → slice_get marks i ≡ Some Entered
   pub on_path : (i : ℕ) → slice_get marks i ≡ Some Entered → (p : ℕ) × (slice_get path p ≡ Some i)
   pub distinct : (p q i : ℕ) → slice_get path p ≡ Some i → slice_get path q ≡ Some i → p ≡ q
-  pub falling : (v : Valuation) → Respects v nodes → (p q i j : ℕ) → p ≤ q → slice_get path p ≡ Some i → slice_get path q ≡ Some j
+  pub falling : (v : Valuation) → IsValuationOf v nodes → (p q i j : ℕ) → p ≤ q → slice_get path p ≡ Some i → slice_get path q ≡ Some j
       → rank v (length nodes) j ≤ rank v (length nodes) i
   pub reading : PartReading nodes marks
 
@@ -47,14 +47,14 @@ abbrev pub IsLastOnPath : List ℕ → ℕ → Type 0
 IsLastOnPath path at = (rest : List ℕ) × (path ≡ rest ++ at ∷ [])
 
 -- a step of the walk
-pub record Advances (nodes : List Node) (old : List Mark) (path : List ℕ) (new : List Mark) (longer : List ℕ) : Type 0 where
+pub record AdvancesSearch (nodes : List Node) (old : List Mark) (path : List ℕ) (new : List Mark) (longer : List ℕ) : Type 0 where
   pub search : IsSearch nodes new longer
   pub smaller : 2 * new_count new + length longer < 2 * new_count old + length path
   pub kept : (i : ℕ) → IsStarted old i → IsStarted new i
 
 abbrev pub IsAdvance : List Node → List Mark → List ℕ → List Mark → List ℕ → Bool → Type 0
-IsAdvance nodes old path new longer true = Advances nodes old path new longer
-IsAdvance nodes old path new longer false = (v : Valuation) → Respects v nodes → ⊥
+IsAdvance nodes old path new longer true = AdvancesSearch nodes old path new longer
+IsAdvance nodes old path new longer false = (v : Valuation) → IsValuationOf v nodes → ⊥
 
 -- a new node is put on the path, and nothing is done at another
 abbrev pub IsEntry : List Mark → List ℕ → ℕ → List Mark → List ℕ → Bool → Type 0
@@ -70,7 +70,7 @@ pub record Walks (nodes : List Node) (old new : List Mark) (path : List ℕ) (st
 
 abbrev pub IsNodeWalk : List Node → List Mark → List Mark → List ℕ → ℕ → Bool → Type 0
 IsNodeWalk nodes old new path start true = Walks nodes old new path start
-IsNodeWalk nodes old new path start false = (v : Valuation) → Respects v nodes → ⊥
+IsNodeWalk nodes old new path start false = (v : Valuation) → IsValuationOf v nodes → ⊥
 
 -- the sorts that are read from the nodes, with their weights
 pub record Weighing (nodes : List Node) (weights : List Weight) : Type 0 where
@@ -81,4 +81,4 @@ pub record Weighing (nodes : List Node) (weights : List Weight) : Type 0 where
 
 abbrev pub IsWeighing : List Node → Option (List Weight) → Type 0
 IsWeighing nodes (Some weights) = Weighing nodes weights
-IsWeighing nodes None = (v : Valuation) → Respects v nodes → ⊥
+IsWeighing nodes None = (v : Valuation) → IsValuationOf v nodes → ⊥

@@ -6,7 +6,7 @@ use Rattle.hs_scheme.specs.declared.term.Rule.{Rule}
 use Rattle.hs_scheme.specs.Sorting.{Sorts, arguments, IsSorting}
 use Rattle.hs_scheme.specs.Sorted.{sort_at}
 use Rattle.hs_sorts.specs.declared.store.Node.{Node}
-use Rattle.hs_sorts.specs.Nodes.{Valuation, Respects}
+use Rattle.hs_sorts.specs.Nodes.{Valuation, IsValuationOf}
 use Rattle.hs_sorts.specs.Constraints.{IsRuled}
 
 -- the nodes of these many nonterminals and terminals have the sorts that s gives them
@@ -16,7 +16,7 @@ pub record Realizes (rules count : ℕ) (s : Sorts) (v : Valuation) : Type 0 whe
 
 pub record Realization (rules terminals : ℕ) (nodes : List Node) (s : Sorts) : Type 0 where
   pub valuation : Valuation
-  pub respects : Respects valuation nodes
+  pub respects : IsValuationOf valuation nodes
   pub realizes : Realizes rules terminals s valuation
 
 -- each nonterminal and terminal has a node, and any sorts are those of the nodes
@@ -32,7 +32,7 @@ sorts_at rules v = record { nonterminal = λ f. v f; parameter = λ f j. sort_at
 -- the valuations of the nodes are the sortings of the first k rules
 pub record Solves (rules : List Rule) (ranks : List (Option ℕ)) (k : ℕ) (nodes : List Node) : Type 0 where
   pub room : length rules + length ranks ≤ length nodes
-  pub sound : (v : Valuation) → Respects v nodes → IsSorting rules ranks k (sorts_at (length rules) v)
+  pub sound : (v : Valuation) → IsValuationOf v nodes → IsSorting rules ranks k (sorts_at (length rules) v)
   pub complete : (s : Sorts) → IsSorting rules ranks k s → Realization (length rules) (length ranks) nodes s
 
 -- what holds of the first i elements

@@ -63,19 +63,19 @@ abbrev pub IsWeighed : List Mark → ℕ → Type 0
 IsWeighed marks i = (w : Weight) × (slice_get marks i ≡ Some (weighed w))
 
 -- a sort is read from this node by way of the other
-abbrev pub IsReadBy : Node → ℕ → Type 0
-IsReadBy (Root Open) c = ⊥
-IsReadBy (Root Base) c = ⊥
-IsReadBy (Root (Arrow a b)) c = (c ≡ a) ⊎ (c ≡ b)
-IsReadBy (Link up) c = c ≡ up
+abbrev pub IsChildOf : Node → ℕ → Type 0
+IsChildOf (Root Open) c = ⊥
+IsChildOf (Root Base) c = ⊥
+IsChildOf (Root (Arrow a b)) c = (c ≡ a) ⊎ (c ≡ b)
+IsChildOf (Link up) c = c ≡ up
 
 abbrev pub ChildrenBelow : ℕ → Node → Type 0
-ChildrenBelow count n = (c : ℕ) → IsReadBy n c → c < count
+ChildrenBelow count n = (c : ℕ) → IsChildOf n c → c < count
 
 abbrev pub ChildrenWeighed : List Mark → Node → Type 0
-ChildrenWeighed marks n = (c : ℕ) → IsReadBy n c → IsWeighed marks c
+ChildrenWeighed marks n = (c : ℕ) → IsChildOf n c → IsWeighed marks c
 
 -- either the node can be weighed, or a child has to be weighed first
 abbrev pub IsWeighingStep : List Mark → Node → Step → Type 0
 IsWeighingStep marks n (Done w) = ChildrenWeighed marks n × ((v : Valuation) (s : SortTree) → MarksDescribe marks v → ReadsNode v s n → Describes w s)
-IsWeighingStep marks n (Child c) = IsReadBy n c × ((w : Weight) → slice_get marks c ≡ Some (weighed w) → ⊥)
+IsWeighingStep marks n (Child c) = IsChildOf n c × ((w : Weight) → slice_get marks c ≡ Some (weighed w) → ⊥)

@@ -2,7 +2,7 @@
 
 ghost use Rattle.std.specs.Prelude.{◌≡◌, ◌+◌, ◌<◌, ◌≤◌, ◌^◌, length, IfOk};
 ghost use Rattle.hs_sorts.specs.Constraints.{node_of, NodesBelow, IsNodeFor, TakesArgument, HasSortAt};
-ghost use Rattle.hs_sorts.specs.Constraints.{IsClaim, IsBaseSort, Leaves, IsRanked, IsRankedIf, IsRuled, BodyWithin};
+ghost use Rattle.hs_sorts.specs.Constraints.{IsClaim, IsBaseSort, LeavesSort, IsRanked, IsRankedIf, IsRuled, BodyWithin};
 
 use crate::heads::Heads;
 use crate::store::{Shape, Store};
@@ -10,7 +10,7 @@ use hs_scheme::{OutOfMemory, Rule, Term};
 use std::alloc::Global;
 
 /// The node of what is left where a function takes an argument, or `None` where it can't.
-pub fn apply(
+pub(crate) fn apply(
     alloc: Global,
     store: &mut Store,
     function: u32,
@@ -38,7 +38,7 @@ pub fn apply(
 }
 
 /// The node of a term's sort, or `None` where it has none. Recurses as deep as the term.
-pub fn term_sort(
+pub(crate) fn term_sort(
     alloc: Global,
     store: &mut Store,
     heads: &Heads,
@@ -68,7 +68,7 @@ pub fn term_sort(
 }
 
 /// Makes the sort of a node `o`. `false` where it can't be.
-pub fn make_base(alloc: Global, store: &mut Store, node: u32) -> Result<bool, OutOfMemory>
+pub(crate) fn make_base(alloc: Global, store: &mut Store, node: u32) -> Result<bool, OutOfMemory>
     requires { node < length store.old }
     ensures { IfOk result (λ yes. IsClaim store.old store.new (IsBaseSort node) yes) }
 {
@@ -78,7 +78,7 @@ pub fn make_base(alloc: Global, store: &mut Store, node: u32) -> Result<bool, Ou
 
 /// The node of what is left of a node's sort behind those of `count` nodes from `first` on, its first
 /// arguments, or `None` where it can't begin with them.
-pub fn rest_behind(
+pub(crate) fn rest_behind(
     alloc: Global,
     store: &mut Store,
     node: u32,
@@ -88,7 +88,7 @@ pub fn rest_behind(
     requires node { node < length store.old }
     requires arguments { first + count ≤ length store.old }
     requires few { length store.old ≤ 2 ^ 32 }
-    ensures { IfOk result (λ rest. IsNodeFor store.old store.new (Leaves node first count) rest) }
+    ensures { IfOk result (λ rest. IsNodeFor store.old store.new (LeavesSort node first count) rest) }
 {
     let mut sort = node;
     for place in 0..count {
@@ -113,7 +113,7 @@ fn make_ranked(alloc: Global, store: &mut Store, node: u32, rank: u32) -> Result
 }
 
 /// The same where the rank is known, and nothing where it isn't.
-pub fn make_ranked_if(
+pub(crate) fn make_ranked_if(
     alloc: Global,
     store: &mut Store,
     node: u32,
@@ -131,7 +131,7 @@ pub fn make_ranked_if(
 
 /// What a rule asks, with nodes for its parameters: its nonterminal's sort begins with theirs, and its
 /// body has what is left, if the rule is one of the first `count`. `false` where that can't be.
-pub fn make_rule(
+pub(crate) fn make_rule(
     alloc: Global,
     store: &mut Store,
     rules: u32,

@@ -18,18 +18,18 @@ use hs_scheme::{MAX_ARGUMENTS, MAX_PARAMETERS, OutOfMemory, Rule, Sort, Term};
 use std::alloc::Global;
 
 /// The greatest size that a nonterminal's sort may have.
-pub const MAX_SORT_SIZE: u16 = 1_000;
+pub(crate) const MAX_SORT_SIZE: u16 = 1_000;
 
 /// The nodes of a scheme's first rules, with the weights of their sorts.
 #[derive(Drop)]
-pub struct WeighedNodes {
-    pub store: Store,
-    pub weights: Weights,
+pub(crate) struct WeighedNodes {
+    pub(crate) store: Store,
+    pub(crate) weights: Weights,
 }
 
 /// The least sorting of the first `count` rules, as nodes, or `None` where they have no sorting.
 /// Time is almost linear in the number of nodes, and memory linear.
-pub fn find(
+pub(crate) fn find(
     alloc: Global,
     rules: &[Rule],
     ranks: &[Option<u32>],
@@ -49,7 +49,7 @@ pub fn find(
 }
 
 /// The first of `count` nodes from `start` on whose sort has an argument other than `o`.
-pub fn first_higher_order(weights: &Weights, start: u32, count: u32) -> Option<u32>
+pub(crate) fn first_higher_order(weights: &Weights, start: u32, count: u32) -> Option<u32>
     requires { start + count ≤ length weights.now }
     ensures { IsFirstHigherOrder weights.now start count result }
 {
@@ -63,7 +63,7 @@ pub fn first_higher_order(weights: &Weights, start: u32, count: u32) -> Option<u
 }
 
 /// The first of the first `count` nodes whose sort is larger than a nonterminal's sort may be.
-pub fn first_large(weights: &Weights, count: u32) -> Option<u32>
+pub(crate) fn first_large(weights: &Weights, count: u32) -> Option<u32>
     requires { count ≤ length weights.now }
     ensures { IsFirstLarge weights.now 0 count result }
 {
@@ -95,7 +95,7 @@ fn is_too_long(rule: &Rule, arity: u32) -> bool
 }
 
 /// The first rule that is too long, where the weights of the nonterminals come first.
-pub fn first_too_long(rules: &[Rule], weights: &Weights) -> Option<u32>
+pub(crate) fn first_too_long(rules: &[Rule], weights: &Weights) -> Option<u32>
     requires many { length rules.now ≤ length weights.now }
     requires few { length rules.now ≤ 2 ^ 32 }
     ensures { IsFirstLong rules.now weights.now result }
@@ -109,7 +109,7 @@ pub fn first_too_long(rules: &[Rule], weights: &Weights) -> Option<u32>
 }
 
 /// The sorts of the first `count` nodes.
-pub fn read_sorts(
+pub(crate) fn read_sorts(
     alloc: Global,
     store: &Store,
     weights: &Weights,
@@ -130,7 +130,7 @@ pub fn read_sorts(
 }
 
 /// The numbers of arguments of the sorts of `count` nodes from `start` on.
-pub fn arities(
+pub(crate) fn arities(
     alloc: Global,
     weights: &Weights,
     start: u32,

@@ -8,16 +8,16 @@ use hs_scheme::Head;
 /// The nonterminals' nodes come first, by rule, then the terminals'. Those of a rule's parameters are
 /// added with the rule, in a row.
 #[derive(Clone, Copy, Drop)]
-pub struct Heads {
+pub(crate) struct Heads {
     /// The number of rules.
-    pub rules: u32,
+    pub(crate) rules: u32,
     /// The node of the rule's first parameter.
-    pub first: u32,
+    pub(crate) first: u32,
 }
 
 impl Heads {
     /// The node of a head in the rule's body. Takes no memory.
-    pub fn node_of(&self, head: Head) -> u32
+    pub(crate) fn node_of(&self, head: Head) -> u32
         requires { node_of self.now.rules self.now.first head < 2 ^ 32 }
         ensures { result ≡ node_of self.now.rules self.now.first head }
     {

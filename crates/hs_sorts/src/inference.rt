@@ -4,9 +4,9 @@ ghost use Rattle.std.specs.Prelude.{◌≡◌, ℕ, List, Option, length, IfOk, 
 ghost use Rattle.hs_scheme.specs.declared.term.Rule.{Rule};
 ghost use Rattle.hs_scheme.specs.Scheme.{AreRules};
 ghost use Rattle.hs_scheme.specs.Sorting.{HasSorting};
-ghost use Rattle.hs_sorts.specs.Finding.{Finds};
-ghost use Rattle.hs_sorts.specs.Inference.{IsInferred, IsFirstIllSorted, IsFaultOf, IsInferable};
-ghost use Rattle.hs_sorts.specs.Least.{IsLeast};
+ghost use Rattle.hs_sorts.specs.Finding.{FindsSorting};
+ghost use Rattle.hs_sorts.specs.Inference.{IsInferred, IsFirstIllSorted, IsSortFault, IsInferable};
+ghost use Rattle.hs_sorts.specs.Least.{AreLeastSorts};
 
 use crate::fault::SortFault;
 use crate::finding::{
@@ -54,9 +54,10 @@ fn read_least(
     found: &WeighedNodes,
 ) -> Result<Least, SortFault>
     requires rules { AreRules rules.now (length ranks.now) }
-    requires found { Finds rules.now ranks.now (length rules.now) found.now }
-    ensures ok { IfOk result (λ least. IsLeast rules.now ranks.now least.sorts.items least.ranks.items) }
-    ensures fault { IfErr result (λ fault. IsFaultOf rules.now ranks.now fault) }
+    requires found { FindsSorting rules.now ranks.now (length rules.now) found.now }
+    ensures ok { IfOk result (λ least.
+        AreLeastSorts rules.now ranks.now least.sorts.items least.ranks.items) }
+    ensures fault { IfErr result (λ fault. IsSortFault rules.now ranks.now fault) }
 {
     let number = rules.len() as u32;
     let weights = &found.weights;
@@ -77,8 +78,9 @@ fn read_least(
 /// The least sorting of a scheme, or why there is none.
 fn find_least(alloc: Global, rules: &[Rule], ranks: &[Option<u32>]) -> Result<Least, SortFault>
     requires { AreRules rules.now (length ranks.now) }
-    ensures ok { IfOk result (λ least. IsLeast rules.now ranks.now least.sorts.items least.ranks.items) }
-    ensures fault { IfErr result (λ fault. IsFaultOf rules.now ranks.now fault) }
+    ensures ok { IfOk result (λ least.
+        AreLeastSorts rules.now ranks.now least.sorts.items least.ranks.items) }
+    ensures fault { IfErr result (λ fault. IsSortFault rules.now ranks.now fault) }
 {
     if let Some(found) = find(alloc, rules, ranks, rules.len())? {
         return read_least(alloc, rules, ranks, &found);
@@ -89,7 +91,7 @@ fn find_least(alloc: Global, rules: &[Rule], ranks: &[Option<u32>]) -> Result<Le
 
 /// The scheme with its least sorting, and its rules and names lengthened to it.
 fn with_sorts(alloc: Global, unsorted: Unsorted, least: Least) -> Result<Sorted, SortFault>
-    requires { IsLeast unsorted.rules unsorted.ranks least.sorts.items least.ranks.items }
+    requires { AreLeastSorts unsorted.rules unsorted.ranks least.sorts.items least.ranks.items }
     ensures ok { IfOk result (λ sorted. IsInferred unsorted sorted) }
     ensures fault { IfErr result (λ fault. fault ≡ SortFault.OutOfMemory) }
 {
@@ -133,7 +135,7 @@ fn with_sorts(alloc: Global, unsorted: Unsorted, least: Least) -> Result<Sorted,
 /// memory.
 pub fn infer(alloc: Global, unsorted: Unsorted) -> Result<Sorted, SortFault>
     ensures ok { IfOk result (λ sorted. IsInferred unsorted sorted) }
-    ensures fault { IfErr result (λ fault. IsFaultOf unsorted.rules unsorted.ranks fault) }
+    ensures fault { IfErr result (λ fault. IsSortFault unsorted.rules unsorted.ranks fault) }
     ensures accepted { IsInferable unsorted.rules unsorted.ranks
         → IfErr result (λ fault. fault ≡ SortFault.OutOfMemory) }
 {

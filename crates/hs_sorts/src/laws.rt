@@ -6,16 +6,16 @@ ghost use Rattle.hs_scheme.specs.Unsorted.{UnsortedData};
 ghost use Rattle.hs_scheme.specs.Sorted.{SortedData};
 ghost use Rattle.hs_sorts.specs.declared.fault.SortFault.{SortFault};
 ghost use Rattle.hs_sorts.specs.declared.fault.SortFault.TheVariants as sorts;
-ghost use Rattle.hs_sorts.specs.Inference.{IsInferable, IsInferred, IsFaultOf};
+ghost use Rattle.hs_sorts.specs.Inference.{IsInferable, IsInferred, IsSortFault};
 
 /// A scheme has at most one fault of its sorts, want of memory aside, and none where inference
 /// answers its sorts.
 pub fn one_fault()
-    ensures one { (rules : List Rule) (ranks : List (Option ℕ)) (a b : SortFault) → IsFaultOf rules ranks a
-        → IsFaultOf rules ranks b
+    ensures one { (rules : List Rule) (ranks : List (Option ℕ)) (a b : SortFault) → IsSortFault rules ranks a
+        → IsSortFault rules ranks b
         → (a ≡ sorts.OutOfMemory) ⊎ ((b ≡ sorts.OutOfMemory) ⊎ (a ≡ b)) }
     ensures inferred { (u : UnsortedData) (s : SortedData) → IsInferred u s → IsInferable u.rules u.ranks }
     ensures none { (rules : List Rule) (ranks : List (Option ℕ)) (fault : SortFault) → IsInferable rules ranks
-        → IsFaultOf rules ranks fault
+        → IsSortFault rules ranks fault
         → fault ≡ sorts.OutOfMemory }
 {}

@@ -91,7 +91,7 @@ fn lengthen_params(
 
 /// Gives each rule as many parameters as its nonterminal's sort has arguments, and the further ones
 /// names. Time is linear in the number of rules and in what is added, and memory in what is added.
-pub fn lengthen(
+pub(crate) fn lengthen(
     alloc: Global,
     rules: &mut Vec<Rule>,
     names: &mut Names,

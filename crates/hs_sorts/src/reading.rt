@@ -5,7 +5,7 @@ ghost use Rattle.hs_sorts.specs.Nodes.{Valuation, IsStore, IsFlat};
 ghost use Rattle.hs_sorts.specs.Weights.{IsReading};
 ghost use Rattle.hs_sorts.specs.Search.{Weighing};
 ghost use Rattle.hs_sorts.specs.Reading as reading;
-ghost use Rattle.hs_sorts.specs.Reading.{size_at, IsSplit};
+ghost use Rattle.hs_sorts.specs.Reading.{size_at, IsSplitAt};
 
 use crate::store::{Node, Shape, Store};
 use crate::weights::Weights;
@@ -29,7 +29,7 @@ fn split(store: &Store, node: u32) -> Option<(u32, u32)>
     requires store { IsStore store.now }
     requires flat { IsFlat store.now }
     requires node { node < length store.now }
-    ensures { IsSplit store.now node result }
+    ensures { IsSplitAt store.now node result }
 {
     match store.node_at(node) {
         Node::Root(shape) => parts(shape),
@@ -42,7 +42,7 @@ fn split(store: &Store, node: u32) -> Option<(u32, u32)>
 
 /// The sort that a node stands for, where an open node is `o`. Recurses as deep as the sort, which
 /// is at most 1,000 in size.
-pub fn read_sort(
+pub(crate) fn read_sort(
     alloc: Global,
     store: &Store,
     weights: &Weights,

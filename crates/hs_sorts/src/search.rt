@@ -75,7 +75,7 @@ impl Search {
 /// The weights of the sorts that the nodes stand for, where the sort of an open node is `o`, or
 /// `None` where some sort would be a part of itself. Time and memory are linear in the number of
 /// nodes: a sort that many nodes have a part in is weighed once, however large it is as a tree.
-pub fn weigh(alloc: Global, store: &Store) -> Result<Option<Weights>, OutOfMemory>
+pub(crate) fn weigh(alloc: Global, store: &Store) -> Result<Option<Weights>, OutOfMemory>
     ensures { IfOk result (λ weights. IsWeighing store.now weights) }
 {
     let count = store.len();

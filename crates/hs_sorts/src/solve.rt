@@ -14,7 +14,7 @@ use std::alloc::Global;
 /// The nodes of a scheme and what its first `count` rules ask of them, or `None` where they have no
 /// sorting. The nonterminals' nodes come first, by rule, then the terminals'. No link leads to a link.
 /// Time is almost linear in the number of nodes, and memory linear.
-pub fn solve(
+pub(crate) fn solve(
     alloc: Global,
     rules: &[Rule],
     ranks: &[Option<u32>],

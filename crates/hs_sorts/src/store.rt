@@ -4,8 +4,8 @@ ghost use Rattle.std.specs.Prelude.{◌≡◌, ◌+◌, ◌++◌, ◌∷◌, [],
 ghost use Rattle.std.specs.Prelude.{IfOk, length, replicate, slice_get, slice_set, Some, min, max};
 ghost use Rattle.hs_sorts.specs.declared.store.Shape.TheVariants.{Open};
 ghost use Rattle.hs_sorts.specs.declared.store.Node.TheVariants.{Root, Link};
-ghost use Rattle.hs_sorts.specs.Nodes.{Valuation, Respects, IsStore, ShapeInRange, NodeInRange, IsSameStore, FlatBelow, IsFlat, AreRoots};
-ghost use Rattle.hs_sorts.specs.Nodes.{linked, with_arrow, IsRootOf, IsMerge, IsJoin, IsEquation};
+ghost use Rattle.hs_sorts.specs.Nodes.{Valuation, IsValuationOf, IsStore, ShapeInRange, NodeInRange, IsSameStore, FlatBelow, IsFlat, AreRoots};
+ghost use Rattle.hs_sorts.specs.Nodes.{linked, with_arrow, IsRootOf, IsMerge, JoinsOrRefuses, IsEquation};
 ghost use Rattle.hs_sorts.specs.Cells.{node_in};
 
 use hs_scheme::OutOfMemory;
@@ -15,7 +15,7 @@ use std::marker::Model;
 /// What is known of a sort: nothing, that it is `o`, or that it takes an argument. The numbers are
 /// those of the nodes of the argument and of the rest.
 #[derive(Clone, Copy, Drop)]
-pub enum Shape {
+pub(crate) enum Shape {
     Open,
     Base,
     Arrow(u32, u32),
@@ -24,7 +24,7 @@ pub enum Shape {
 /// A node stands for a sort: either it says what is known of it, or it has the sort of another
 /// node, which has a smaller number.
 #[derive(Clone, Copy, Drop)]
-pub enum Node {
+pub(crate) enum Node {
     Root(Shape),
     Link(u32),
 }
@@ -66,7 +66,7 @@ impl Cell {
 
 /// Nodes by number, counted from 0, of which there are at most 2^32.
 #[derive(Drop)]
-pub struct Store {
+pub(crate) struct Store {
     cells: Vec<Cell>,
 }
 
@@ -85,7 +85,7 @@ impl Model for Store {
 
 impl Store {
     /// A store without nodes. Takes no memory.
-    pub fn new(alloc: Global) -> Store
+    pub(crate) fn new(alloc: Global) -> Store
         ensures { result ≡ [] }
     {
         Store {
@@ -94,7 +94,7 @@ impl Store {
     }
 
     /// The number of nodes.
-    pub fn len(&self) -> usize
+    pub(crate) fn len(&self) -> usize
         ensures len { result ≡ length self.now }
         ensures store { IsStore self.now }
     {
@@ -102,7 +102,7 @@ impl Store {
     }
 
     /// A node.
-    pub fn node_at(&self, number: u32) -> Node
+    pub(crate) fn node_at(&self, number: u32) -> Node
         requires { number < length self.now }
         ensures node { slice_get self.now number ≡ Some result }
         ensures store { IsStore self.now }
@@ -120,7 +120,7 @@ impl Store {
     }
 
     /// Adds a node, and gives its number. More than 2^32 nodes are want of memory.
-    pub fn add(&mut self, shape: Shape) -> Result<u32, OutOfMemory>
+    pub(crate) fn add(&mut self, shape: Shape) -> Result<u32, OutOfMemory>
         requires { ShapeInRange (length self.old) shape }
         ensures added { IfOk result (λ node.
             (node ≡ length self.old) × (self.new ≡ self.old ++ Root shape ∷ [])) }
@@ -135,7 +135,7 @@ impl Store {
     }
 
     /// Adds nodes of the same shape, and gives the number of the first.
-    pub fn add_all(&mut self, count: u32, shape: Shape) -> Result<u32, OutOfMemory>
+    pub(crate) fn add_all(&mut self, count: u32, shape: Shape) -> Result<u32, OutOfMemory>
         requires { ShapeInRange (length self.old) shape }
         ensures added { IfOk result (λ first.
             (first ≡ length self.old) × (self.new ≡ self.old ++ replicate count (Root shape))) }
@@ -152,7 +152,7 @@ impl Store {
     }
 
     /// Makes an open root the arrow from this argument to a new open node, whose number it gives.
-    pub fn make_arrow(&mut self, root: u32, argument: u32) -> Result<u32, OutOfMemory>
+    pub(crate) fn make_arrow(&mut self, root: u32, argument: u32) -> Result<u32, OutOfMemory>
         requires root { slice_get self.old root ≡ Some (Root Open) }
         requires argument { argument < length self.old }
         ensures arrow { IfOk result (λ rest.
@@ -179,7 +179,7 @@ impl Store {
 
     /// Turns each link to the node at the end of the links from it. Links lead to smaller numbers, so
     /// that one pass does: linear in the number of nodes.
-    pub fn flatten(&mut self)
+    pub(crate) fn flatten(&mut self)
         ensures same { IsSameStore self.old self.new }
         ensures flat { IsFlat self.new }
     {
@@ -192,7 +192,7 @@ impl Store {
 
     /// The node at the end of the links from this one, and what is known of its sort. Each link on
     /// the way is turned to the one after the next (path splitting).
-    pub fn find(&mut self, node: u32) -> (u32, Shape)
+    pub(crate) fn find(&mut self, node: u32) -> (u32, Shape)
         requires { node < length self.old }
         ensures { IsRootOf self.old self.new node result.0 result.1 }
     {
@@ -225,7 +225,8 @@ impl Store {
     fn join(&mut self, pairs: &mut Vec<(u32, u32)>, a: u32, b: u32) -> Result<bool, OutOfMemory>
         requires a { a < length self.old }
         requires b { b < length self.old }
-        ensures { IfOk result (λ yes. IsJoin a b self.old self.new pairs.old.items pairs.new.items yes) }
+        ensures { IfOk result (λ yes.
+            JoinsOrRefuses a b self.old self.new pairs.old.items pairs.new.items yes) }
     {
         let (a, left) = self.find(a);
         let (b, right) = self.find(b);
@@ -242,7 +243,7 @@ impl Store {
     /// The node that this one has a link to, or the node itself. Takes no memory.
     fn above(&self, node: u32) -> u32
         requires { node < length self.now }
-        ensures { (v : Valuation) → Respects v self.now → v node ≡ v result }
+        ensures { (v : Valuation) → IsValuationOf v self.now → v node ≡ v result }
     {
         match self.node_at(node) {
             Node::Root(_shape) => node,
@@ -252,7 +253,7 @@ impl Store {
 
     /// Makes two nodes one, and whatever nodes then have to be one. `false` where no sorts respect
     /// that. Almost linear in the number of nodes that become one.
-    pub fn equate(&mut self, alloc: Global, a: u32, b: u32) -> Result<bool, OutOfMemory>
+    pub(crate) fn equate(&mut self, alloc: Global, a: u32, b: u32) -> Result<bool, OutOfMemory>
         requires a { a < length self.old }
         requires b { b < length self.old }
         ensures { IfOk result (λ yes. IsEquation a b self.old self.new yes) }

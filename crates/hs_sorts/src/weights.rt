@@ -14,17 +14,17 @@ use hs_scheme::OutOfMemory;
 use std::marker::Model;
 
 /// Sizes are counted to this number.
-pub const COUNTED_SIZE: u16 = 1_001;
+pub(crate) const COUNTED_SIZE: u16 = 1_001;
 
 /// What is counted of a sort.
 #[derive(Clone, Copy, Drop)]
-pub struct Weight {
+pub(crate) struct Weight {
     /// The size, or 1,001 where it is greater.
-    pub size: u16,
+    pub(crate) size: u16,
     /// The number of arguments.
-    pub arity: u32,
+    pub(crate) arity: u32,
     /// Whether all arguments are `o`.
-    pub first_order: bool,
+    pub(crate) first_order: bool,
 }
 
 impl Weight {
@@ -70,7 +70,7 @@ impl Weight {
 /// How far a node is: not yet come to, on the path, or weighed. There are as many marks as nodes, and
 /// the fields of a weight stand in the order in which a mark has 8 bytes.
 #[derive(Clone, Copy, Drop)]
-pub enum Mark {
+pub(crate) enum Mark {
     New,
     Entered,
     Weighed {
@@ -82,7 +82,7 @@ pub enum Mark {
 
 impl Mark {
     /// The mark of a node of this weight.
-    pub fn weighed(weight: Weight) -> Mark
+    pub(crate) fn weighed(weight: Weight) -> Mark
         ensures { result ≡ weights.weighed weight }
     {
         Mark::Weighed {
@@ -93,7 +93,7 @@ impl Mark {
     }
 
     /// The weight, where the node is weighed.
-    pub fn weight(self) -> Option<Weight>
+    pub(crate) fn weight(self) -> Option<Weight>
         ensures { IsWeightIn self result }
     {
         match self {
@@ -114,7 +114,7 @@ impl Mark {
 /// The weights of nodes, by number, as the marks of a walk that has weighed them. Contracts see the
 /// list of the weights.
 #[derive(Drop)]
-pub struct Weights {
+pub(crate) struct Weights {
     marks: Vec<Mark>,
 }
 
@@ -130,14 +130,14 @@ impl Model for Weights {
 
 impl Weights {
     /// The weights in these marks. Takes no memory.
-    pub fn of(marks: Vec<Mark>) -> Weights
+    pub(crate) fn of(marks: Vec<Mark>) -> Weights
         ensures { result ≡ weights_in marks.items }
     {
         Weights { marks }
     }
 
     /// The weight of a node.
-    pub fn at(&self, node: usize) -> Weight
+    pub(crate) fn at(&self, node: usize) -> Weight
         requires { node < length self.now }
         ensures { slice_get self.now node ≡ Some result }
     {
@@ -146,13 +146,13 @@ impl Weights {
 }
 
 /// A node's weight, or a child that has to be weighed first.
-pub enum Step {
+pub(crate) enum Step {
     Done(Weight),
     Child(u32),
 }
 
 /// What comes next at a node.
-pub fn step_at(marks: &[Mark], node: Node) -> Result<Step, OutOfMemory>
+pub(crate) fn step_at(marks: &[Mark], node: Node) -> Result<Step, OutOfMemory>
     requires { ChildrenBelow (length marks.now) node }
     ensures { IfOk result (λ step. IsWeighingStep marks.now node step) }
 {

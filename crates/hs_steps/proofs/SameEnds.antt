@@ -20,9 +20,9 @@ use Rattle.hs_scheme.specs.Sorted.{known}
 use Rattle.hs_scheme.specs.Unsorted.{AgreesWithRanks}
 use Rattle.hs_scheme.specs.Steps.{Path, StepsTo, Reaches, HasNoTransition}
 use Rattle.hs_scheme.specs.SameTree.{FailsFromStart, HaveSameTree}
+use Rattle.hs_scheme.proofs.Sortings.{known_at}
 use Rattle.hs_steps.proofs.Terms.{Unfolding, unfolding_of}
 use Rattle.hs_steps.proofs.Sorted.{next_rank}
-use Rattle.hs_steps.proofs.Trees.{known_at}
 use Rattle.hs_steps.proofs.PathLemmas.{same_end, same_failure, fails_ends, ends_fails}
 
 -- ---- terms that are met have only terminals of the scheme

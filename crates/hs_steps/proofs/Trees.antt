@@ -1,5 +1,5 @@
 -- Lengthened rules make the same tree, with the same numbers of steps.
-use Rattle.std.proofs.Common.{◌≡◌, refl, sym, ◌∙◌, ap, subst, ℕ, zero, suc, ◌↔◌, false, List, [], ◌∷◌, length, slice_get, Option, Some, unwrap_or}
+use Rattle.std.proofs.Common.{◌≡◌, sym, ◌∙◌, ap, subst, ℕ, ◌↔◌, false, List, length, Option, unwrap_or}
 use Rattle.hs_scheme.specs.declared.term.Head.{Head}
 use Rattle.hs_scheme.specs.declared.term.Rule.{Rule}
 use Rattle.hs_scheme.specs.Transition.{TransitionData}
@@ -16,6 +16,7 @@ use Rattle.hs_scheme.specs.Steps.{Path, Along, Reaches, HasNoTransition, Fails}
 use Rattle.hs_scheme.specs.SameTree.{HaveSameTree}
 use Rattle.hs_scheme.specs.Lengthening.{lengthening, AreSortsOf}
 use Rattle.hs_scheme.specs.TreeTerms.{IsTreeTerm, AreSortedBy}
+use Rattle.hs_scheme.proofs.Sortings.{known_at, length-lengthening}
 use Rattle.hs_steps.proofs.Failing.{not_refused, not_both}
 use Rattle.hs_steps.proofs.Sorted.{start_sorted, step_sorted}
 use Rattle.hs_steps.proofs.Lengthened.{unfolded_alike}
@@ -47,11 +48,6 @@ module _ (rules : List Rule) (terminals : ℕ) (ranks : List (Option ℕ)) (ts :
         λ accepts n. not_refused (run ts 0 (cut rules n start)) (λ e. not_both (run ts 0 (cut others n start)) (accepts n) ((same_refusals n).0 e)),
       )
 
-pub known_at : (ranks : List ℕ) (a n : ℕ) → slice_get (known ranks) a ≡ Some (Some n) → slice_get ranks a ≡ Some n
-known_at [] a n e = absurd (cc)
-known_at (r ∷ ranks) zero n e = (cc)
-known_at (r ∷ ranks) (suc a) n e = known_at ranks a n e
-
 pub same_tree : (rules : List Rule) (terminals : ℕ) (ranks : List ℕ) (s : Sorts) (ks : List SortTree) → AreRules rules terminals → IsSorting rules (known ranks) (length rules) s → AreSortsOf ks rules s
     → HaveSameTree ranks rules (lengthening rules ks)
 same_tree rules terminals ranks s ks are_rules sorting are ts agree q path =
@@ -60,11 +56,6 @@ same_tree rules terminals ranks s ks are_rules sorting are ts agree q path =
       λ f. (f.0, (same_failures rules terminals (known ranks) ts s sorted ks are f.0 q start path is).0 f.1),
       λ f. (f.0, (same_failures rules terminals (known ranks) ts s sorted ks are f.0 q start path is).1 f.1),
     )
-
-pub length-lengthening : (rules : List Rule) (ks : List SortTree) → length (lengthening rules ks) ≡ length rules
-length-lengthening [] ks = refl
-length-lengthening (r ∷ rules) [] = refl
-length-lengthening (r ∷ rules) (k ∷ ks) = ap suc (length-lengthening rules ks)
 
 module _ (u : UnsortedData) (s : SortedData) (unsorted : IsUnsorted u) (sorted : IsSorted s) (made : IsLengthened u s) where
   abbrev sorts : Sorts

@@ -1,5 +1,6 @@
 -- Entries: where each parameter of its rule is rejected by its types, the point is rejected by the type.
 --     EntryData       a point, an environment with one set of types for each parameter of the point's rule, and a type
+--     entry_at T k    the entry at place k of a list
 --     Has env j a     the environment has the type at parameter j
 --     InShape p e     point, environment and types are those of the problem p
 --     entry_cmp       entries are ordered by point, environment and type; environments are lists of sets
@@ -12,7 +13,7 @@ use Rattle.std.specs.declared.cmp.Ordering.{Ordering}
 use Rattle.hs_scheme.specs.declared.term.Rule.{Rule}
 use Rattle.hs_scheme.specs.Points.{PointData}
 use Rattle.hs_scheme.specs.Problem.{ProblemData}
-use Rattle.hs_table.specs.Types.{TypeTree, coded_type, type_cmp, IsSet, IsType}
+use Rattle.hs_table.specs.Types.{TypeTree, coded_type, type_cmp, state, IsSet, IsType}
 
 abbrev pub Env : Type 0
 Env = List (List TypeTree)
@@ -26,6 +27,10 @@ abbrev pub coded_entry : Coded EntryData
 coded_entry =
     code_by (ℕ × (Env × TypeTree)) (coded× coded_ℕ (coded× (coded_list (coded_list coded_type)) coded_type)) (λ e. (e.point, (e.env, e.ty)))
     (λ p. record { point = p.0; env = p.1.0; ty = p.1.1 }) (λ _. refl)
+
+-- the entry at a place; anything else where there is none
+abbrev pub entry_at : List EntryData → ℕ → EntryData
+entry_at T place = slice_index_or T place (record { point = 0; env = []; ty = state 0 })
 
 -- the set of parameter j
 abbrev pub set_at : Env → ℕ → List TypeTree

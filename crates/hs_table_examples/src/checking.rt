@@ -4,12 +4,11 @@
 use crate::entries::{Row, entry_of};
 use crate::making::{Left, LeftOut, others, push_changed, table_of, without_pair};
 use crate::seeing::see;
-use crate::worked::{
-    BRANCHING, BRANCHING_ACCEPTED, BRANCHING_REJECTED, PARTIAL, RESOURCE, RESOURCE_TRANSITIONS,
-    TWICE, TWICE_TRANSITIONS,
-};
 use hs_checker::{CheckFault, check};
-use hs_fixtures::problem_of;
+use hs_fixtures::{
+    BRANCHING, BRANCHING_ACCEPTED, BRANCHING_REJECTED, PARTIAL, RESOURCE, RESOURCE_TRANSITIONS,
+    TWICE, TWICE_TRANSITIONS, problem_of,
+};
 use hs_scheme::{FlowPair, HeadPair, OutOfMemory, Problem};
 use hs_table::Entry;
 use std::alloc::Global;

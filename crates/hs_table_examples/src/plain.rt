@@ -2,8 +2,7 @@
 
 use crate::making::table_within;
 use crate::seeing::see;
-use crate::worked::{BRANCHING, BRANCHING_REJECTED, TWICE, TWICE_TRANSITIONS};
-use hs_fixtures::problem_of;
+use hs_fixtures::{BRANCHING, BRANCHING_REJECTED, TWICE, TWICE_TRANSITIONS, problem_of};
 use hs_scheme::{OutOfMemory, Problem};
 use hs_table::{Entry, Shape};
 use hs_table_plain::conclusions;

@@ -6,9 +6,8 @@ ghost use Rattle.hs_flow.specs.Dependents.{HasDependents};
 
 use crate::comparing::least_entries;
 use crate::seeing::see;
-use crate::worked::{BRANCHING, BRANCHING_ACCEPTED, TWICE, TWICE_TRANSITIONS};
 use hs_core::{Core, Done, Drained, drain, saturate_alone};
-use hs_fixtures::{cycle, problem_of};
+use hs_fixtures::{BRANCHING, BRANCHING_ACCEPTED, TWICE, TWICE_TRANSITIONS, cycle, problem_of};
 use hs_flow::Dependents;
 use hs_scheme::{OutOfMemory, Problem};
 use std::alloc::Global;

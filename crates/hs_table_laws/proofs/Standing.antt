@@ -1,24 +1,10 @@
 -- A list that stands in another from a place on.
-use Rattle.std.proofs.Common.{◌≡◌, refl, sym, ◌∙◌, ap, ℕ, zero, suc, ◌+◌, List, [], ◌∷◌, ◌++◌, length, slice_get, Some, arith, ◌⊎◌, inl, inr}
+use Rattle.std.proofs.Common.{◌≡◌, refl, sym, ◌∙◌, ap, ℕ, suc, ◌+◌, List, ◌∷◌, ◌++◌, length, slice_get, Some, arith}
 use Rattle.hs_scheme.proofs.Lists.{at_append, back_at}
 
 -- ys stands in xs from n on
 pub record StandsFrom {A : Type 0} (xs : List A) (n : ℕ) (ys : List A) : Type 0 where
   pub at : (i : ℕ) (y : A) → slice_get ys i ≡ Some y → slice_get xs (n + i) ≡ Some y
-
--- x stands behind xs, at place i of the two together
-pub record Behind {A : Type 0} (xs ys : List A) (i : ℕ) (x : A) : Type 0 where
-  pub place : ℕ
-  pub is : i ≡ length xs + place
-  pub at : slice_get ys place ≡ Some x
-
-pub place-append : {A : Type 0} (xs ys : List A) (i : ℕ) (x : A) → slice_get (xs ++ ys) i ≡ Some x → (slice_get xs i ≡ Some x) ⊎ Behind xs ys i x
-place-append [] ys i x e = inr (record { place = i; is = omega arith; at = e })
-place-append (y ∷ xs) ys zero x e = inl e
-place-append (y ∷ xs) ys (suc i) x e = elim (place-append xs ys i x e) [
-  | inl h ↦ inl h
-  | inr b ↦ inr (record { place = b.place; is = omega (arith, b.is); at = b.at })
-]
 
 pub stands_front : {A : Type 0} (all : List A) (n : ℕ) (xs ys : List A) → StandsFrom all n (xs ++ ys) → StandsFrom all n xs
 stands_front all n xs ys s = record { at = λ i y e. s.at i y (at_append xs ys i y e) }

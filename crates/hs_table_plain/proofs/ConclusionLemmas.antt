@@ -1,10 +1,10 @@
 -- All that follow at a point.
-use Rattle.std.proofs.Common.{◌≡◌, refl, sym, ◌∙◌, ap, subst, ℕ, zero, suc, ◌<◌, List, [], ◌∷◌, length, slice_get, Option, Some, option_map, arith, Contains, ◌⊎◌, inl, inr, ◌↔◌}
+use Rattle.std.proofs.Common.{◌≡◌, sym, ◌∙◌, ap, subst, ℕ, ◌<◌, List, [], ◌∷◌, length, slice_get, Option, Some, option_map, arith, Contains, ◌⊎◌, inl, inr, ◌↔◌}
 use Rattle.std.proofs.lemmas.Option.{same_Some}
 use Rattle.hs_scheme.specs.declared.term.Head.{Head}
 use Rattle.hs_scheme.specs.Points.{PointData, NonterminalWithin}
 use Rattle.hs_scheme.specs.Problem.{ProblemData}
-use Rattle.hs_scheme.proofs.Lists.{here, only}
+use Rattle.hs_scheme.proofs.Lists.{here, only, some_at}
 use Rattle.hs_table.specs.Types.{TypeTree, arrows}
 use Rattle.hs_table.specs.Entries.{Env, EntryData, Has, IsEnv, InShape, params_of}
 use Rattle.hs_table.specs.Follows.{IsHeadType, HeadHas, AnyHas, Chosen, Support, FollowsBy, Follows}
@@ -91,11 +91,6 @@ module _ (p : ProblemData) (E : List EntryData) (shapes : (e : EntryData) → Co
   pub into_all_at : (e : EntryData) → e.point ≡ point → Follows p E e → Contains all e
   into_all_at e here_is (s, f) = into_by s e f here_is (same_Some f.of of (sym f.at ∙ (ap (λ z. slice_get p.points.points z) here_is ∙ at)))
 
-some_item : {X : Type 0} (xs : List X) (k : ℕ) → k < length xs → (x : X) × (slice_get xs k ≡ Some x)
-some_item [] k h = absurd (omega arith)
-some_item (x ∷ xs) zero h = (x, refl)
-some_item (x ∷ xs) (suc k) h = some_item xs k (omega arith)
-
 field_is : {X Y : Type 0} (f : X → Y) (o : Option X) (x : X) (y : Y) → o ≡ Some x → option_map f o ≡ Some y → f x ≡ y
 field_is f o x y e h = same_Some (f x) y (sym (ap (option_map f) e) ∙ h)
 
@@ -104,7 +99,7 @@ pub all_at_exact : (p : ProblemData) (E : List EntryData) (point rule : ℕ) (he
     → option_map (λ (d : PointData). d.args) (slice_get p.points.points point) ≡ Some args → NonterminalWithin (length p.points.bodies) head
     → (e : EntryData) → Contains (all_at p E point rule (params_of p rule) head args) e ↔ ((e.point ≡ point) × Follows p E e)
 all_at_exact p E point rule head args shapes lt r h a within e =
-    let item = some_item p.points.points point lt in
+    let item = some_at p.points.points point lt in
     let of = item.0 in
     let rule_is = field_is (λ (d : PointData). d.rule) (slice_get p.points.points point) of rule item.1 r in
     let head_is = field_is (λ (d : PointData). d.head) (slice_get p.points.points point) of head item.1 h in

@@ -1,11 +1,11 @@
 -- Tables that grow by one entry.
-use Rattle.std.proofs.Common.{◌≡◌, refl, sym, ◌∙◌, ap, subst, ℕ, zero, suc, ◌+◌, ◌<◌, ◌≤◌, List, [], ◌∷◌, ◌++◌, length, take, slice_get, Option, Some, None, MatchOption, arith, All, Contains, ◌⊎◌, inl, inr}
+use Rattle.std.proofs.Common.{◌≡◌, refl, sym, ◌∙◌, ap, subst, ℕ, zero, suc, ◌+◌, ◌<◌, ◌≤◌, List, [], ◌∷◌, ◌++◌, length, take, Option, Some, None, MatchOption, arith, All, Contains, ◌⊎◌, inl, inr}
 use Rattle.std.proofs.lemmas.Bool.{cases_order}
 use Rattle.std.proofs.lemmas.List.{take_all}
 use Rattle.std.proofs.lemmas.List.Elements.{All-push}
-use Rattle.std.proofs.lemmas.Option.{same_Some}
 use Rattle.hs_scheme.specs.Transition.{TransitionData}
 use Rattle.hs_scheme.specs.Problem.{ProblemData}
+use Rattle.hs_scheme.proofs.Lists.{push_cases}
 use Rattle.hs_table.specs.Entries.{EntryData, InShape}
 use Rattle.hs_table.specs.Follows.{Follows}
 use Rattle.hs_table.specs.Tables.{IsSupportedTable, IsClosedTable}
@@ -22,15 +22,6 @@ below_or_last n k h = elim (cases_order n k) [
   ]
 ]
 
-at_pushed : {X : Type 0} (xs : List X) (y : X) (i : ℕ) (x : X) → slice_get (xs ++ y ∷ []) i ≡ Some x → (slice_get xs i ≡ Some x) ⊎ ((i ≡ length xs) × (x ≡ y))
-at_pushed [] y zero x e = inr (refl, sym (same_Some y x e))
-at_pushed [] y (suc i) x e = absurd (cc)
-at_pushed (z ∷ xs) y zero x e = inl e
-at_pushed (z ∷ xs) y (suc i) x e = elim (at_pushed xs y i x e) [
-  | inl h ↦ inl h
-  | inr h ↦ inr (ap suc h.0, h.1)
-]
-
 front : {X : Type 0} (xs ys : List X) (i : ℕ) → i ≤ length xs → take i xs ≡ take i (xs ++ ys)
 front xs ys zero h = refl
 front [] ys (suc i) h = absurd (omega arith)
@@ -39,12 +30,12 @@ front (x ∷ xs) ys (suc i) h = ap (λ zs. x ∷ zs) (front xs ys i (omega arith
 pub supported_push : (p : ProblemData) (T : List EntryData) (e : EntryData) → IsSupportedTable p T → Follows p T e → (Contains T e → ⊥) → IsSupportedTable p (T ++ e ∷ [])
 supported_push p T e s f new = record {
   distinct = pairs_push T e s.distinct new;
-  follows = λ i x at. elim (at_pushed T e i x at) [
+  follows = λ i x at. elim (push_cases T e x i at) [
     | inl h ↦ let lt = within_from T i x h in let le : i ≤ length T = omega (arith, lt) in subst (λ (U : List EntryData). Follows p U x) (front T (e ∷ []) i le) (s.follows i x h)
     | inr h ↦
         let le : i ≤ length T = omega (arith, h.0) in
         let least : length T ≤ i = omega (arith, h.0) in
-        subst (λ (U : List EntryData). Follows p U x) (sym (take_all i T least) ∙ front T (e ∷ []) i le) (subst (λ (z : EntryData). Follows p T z) (sym h.1) f)
+        subst (λ (U : List EntryData). Follows p U x) (sym (take_all i T least) ∙ front T (e ∷ []) i le) (subst (λ (z : EntryData). Follows p T z) h.1 f)
   ];
 }
 

@@ -96,7 +96,7 @@ fn retyped(alloc: Global, ty: &Ty, entries: &[Entry]) -> Result<Vec<Entry>, OutO
 
 /// Each entry joined with one candidate for each type of each argument's set, with the type that
 /// is left. Recurses as deep as the type.
-pub fn through(
+pub(crate) fn through(
     alloc: Global,
     log: &[Entry],
     args: &[u32],

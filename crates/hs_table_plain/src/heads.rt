@@ -123,7 +123,7 @@ fn parameter_types(
 }
 
 /// The types of the head of a point in this rule.
-pub fn head_types(
+pub(crate) fn head_types(
     alloc: Global,
     problem: &Problem,
     log: &[Entry],

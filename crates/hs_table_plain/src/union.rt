@@ -64,7 +64,7 @@ fn union_at(
 }
 
 /// The first entry, with what the second asks of the parameters.
-pub fn joined(alloc: Global, entry: &Entry, other: &Entry) -> Result<Entry, OutOfMemory>
+pub(crate) fn joined(alloc: Global, entry: &Entry, other: &Entry) -> Result<Entry, OutOfMemory>
     ensures { IfOk result (λ made. made ≡ plain.joined entry.now other.now) }
 {
     let mut env = Vec::with_capacity(alloc, entry.env.len())?;
@@ -79,7 +79,7 @@ pub fn joined(alloc: Global, entry: &Entry, other: &Entry) -> Result<Entry, OutO
 }
 
 /// Whether the entry is in the list.
-pub fn contains(entries: &[Entry], entry: &Entry) -> bool
+pub(crate) fn contains(entries: &[Entry], entry: &Entry) -> bool
     ensures { IsTrue result ↔ Contains entries.now entry.now }
 {
     for other in entries {

@@ -1,14 +1,17 @@
 -- Whose the events are, through every step.
-use Rattle.std.proofs.Common.{◌≡◌, ℕ, ◌+◌, ◌<◌, ◌≤◌, ◌≢◌, eqb, eq-eqb, ne_eqb, Bool, true, cond, List, [], ◌∷◌, ◌++◌, set, get_or, refl, sym, ap, ◌∙◌, subst, ⊎_elim, All, arith}
+use Rattle.std.proofs.Common.{◌≡◌, ℕ, ◌+◌, ◌<◌, ◌≤◌, ◌≢◌, eqb, eq-eqb, ne_eqb, Bool, true, false, cond, leb, List, [], ◌∷◌, ◌++◌, length, set, get_or, refl, sym, ap, ◌∙◌, subst, ⊎_elim, All, arith, append_assoc}
 use mathlib.Core.Option.{some}
+use mathlib.Core.List.{IsPrefix}
 use lib.ListN.{get_elem?}
 use Rattle.atomic_table.proofs.Lists.{at_set}
-use Rattle.std.proofs.lemmas.List.{append-nil}
+use Rattle.std.proofs.lemmas.Bool.{leb-true}
+use Rattle.std.proofs.lemmas.List.{append-nil, append_cancel_left}
 use Rattle.std.proofs.lemmas.List.Elements.{All-nil, All-push, All-head, All-tail, All-weaker, filter-append}
 use Rattle.hs_turn.specs.declared.known.Known.{Known}
-use Rattle.hs_turn.specs.Story.{told_by}
+use Rattle.hs_turn.specs.Story.{told_by, longer}
 use Rattle.hs_turn.specs.Views.{first_seat, having_told}
 use Rattle.hs_turn.specs.Rule.{AreSeats, AreOwned}
+use Rattle.hs_turn.proofs.PrefixLemmas.{prefix-shorter}
 use Rattle.hs_turn.proofs.SeatLemmas.{only_value, IsAlike, before, More, AfterSplit, parent, old, new, after_split, not_first, Fewer, AfterJoin, ended, joiner, stays, after_join, not_first_left}
 
 module _ {E : Type 0} (number : E → ℕ) where
@@ -31,12 +34,39 @@ module _ {E : Type 0} (number : E → ℕ) where
       ∙ told_none m n es (All-tail (Bears m) e es all) not
 
   -- events under the number n add themselves, and events under another number nothing
-  told_mine : (n : ℕ) (told es : List E) → All (Bears n) es → told_by number n (told ++ es) ≡ told_by number n told ++ es
+  pub told_mine : (n : ℕ) (told es : List E) → All (Bears n) es → told_by number n (told ++ es) ≡ told_by number n told ++ es
   told_mine n told es all = told_by-append n told es ∙ ap (λ (xs : List E). told_by number n told ++ xs) (told_all n es all)
 
   told_else : (m n : ℕ) (told es : List E) → All (Bears m) es → m ≢ n → told_by number n (told ++ es) ≡ told_by number n told
   told_else m n told es all not =
       told_by-append n told es ∙ (ap (λ (xs : List E). told_by number n told ++ xs) (told_none m n es all not) ∙ append-nil (told_by number n told))
+
+  -- a story between two that have the same events under the number n has them, too
+  told_between : (n : ℕ) (xs ys zs own : List E) → IsPrefix xs ys → IsPrefix ys zs → told_by number n xs ≡ own → told_by number n zs ≡ own → told_by number n ys ≡ own
+  told_between n xs ys zs own p q first last =
+      let part : told_by number n ys ≡ own ++ told_by number n p.0 =
+      ap (told_by number n) (sym p.1) ∙ (told_by-append n xs p.0 ∙ ap (λ (l : List E). l ++ told_by number n p.0) first) in
+      let whole : own ≡ (own ++ told_by number n p.0) ++ told_by number n q.0 =
+      sym last ∙ (ap (told_by number n) (sym q.1) ∙ (told_by-append n ys q.0 ∙ ap (λ (l : List E). l ++ told_by number n q.0) part)) in
+      let rest : told_by number n p.0 ++ told_by number n q.0 ≡ [] =
+      append_cancel_left own _ _ (sym (append_assoc own (told_by number n p.0) (told_by number n q.0)) ∙ (sym whole ∙ sym (append-nil own))) in
+      part ∙ (ap (λ (l : List E). own ++ l) (front_nil _ _ rest) ∙ append-nil own)
+    where
+      front_nil : (es fs : List E) → es ++ fs ≡ [] → es ≡ []
+      front_nil [] fs none = refl
+      front_nil (e ∷ es) fs none = absurd (cc none)
+
+  -- what begins a story without events under the number n has none
+  pub none_in_prefix : (n : ℕ) (xs zs : List E) → IsPrefix xs zs → told_by number n zs ≡ [] → told_by number n xs ≡ []
+  none_in_prefix n xs zs p none = told_between n [] xs zs [] (xs, refl) p refl none
+
+  -- of two beginnings, of which the first has all events under the number n, the longer has them
+  longer_own_by : (b : Bool) (n : ℕ) (xs ys zs own : List E) → leb (length xs) (length ys) ≡ b → IsPrefix xs zs → IsPrefix ys zs → told_by number n xs ≡ own → told_by number n zs ≡ own → told_by number n (cond b ys xs) ≡ own
+  longer_own_by true n xs ys zs own e p q first last = told_between n xs ys zs own (prefix-shorter xs ys zs p q (leb-true (length xs) (length ys) e)) q first last
+  longer_own_by false n xs ys zs own e p q first last = first
+
+  pub longer_own : (n : ℕ) (xs ys zs own : List E) → IsPrefix xs zs → IsPrefix ys zs → told_by number n xs ≡ own → told_by number n zs ≡ own → told_by number n (longer xs ys) ≡ own
+  longer_own n xs ys zs own = longer_own_by (leb (length xs) (length ys)) n xs ys zs own refl
 
 module _ {E : Type 0} where
   -- the kept lists of a view, by each of its properties

@@ -23,7 +23,7 @@ use Rattle.hs_turn.specs.Rule.{Phase, free, held, lock_word, slot, HasHolder, Ar
 use Rattle.hs_turn.specs.AtomicSteps.{Holding, Enters, Leaves, Tells, Looks}
 use Rattle.hs_turn.proofs.PrefixLemmas.{prefix-refl, prefix-longer, prefix-shorter, prefix-chosen, both_begin}
 use Rattle.hs_turn.proofs.SeatLemmas.{set_at, at_push, only_value, count_two, seats-first, seats-set, seats-split, seats-join}
-use Rattle.hs_turn.proofs.EventLemmas.{events-first, events-set, events-told, events-split, events-join}
+use Rattle.hs_turn.proofs.EventLemmas.{told_mine, none_in_prefix, longer_own, events-first, events-set, events-told, events-split, events-join}
 
 small_mod : (n m : ℕ) → n + m ≤ 2 ^ 63 → (n + m) % 2 ^ 64 ≡ n + m
 small_mod n m h = omega arith
@@ -60,7 +60,7 @@ module _ {T B E : Type 0} (base : T → B) (story : T → List E) (number : E �
   shaped s r F f = subst F (λ i. (sym r.words i, sym r.homes i)) f
 
   at_first : (x : T) (j : ℕ) (v : V) → get_elem? (first_seat b ∷ []) j ≡ some v → K [] (free x) j v
-  at_first x j v at = subst (K [] (free x) j) (only_value (first_seat b) v j at) record { base_is = λ _. refl; seen_begins = ([], refl); kept_begins = ([], refl); holding = λ h. absurd (cc h) }
+  at_first x j v at = subst (K [] (free x) j) (only_value (first_seat b) v j at) record { base_is = λ _. refl; seen_begins = ([], refl); kept_begins = ([], refl); seen_own = λ _. refl; holding = λ h. absurd (cc h) }
 
   -- the start: a value without a story, and seat 0
   pub opens : (x : T) → base x ≡ b → story x ≡ [] → Rule (opening (0 ∷ 0 ∷ []) (Some x ∷ []) (first_seat b))
@@ -92,7 +92,7 @@ module _ {T B E : Type 0} (base : T → B) (story : T → List E) (number : E �
     -- the lock is free
     enter_free : (views : List V) (told : List E) (x : T) → Rests base story number b told (free x) → Each told (free x) views → AreSeats views → AreOwned number told views
         → get_elem? views id ≡ some me.0 → me.0.live ≡ true → Entering views (shape told (free x))
-    enter_free views told x rests each seats events at live = let k = each id me.0 at in let w : V = entered me.0 (story x) in (
+    enter_free views told x rests each seats events at live = let k = each id me.0 at in let w : V = entered me.0 (story x) in let own : told_by number me.0.number (story x) ≡ me.0.own = ap (told_by number me.0.number) rests.1 ∙ events.own id me.0 at live in (
       w,
       takes 0 (Some x),
       refl,
@@ -102,8 +102,8 @@ module _ {T B E : Type 0} (base : T → B) (story : T → List E) (number : E �
         words = refl;
         homes = refl;
         rests = tt;
-        each = each_set told (held id) views id w record { base_is = k.base_is; seen_begins = subst (λ (l : List E). IsPrefix l told) (sym rests.1) (prefix-refl told); kept_begins = k.kept_begins; holding = λ _. (refl, live, rests.1) }
-            (λ j v n a. let o = each j v a in record { base_is = o.base_is; seen_begins = o.seen_begins; kept_begins = o.kept_begins; holding = λ h. absurd ((o.holding h).0) });
+        each = each_set told (held id) views id w record { base_is = k.base_is; seen_begins = subst (λ (l : List E). IsPrefix l told) (sym rests.1) (prefix-refl told); kept_begins = k.kept_begins; seen_own = λ _. own; holding = λ _. (refl, live, rests.1) }
+            (λ j v n a. let o = each j v a in record { base_is = o.base_is; seen_begins = o.seen_begins; kept_begins = o.kept_begins; seen_own = o.seen_own; holding = λ h. absurd ((o.holding h).0) });
         holder = (w, set_at views id me.0 w at, refl);
         seats = seats-set views id me.0 w at record { live = refl; number = refl; splits = refl; joins = refl; joined = refl } seats;
         events = events-set number told views id me.0 w at record { live = refl; number = refl; splits = refl; joins = refl; joined = refl } refl events;
@@ -116,7 +116,8 @@ module _ {T B E : Type 0} (base : T → B) (story : T → List E) (number : E �
           finds = record {
             base_is = k.base_is live ∙ ap (λ (y : B). Some y) (sym rests.0);
             begins = subst (λ (l : List E). IsPrefix me.0.seen l) (sym rests.1) k.seen_begins;
-            own = ap (told_by number me.0.number) rests.1 ∙ events.own id me.0 at live;
+            own = own;
+            seen_own = k.seen_own live;
           };
         }),
         λ n. absurd (n refl),
@@ -166,8 +167,8 @@ module _ {T B E : Type 0} (base : T → B) (story : T → List E) (number : E �
         words = refl;
         homes = refl;
         rests = (some_injective (is ∙ k.base_is h.1), tale ∙ h.2);
-        each = each_set told (free x) views id (having_left me.0) record { base_is = k.base_is; seen_begins = k.seen_begins; kept_begins = k.kept_begins; holding = λ e. absurd (cc e) }
-            (λ j v n a. let o = each j v a in record { base_is = o.base_is; seen_begins = o.seen_begins; kept_begins = o.kept_begins; holding = λ e. absurd (n ((o.holding e).0 ∙ sym h.0)) });
+        each = each_set told (free x) views id (having_left me.0) record { base_is = k.base_is; seen_begins = k.seen_begins; kept_begins = k.kept_begins; seen_own = k.seen_own; holding = λ e. absurd (cc e) }
+            (λ j v n a. let o = each j v a in record { base_is = o.base_is; seen_begins = o.seen_begins; kept_begins = o.kept_begins; seen_own = o.seen_own; holding = λ e. absurd (n ((o.holding e).0 ∙ sym h.0)) });
         holder = tt;
         seats = seats-set views id me.0 (having_left me.0) at record { live = refl; number = refl; splits = refl; joins = refl; joined = refl } seats;
         events = events-set number told views id me.0 (having_left me.0) at record { live = refl; number = refl; splits = refl; joins = refl; joined = refl } refl events;
@@ -203,8 +204,8 @@ module _ {T B E : Type 0} (base : T → B) (story : T → List E) (number : E �
               homes = refl;
               rests = tt;
               each = each_set (told ++ es) (held i) views id W
-                  record { base_is = k.base_is; seen_begins = subst (λ (l : List E). IsPrefix (l ++ es) (told ++ es)) (sym h.2) (prefix-refl (told ++ es)); kept_begins = prefix-longer me.0.kept told es k.kept_begins; holding = λ _. (h.0, h.1, ap (λ (l : List E). l ++ es) h.2) }
-                  (λ j v n a. let o = each j v a in record { base_is = o.base_is; seen_begins = prefix-longer v.seen told es o.seen_begins; kept_begins = prefix-longer v.kept told es o.kept_begins; holding = λ y. absurd (n ((o.holding y).0 ∙ sym h.0)) });
+                  record { base_is = k.base_is; seen_begins = subst (λ (l : List E). IsPrefix (l ++ es) (told ++ es)) (sym h.2) (prefix-refl (told ++ es)); kept_begins = prefix-longer me.0.kept told es k.kept_begins; seen_own = λ l. told_mine number me.0.number me.0.seen es bears ∙ ap (λ (xs : List E). xs ++ es) (k.seen_own l); holding = λ _. (h.0, h.1, ap (λ (l : List E). l ++ es) h.2) }
+                  (λ j v n a. let o = each j v a in record { base_is = o.base_is; seen_begins = prefix-longer v.seen told es o.seen_begins; kept_begins = prefix-longer v.kept told es o.kept_begins; seen_own = o.seen_own; holding = λ y. absurd (n ((o.holding y).0 ∙ sym h.0)) });
               holder = (W, subst (λ (n : ℕ). get_elem? (set views id W) n ≡ some W) h.0 (set_at views id me.0 W at), holds);
               seats = seats-set views id me.0 W at record { live = refl; number = refl; splits = refl; joins = refl; joined = refl } seats;
               events = events-told number told views id me.0 es at h.1 bears seats events;
@@ -241,8 +242,8 @@ module _ {T B E : Type 0} (base : T → B) (story : T → List E) (number : E �
     homes = r.homes;
     rests = r.rests;
     each = λ j u a. ⊎_elim
-        (λ here. each_set r.told r.phase s.views id (having_split v) record { base_is = k.base_is; seen_begins = k.seen_begins; kept_begins = k.kept_begins; holding = k.holding } (λ i w n c. r.each i w c) j u here)
-        (λ t. subst (K r.told r.phase j) t.1 record { base_is = λ _. k.base_is lives; seen_begins = k.seen_begins; kept_begins = (r.told, refl); holding = λ h. absurd (cc h) })
+        (λ here. each_set r.told r.phase s.views id (having_split v) record { base_is = k.base_is; seen_begins = k.seen_begins; kept_begins = k.kept_begins; seen_own = k.seen_own; holding = k.holding } (λ i w n c. r.each i w c) j u here)
+        (λ t. subst (K r.told r.phase j) t.1 record { base_is = λ _. k.base_is lives; seen_begins = k.seen_begins; kept_begins = (r.told, refl); seen_own = λ _. none_in_prefix number (v.splits + 1) v.seen r.told k.seen_begins (r.events.ungiven id v at first lives (v.splits + 1) (omega arith)); holding = λ h. absurd (cc h) })
         (at_push (set s.views id (having_split v)) (split_off v) u j a);
     holder = holder_stays s.views (set s.views id (having_split v) ++ split_off v ∷ []) r.phase r.holder
         (λ i u a h. at_longer (set s.views id (having_split v)) (split_off v ∷ []) i u (set_else s.views id i (having_split v) (not_idle s.views i id u v a h at idle) ∙ a));
@@ -259,9 +260,9 @@ module _ {T B E : Type 0} (base : T → B) (story : T → List E) (number : E �
         words = r.words;
         homes = r.homes;
         rests = r.rests;
-        each = each_set r.told r.phase (set s.views id (having_joined v w)) other spent record { base_is = λ e. absurd (cc e); seen_begins = (r.told, refl); kept_begins = (r.told, refl); holding = λ e. absurd (cc e) }
+        each = each_set r.told r.phase (set s.views id (having_joined v w)) other spent record { base_is = λ e. absurd (cc e); seen_begins = (r.told, refl); kept_begins = (r.told, refl); seen_own = λ e. absurd (cc e); holding = λ e. absurd (cc e) }
             (λ j u n a. each_set r.told r.phase s.views id (having_joined v w)
-            record { base_is = k.base_is; seen_begins = prefix-chosen first_shorter w.seen v.seen r.told l.seen_begins k.seen_begins; kept_begins = prefix-chosen first_shorter v.seen w.seen r.told k.seen_begins l.seen_begins; holding = λ h. absurd (cc (h, idle)) }
+            record { base_is = k.base_is; seen_begins = prefix-chosen first_shorter w.seen v.seen r.told l.seen_begins k.seen_begins; kept_begins = prefix-chosen first_shorter v.seen w.seen r.told k.seen_begins l.seen_begins; seen_own = λ _. longer_own number v.number v.seen w.seen r.told v.own k.seen_begins l.seen_begins (k.seen_own lives) (r.events.own id v at lives); holding = λ h. absurd (cc (h, idle)) }
             (λ i x m c. r.each i x c) j u a);
         holder = holder_stays s.views (set (set s.views id (having_joined v w)) other spent) r.phase r.holder
             (λ i u a h. set_else (set s.views id (having_joined v w)) other i spent (not_idle s.views i other u w a h there other_idle) ∙ (set_else s.views id i (having_joined v w) (not_idle s.views i id u v a h at idle) ∙ a));

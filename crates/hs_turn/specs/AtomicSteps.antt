@@ -11,11 +11,12 @@ abbrev pub Holding : Type 0 → Type 0 → Type 0 → Type 0
 Holding T B E = Me (Option T) (Known B E)
 
 module _ {T B E : Type 0} where
-  -- the state x has the seat's base, its story begins with what the seat had seen, and the events under the seat's number are its own
+  -- the state x has the seat's base, its story begins with what the seat had seen, and the events under the seat's number are its own, in the story and in what the seat had seen
   pub record Finds (base : T → B) (story : T → List E) (number : E → ℕ) (v : Known B E) (x : T) : Type 0 where
     pub base_is : v.base ≡ Some (base x)
     pub begins : IsPrefix v.seen (story x)
     pub own : told_by number v.number (story x) ≡ v.own
+    pub seen_own : told_by number v.number v.seen ≡ v.own
 
   -- the seat carries the slot with the state that it found
   pub record Takes (base : T → B) (story : T → List E) (number : E → ℕ) (me after : Holding T B E) : Type 0 where

@@ -62,11 +62,12 @@ module _ {T B E : Type 0} (base : T → B) (story : T → List E) (number : E �
   Rests told (free x) = (base x ≡ b) × (story x ≡ told)
   Rests told (held j) = Unit {0}
 
-  -- what the seat at place j knows is so: its base, that the lists it saw begin the story, and, while it holds the lock, that it has seen the whole story
+  -- what the seat at place j knows is so: its base, that the lists it saw begin the story, that the events under its number in what it has seen are its own, and, while it holds the lock, that it has seen the whole story
   pub record Knows (told : List E) (phase : Phase T) (j : ℕ) (v : Known B E) : Type 0 where
     pub base_is : v.live ≡ true → v.base ≡ Some b
     pub seen_begins : IsPrefix v.seen told
     pub kept_begins : IsPrefix v.kept told
+    pub seen_own : v.live ≡ true → told_by number v.number v.seen ≡ v.own
     pub holding : v.holds ≡ true → IsHolder j phase × (v.live ≡ true) × (v.seen ≡ told)
 
   pub record IsTurn (s : State (Option T) (Known B E)) : Type 0 where

@@ -41,8 +41,8 @@ impl<T: Storied> Turn<T> {
     /// Waits until no seat has the state, and takes it.
     ///
     /// The state found has the seat's base, its story begins with all that the seat had seen, and
-    /// the events in it under the seat's number are the seat's own, in their order. The seat has
-    /// then seen the whole story.
+    /// the events in it under the seat's number are the seat's own, in their order, all of which the
+    /// seat had seen. The seat has then seen the whole story.
     pub fn enter<R: Wait>(&self, rt: &R, seat: &mut Seat<T>) -> Guard<'_, T>
         requires turn { seat.old.turn ≡ self.now }
         requires free { seat.old.known.holds ≡ false }
@@ -51,6 +51,7 @@ impl<T: Storied> Turn<T> {
         ensures base { seat.old.known.base ≡ Some (T.base result.state) }
         ensures begins { IsPrefix seat.old.known.seen (T.story result.state) }
         ensures own { told_by T.number seat.old.known.number (T.story result.state) ≡ seat.old.known.own }
+        ensures seen_own { told_by T.number seat.old.known.number seat.old.known.seen ≡ seat.old.known.own }
         ensures seat { seat.new.known ≡ entered seat.old.known (T.story result.state) }
     {
         for _ in rt.forever() {

@@ -1,33 +1,19 @@
 -- A list that is looked up among the lists stored, or stored as one more.
-use Rattle.std.proofs.Common.{◌≡◌, refl, sym, ◌∙◌, ap, subst, ℕ, ◌+◌, Bool, true, false, not, nat_eq, cond, List, [], ◌∷◌, ◌++◌, length, map, get_or, slice_get, position, Option, option_map, ◌||◌, Some, Vec, Contains, inl, inr, ltb, arith, ◌<◌}
+use Rattle.std.proofs.Common.{◌≡◌, refl, sym, ◌∙◌, ap, subst, ℕ, ◌+◌, Bool, true, false, not, nat_eq, cond, List, [], ◌∷◌, ◌++◌, length, map, get_or, slice_get, position, option_map, Some, Vec, Contains, inl, inr, arith, ◌<◌}
 use Rattle.std.specs.Bool.{Decides}
-use Rattle.std.specs.List.{list_any, position_or_len}
+use Rattle.std.specs.List.{list_any}
 use Rattle.std.specs.Cmp.Lexicographic.{pointwise}
 use Rattle.std.specs.declared.alloc.Global.{Global}
-use Rattle.std.proofs.lemmas.List.{length-map, get_or-map}
+use Rattle.std.proofs.lemmas.List.{length-map, get_or-map, map_push}
 use Rattle.std.proofs.lemmas.List.Quantifiers.{position-Some}
 use Rattle.std.proofs.lemmas.Bool.Decides.{Decides-eqb}
 use Rattle.std.proofs.lemmas.Map.Made.{is_member-Decides}
 use Rattle.std.proofs.lemmas.Option.{slice_get-map, slice_get-get_or}
 use Rattle.std.proofs.lemmas.Slice.Eq.{slice_eq-Decides}
 use Rattle.std.proofs.lemmas.Bool.{not-false}
+use Rattle.hs_scheme.proofs.Lists.{any-map, position-map}
 use Rattle.indexmap.specs.IndexSet.{insert_key}
 use Rattle.hs_types.specs.Nodes.{Adds, lists_of}
-use Rattle.hs_types.proofs.ListLemmas.{map-push}
-
-position_or_len-map : {X Y : Type 0} (p : Y → Bool) (f : X → Y) (xs : List X) → position_or_len (λ x. p (f x)) xs ≡ position_or_len p (map f xs)
-position_or_len-map p f [] = refl
-position_or_len-map p f (x ∷ xs) = ap (λ n. cond (not (p (f x))) (1 + n) 0) (position_or_len-map p f xs)
-
-position-map : {X Y : Type 0} (p : Y → Bool) (f : X → Y) (xs : List X) → position (λ x. p (f x)) xs ≡ position p (map f xs)
-position-map p f xs =
-    let a = position_or_len-map p f xs in
-    let b = sym (length-map xs f) in
-    λ i. cond (ltb (a i) (b i)) (Some (a i)) (let n : Option ℕ = position p [] in n)
-
-list_any-map : {X Y : Type 0} (p : Y → Bool) (f : X → Y) (xs : List X) → list_any (λ x. p (f x)) xs ≡ list_any p (map f xs)
-list_any-map p f [] = refl
-list_any-map p f (x ∷ xs) = ap (λ b. p (f x) || b) (list_any-map p f xs)
 
 module _ (E : ℕ → ℕ → Bool) (same : (a b : ℕ) → Decides (E a b) (a ≡ b)) (vs : List (Vec ℕ Global)) (ids : List ℕ) where
   list_same : (xs ys : List ℕ) → Decides (pointwise E xs ys) (xs ≡ ys)
@@ -35,7 +21,7 @@ module _ (E : ℕ → ℕ → Bool) (same : (a b : ℕ) → Decides (E a b) (a �
 
   pub found : (place : ℕ) → Some place ≡ position (λ (v : Vec ℕ Global). pointwise E ids v.items) vs → slice_get (lists_of vs) place ≡ Some ids
   found place e =
-      let p = position-Some (pointwise E ids) (lists_of vs) place [] (sym (position-map (pointwise E ids) (λ (v : Vec ℕ Global). v.items) vs) ∙ sym e) in
+      let p = position-Some (pointwise E ids) (lists_of vs) place [] (position-map (pointwise E ids) (λ (v : Vec ℕ Global). v.items) vs ∙ sym e) in
       slice_get-get_or (lists_of vs) place [] p.0 ∙ ap (λ (x : List ℕ). Some x) (sym ((list_same ids (get_or (lists_of vs) place [])).0 p.1))
 
   pub stored : (place : ℕ) (v k : Vec ℕ Global) → v.items ≡ ids → slice_get vs place ≡ Some k → pointwise E v.items k.items ≡ true → slice_get (lists_of vs) place ≡ Some ids
@@ -50,8 +36,8 @@ module _ (E : ℕ → ℕ → Bool) (same : (a b : ℕ) → Decides (E a b) (a �
       by true t = inl (ap lists_of (e ∙ ap (λ c. cond c vs (vs ++ v ∷ [])) t))
       by false t = inr (
         λ c. absurd (let f = (is_member-Decides list_same (lists_of vs) v.items).1 (subst (Contains (lists_of vs)) (sym is) c) in
-            let g : true ≡ false = sym f ∙ sym (list_any-map (pointwise E v.items) (λ (v : Vec ℕ Global). v.items) vs) ∙ t in cc),
-        ap lists_of (e ∙ ap (λ c. cond c vs (vs ++ v ∷ [])) t) ∙ map-push (λ (v : Vec ℕ Global). v.items) vs v ∙ ap (λ x. lists_of vs ++ x ∷ []) is,
+            let g : true ≡ false = sym f ∙ any-map (pointwise E v.items) (λ (v : Vec ℕ Global). v.items) vs ∙ t in cc),
+        ap lists_of (e ∙ ap (λ c. cond c vs (vs ++ v ∷ [])) t) ∙ map_push (λ (v : Vec ℕ Global). v.items) vs v ∙ ap (λ x. lists_of vs ++ x ∷ []) is,
       )
 
 -- the items of the list at a place

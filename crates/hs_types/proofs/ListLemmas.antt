@@ -1,6 +1,6 @@
 -- Lists that grow at their end, and what is read from them.
 use Rattle.std.proofs.Common.{◌≡◌, refl, sym, ◌∙◌, ap, subst, ℕ, zero, suc, ◌+◌, ◌<◌, ◌≤◌, List, [], ◌∷◌, ◌++◌, length, map, get_or, slice_get, Some, arith, Contains, All, inl, inr, take, length-take, set, replicate}
-use Rattle.std.proofs.lemmas.List.{get_or_append_left, length-map, map_more, take_all}
+use Rattle.std.proofs.lemmas.List.{get_or_append_left, length-map, map_more, take_all, map_push}
 use Rattle.std.proofs.lemmas.Option.{get_or_from_slice_get, same_Some}
 use Rattle.std.proofs.lemmas.List.Elements.{All-head, All-tail, All-weaker, All-push}
 use Rattle.hs_scheme.proofs.Lists.{at_append, push_cases}
@@ -11,10 +11,6 @@ use Rattle.hs_types.specs.Nodes.{items_at, AllBelow}
 
 pub Begins-push : {X : Type 0} (xs : List X) (y : X) → Begins xs (xs ++ y ∷ [])
 Begins-push xs y = λ i x h. at_append xs (y ∷ []) i x h
-
-pub map-push : {X Y : Type 0} (f : X → Y) (xs : List X) (x : X) → map f (xs ++ x ∷ []) ≡ map f xs ++ f x ∷ []
-map-push f [] x = refl
-map-push f (y ∷ xs) x = ap (λ ys. f y ∷ ys) (map-push f xs x)
 
 -- a new item makes no second number
 pub IsWithoutRepeats-push : {X : Type 0} (xs : List X) (y : X) → IsWithoutRepeats xs → (Contains xs y → ⊥) → IsWithoutRepeats (xs ++ y ∷ [])
@@ -93,7 +89,7 @@ module _ {X : Type 0} (xs ys : List X) (d : X) (F : ℕ → X) (ids new ms : Lis
 
   pub more_same : items_at ys d new ≡ map F (take (k + 1) ms)
   more_same =
-      ap (λ (zs : List ℕ). items_at ys d zs) e ∙ map-push (λ i. get_or ys i d) ids own
+      ap (λ (zs : List ℕ). items_at ys d zs) e ∙ map_push (λ i. get_or ys i d) ids own
       ∙ (λ q. (items_at-begun xs ys d ids g range ∙ same) q ++ (read_own ∙ ap F is) q ∷ [])
       ∙ sym (map_more F ms k m lt)
     where

@@ -4,7 +4,7 @@ use Rattle.std.specs.Ordering.{ordering_reverse}
 use Rattle.std.specs.declared.cmp.Ordering.{Ordering}
 use Rattle.std.specs.declared.cmp.Ordering.TheVariants.{Less, Equal, Greater}
 use Rattle.std.proofs.lemmas.List.Elements.{All-push, All-append, All-drop, Contains-append_left, Contains-append_right, Contains-append_cases}
-use Rattle.std.proofs.lemmas.List.{take-append-drop, take_more, take_all, drop_all, length-drop, drop-map, map-append, length-map, get_or-map}
+use Rattle.std.proofs.lemmas.List.{take-append-drop, take_more, drop_all, drop-map, map-append, length-map, get_or-map, take_rest, map_push}
 use Rattle.std.proofs.Math.Seq.{drop-cons}
 use Rattle.hs_scheme.proofs.Lists.{here, later, uncons, only}
 use Rattle.hs_table.specs.Types.{TypeTree, type_cmp, IsSet}
@@ -12,7 +12,6 @@ use Rattle.hs_table_laws.proofs.Orders.{type_cmp_total, type_same}
 use Rattle.hs_table_laws.proofs.Places.{pairs_head, pairs_tail, pairs_cons}
 use Rattle.hs_table_laws.proofs.Sets.{one_set}
 use Rattle.hs_types.specs.Interned.{IsSetOf, IsUnion}
-use Rattle.hs_types.proofs.ListLemmas.{map-push}
 use Rattle.hs_types.proofs.OrderLemmas.{member_within}
 
 -- each of the first is below each of the second
@@ -259,7 +258,7 @@ module _ (f : ℕ → TypeTree) (n : ℕ) (xs ys ms : List ℕ) (i j a b : ℕ) 
   y_at = get_or-map f ys j b (f a) k ∙ ap f (sym at_b)
 
   pushed : (v : ℕ) (new : List ℕ) → new ≡ ms ++ v ∷ [] → map f ms ++ f v ∷ [] ≡ map f new
-  pushed v new e = sym (map-push f ms v) ∙ ap (λ (zs : List ℕ). map f zs) (sym e)
+  pushed v new e = sym (map_push f ms v) ∙ ap (λ (zs : List ℕ). map f zs) (sym e)
 
   range_pushed : (v : ℕ) (new : List ℕ) → v < n → new ≡ ms ++ v ∷ [] → All (λ t. t < n) new
   range_pushed v new lt e = subst (λ (zs : List ℕ). All (λ t. t < n) zs) (sym e) (All-push (λ t. t < n) ms v range lt)
@@ -313,11 +312,7 @@ range_end n xs ys ms new i j h k m e =
     let P : ℕ → Type 0 = λ t. t < n in
     subst (λ (zs : List ℕ). All P zs) (sym e) (All-append P (ms ++ drop i xs) (drop j ys) (All-append P ms (drop i xs) m (All-drop P i xs h)) (All-drop P j ys k))
 
--- what a slice from a place on has
-pub rest_all : {X : Type 0} (k : ℕ) (xs : List X) → take (length xs - k) (drop k xs) ≡ drop k xs
-rest_all k xs = take_all (length xs - k) (drop k xs) (omega (arith, length-drop k xs))
-
 -- a set of a list by its parts, of numbers
 pub sorted_parts : (f : ℕ → TypeTree) (ids : List ℕ) (k : ℕ) (s r u : List TypeTree) → IsSetOf (map f (take k ids)) s → IsSetOf (map f (take (length ids - k) (drop k ids))) r → IsUnion s r u → IsSetOf (map f ids) u
 sorted_parts f ids k s r u h g m =
-    subst (λ z. IsSetOf z u) (sym (map-append f (take k ids) (drop k ids)) ∙ ap (λ (zs : List ℕ). map f zs) (take-append-drop k ids)) (IsSetOf-append (map f (take k ids)) (map f (drop k ids)) s r u h (subst (λ (zs : List ℕ). IsSetOf (map f zs) r) (rest_all k ids) g) m)
+    subst (λ z. IsSetOf z u) (sym (map-append f (take k ids) (drop k ids)) ∙ ap (λ (zs : List ℕ). map f zs) (take-append-drop k ids)) (IsSetOf-append (map f (take k ids)) (map f (drop k ids)) s r u h (subst (λ (zs : List ℕ). IsSetOf (map f zs) r) (take_rest ids k) g) m)

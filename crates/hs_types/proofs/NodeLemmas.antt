@@ -1,6 +1,6 @@
 -- What the stored lists stand for, when one more node, set or environment is stored.
 use Rattle.std.proofs.Common.{◌≡◌, refl, sym, ◌∙◌, ap, subst, ℕ, zero, suc, ◌<◌, List, [], ◌∷◌, ◌++◌, length, map, get_or, slice_get, Option, option_map, Some, arith, Contains, All, ◌⊎◌, inl, inr}
-use Rattle.std.proofs.lemmas.List.{length-map, get_or_append_left, get_or_push, length_push}
+use Rattle.std.proofs.lemmas.List.{length-map, get_or_append_left, get_or_push, length_push, map_push}
 use Rattle.std.proofs.lemmas.List.Elements.{All-nil, All-get_or, Contains-get_or}
 use Rattle.std.proofs.lemmas.Option.{slice_get-get_or, slice_get-map, get_or_from_slice_get}
 use Rattle.std.proofs.Math.ListN.{get_or-map}
@@ -16,7 +16,7 @@ use Rattle.hs_types.specs.declared.ids.View.TheVariants.{State, Arrow}
 use Rattle.hs_types.specs.Interned.{InternerData, type_of_id, set_of_id, env_of_id, IsView, IsInterner, Grows}
 use Rattle.hs_types.specs.Nodes.{node_type, IsInRange, items_at, types_behind, sets_over, data_of, AreNodes, Adds}
 use Rattle.hs_types.proofs.Numbers.{IsInterner-empty, Grows-refl, same_type, same_set, type_stays, type_within, set_stays, set_within}
-use Rattle.hs_types.proofs.ListLemmas.{Begins-push, map-push, IsWithoutRepeats-push, items_at-begun, all_at-append, AllBelow-more, AllBelow-push, same_places}
+use Rattle.hs_types.proofs.ListLemmas.{Begins-push, IsWithoutRepeats-push, items_at-begun, all_at-append, AllBelow-more, AllBelow-push, same_places}
 
 abbrev pub with_type : InternerData → TypeTree → InternerData
 with_type I t = record { types = I.types ++ t ∷ []; sets = I.sets; envs = I.envs }
@@ -184,7 +184,7 @@ module _ (nodes : List View) (sets envs : List (List ℕ)) (I : InternerData) (a
         type_ascends = are.exact.type_ascends;
       };
       long = are.long;
-      of_sets = ap (λ ss. ss ++ the_set ∷ []) are.of_sets ∙ sym (map-push (items_at I.types (state 0)) sets ids);
+      of_sets = ap (λ ss. ss ++ the_set ∷ []) are.of_sets ∙ sym (map_push (items_at I.types (state 0)) sets ids);
       of_envs = are.of_envs ∙ sym (all_at-append I.sets (the_set ∷ []) [] envs are.env_range);
       reads = λ t m h. IsView-grows I (with_set I the_set) t m (Grows-with_set I the_set) (omega (arith, within_from nodes t m h, are.long)) (are.reads t m h);
       set_range = AllBelow-push (length I.types) sets ids are.set_range range;
@@ -229,7 +229,7 @@ module _ (nodes : List View) (sets envs : List (List ℕ)) (I : InternerData) (a
       };
       long = are.long;
       of_sets = are.of_sets;
-      of_envs = ap (λ es. es ++ the_env ∷ []) are.of_envs ∙ sym (map-push (items_at I.sets []) envs ids);
+      of_envs = ap (λ es. es ++ the_env ∷ []) are.of_envs ∙ sym (map_push (items_at I.sets []) envs ids);
       reads = are.reads;
       set_range = are.set_range;
       env_range = AllBelow-push (length I.sets) envs ids are.env_range range;

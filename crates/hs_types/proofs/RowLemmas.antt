@@ -1,11 +1,10 @@
 -- Rows while the interner grows.
 use Rattle.std.proofs.Common.{◌≡◌, refl, sym, ◌∙◌, ap, subst, ℕ, ◌+◌, ◌<◌, List, [], ◌∷◌, ◌++◌, length, map, get_or, take, All, slice_get, Some}
-use Rattle.std.proofs.lemmas.List.{map_more}
+use Rattle.std.proofs.lemmas.List.{map_more, map_push}
 use Rattle.std.proofs.lemmas.Option.{slice_get_within, get_or_from_slice_get}
 use Rattle.std.proofs.lemmas.List.Elements.{All-head, All-tail, All-push, All-weaker}
 use Rattle.hs_table.specs.Types.{TypeTree, state, arrow}
 use Rattle.hs_types.specs.Interned.{InternerData, type_of_id, set_of_id, env_of_id, RowData, IsRow, entry_of, Grows}
-use Rattle.hs_types.proofs.ListLemmas.{map-push}
 use Rattle.hs_types.proofs.Numbers.{env_within, env_stays, set_stays, row_within, row_stays}
 
 module _ (J K : InternerData) (g : Grows J K) where
@@ -26,7 +25,7 @@ module _ (J K : InternerData) (g : Grows J K) where
 pub rows_same : (J K from : InternerData) → Grows J K → (rows new others : List RowData) (own other : RowData) (k : ℕ) → All (IsRow J) rows → map (entry_of J) rows ≡ map (entry_of from) (take k others)
     → entry_of K own ≡ entry_of from other → k < length others → other ≡ get_or others k other → new ≡ rows ++ own ∷ [] → map (entry_of K) new ≡ map (entry_of from) (take (k + 1) others)
 rows_same J K from g rows new others own other k known same entry lt is e =
-    ap (λ (rs : List RowData). map (entry_of K) rs) e ∙ map-push (entry_of K) rows own
+    ap (λ (rs : List RowData). map (entry_of K) rs) e ∙ map_push (entry_of K) rows own
     ∙ (λ i. (rows_stay J K g rows known ∙ same) i ++ (entry ∙ ap (entry_of from) is) i ∷ [])
     ∙ sym (map_more (entry_of from) others k other lt)
 

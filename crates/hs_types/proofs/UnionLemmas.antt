@@ -12,7 +12,7 @@ use Rattle.hs_table.specs.Entries.{Env, set_at}
 use Rattle.hs_types.specs.declared.unions.Operands.{Operands}
 use Rattle.hs_types.specs.contracts.unions.OperandsPartialEq.TheImpl.{eq-value}
 use Rattle.hs_types.specs.Interned.{InternerData, type_of_id, set_of_id, env_of_id, IsUnion, IsUnionEnv, IsInterner, Grows}
-use Rattle.hs_types.specs.Unions.{KnownUnions, AreOperands, Knows, KnowsMore, IsSetUnion, IsEnvUnion, AreUnions}
+use Rattle.hs_types.specs.Unions.{KnownUnions, AreOperands, KnowsUnion, KnowsMore, IsSetUnion, IsEnvUnion, AreUnions}
 use Rattle.hs_types.proofs.MergeLemmas.{union_swap}
 use Rattle.hs_types.proofs.Numbers.{set_within, set_stays, env_within, env_stays}
 
@@ -93,7 +93,7 @@ union_second s r e h = record {
 
 -- a union that is known
 module _ (I : InternerData) (sets envs : KnownUnions) (are : AreUnions I sets envs) where
-  pub known_set : (a b u : ℕ) → Knows sets a b u → IsSetUnion I a b u
+  pub known_set : (a b u : ℕ) → KnowsUnion sets a b u → IsSetUnion I a b u
   known_set a b u (p, (inl is, c)) =
       let k = are.sets p u c in
       subst (λ x. IsSetUnion I x b u) is.0 (subst (λ x. IsSetUnion I p.first x u) is.1 k)
@@ -102,7 +102,7 @@ module _ (I : InternerData) (sets envs : KnownUnions) (are : AreUnions I sets en
       let m : IsSetUnion I b a u = subst (λ x. IsSetUnion I x a u) is.0 (subst (λ x. IsSetUnion I p.first x u) is.1 k) in
       record { first = m.second; second = m.first; within = m.within; is = union_swap (set_of_id I b) (set_of_id I a) (set_of_id I u) m.is }
 
-  pub known_env : (a b u : ℕ) → Knows envs a b u → IsEnvUnion I a b u
+  pub known_env : (a b u : ℕ) → KnowsUnion envs a b u → IsEnvUnion I a b u
   known_env a b u (p, (inl is, c)) =
       let k = are.envs p u c in
       subst (λ x. IsEnvUnion I x b u) is.0 (subst (λ x. IsEnvUnion I p.first x u) is.1 k)
@@ -160,12 +160,12 @@ module _ (I : InternerData) (sets envs : KnownUnions) (are : AreUnions I sets en
   }
 
 -- the same, as code finds it: by numbers that are equal to those that were asked for
-pub known_set_at : (I K : InternerData) (sets envs : KnownUnions) → AreUnions I sets envs → I ≡ K → (a b u m n r : ℕ) → m ≡ a → n ≡ b → r ≡ u → Knows sets m n u → IsSetUnion K a b r
+pub known_set_at : (I K : InternerData) (sets envs : KnownUnions) → AreUnions I sets envs → I ≡ K → (a b u m n r : ℕ) → m ≡ a → n ≡ b → r ≡ u → KnowsUnion sets m n u → IsSetUnion K a b r
 known_set_at I K sets envs are is a b u m n r e f g k =
     let h : IsSetUnion K m n u = subst (λ (J : InternerData). IsSetUnion J m n u) is (known_set I sets envs are m n u k) in
     subst (λ (x : ℕ). IsSetUnion K a b x) (sym g) (subst (λ (x : ℕ). IsSetUnion K a x u) f (subst (λ (x : ℕ). IsSetUnion K x n u) e h))
 
-pub known_env_at : (I K : InternerData) (sets envs : KnownUnions) → AreUnions I sets envs → I ≡ K → (a b u m n r : ℕ) → m ≡ a → n ≡ b → r ≡ u → Knows envs m n u → IsEnvUnion K a b r
+pub known_env_at : (I K : InternerData) (sets envs : KnownUnions) → AreUnions I sets envs → I ≡ K → (a b u m n r : ℕ) → m ≡ a → n ≡ b → r ≡ u → KnowsUnion envs m n u → IsEnvUnion K a b r
 known_env_at I K sets envs are is a b u m n r e f g k =
     let h : IsEnvUnion K m n u = subst (λ (J : InternerData). IsEnvUnion J m n u) is (known_env I sets envs are m n u k) in
     subst (λ (x : ℕ). IsEnvUnion K a b x) (sym g) (subst (λ (x : ℕ). IsEnvUnion K a x u) f (subst (λ (x : ℕ). IsEnvUnion K x n u) e h))

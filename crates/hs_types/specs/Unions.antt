@@ -10,8 +10,8 @@ abbrev pub AreOperands : Operands → ℕ → ℕ → Type 0
 AreOperands p a b = ((p.first ≡ a) × (p.second ≡ b)) ⊎ ((p.first ≡ b) × (p.second ≡ a))
 
 -- the union of a and b is known
-abbrev pub Knows : KnownUnions → ℕ → ℕ → ℕ → Type 0
-Knows known a b union = (p : Operands) × (AreOperands p a b × Contains known (p, union))
+abbrev pub KnowsUnion : KnownUnions → ℕ → ℕ → ℕ → Type 0
+KnowsUnion known a b union = (p : Operands) × (AreOperands p a b × Contains known (p, union))
 
 -- what is known was known, or is that of a and b
 abbrev pub KnowsMore : KnownUnions → KnownUnions → ℕ → ℕ → ℕ → Type 0

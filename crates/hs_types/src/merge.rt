@@ -24,8 +24,8 @@ impl Nodes {
         requires ys_ascend { IsSet (map (type_of_id self.now) ys.now) }
         requires empty { merged.old.items ≡ [] }
         ensures range { OnOk result (All (λ t. t < length self.now.types) merged.new.items) }
-        ensures union { OnOk result (IsUnion (map (type_of_id self.now) xs.now) (map (type_of_id self.now) ys.now)
-            (map (type_of_id self.now) merged.new.items)) }
+        ensures union { OnOk result (IsUnion (map (type_of_id self.now) xs.now)
+            (map (type_of_id self.now) ys.now) (map (type_of_id self.now) merged.new.items)) }
     {
         let mut i = 0;
         let mut j = 0;

@@ -2,7 +2,7 @@
 
 ghost use Rattle.std.specs.Prelude.{◌≡◌, ℕ, [], IfSome, Contains};
 ghost use Rattle.hs_types.specs.declared.unions.Operands.{Operands as AnyOperands};
-ghost use Rattle.hs_types.specs.Unions.{AreOperands, Knows, KnowsMore};
+ghost use Rattle.hs_types.specs.Unions.{AreOperands, KnowsUnion, KnowsMore};
 
 use hs_scheme::OutOfMemory;
 use indexmap::IndexMap;
@@ -52,7 +52,7 @@ impl Unions {
 
     /// The union of a and b, where it is known. Constant time on average.
     pub(crate) fn find(&self, a: u32, b: u32) -> Option<u32>
-        ensures { IfSome result (λ union. Knows self.now.known.entries a b union) }
+        ensures { IfSome result (λ union. KnowsUnion self.now.known.entries a b union) }
     {
         let union = self.known.get(&ordered(a, b))?;
         Some(*union)

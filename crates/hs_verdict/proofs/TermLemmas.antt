@@ -7,7 +7,8 @@ use Rattle.hs_scheme.specs.declared.term.Rule.{Rule}
 use Rattle.hs_scheme.specs.Tree.{Tree, Trees, node, none, more, forest}
 use Rattle.hs_scheme.specs.Points.{PointData, size, sizes, numbers, term_points, terms_points, rules_points, bodies, points_of}
 use Rattle.hs_scheme.proofs.PointLemmas.{length-term_points}
-use Rattle.hs_table_laws.proofs.Standing.{place-append, StandsFrom, stands_front, stands_back, stands_tail, stands_head}
+use Rattle.hs_scheme.proofs.Lists.{place-append}
+use Rattle.hs_table_laws.proofs.Standing.{StandsFrom, stands_front, stands_back, stands_tail, stands_head}
 use Rattle.hs_verdict.specs.Terms.{subterms, subterms_row, terms_of, term_at}
 
 -- a term for each point: what the point is made of; its arguments stand in its own rule; and bodies

@@ -13,7 +13,7 @@ use Rattle.hs_turn.specs.declared.known.Known.{Known}
 use Rattle.hs_turn.specs.Story.{told_by}
 use Rattle.hs_turn.specs.Seats.{RestsIn}
 use Rattle.hs_turn.specs.Views.{first_seat, having_split, split_off, having_joined}
-use Rattle.hs_shared.specs.Seats.{SeatData, worker_of, HasSeenOwn}
+use Rattle.hs_shared.specs.Seats.{SeatData, worker_of}
 use Rattle.hs_shared.proofs.Seen.{see, none_by}
 use Rattle.hs_workers.specs.Working.{IsFree, IsFirstSeat, IsBased, HasSeenNothing, RestsSeated}
 use Rattle.hs_workers.specs.Answers.{IsOfWorkers}
@@ -40,15 +40,12 @@ module _ (table : TableId) (p : ProblemData) (start old : SeatData) (n : ℕ) (f
   new_knows : new_seat.known.base ≡ Some based.base
   new_knows = same ∙ based.knows
 
-  new_own : HasSeenOwn new_seat
-  new_own = subst (λ (xs : Story). told_by worker_of new_seat.known.number xs ≡ []) (sym nothing) refl
-
   new_legal : IsLegal based.base old.known.seen
   new_legal = subst (λ (xs : Story). IsLegal based.base xs) (sym nothing) tt
 
   new_free : IsFree table p new_seat []
   new_free = record {
-    seated = record { seat = record { turn = first.seat.turn; free = refl }; own = new_own; base = based.base; knows = new_knows; legal = new_legal };
+    seated = record { seat = record { turn = first.seat.turn; free = refl }; base = based.base; knows = new_knows; legal = new_legal };
     upon = see new_seat based.base (λ (b : Base) (state : State). b.problem ≡ p) new_knows based.problem;
     begins = see new_seat based.base (λ (b : Base) (state : State). IsPrefix [] state.log) new_knows (_, refl);
   }

@@ -1,5 +1,5 @@
 -- What is formed point by point.
-use Rattle.std.proofs.Common.{◌≡◌, refl, sym, ◌∙◌, ap, subst, ℕ, ◌+◌, ◌<◌, ◌≤◌, List, [], ◌∷◌, ◌++◌, length, take, slice_get, get_or, unwrap_or, Some, None, Option, All, Result, Ok, Err, arith, Contains, inl, inr, append_assoc, append-nil}
+use Rattle.std.proofs.Common.{◌≡◌, refl, sym, ◌∙◌, ap, subst, ℕ, ◌+◌, ◌<◌, ◌≤◌, List, [], ◌∷◌, ◌++◌, length, take, slice_get, get_or, unwrap_or, Some, None, Option, All, Result, Ok, Err, arith, Contains, inl, inr, append_assoc}
 use Rattle.std.specs.Result.{IfOk}
 use Rattle.std.specs.Option.{IfSome}
 use Rattle.std.proofs.lemmas.Bool.{cases_lt}
@@ -81,11 +81,6 @@ module _ (ids : InternerData) (log : List EntryData) where
       among = still_among;
       each = All-push (λ (x : DeducedData). IsLoggedOrFound ids log new (entry_of ids x.row)) ys d k.each (inl there);
     }
-
--- a list is gone through
-pub all_through : {X : Type 0} (ys rest whole : List X) → length rest ≡ 0 → ys ++ rest ≡ whole → ys ≡ whole
-all_through ys [] whole none is = sym (append-nil ys) ∙ is
-all_through ys (x ∷ rest) whole none is = absurd (omega arith)
 
 -- what was formed is found or in the log
 among_known : (ids : InternerData) (log : List EntryData) (formed old new : List DeducedData) → KeepsNew ids log formed old new → (e : EntryData) → Contains (entries_of ids formed) e → IsLoggedOrFound ids log new e

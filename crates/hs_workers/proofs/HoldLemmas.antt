@@ -127,7 +127,7 @@ module _ (table : TableId) (p : ProblemData) (old : SeatData) (core : CoreData) 
       let legal = subst (IsLegal core.base) (sym finds.begins.1) finds.is_core.legal in
       carries_kept n (state_after core.base old.known.seen).flight (state_of core).flight ks
       (λ t w h. ap (λ (story : Story). (state_after core.base story).flight t) (sym finds.begins.1)
-      ∙ tickets_after core.base old.known.seen finds.begins.0 n t w legal (others old core finds f.seated.own) h)
+      ∙ tickets_after core.base old.known.seen finds.begins.0 n t w legal (others old core finds) h)
       here
 
 module _ (table : TableId) (p : ProblemData) (mid new : SeatData) (h : HoldData) (is : IsHolding mid h) (turn : h.turn ≡ table) (gone : new ≡ having_left mid) where
@@ -139,7 +139,6 @@ module _ (table : TableId) (p : ProblemData) (mid new : SeatData) (h : HoldData)
   left_seated : IsSeated table new
   left_seated = subst (IsSeated table) (sym gone) (record {
     seat = record { turn = is.turn ∙ turn; free = refl };
-    own = is.own;
     base = h.core.base;
     knows = is.base;
     legal = subst (IsLegal h.core.base) (sym is.seen) is.is_core.legal;

@@ -17,7 +17,7 @@ use Rattle.hs_types.specs.Interned.{InternerData}
 use Rattle.hs_history.specs.Story.{Base}
 use Rattle.hs_history.specs.History.{IsLegal}
 use Rattle.hs_core.specs.Core.{log_of}
-use Rattle.hs_shared.specs.Seats.{SeatData, IsSeatOf, Sees, HasSeenOwn}
+use Rattle.hs_shared.specs.Seats.{SeatData, IsSeatOf, Sees}
 use Rattle.hs_shared.specs.Holding.{HoldData, IsHolding}
 use Rattle.hs_workers.specs.declared.job.Job.{Job}
 use Rattle.hs_workers.specs.declared.handing.Next.{Next}
@@ -26,7 +26,6 @@ use Rattle.hs_workers.specs.Jobs.{keys, Carries, IsFormed}
 
 pub record IsSeated (table : TableId) (s : SeatData) : Type 0 where
   pub seat : IsSeatOf table s
-  pub own : HasSeenOwn s
   pub base : Base
   pub knows : s.known.base ≡ Some base
   pub legal : IsLegal base s.known.seen

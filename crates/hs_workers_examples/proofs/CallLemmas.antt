@@ -18,7 +18,7 @@ use Rattle.hs_history.specs.CoreStep.{Holds, CanFinish, IsClosedWork}
 use Rattle.hs_history.specs.History.{state_after, IsLegal}
 use Rattle.hs_history.proofs.Histories.{holds_after, tickets_after}
 use Rattle.hs_core.specs.Core.{CoreData, IsCore, state_of, log_of}
-use Rattle.hs_shared.specs.Seats.{SeatData, Sees, HasSeenOwn}
+use Rattle.hs_shared.specs.Seats.{SeatData, Sees}
 use Rattle.hs_shared.specs.Calls.{Finds, Does, Looks, seat_after}
 use Rattle.hs_shared.proofs.Seen.{log_begins, others, see, seen}
 use Rattle.hs_workers_examples.specs.Working.{WorkHeld, IsAtWork, IsWorker}
@@ -50,15 +50,14 @@ module _ (table : TableId) (p : ProblemData) (old : SeatData) (log : List EntryD
       let legal = subst (IsLegal core.base) (sym finds.begins.1) finds.is_core.legal in
       moved p n log held held core.base core.base (state_after core.base old.known.seen) (state_of core) here refl (log_begins old core finds)
       (λ v t e. ap (λ (story : Story). (state_after core.base story).flight t) (sym finds.begins.1)
-      ∙ tickets_after core.base old.known.seen finds.begins.0 n t v legal (others old core finds w.own) (here.holds v t e))
+      ∙ tickets_after core.base old.known.seen finds.begins.0 n t v legal (others old core finds) (here.holds v t e))
 
   -- once it has seen a story
-  worker_after : (new : SeatData) (story : Story) (own : List CoreStep) (base : Base) (after : List EntryData) (held' : WorkHeld) → new ≡ seat_after old story own → HasSeenOwn new → base ≡ w.base
+  worker_after : (new : SeatData) (story : Story) (own : List CoreStep) (base : Base) (after : List EntryData) (held' : WorkHeld) → new ≡ seat_after old story own → base ≡ w.base
       → IsAtWork p old.known.number after held' base (state_after base story) → IsWorker table p new after held'
-  worker_after new story own base after held' is has same works =
+  worker_after new story own base after held' is same works =
       subst (λ s. IsWorker table p s after held') (sym is) (record {
         seat = record { turn = w.seat.turn; free = refl };
-        own = subst HasSeenOwn is has;
         base = base;
         knows = w.knows ∙ ap (λ b. Some b) (sym same);
         works = works;
@@ -72,7 +71,7 @@ module _ (table : TableId) (p : ProblemData) (old : SeatData) (log : List EntryD
       let knows : new.known.base ≡ Some core.base = ap (λ (s : SeatData). s.known.base) l.seat ∙ l.finds.base in
       let here : IsPrefix after (log_of core) = subst (λ (story : Story). IsPrefix after (state_after core.base story).log) (ap (λ (s : SeatData). s.known.seen) l.seat)
       (seen new core.base (λ base state. IsPrefix after state.log) knows begins) in
-      worker_after new core.story old.known.own core.base after held l.seat l.own (found_base core l.finds)
+      worker_after new core.story old.known.own core.base after held l.seat (found_base core l.finds)
       (record { upon = works.upon; begins = here; shape = begins_shape p core after automaton l.finds.is_core works.upon here; holds = works.holds })
 
   -- it does what a step lemma says
@@ -80,7 +79,7 @@ module _ (table : TableId) (p : ProblemData) (old : SeatData) (log : List EntryD
       → ((found left : CoreData) → Knows p old.known.number log found held → does found left → Goes p old.known.number log found left held') → IsWorker table p new log held'
   does_on new held' does d step =
       let g = step d.found d.left (found_works d.found d.finds) d.done in
-      worker_after new d.left.story (old.known.own ++ d.steps) d.left.base log held' d.seat d.own (g.0 ∙ found_base d.found d.finds) g.1
+      worker_after new d.left.story (old.known.own ++ d.steps) d.left.base log held' d.seat (g.0 ∙ found_base d.found d.finds) g.1
 
   -- what calls ask for
   pub its_ticket : (work : Work) (ticket : ℕ) → held ≡ Some (work, ticket) → Sees old (λ base state. Holds state old.known.number ticket)

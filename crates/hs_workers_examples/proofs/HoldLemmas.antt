@@ -61,7 +61,6 @@ module _ (table : TableId) (p : ProblemData) (old : SeatData) (h : HoldData) (lo
   pub leaves : (new : SeatData) → new ≡ having_left old → IsWorker table p new log held
   leaves new is = subst (λ s. IsWorker table p s log held) (sym is) (record {
     seat = record { turn = w.holds.turn ∙ w.turn; free = refl };
-    own = w.holds.own;
     base = h.core.base;
     knows = w.holds.base;
     works = subst (λ (story : Story). IsAtWork p old.known.number log held h.core.base (state_after h.core.base story)) (sym w.holds.seen) w.works;

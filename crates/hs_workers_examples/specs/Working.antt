@@ -24,7 +24,7 @@ use Rattle.hs_history.specs.History.{state_after}
 use Rattle.hs_core.specs.declared.answers.Taken.{Taken}
 use Rattle.hs_core.specs.declared.answers.Taken.TheVariants.{Item, Quiet, Idle, Over, Found}
 use Rattle.hs_core.specs.Core.{state_of}
-use Rattle.hs_shared.specs.Seats.{SeatData, IsSeatOf, HasSeenOwn}
+use Rattle.hs_shared.specs.Seats.{SeatData, IsSeatOf}
 use Rattle.hs_shared.specs.Holding.{HoldData, IsHolding}
 
 -- a work with its ticket, or none
@@ -39,7 +39,6 @@ pub record IsAtWork (p : ProblemData) (number : ℕ) (log : List EntryData) (hel
 
 pub record IsWorker (table : TableId) (p : ProblemData) (s : SeatData) (log : List EntryData) (held : WorkHeld) : Type 0 where
   pub seat : IsSeatOf table s
-  pub own : HasSeenOwn s
   pub base : Base
   pub knows : s.known.base ≡ Some base
   pub works : IsAtWork p s.known.number log held base (state_after base s.known.seen)
@@ -56,7 +55,6 @@ pub record IsSameSeat (old new : SeatData) : Type 0 where
 
 pub record IsFresh (table : TableId) (p : ProblemData) (s : SeatData) : Type 0 where
   pub seat : IsSeatOf table s
-  pub own : s.known.own ≡ []
   pub seen : s.known.seen ≡ []
   pub base : Base
   pub problem : base.problem ≡ p

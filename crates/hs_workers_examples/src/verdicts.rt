@@ -7,7 +7,10 @@ use crate::random::random_file;
 use crate::saturating::{BUDGET, Least, saturated};
 use crate::seeing::see;
 use hs_core::{Done, saturate_alone};
-use hs_fixtures::problem_of_text;
+use hs_fixtures::{
+    BRANCHING, BRANCHING_ACCEPTED, BRANCHING_REJECTED, RESOURCE, RESOURCE_TRANSITIONS, TWICE,
+    TWICE_TRANSITIONS, problem_of, problem_of_text,
+};
 use hs_flow::Dependents;
 use hs_reduce::{Bounded, bounded};
 use hs_scheme::{OutOfMemory, Problem, Sorted};
@@ -127,54 +130,42 @@ fn verdicts_on<R: Threads + Wait + Sync>(
     Ok(verdicts?)
 }
 
-/// Files, and whether the scheme is rejected.
-const WORKED: &[(&str, bool)] = &[
-    ("%BEGING S -> a S. %ENDG %BEGINA q0 a -> q0. %ENDA", false),
-    ("%BEGING S -> a b. %ENDG %BEGINA q0 a -> q0. %ENDA", true),
-    ("%BEGING S -> S. %ENDG %BEGINA q0 a -> . %ENDA", false),
-    (
-        "%BEGING S -> F c. F x -> br x (a (F (b x))). %ENDG \
-         %BEGINA q0 br -> q0 q0. q0 a -> q0. q0 b -> q1. q1 b -> q1. q0 c -> . q1 c -> . %ENDA",
-        false,
-    ),
-    (
-        "%BEGING S -> F c. F x -> br x (a (F (b x))). %ENDG \
-         %BEGINA q0 br -> q0 q0. q0 a -> q0. q0 b -> q1. q0 c -> . q1 c -> . %ENDA",
-        true,
-    ),
-    (
-        "%BEGING S -> Tw a c. Tw f x -> f (f x). %ENDG \
-         %BEGINA q0 a -> q1. q1 a -> q2. q2 a -> q2. q0 c -> . q1 c -> . %ENDA",
-        true,
-    ),
-    (
-        "%BEGING S -> Loop end. Loop k -> br (close k) (read (Loop k)). %ENDG \
-         %BEGINA q0 br -> q0 q0. q0 read -> q0. q0 close -> q1. q1 end -> . %ENDA",
-        false,
-    ),
+/// Rules, transitions, and whether the scheme is rejected.
+const WORKED: &[(&str, &str, bool)] = &[
+    ("S -> a S.", "q0 a -> q0.", false),
+    ("S -> a b.", "q0 a -> q0.", true),
+    ("S -> S.", "q0 a -> .", false),
+    (BRANCHING, BRANCHING_ACCEPTED, false),
+    (BRANCHING, BRANCHING_REJECTED, true),
+    (TWICE, TWICE_TRANSITIONS, true),
+    (RESOURCE, RESOURCE_TRANSITIONS, false),
 ];
 
-/// Sees that all verdicts on the file are this one.
+/// Sees that all verdicts on the rules and the transitions are this one.
 fn see_verdict<R: Abort + Threads + Wait + Sync>(
     rt: &R,
     alloc: Global,
-    file: &str,
+    rules: &str,
+    transitions: &str,
     rejected: bool,
 ) -> Result<(), Fail> {
-    let found = verdicts_on(rt, alloc, file)?;
+    let problem = problem_of(alloc, rules, transitions)?;
+    let found = compare(rt, alloc, &problem);
+    forget(problem);
+    let found = found?;
     see(
         rt,
         (found.reduction, found.alone, found.four, found.same),
         (rejected, Some(rejected), Some(rejected), true),
-        file,
+        transitions,
     );
     Ok(())
 }
 
 #[test]
 fn worked_verdicts_are_those_of_reduction(rt: HostRuntime) -> Result<(), Fail> {
-    for (file, rejected) in WORKED {
-        see_verdict(&rt, rt.alloc(), file, *rejected)?;
+    for (rules, transitions, rejected) in WORKED {
+        see_verdict(&rt, rt.alloc(), rules, transitions, *rejected)?;
     }
     Ok(())
 }

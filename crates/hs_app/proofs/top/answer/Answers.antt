@@ -6,15 +6,15 @@ use Rattle.hs_words.specs.Words.{OptionsData, texts, said_by, options_of}
 use Rattle.hs_app.specs.declared.verdict.Settings.{Settings}
 use Rattle.hs_passes.specs.Passing.{Image}
 use Rattle.hs_app.specs.Problems.{asked_of}
-use Rattle.hs_app.specs.Order.{Order, Job, generate, read_file, job_of, order_of, ordered, settings_of, source_run, ReadsNothing}
+use Rattle.hs_app.specs.Order.{Order, FileOrigin, generate, read_file, job_of, order_of, ordered, settings_of, source_run, ReadsNothing}
 use Rattle.hs_app.specs.Outcome.{IsAnswerOfRun}
-use Rattle.hs_app.specs.Verdict.{AreWithin}
+use Rattle.hs_app.specs.Verdict.{AreSettingsWithin}
 use Rattle.hs_app.proofs.OrderLemmas.{options_in}
 use Rattle.hs_app.proofs.OutcomeLemmas.{of_cycle}
 use Rattle.hs_app.proofs.top.answer.Goals as goal
 
 -- what the words that were taken order
-order_is : (images : List Image) (words : List (List ℕ)) (o : OptionsData) (job : Job) (settings : Settings) → options_of words ≡ Some o → job_of o ≡ job → settings ≡ settings_of o
+order_is : (images : List Image) (words : List (List ℕ)) (o : OptionsData) (job : FileOrigin) (settings : Settings) → options_of words ≡ Some o → job_of o ≡ job → settings ≡ settings_of o
     → ordered images words ≡ Some (record { job = job; asked = asked_of settings images })
 order_is images words o job settings e f g =
     ap (λ (x : Option OptionsData). option_map (λ (y : OptionsData). order_of images y) x) e ∙ (λ i. Some (record { job = f i; asked = asked_of (sym g i) images }))
@@ -27,11 +27,11 @@ verdict_on_cycle-requires-clause-most g c κs within = ((options_in (texts c.arg
 
 pub verdict_on_cycle-requires-clause-settings : goal.verdict_on_cycle-requires-clause-settings
 verdict_on_cycle-requires-clause-settings g c κs within =
-    subst (λ (s : Settings). AreWithin s) (sym c.settings_of-settings.ensures) (options_in (texts c.args.words.now) (said_by c.in-Ok.options) c.in-Ok.ensures.ok).settings
+    subst (λ (s : Settings). AreSettingsWithin s) (sym c.settings_of-settings.ensures) (options_in (texts c.args.words.now) (said_by c.in-Ok.options) c.in-Ok.ensures.ok).settings
 
 pub verdict_on-requires-clause-settings : goal.verdict_on-requires-clause-settings
 verdict_on-requires-clause-settings g c κs within =
-    subst (λ (s : Settings). AreWithin s) (sym c.settings_of-settings.ensures) (options_in (texts c.args.words.now) (said_by c.in-Ok.options) c.in-Ok.ensures.ok).settings
+    subst (λ (s : Settings). AreSettingsWithin s) (sym c.settings_of-settings.ensures) (options_in (texts c.args.words.now) (said_by c.in-Ok.options) c.in-Ok.ensures.ok).settings
 
 pub returns-in-Some-clause-answer : goal.returns-in-Some-clause-answer
 returns-in-Some-clause-answer g c =

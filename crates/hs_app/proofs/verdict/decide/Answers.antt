@@ -2,7 +2,7 @@ use Rattle.std.proofs.Common.{subst}
 use Rattle.std.proofs.lemmas.Result.{err_from_is_err_and}
 use Rattle.hs_scheme.specs.Unsorted.{UnsortedData, IsUnsorted}
 use Rattle.hs_resolve.specs.Numbering.{unsorted_of}
-use Rattle.hs_sorts.specs.Inference.{IsInferred, IsFaultOf}
+use Rattle.hs_sorts.specs.Inference.{IsInferred, IsSortFault}
 use Rattle.hs_app.proofs.VerdictLemmas.{refused, decided}
 use Rattle.hs_app.proofs.OneScheme.{one_scheme, scheme_is}
 use Rattle.hs_app.proofs.verdict.decide.Goals as goal
@@ -25,4 +25,4 @@ returns-in_err-unsorted g c =
 
 pub sort_refusal-requires-clause-fault : goal.sort_refusal-requires-clause-fault
 sort_refusal-requires-clause-fault g c = λ u of_bytes.
-    subst (λ (v : UnsortedData). IsFaultOf v.rules v.ranks c.in-Err.fault) (one_scheme c.args.bytes.now c.in_ok-unsorted.unsorted u c.in_ok-unsorted.ensures.scheme of_bytes) c.in-Err.ensures.fault
+    subst (λ (v : UnsortedData). IsSortFault v.rules v.ranks c.in-Err.fault) (one_scheme c.args.bytes.now c.in_ok-unsorted.unsorted u c.in_ok-unsorted.ensures.scheme of_bytes) c.in-Err.ensures.fault

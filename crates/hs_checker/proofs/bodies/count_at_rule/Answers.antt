@@ -2,10 +2,10 @@ use Rattle.std.proofs.Common.{◌≡◌, sym, ◌∙◌, ap, subst, ℕ, ◌+◌
 use Rattle.std.proofs.lemmas.List.{take_all}
 use Rattle.hs_scheme.specs.Points.{PointsData, point_at}
 use Rattle.hs_scheme.specs.Problem.{ProblemData}
+use Rattle.hs_scheme.proofs.Lists.{match_none, match_some}
 use Rattle.hs_table.specs.Types.{TypeTree}
 use Rattle.hs_table.specs.Entries.{EntryData, params_of}
 use Rattle.hs_checker.proofs.BodyLemmas.{SaysFitting, CountedRows, Closed, counted_silent, counted_said, closed_silent, closed_said, row_there, row_long, count_all, closed_all, said_follows}
-use Rattle.hs_checker.proofs.InstanceLemmas.{nothing_found, one_found}
 use Rattle.hs_checker.proofs.bodies.count_at_rule.Goals as goal
 use Rattle.hs_checker.proofs.bodies.count_at_rule.Goals.{then-says+in_ok-entry+in-None, else-says}
 
@@ -46,7 +46,7 @@ returns-in-Some-clause-missing c =
     let body = subst (λ (x : PointsData). c.body_of-body.result ≡ slice_index x.bodies c.args.nonterminal) points c.body_of-body.ensures.body in
     let r = c.entry-item.result in
     let there : Contains rows r = (c.loop-entry.entry-index, c.loop-entry-test.true, sym c.entry-item.is) in
-    let found = one_found c.in_ok-entry.field-0 c.in-Some.entry _ _ c.in-Some.is (c.in_ok-entry.ensures c.args.nonterminal) in (
+    let found = match_some c.in_ok-entry.field-0 c.in-Some.entry _ _ c.in-Some.is (c.in_ok-entry.ensures c.args.nonterminal) in (
       said_follows p E c.requires.shape c.args.point c.rule_of-rule.result c.args.nonterminal c.parameters-params.result c.body_of-body.result c.args_of-args.result.now rows c.requires.point rule (sym c.requires.head) args c.requires.within body
           c.parameters-params.ensures c.at_point-entry-items.ensures.has r c.in-Some.entry there (c.says.ensures.said c.if-says.true) found.0,
       found.1,
@@ -74,7 +74,7 @@ loop-entry-preserved c =
     elim c.if-says.branch [
       | then-says+in_ok-entry+in-None w ↦
           let says = c.says.ensures.said w.if-says.true in
-          let none = nothing_found w.in_ok-entry.field-0 _ _ w.in-None.is (w.in_ok-entry.ensures c.args.nonterminal) in
+          let none = match_none w.in_ok-entry.field-0 _ _ w.in-None.is (w.in_ok-entry.ensures c.args.nonterminal) in
           record {
             few = omega (arith, w.count-is, c.loop-entry.invariant.few);
             counted = subst (λ (n : ℕ). CountedRows E us b (take (k + 1) rows) n) (sym w.count-is)

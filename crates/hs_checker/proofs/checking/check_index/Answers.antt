@@ -2,7 +2,7 @@ use Rattle.std.proofs.Common.{◌≡◌, sym, ◌∙◌, subst, List, Bool, true
 use Rattle.std.proofs.lemmas.Result.{err_from_is_err_and}
 use Rattle.hs_verdict.proofs.Verdict.{accepts_without_start}
 use Rattle.hs_checker.proofs.CountLemmas.{no_gap, gap_fault, gap_whole, closed_whole, count_whole}
-use Rattle.hs_checker.specs.Inert.{DemandNothing}
+use Rattle.hs_flow_checker.specs.PassedOn.{DemandNothing}
 use Rattle.hs_checker.proofs.InertLemmas.{inert_demands}
 use Rattle.hs_checker.proofs.checking.check_index.Goals as goal
 

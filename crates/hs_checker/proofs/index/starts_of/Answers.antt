@@ -2,7 +2,7 @@ use Rattle.std.proofs.Common.{◌≡◌, ◌∙◌, ap, subst, ◌+◌, ◌<◌,
 use Rattle.hs_table.specs.Entries.{EntryData}
 use Rattle.hs_checker.specs.Order.{IsStartOfPoint}
 use Rattle.hs_checker.proofs.IndexLemmas.{get_or-map, length-map}
-use Rattle.hs_checker.proofs.StartLemmas.{starts_more, start_past}
+use Rattle.hs_flow_checker.proofs.StartLemmas.{starts_more, start_past}
 use Rattle.hs_checker.proofs.index.starts_of.Goals as goal
 
 pub loop-point-preserved : goal.loop-point-preserved

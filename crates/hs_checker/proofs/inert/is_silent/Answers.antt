@@ -1,12 +1,9 @@
-use Rattle.std.proofs.Common.{◌≡◌, sym, ◌∙◌, List, length, map, Contains, Bor, arith}
+use Rattle.std.proofs.Common.{◌≡◌, sym, ◌∙◌, length, map, Bor}
 use Rattle.std.proofs.lemmas.Bool.{eqb-true}
 use Rattle.hs_table.specs.Entries.{EntryData}
+use Rattle.hs_flow_checker.proofs.Parts.{nothing_in}
 use Rattle.hs_checker.proofs.IndexLemmas.{length-map}
 use Rattle.hs_checker.proofs.inert.is_silent.Goals as goal
-
--- a list that is found empty has no member
-nothing_in : {X : Type 0} (xs : List X) (x : X) → length xs ≡ 0 → Contains xs x → ⊥
-nothing_in xs x none there = omega (arith, none, there.1)
 
 pub returns-then-is_empty : goal.returns-then-is_empty
 returns-then-is_empty c = λ silent.

@@ -1,7 +1,8 @@
 use Rattle.std.proofs.Common.{◌≡◌, subst, List, length, arith, Contains, ◌↔◌}
+use Rattle.hs_scheme.proofs.Lists.{all_given}
 use Rattle.hs_table.specs.Types.{TypeTree}
 use Rattle.hs_checker.specs.Slots.{FitsSets}
-use Rattle.hs_checker.proofs.Once.{all_given, one_given}
+use Rattle.hs_checker.proofs.Once.{one_given}
 use Rattle.hs_checker.proofs.InstanceLemmas.{fitting_added}
 use Rattle.hs_checker.proofs.instances.fitting.Goals as goal
 

@@ -4,7 +4,7 @@ use Rattle.std.proofs.lemmas.List.{nil_from_length}
 use Rattle.hs_table.specs.Types.{arrow}
 use Rattle.hs_table.specs.TypeView.{type_of}
 use Rattle.hs_table_plain.specs.Enumeration as plain
-use Rattle.hs_checker.proofs.OpeningLemmas.{match_some, behind_one}
+use Rattle.hs_checker.proofs.OpeningLemmas.{match_weaker, behind_one}
 use Rattle.hs_checker.proofs.missing.+behind_empty.Goals as goal
 
 pub returns-else-not-is_empty : goal.returns-else-not-is_empty
@@ -16,4 +16,4 @@ returns-else-not-is_empty t c = λ E es.
     let is : ty ≡ arrow [] c.deref.result.now = sym c.ty.view_is ∙ (ap type_of c.in-Arrow.is ∙ (λ i. arrow (empty i) (sym c.deref.ensures i))) in
     let some : length us ≡ 0 → ⊥ = λ e. (let f : true ≡ false = sym (eq-eqb (length us) 0 e) ∙ (sym c.is_empty.ensures ∙ c.if-is_empty.false) in absurd (cc)) in
     let one = behind_one E us c.deref.result.now ty es some is in
-    match_some c.behind_empty.result (Unit {0}) _ (λ rest. plain.through E us ty es ≡ map (plain.retyped rest.now) es) (λ rest made. one ∙ made) (c.behind_empty.ensures E es)
+    match_weaker c.behind_empty.result (Unit {0}) _ (λ rest. plain.through E us ty es ≡ map (plain.retyped rest.now) es) (λ rest made. one ∙ made) (c.behind_empty.ensures E es)

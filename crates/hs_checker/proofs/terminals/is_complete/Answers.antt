@@ -8,7 +8,7 @@ pub loop-q-preserved : goal.loop-q-preserved
 loop-q-preserved c = λ q lt. elim (below_or_last q c.loop-q.q lt) [
   | inl below ↦ c.loop-q.invariant q below
   | inr same ↦ subst (λ (n : ℕ). slice_get c.in_ok-marks.marks.items n ≡ Some true) (sym same)
-      (subst (λ (ms : List Bool). slice_get ms c.loop-q.q ≡ Some true) c.as_slice.ensures.value (c.is_marked.ensures c.if-not-is_marked.false))
+      (subst (λ (ms : List Bool). slice_get ms c.loop-q.q ≡ Some true) c.as_slice.ensures.value (c.is_marked.ensures.0 c.if-not-is_marked.false))
 ]
 
 pub returns : goal.returns

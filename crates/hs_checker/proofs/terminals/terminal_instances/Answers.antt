@@ -28,7 +28,7 @@ loop-q-preserved c =
           two_steps _ _ _ _ _ (subst (λ (v : Vec Ty Global). Contains v.items t ↔ (Contains c.loop-q.found.items t ⊎ (Contains (types_in p c.args.terminal q (next p.sorted.automaton.transitions q c.args.terminal)) t × FitsSets E us t)))
           (sym w.found-is) (w.in_ok-add_types_in.ensures t)) (c.loop-q.invariant t) (more t)
       | else-not-is_marked w ↦ λ t.
-          let both = c.in_ok-barren.ensures q (subst (λ (ms : List Bool). slice_get ms q ≡ Some true) c.as_slice.ensures.value (c.is_marked.ensures w.if-not-is_marked.false)) in
+          let both = c.in_ok-barren.ensures q (subst (λ (ms : List Bool). slice_get ms q ≡ Some true) c.as_slice.ensures.value (c.is_marked.ensures.0 w.if-not-is_marked.false)) in
           two_steps _ _ _ _ _ (subst (λ (v : Vec Ty Global). Contains v.items t ↔ (Contains c.loop-q.found.items t ⊎ (Contains (types_in p c.args.terminal q (next p.sorted.automaton.transitions q c.args.terminal)) t × FitsSets E us t)))
           (sym w.found-is) (or_nothing _ _ (barren_unfit p E us c.args.terminal q t (c.are_bare-bare.ensures both.0) both.1))) (c.loop-q.invariant t) (more t)
     ]

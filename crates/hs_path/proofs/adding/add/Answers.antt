@@ -1,11 +1,10 @@
 use Rattle.std.proofs.Common.{◌≡◌, refl, sym, ◌∙◌, ap, subst as along, length, arith, ℕ, ◌+◌, ◌-◌, ◌<◌, List, [], ◌∷◌, ◌++◌, drop}
 use Rattle.hs_table.specs.Types.{TypeTree}
-use Rattle.hs_table.specs.Entries.{Env, set_at}
+use Rattle.hs_table.specs.Entries.{Env, set_at, entry_at}
 use Rattle.hs_naming.specs.Evidence.{Evidence, Packs, own_evidence, pack_for, packs_for}
-use Rattle.hs_naming.specs.Naming.{entry_at}
 use Rattle.hs_core.specs.Core.{log_of}
 use Rattle.hs_path.specs.declared.evidence.Store.{Store}
-use Rattle.hs_path.specs.Stored.{Piled, Grows}
+use Rattle.hs_path.specs.Stored.{Piled, GrowsStore}
 use Rattle.hs_path.proofs.StoredLemmas.{begins_refl, begins_pushed, grows_then, pack_grows, piled_grow, pushed_at}
 use Rattle.hs_path.proofs.AddingLemmas.{knows_grow, put_pushed, sets_from}
 use Rattle.hs_path.proofs.adding.add.Goals as goal
@@ -21,13 +20,13 @@ loop-param-preserved c =
     let inv = c.loop-param.invariant in
     let said = c.in_ok-pack.ensures in
     let items : c.push.new.self.items ≡ _ = c.in_ok-push.ensures.items in
-    let g : Grows mid new = record {
+    let g : GrowsStore mid new = record {
       nodes = begins_refl mid.nodes.items;
       owns = begins_pushed mid.owns.items c.push.new.self.items _ items;
       packs = begins_refl mid.packs.items;
       members = begins_refl mid.members.items;
     } in
-    let to_new : Grows s new = grows_then s mid new said.grows g in
+    let to_new : GrowsStore s new = grows_then s mid new said.grows g in
     let n : ℕ = length old.nodes.items in
     let env : Env = (entry_at T c.args.place).env in
     let k : ℕ = c.loop-param.param - 1 in
@@ -73,7 +72,7 @@ returns-clause-evidence c = λ own known.
     let none : c.loop-param.param ≡ 0 = omega (arith, c.loop-param-test.false) in
     let whole = along (λ (m : ℕ). Piled b s n s.owns.items c.in_ok-from.from (length s.owns.items) (packs_for give m (drop m env))) none (inv.made own known) in
     let to : length s.owns.items ≡ c.in_ok-to.to = omega (arith, s.owns.ok.0, c.len-2.ensures, c.in_ok-to.ensures) in
-    let g : Grows s new = record {
+    let g : GrowsStore s new = record {
       nodes = begins_pushed s.nodes.items c.push-2.new.self.items _ items;
       owns = begins_refl s.owns.items;
       packs = begins_refl s.packs.items;

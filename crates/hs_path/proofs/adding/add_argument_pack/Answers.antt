@@ -3,7 +3,7 @@ use Rattle.std.proofs.lemmas.Option.{slice_get-get_or}
 use Rattle.hs_naming.specs.Evidence.{Pack}
 use Rattle.hs_naming.specs.Naming.{chosen_pack}
 use Rattle.hs_path.specs.declared.evidence.Store.{Store}
-use Rattle.hs_path.specs.Stored.{Stands, Members, Grows}
+use Rattle.hs_path.specs.Stored.{Stands, Members, GrowsStore}
 use Rattle.hs_path.proofs.StoredLemmas.{begins_refl, begins_pushed, grows_then, stands_grow}
 use Rattle.hs_path.proofs.AddingLemmas.{also_pushed, chosen_from}
 use Rattle.hs_path.proofs.adding.add_argument_pack.Goals as goal
@@ -15,7 +15,7 @@ loop-at-preserved-in_ok-push c =
     let new : Store = record { nodes = s.nodes; owns = s.owns; packs = s.packs; members = c.push.new.self } in
     let inv = c.loop-at.invariant in
     let items = c.in_ok-push.ensures.items in
-    let g : Grows s new = record {
+    let g : GrowsStore s new = record {
       nodes = begins_refl s.nodes.items;
       owns = begins_refl s.owns.items;
       packs = begins_refl s.packs.items;

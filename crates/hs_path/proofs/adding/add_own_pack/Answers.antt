@@ -1,11 +1,11 @@
 use Rattle.std.proofs.Common.{◌≡◌, sym, subst as along, length, arith, ℕ, ◌+◌, ◌-◌, ◌<◌, List, map, drop}
 use Rattle.hs_table.specs.Types.{TypeTree}
+use Rattle.hs_table.specs.Entries.{entry_at}
 use Rattle.hs_types.specs.Interned.{type_of_id}
 use Rattle.hs_naming.specs.Evidence.{Evidence, Pack, own_evidence, pack_for}
-use Rattle.hs_naming.specs.Naming.{entry_at}
 use Rattle.hs_core.specs.Core.{log_of}
 use Rattle.hs_path.specs.declared.evidence.Store.{Store}
-use Rattle.hs_path.specs.Stored.{Members, IsPack, Grows}
+use Rattle.hs_path.specs.Stored.{Members, IsPack, GrowsStore}
 use Rattle.hs_path.proofs.StoredLemmas.{begins_refl, begins_pushed, grows_then}
 use Rattle.hs_path.proofs.AddingLemmas.{knows_grow, also_pushed, types_from}
 use Rattle.hs_path.proofs.adding.add_own_pack.Goals as goal
@@ -18,7 +18,7 @@ loop-at-preserved c =
     let new : Store = record { nodes = s.nodes; owns = s.owns; packs = s.packs; members = c.push.new.self } in
     let inv = c.loop-at.invariant in
     let items = c.in_ok-push.ensures.items in
-    let g : Grows s new = record {
+    let g : GrowsStore s new = record {
       nodes = begins_refl s.nodes.items;
       owns = begins_refl s.owns.items;
       packs = begins_refl s.packs.items;

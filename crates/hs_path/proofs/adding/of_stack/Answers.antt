@@ -1,7 +1,7 @@
 use Rattle.std.proofs.Common.{◌≡◌, refl, sym, ◌∙◌, ap, subst as along, length, length-append, arith, ℕ, ◌+◌, ◌<◌, ◌++◌, List}
 use Rattle.std.proofs.lemmas.Option.{slice_get_within}
 use Rattle.hs_path.specs.declared.evidence.Store.{Store}
-use Rattle.hs_path.specs.Stored.{Piled, Grows}
+use Rattle.hs_path.specs.Stored.{Piled, GrowsStore}
 use Rattle.hs_path.proofs.StoredLemmas.{begins_refl, begins_more, begins_same, piled_behind, piled_grow}
 use Rattle.hs_path.proofs.adding.of_stack.Goals as goal
 
@@ -13,7 +13,7 @@ returns-clause-spot c = λ bound packs nothing within piled.
     let owns : List ℕ = old.owns.items in
     let n : ℕ = length owns in
     let whole : c.extend_from_slice.new.self.items ≡ owns ++ items = c.in_ok-extend_from_slice.ensures.items ∙ ap (λ (l : List ℕ). owns ++ l) c.as_slice.ensures.value in
-    let g : Grows old new = record {
+    let g : GrowsStore old new = record {
       nodes = begins_refl old.nodes.items;
       owns = λ i x e. begins_same (owns ++ items) c.extend_from_slice.new.self.items (sym whole) i x (begins_more owns items i x e);
       packs = begins_refl old.packs.items;

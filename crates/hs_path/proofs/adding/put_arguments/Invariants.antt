@@ -3,12 +3,12 @@ use Rattle.std.proofs.Common.{◌≡◌, ◌+◌, ◌≤◌, length, drop}
 use Rattle.hs_naming.specs.Evidence.{Packs, stacked}
 use Rattle.hs_naming.specs.Naming.{argument_packs}
 use Rattle.hs_core.specs.Core.{log_of}
-use Rattle.hs_path.specs.Stored.{Piled, Grows, KnowsCurrent, premise, ArePremises}
+use Rattle.hs_path.specs.Stored.{Piled, GrowsStore, KnowsCurrent, premise, ArePremises}
 use Rattle.hs_path.proofs.adding.put_arguments.Given as goal
 
 abbrev pub invariant-loop-argument : goal.invariant-loop-argument
 invariant-loop-argument l = record {
-  grows : Grows l.fn.store l.store;
+  grows : GrowsStore l.fn.store l.store;
   count : l.first + length l.chosen ≡ length l.store.nodes.items;
   within : l.argument ≤ length l.arguments;
   premises : (own : Packs) → KnowsCurrent (length (log_of l.core)) l.fn.store (length l.fn.store.nodes.items) l.fn.node own

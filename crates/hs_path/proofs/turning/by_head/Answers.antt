@@ -2,9 +2,8 @@ use Rattle.std.proofs.Common.{refl, sym, ◌∙◌, ap, subst as along, length, 
 use Rattle.std.proofs.lemmas.Option.{slice_get_within}
 use Rattle.hs_table.specs.declared.support.HeadBy.{HeadBy}
 use Rattle.hs_table.specs.declared.support.HeadBy.TheVariants.{Terminal}
-use Rattle.hs_table.specs.Entries.{EntryData}
+use Rattle.hs_table.specs.Entries.{EntryData, entry_at}
 use Rattle.hs_naming.specs.Evidence.{evidence, first, child_pack, own_evidence}
-use Rattle.hs_naming.specs.Naming.{entry_at}
 use Rattle.hs_core.specs.Core.{log_of}
 use Rattle.hs_path.specs.declared.evidence.Store.{Store}
 use Rattle.hs_path.specs.Stored.{Piled}

@@ -1,15 +1,15 @@
 use Rattle.std.proofs.Common.{◌≡◌, sym, ◌∙◌, ap, subst as along, length, arith, ℕ, ◌<◌, List}
 use Rattle.std.proofs.lemmas.List.Elements.{All-weaker}
 use Rattle.std.proofs.lemmas.Option.{get_or_from_slice_get}
-use Rattle.hs_scheme.specs.Points.{PointsData}
+use Rattle.hs_scheme.specs.Points.{PointsData, point_at}
 use Rattle.hs_scheme.specs.Problem.{ProblemData}
 use Rattle.hs_table.specs.Entries.{EntryData}
 use Rattle.hs_table.specs.Follows.{Support}
 use Rattle.hs_naming.specs.Evidence.{Evidence, Packs, evidence, no_packs, stacked}
-use Rattle.hs_naming.specs.Naming.{support_at, point_at, terminal_of, argument_packs}
+use Rattle.hs_naming.specs.Naming.{support_at, terminal_of, argument_packs}
 use Rattle.hs_core.specs.Core.{log_of, state_of}
 use Rattle.hs_path.specs.declared.evidence.Store.{Store}
-use Rattle.hs_path.specs.Stored.{Nothing, KnowsCurrent, Grows, premise}
+use Rattle.hs_path.specs.Stored.{Nothing, KnowsCurrent, GrowsStore, premise}
 use Rattle.hs_path.specs.Turned.{owns, Turns}
 use Rattle.hs_path.proofs.StoredLemmas.{grows_then, stands_grow}
 use Rattle.hs_path.proofs.TurningLemmas.{premises_within, head_weaker, spot_grows, spot_knows, some_nodes, turned_at}
@@ -60,7 +60,7 @@ returns-clause-turn c = λ own packs nothing at piled.
     let new : Store = c.by_head.new.store in
     let items : List ℕ = c.by_head.new.stack.items in
     let turn = c.in_ok-turn.turn in
-    let g : Grows old mid = c.in_ok-put_arguments.ensures.grows in
+    let g : GrowsStore old mid = c.in_ok-put_arguments.ensures.grows in
     let w = premises_within p T supports c.requires.log place s c.requires.place c.support.ensures in
     let give : ℕ → Evidence = premise T place own in
     let of : ℕ → ℕ → Evidence = owns T place own in
@@ -73,11 +73,11 @@ returns-clause-turn c = λ own packs nothing at piled.
     let turned = turned_at b mid c.args.spot own later here new s.head c.terminal_at-terminal.result of full items turn w.head
     (λ below knows. c.in_ok-turn.ensures.turn below own full knows stack) in
     let q : ℕ = c.row_at-point.result.point in
-    let are : arguments ≡ (point_at p q).args =
-    c.args_of-arguments.ensures.args ∙ ap (λ (x : ProblemData). (point_at x q).args) c.problem.view_is in
+    let are : arguments ≡ (point_at p.points q).args =
+    c.args_of-arguments.ensures.args ∙ ap (λ (x : ProblemData). (point_at x.points q).args) c.problem.view_is in
     let By : Support → ℕ → Type 0 = λ (x : Support) (r : ℕ).
-    Turns b new c.args.spot.number x.head (terminal_of (point_at p r).head) of (stacked (argument_packs give 0 (point_at p r).args x.args) packs) items turn in
+    Turns b new c.args.spot.number x.head (terminal_of (point_at p.points r).head) of (stacked (argument_packs give 0 (point_at p.points r).args x.args) packs) items turn in
     along (λ (r : ℕ). By (support_at supports place) r) (ap (λ (e : EntryData). e.point) (sym c.row_at-point.ensures.entry))
     (along (λ (x : Support). By x q) (sym (get_or_from_slice_get supports place s _ c.support.ensures))
-    (along (λ (us : List ℕ). Turns b new c.args.spot.number s.head (terminal_of (point_at p q).head) of (stacked (argument_packs give 0 us s.args) packs) items turn) are
+    (along (λ (us : List ℕ). Turns b new c.args.spot.number s.head (terminal_of (point_at p.points q).head) of (stacked (argument_packs give 0 us s.args) packs) items turn) are
     (along (λ (a : ℕ). Turns b new c.args.spot.number s.head a of full items turn) c.terminal_at-terminal.ensures turned)))

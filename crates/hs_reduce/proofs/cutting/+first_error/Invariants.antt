@@ -3,7 +3,7 @@ use Rattle.std.proofs.Common.{◌≡◌, ◌-◌, map, drop}
 use Rattle.hs_scheme.specs.Tree.{forest}
 use Rattle.hs_scheme.specs.Cut.{cut}
 use Rattle.hs_scheme.specs.Run.{runs}
-use Rattle.hs_reduce.specs.Graph.{terms_at, Grows}
+use Rattle.hs_reduce.specs.Graph.{terms_at, GrowsTrees}
 use Rattle.hs_reduce.proofs.cutting.+first_error.Given as goal
 
 abbrev pub decreases-first_error : goal.decreases-first_error
@@ -13,6 +13,6 @@ abbrev pub invariant-loop-index : goal.invariant-loop-index
 invariant-loop-index l =
     let trees = map (cut l.sorted.scheme.rules (l.n - 1)) (terms_at l.initial.graph l.args.items) in
     record {
-      grows : Grows l.initial.graph l.graph;
+      grows : GrowsTrees l.initial.graph l.graph;
       rest : runs l.sorted.automaton.transitions (forest (drop l.index trees)) (drop l.index l.to) ≡ runs l.sorted.automaton.transitions (forest trees) l.to;
     }

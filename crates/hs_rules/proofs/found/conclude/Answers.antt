@@ -7,7 +7,7 @@ use Rattle.hs_rules.specs.Slots.{slots, FilledData}
 use Rattle.hs_rules.specs.Filling.{fixed_of, AreFilled}
 use Rattle.hs_rules.specs.Shut.{AreShut}
 use Rattle.hs_rules.specs.Joins.{PartialData, ArePlaced, AreJoined}
-use Rattle.hs_rules.specs.Found.{HeadData, seek, IsRowOf, HasRow, HeadLeadsTo, IsConclusion, HasEnvFound}
+use Rattle.hs_rules.specs.Found.{HeadData, seek, IsRowOf, HasRow, HeadLeadsTo, IsDeducedBy, HasEnvFound}
 use Rattle.hs_rules.proofs.KeepLemmas.{keeps_then, as_before, as_then, lists_keep}
 use Rattle.hs_rules.proofs.Lists.{on_ok_map}
 use Rattle.hs_rules.proofs.FoundLemmas.{filled_placed, rows_conclude, conclude_rows}
@@ -93,7 +93,7 @@ returns-clause-only c =
     (subst (λ (gs : List FilledData). AreJoined K c.fill.new.replica.log (length (env_of_id c.fill.new.replica.ids c.head.inside.own)) (env_of_id c.fill.new.replica.ids c.head.inside.own) gs partials) c.as_slice-filled.ensures
     c.in_ok-joined.ensures.joined)) in
     on_ok_map c.add_all.result ((d : DeducedData) → Contains c.add_all.new.found.list.items d → Contains c.args.found.now.list.items d ⊎ IsRowOf s.point h c.as_slice-joins.result.now d)
-    ((d : DeducedData) → Contains c.add_all.new.found.list.items d → Contains c.args.found.now.list.items d ⊎ IsConclusion ids K log s h d)
+    ((d : DeducedData) → Contains c.add_all.new.found.list.items d → Contains c.args.found.now.list.items d ⊎ IsDeducedBy ids K log s h d)
     (λ some d there. elim (some d there) [
       | inl was ↦ inl was
       | inr row ↦ inr (rows_conclude ids K log s h fs partials filled joined d (subst (λ (xs : List PartialData). IsRowOf s.point h xs d) c.as_slice-joins.ensures row))

@@ -6,7 +6,7 @@ use Rattle.hs_types.specs.Interned.{env_of_id}
 use Rattle.hs_rules.specs.Conclusions.{DeducedData, AnySupport}
 use Rattle.hs_rules.specs.Slots.{SlotData, slots, FixedData, IsCandidate, Picked}
 use Rattle.hs_rules.specs.Filling.{fixed_of}
-use Rattle.hs_rules.specs.Found.{SearchData, seek, HeadData, HaveEnvs, RowsAre, HeadLeadsTo, IsConclusion, HasEnvFound}
+use Rattle.hs_rules.specs.Found.{SearchData, seek, HeadData, HaveEnvs, RowsAre, HeadLeadsTo, IsDeducedBy, HasEnvFound}
 use Rattle.hs_rules.specs.Heads.{AnyHead}
 use Rattle.hs_rules.specs.Parts.{ArePart, HasAll}
 use Rattle.hs_rules.proofs.Lists.{along, on_ok_map, on_ok_both}
@@ -51,8 +51,8 @@ returns-clause-part c =
     let are = c.in_ok-heads_all.ensures.heads in
     let new = c.conclude_all.new.found.list.items in
     let shapes = λ (e : EntryData) (m : Contains E e). All-contains (InShape p) E e c.requires.spot.shapes m in
-    let some = along (λ i. OnOk c.conclude_all.result ((d : DeducedData) → Contains new d → Contains c.args.found.now.list.items d ⊎ ((h : HeadData) × Contains (c.as_slice.ensures i) h × IsConclusion J K (same i) s h d))) c.conclude_all.ensures.only in
-    on_ok_both c.conclude_all.result (RowsAre c.conclude_all.new.found.rows.keys new) ((d : DeducedData) → Contains new d → Contains c.args.found.now.list.items d ⊎ ((h : HeadData) × Contains heads h × IsConclusion J K log s h d))
+    let some = along (λ i. OnOk c.conclude_all.result ((d : DeducedData) → Contains new d → Contains c.args.found.now.list.items d ⊎ ((h : HeadData) × Contains (c.as_slice.ensures i) h × IsDeducedBy J K (same i) s h d))) c.conclude_all.ensures.only in
+    on_ok_both c.conclude_all.result (RowsAre c.conclude_all.new.found.rows.keys new) ((d : DeducedData) → Contains new d → Contains c.args.found.now.list.items d ⊎ ((h : HeadData) × Contains heads h × IsDeducedBy J K log s h d))
     (ArePart p K E s.point (AnySupport) c.conclude_all.new.found.rows.keys new)
     (λ rows only_these. part_more p log s of c.requires.at refl shapes J K c.conclude_all.ensures.kept.grows I c.in_ok-heads_all.ensures.kept.grows (AnySupport) (AnyHead) heads c.args.found.now.rows.keys c.conclude_all.new.found.rows.keys c.args.found.now.list.items new are
     (λ h d among wanted is. tt) c.requires.part rows only_these) c.conclude_all.ensures.rows some

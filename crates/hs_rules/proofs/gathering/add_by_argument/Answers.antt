@@ -9,7 +9,7 @@ use Rattle.hs_table.specs.Entries.{Env, EntryData, InShape}
 use Rattle.hs_table_laws.proofs.Places.{within_from, to_take}
 use Rattle.hs_types.specs.Interned.{InternerData, type_of_id, set_of_id, env_of_id, entry_of, IsInterner}
 use Rattle.hs_rules.specs.Conclusions.{DeducedData, Uses}
-use Rattle.hs_rules.specs.Found.{SearchData, HeadData, HaveEnvs, RowsAre, HeadLeadsTo, IsConclusion, HasEnvFound}
+use Rattle.hs_rules.specs.Found.{SearchData, HeadData, HaveEnvs, RowsAre, HeadLeadsTo, IsDeducedBy, HasEnvFound}
 use Rattle.hs_rules.specs.Heads.{Asks}
 use Rattle.hs_rules.specs.Parts.{ArePart, HasAll, UsesArgument, IsOnlyPlaceOf}
 use Rattle.hs_rules.proofs.Lists.{along, on_ok_map, on_ok_both}
@@ -122,8 +122,8 @@ returns-clause-part c =
     let new = c.conclude_all.new.found.list.items in
     let wanted = Asks arg (type_of_id I row.ty) in
     let shapes = λ (e : EntryData) (m : Contains E e). All-contains (InShape p) E e c.requires.spot.shapes m in
-    let some = along (λ i. OnOk c.conclude_all.result ((d : DeducedData) → Contains new d → Contains c.args.found.now.list.items d ⊎ ((h : HeadData) × Contains (c.as_slice.ensures i) h × IsConclusion J K (same i) s h d))) c.conclude_all.ensures.only in
-    on_ok_both c.conclude_all.result (RowsAre c.conclude_all.new.found.rows.keys new) ((d : DeducedData) → Contains new d → Contains c.args.found.now.list.items d ⊎ ((h : HeadData) × Contains heads h × IsConclusion J K log s h d))
+    let some = along (λ i. OnOk c.conclude_all.result ((d : DeducedData) → Contains new d → Contains c.args.found.now.list.items d ⊎ ((h : HeadData) × Contains (c.as_slice.ensures i) h × IsDeducedBy J K (same i) s h d))) c.conclude_all.ensures.only in
+    on_ok_both c.conclude_all.result (RowsAre c.conclude_all.new.found.rows.keys new) ((d : DeducedData) → Contains new d → Contains c.args.found.now.list.items d ⊎ ((h : HeadData) × Contains heads h × IsDeducedBy J K log s h d))
     (ArePart p K E s.point (Uses place) c.conclude_all.new.found.rows.keys new)
     (λ rows only_these. part_more p log s of c.requires.at refl shapes J K c.conclude_all.ensures.kept.grows I c.in_ok-heads_asking.ensures.kept.grows (Uses place) wanted heads c.args.found.now.rows.keys c.conclude_all.new.found.rows.keys c.args.found.now.list.items new are
     (λ h d among asks is. argument_used d.support.head d.support.args place

@@ -3,7 +3,7 @@ use Rattle.hs_scheme.specs.Points.{PointData}
 use Rattle.hs_scheme.proofs.Lists.{none_in}
 use Rattle.hs_table.specs.Entries.{Env, EntryData, InShape}
 use Rattle.hs_rules.specs.Conclusions.{DeducedData, AnySupport}
-use Rattle.hs_rules.specs.Found.{SearchData, HeadData, RowsAre, HeadLeadsTo, IsConclusion, HasEnvFound}
+use Rattle.hs_rules.specs.Found.{SearchData, HeadData, RowsAre, HeadLeadsTo, IsDeducedBy, HasEnvFound}
 use Rattle.hs_rules.specs.Heads.{AsksNothing}
 use Rattle.hs_rules.specs.Parts.{ArePart, HasAll}
 use Rattle.hs_rules.proofs.Lists.{along, on_ok_map, on_ok_both}
@@ -37,8 +37,8 @@ returns-clause-part c =
     let are = c.in_ok-heads_nothing.ensures.heads in
     let new = c.conclude_all.new.found.list.items in
     let shapes : (e : EntryData) → Contains E e → InShape p e = λ e m. absurd (none_in e m) in
-    let some = along (λ i. OnOk c.conclude_all.result ((d : DeducedData) → Contains new d → Contains c.args.found.now.list.items d ⊎ ((h : HeadData) × Contains (c.as_slice.ensures i) h × IsConclusion J K (same i) s h d))) c.conclude_all.ensures.only in
-    on_ok_both c.conclude_all.result (RowsAre c.conclude_all.new.found.rows.keys new) ((d : DeducedData) → Contains new d → Contains c.args.found.now.list.items d ⊎ ((h : HeadData) × Contains heads h × IsConclusion J K log s h d))
+    let some = along (λ i. OnOk c.conclude_all.result ((d : DeducedData) → Contains new d → Contains c.args.found.now.list.items d ⊎ ((h : HeadData) × Contains (c.as_slice.ensures i) h × IsDeducedBy J K (same i) s h d))) c.conclude_all.ensures.only in
+    on_ok_both c.conclude_all.result (RowsAre c.conclude_all.new.found.rows.keys new) ((d : DeducedData) → Contains new d → Contains c.args.found.now.list.items d ⊎ ((h : HeadData) × Contains heads h × IsDeducedBy J K log s h d))
     (ArePart p K E s.point (AnySupport) c.conclude_all.new.found.rows.keys new)
     (λ rows only_these. part_more p log s of c.requires.at refl shapes J K c.conclude_all.ensures.kept.grows I c.in_ok-heads_nothing.ensures.kept.grows (AnySupport) (AsksNothing) heads c.args.found.now.rows.keys c.conclude_all.new.found.rows.keys c.args.found.now.list.items new are
     (λ h d among wanted is. tt) c.requires.part rows only_these) c.conclude_all.ensures.rows some

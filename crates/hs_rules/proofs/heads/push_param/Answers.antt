@@ -1,5 +1,6 @@
 use Rattle.std.proofs.Common.{◌≡◌, refl, sym, ◌∙◌, ap, subst, ◌∷◌, [], length, replicate, set, arith}
 use Rattle.std.proofs.lemmas.Option.{slice_get_within, get_or_from_slice_get, same_Some}
+use Rattle.hs_scheme.proofs.Lists.{match_some}
 use Rattle.hs_table.specs.declared.support.HeadBy.TheVariants.{Param}
 use Rattle.hs_table.specs.Types.{TypeTree, arrows}
 use Rattle.hs_table.specs.Entries.{Env, EntryData}
@@ -8,7 +9,7 @@ use Rattle.hs_types.proofs.Numbers.{type_within, type_stays}
 use Rattle.hs_rules.specs.Found.{HeadData}
 use Rattle.hs_rules.specs.Heads.{head_type, ParamAt, IsSplit}
 use Rattle.hs_rules.proofs.FoundLemmas.{sets_within, sets_stay}
-use Rattle.hs_rules.proofs.Lists.{match_some, push_later}
+use Rattle.hs_rules.proofs.Lists.{push_later}
 use Rattle.hs_rules.proofs.HeadLemmas.{heads_one}
 use Rattle.hs_rules.proofs.heads.push_param.Goals as goal
 

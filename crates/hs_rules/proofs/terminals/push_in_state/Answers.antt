@@ -4,7 +4,7 @@ use Rattle.hs_table.specs.Types.{state, arrows}
 use Rattle.hs_table.specs.Entries.{Env}
 use Rattle.hs_types.specs.Interned.{set_of_id, env_of_id}
 use Rattle.hs_types.proofs.Numbers.{env_within, env_stays}
-use Rattle.hs_rules.specs.Heads.{GainsHeads, Just, AtRange, ChildAt, Lacks, InState}
+use Rattle.hs_rules.specs.Heads.{GainsHeads, Just, AtRange, ChildAt, StopsIn, InState}
 use Rattle.hs_rules.proofs.Lists.{on_ok_map}
 use Rattle.hs_rules.proofs.HeadLemmas.{heads_same}
 use Rattle.hs_rules.proofs.TerminalLemmas.{heads_lack, heads_move}
@@ -30,7 +30,7 @@ returns-in_ok-full-in-None-clause-gains c =
     on_ok_map c.push_state.result (GainsHeads K c.args.count (Just (Terminal q None) (env_of_id J c.args.own) (arrows full (state q))) old new)
     (GainsHeads K c.args.count (InState ts c.args.terminal c.args.rank c.args.from own q) old new)
     (λ g. heads_lack K c.args.count ts c.args.terminal c.args.rank c.args.from own q old new none
-    (heads_same K c.args.count (Just (Terminal q None) (env_of_id J c.args.own) (arrows full (state q))) (Lacks ts c.args.terminal c.args.rank own q) old new
+    (heads_same K c.args.count (Just (Terminal q None) (env_of_id J c.args.own) (arrows full (state q))) (StopsIn ts c.args.terminal c.args.rank own q) old new
     (λ b o t j. record { moves = none; just = (j.0, j.1 ∙ own_is, j.2 ∙ is) }) (λ b o t l. (l.just.0, l.just.1 ∙ sym own_is, l.just.2 ∙ sym is)) g))
     c.push_state.ensures.gains
 

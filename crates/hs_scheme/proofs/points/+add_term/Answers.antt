@@ -9,16 +9,13 @@ use Rattle.hs_scheme.specs.declared.points.PointsFault.TheVariants.{TooMany}
 use Rattle.hs_scheme.specs.Tree.{Tree, node, forest}
 use Rattle.hs_scheme.specs.Points.{PointData, size, sizes, numbers, term_points, terms_points}
 use Rattle.hs_scheme.specs.Rows.{point_of, points_in, places_in, Fits, terms_places}
-use Rattle.hs_scheme.proofs.PointLemmas.{row_more, row_length, numbers_more, row_many, point_at, term_done}
+use Rattle.hs_scheme.proofs.PointLemmas.{row_more, row_length, numbers_more, row_many, point_at, term_done, at_least_one}
 use Rattle.hs_scheme.proofs.RowLemmas.{all_grown, places_more, first_pushed, place_pushed, ranged_points, ranged_places, term_placed, length-numbers, last_range}
 use Rattle.hs_scheme.proofs.Exits.{on_ok_err}
 use Rattle.hs_scheme.proofs.points.+add_term.Goals as goal
 
 fit_pushed : (args : List ℕ) (rows new : List Row) (row : Row) → new ≡ rows ++ row ∷ [] → All (Fits args) rows → Fits args row → All (Fits args) new
 fit_pushed args rows new row e fit it = subst (All (Fits args)) (sym e) (All-append (Fits args) rows (row ∷ []) fit (All-cons (Fits args) row [] it (λ k d l. absurd (omega arith))))
-
-at_least_one : (t : Tree Head) → 1 ≤ size t
-at_least_one (node h ts) = omega arith
 
 longer : (rows new : List Row) (row : Row) → new ≡ rows ++ row ∷ [] → length new ≡ length rows + 1
 longer rows new row e = ap length e ∙ length_push rows row

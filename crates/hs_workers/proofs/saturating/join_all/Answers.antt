@@ -1,8 +1,8 @@
 use Rattle.std.proofs.Common.{◌≡◌, sym, ap, subst, ◌∙◌, ◌+◌, ◌∷◌, ◌++◌, [], length, length-append, append_assoc}
+use Rattle.hs_scheme.proofs.Lists.{all_given}
 use Rattle.hs_turn.specs.Seats.{RestsIn}
 use Rattle.hs_shared.specs.Seats.{SeatData}
 use Rattle.hs_workers.specs.Working.{IsFirstSeat}
-use Rattle.hs_workers.proofs.FormingLemmas.{all_through}
 use Rattle.hs_workers.proofs.FirstLemmas.{first_joined, next_of, rested_turn}
 use Rattle.hs_workers.proofs.saturating.join_all.Goals as goal
 
@@ -40,5 +40,5 @@ loop-seat-preserved c =
 pub returns-clause-first : goal.returns-clause-first
 returns-clause-first c =
     let n = length c.args.seats.items in
-    let all = all_through c.loop-seat.yielded _ c.args.seats.items (sym c.loop-seat.seat-iterator.rest.ok.0 ∙ c.in-None.ensures.steps.0) c.loop-seat.invariant.whole in
+    let all = all_given c.loop-seat.yielded _ c.args.seats.items (sym c.loop-seat.seat-iterator.rest.ok.0 ∙ c.in-None.ensures.steps.0) c.loop-seat.invariant.whole in
     subst (λ xs. IsFirstSeat c.args.table.now n (length xs) c.loop-seat.first) all c.loop-seat.invariant.first

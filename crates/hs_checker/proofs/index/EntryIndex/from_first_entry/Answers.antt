@@ -1,7 +1,7 @@
 use Rattle.std.proofs.Common.{sym, subst, ℕ, List, map, Contains, Bor, inl, inr}
 use Rattle.hs_table.specs.Entries.{EntryData}
-use Rattle.hs_checker.specs.Order.{IsEmptyAt}
-use Rattle.hs_checker.proofs.StartLemmas.{none_at}
+use Rattle.hs_flow_checker.specs.Starts.{IsEmptyAt}
+use Rattle.hs_flow_checker.proofs.StartLemmas.{none_at}
 use Rattle.hs_checker.proofs.index.EntryIndex.from_first_entry.Goals as goal
 
 pub returns-clause-rest : goal.returns-clause-rest

@@ -4,15 +4,15 @@ use Rattle.hs_core.specs.declared.journal.Mark.{Mark}
 use Rattle.hs_core.specs.declared.journal.Actor.{Actor}
 use Rattle.hs_core.specs.declared.journal.Due.{Due}
 use Rattle.hs_core.specs.declared.journal.Journal.TheInside.{Inside}
-use Rattle.hs_core.specs.Journal.{JournalData, opened, steps_read, IsKept}
+use Rattle.hs_core.specs.Journal.{JournalData, opened, steps_read, IsJournalOf}
 use Rattle.hs_core.proofs.journal.Journal.reserve.Goals as goal
 
 -- room changes none of the lists
 module _ (a : Inside) (marks : List Mark) (actors : List Actor) (dues : List Due) (as_marks : marks ≡ a.marks.items) (as_actors : actors ≡ a.actors.items) (as_dues : dues ≡ a.dues.items) where
-  kept_still : IsKept a.actors.items a.dues.items a.marks.items a.actor a.due → IsKept actors dues marks a.actor a.due
+  kept_still : IsJournalOf a.actors.items a.dues.items a.marks.items a.actor a.due → IsJournalOf actors dues marks a.actor a.due
   kept_still kept =
-      subst (λ xs. IsKept actors dues xs a.actor a.due) (sym as_marks)
-      (subst (λ xs. IsKept actors xs a.marks.items a.actor a.due) (sym as_dues) (subst (λ xs. IsKept xs a.dues.items a.marks.items a.actor a.due) (sym as_actors) kept))
+      subst (λ xs. IsJournalOf actors dues xs a.actor a.due) (sym as_marks)
+      (subst (λ xs. IsJournalOf actors xs a.marks.items a.actor a.due) (sym as_dues) (subst (λ xs. IsJournalOf xs a.dues.items a.marks.items a.actor a.due) (sym as_actors) kept))
 
   value_still : (v : JournalData) → (record { steps = steps_read (opened a.actors.items a.dues.items) a.marks.items; room = a.room }) ≡ v → (record { steps = steps_read (opened actors dues) marks; room = a.room }) ≡ v
   value_still v is = (λ i. record { steps = steps_read (opened (as_actors i) (as_dues i)) (as_marks i); room = a.room }) ∙ is

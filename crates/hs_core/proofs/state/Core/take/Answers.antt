@@ -1,9 +1,10 @@
 use Rattle.std.proofs.Common.{◌≡◌, refl, sym, subst, ◌∙◌, ◌<◌, true, false, [], ℕ, zero, suc, length, drop, arith}
 use Rattle.std.proofs.lemmas.Bool.{false≢true}
 use Rattle.std.specs.VecDeque.{deque_len}
+use Rattle.std.proofs.lemmas.List.{nil_from_length}
 use Rattle.hs_core.specs.declared.answers.Taken.{Taken}
 use Rattle.hs_core.specs.Answers.{IsFound, Takes}
-use Rattle.hs_core.proofs.Slots.{none_there, some_there, no_items, not_some}
+use Rattle.hs_core.proofs.Slots.{none_there, some_there, not_some}
 use Rattle.hs_core.proofs.Stepping.{base_of, fields_of, seen, goes_on, seen_kept, some_kept}
 use Rattle.hs_core.proofs.Passing.{first_of}
 use Rattle.hs_core.proofs.state.Core.take.Goals as goal
@@ -34,7 +35,7 @@ returns-in_default-front c =
     let on = goes_on (base_of a) (fields_of a) c.self.invariant.0 a.spare v c.self.view_is never in
     let past = not_some a.past (sym c.is_some.ensures ∙ c.if-is_some.false) in
     let kept = seen_kept (base_of a) (fields_of a) c.self.invariant.0 a.spare v c.self.view_is past in
-    let empty : a.pending.items ≡ [] = no_items a.pending.items (omega (arith, none_first (deque_len a.pending) c.in_default-front.ensures.variant.1, a.pending.ok.0)) in
+    let empty : a.pending.items ≡ [] = nil_from_length a.pending.items (omega (arith, none_first (deque_len a.pending) c.in_default-front.ensures.variant.1, a.pending.ok.0)) in
     elim c.if-count-eq0.branch [
       | then-count-eq0 w ↦
           subst (λ (r : Taken). Takes v c.args.worker r v) (sym w.result-is)

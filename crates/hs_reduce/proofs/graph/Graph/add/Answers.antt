@@ -3,13 +3,13 @@ use Rattle.std.specs.Prelude.{All}
 use Rattle.hs_scheme.specs.declared.term.Head.{Head}
 use Rattle.hs_scheme.specs.Tree.{Tree, node, forest}
 use Rattle.hs_reduce.specs.declared.graph.Node.{Node}
-use Rattle.hs_reduce.specs.Graph.{terms_at, trees_of, AreNodes, AddsTerm}
+use Rattle.hs_reduce.specs.Graph.{terms_at, trees_of, AreGraphNodes, AddsTerm}
 use Rattle.hs_reduce.proofs.GraphLemmas.{count, nodes_stay, nodes_more, trees_more, AddsTerm-push}
 use Rattle.hs_reduce.proofs.graph.Graph.add.Goals as goal
 
 -- the links and the nodes after each of the two appends
-stay : (links links' args : List ℕ) (ns ns' : List Node) → links' ≡ links ++ args → ns' ≡ ns → AreNodes links ns → AreNodes links' ns'
-stay links links' args ns ns' e f are = subst (λ (x : List Node). AreNodes links' x) (sym f) (subst (λ (x : List ℕ). AreNodes x ns) (sym e) (nodes_stay links args ns are))
+stay : (links links' args : List ℕ) (ns ns' : List Node) → links' ≡ links ++ args → ns' ≡ ns → AreGraphNodes links ns → AreGraphNodes links' ns'
+stay links links' args ns ns' e f are = subst (λ (x : List Node). AreGraphNodes links' x) (sym f) (subst (λ (x : List ℕ). AreGraphNodes x ns) (sym e) (nodes_stay links args ns are))
 
 pub invariant_of-self-in_err-push : goal.invariant_of-self-in_err-push
 invariant_of-self-in_err-push c =
@@ -17,7 +17,7 @@ invariant_of-self-in_err-push c =
     stay i.links.items c.extend_from_slice.new.self.items c.args.args.now i.nodes.items c.push.new.self.items c.in_ok-extend_from_slice.ensures.items c.in_err-push.ensures.items c.self.invariant
 
 -- both appends, for the node that was pushed
-module _ (links links' args : List ℕ) (ns ns' : List Node) (n : Node) (e : links' ≡ links ++ args) (f : ns' ≡ ns ++ n ∷ []) (are : AreNodes links ns)
+module _ (links links' args : List ℕ) (ns ns' : List Node) (n : Node) (e : links' ≡ links ++ args) (f : ns' ≡ ns ++ n ∷ []) (are : AreGraphNodes links ns)
     (trees : List (Tree Head)) (view : trees_of links [] ns ≡ trees) (within : All (λ i. i < length trees) args) (from : n.from ≡ length links) (to : n.to ≡ length links') where
   in_nodes : All (λ i. i < length ns) args
   in_nodes k d lt = omega (arith, within k d lt, count links ns, ap length view)
@@ -25,8 +25,8 @@ module _ (links links' args : List ℕ) (ns ns' : List Node) (n : Node) (e : lin
   last : (n.head ≡ n.head) × (n.from ≡ length links) × (n.to ≡ length links + length args)
   last = (refl, from, to ∙ (ap length e ∙ length-append links args))
 
-  grown : AreNodes links' ns'
-  grown = subst (λ (x : List Node). AreNodes links' x) (sym f) (subst (λ (x : List ℕ). AreNodes x (ns ++ n ∷ [])) (sym e) (nodes_more links ns are n.head args in_nodes n last))
+  grown : AreGraphNodes links' ns'
+  grown = subst (λ (x : List Node). AreGraphNodes links' x) (sym f) (subst (λ (x : List ℕ). AreGraphNodes x (ns ++ n ∷ [])) (sym e) (nodes_more links ns are n.head args in_nodes n last))
 
   added : (place : ℕ) → place ≡ length ns → AddsTerm trees (trees_of links' [] ns') place (node n.head (forest (terms_at trees args)))
   added place is =

@@ -1,12 +1,13 @@
 use Rattle.std.proofs.Common.{◌≡◌, sym, ◌∙◌, ap, subst, ◌+◌, ◌<◌, ◌^◌, ◌++◌, ◌∷◌, [], List, length, Contains, arith}
 use Rattle.std.proofs.lemmas.List.{length-map}
+use Rattle.hs_scheme.proofs.Lists.{on_err}
 use Rattle.indexmap.specs.IndexSet.{spare, insert_key}
 use Rattle.hs_table.specs.Entries.{EntryData}
 use Rattle.hs_types.specs.Interned.{InternerData, RowData, entry_of}
 use Rattle.hs_types.specs.contracts.ids.RowPartialEq.TheImpl.{eq-value}
 use Rattle.hs_replica.specs.Replica.{ReplicaData}
 use Rattle.hs_replica.specs.Index.{log_of, list_at, IsKept}
-use Rattle.hs_replica.proofs.KeptLemmas.{kept_grows, kept_room, kept_push, log_stays, insert_last, log_push, on_err}
+use Rattle.hs_replica.proofs.KeptLemmas.{kept_grows, kept_room, kept_push, log_stays, insert_last, log_push}
 use Rattle.hs_replica.proofs.replica.Replica.append.Goals as goal
 
 pub invariant_of-self : goal.invariant_of-self
@@ -17,7 +18,7 @@ invariant_of-self c =
 pub returns-in_err-own-clause-err : goal.returns-in_err-own-clause-err
 returns-in_err-own-clause-err c =
     let a = c.self.inside in
-    on_err c.from_residual.result (log_stays a.interner c.import.new.self c.in_err-own.ensures.grows a.rows.keys c.self.invariant.known ∙ ap (λ (r : ReplicaData). r.log) c.self.view_is)
+    on_err c.from_residual.result _ (log_stays a.interner c.import.new.self c.in_err-own.ensures.grows a.rows.keys c.self.invariant.known ∙ ap (λ (r : ReplicaData). r.log) c.self.view_is)
 
 pub invariant_of-self-in_err-reserve : goal.invariant_of-self-in_err-reserve
 invariant_of-self-in_err-reserve c =
@@ -31,7 +32,7 @@ invariant_of-self-in_err-reserve c =
 pub returns-in_err-reserve-clause-err : goal.returns-in_err-reserve-clause-err
 returns-in_err-reserve-clause-err c =
     let a = c.self.inside in
-    on_err c.from_residual-in_err-reserve.result
+    on_err c.from_residual-in_err-reserve.result _
     (ap (log_of c.import.new.self) c.in_err-reserve.ensures.keys ∙ (log_stays a.interner c.import.new.self c.in_ok-own.ensures.grows a.rows.keys c.self.invariant.known ∙ ap (λ (r : ReplicaData). r.log) c.self.view_is))
 
 pub invariant_of-self-in_err-insert : goal.invariant_of-self-in_err-insert
@@ -46,7 +47,7 @@ invariant_of-self-in_err-insert c =
 pub returns-in_err-insert-clause-err : goal.returns-in_err-insert-clause-err
 returns-in_err-insert-clause-err c =
     let a = c.self.inside in
-    on_err c.from_residual-in_err-insert.result
+    on_err c.from_residual-in_err-insert.result _
     (ap (log_of c.import.new.self) (c.in_err-insert.ensures.err ∙ c.in_ok-reserve.ensures.keys)
     ∙ (log_stays a.interner c.import.new.self c.in_ok-own.ensures.grows a.rows.keys c.self.invariant.known ∙ ap (λ (r : ReplicaData). r.log) c.self.view_is))
 

@@ -1,7 +1,7 @@
 use Rattle.std.proofs.Common.{◌≡◌, sym, ◌∙◌, ap, subst, List, length, map, drop, All, arith}
 use mathlib.Core.List.{IsPrefix}
 use Rattle.hs_table.specs.Entries.{EntryData}
-use Rattle.std.proofs.lemmas.List.{length-map}
+use Rattle.std.proofs.lemmas.List.{length-map, take_rest}
 use Rattle.std.proofs.Math.Nat.{le-max_right}
 use Rattle.indexmap.specs.IndexSet.{spare}
 use Rattle.hs_types.specs.Interned.{InternerData, IsRow, entry_of}
@@ -9,7 +9,7 @@ use Rattle.hs_replica.specs.Replica.{ReplicaData, IsReplica}
 use Rattle.hs_replica.specs.Extending.{CanExtend, extended}
 use Rattle.hs_replica.specs.Index.{log_of, list_at}
 use Rattle.hs_replica.proofs.KeptLemmas.{kept_grows, log_stays, is_replica}
-use Rattle.hs_replica.proofs.ExtendLemmas.{read_whole, read_fits, take_rest}
+use Rattle.hs_replica.proofs.ExtendLemmas.{read_whole, read_fits}
 use Rattle.hs_replica.proofs.replica.Replica.read_new.Goals as goal
 
 pub invariant_of-self : goal.invariant_of-self
@@ -70,7 +70,7 @@ module _ (c : goal.In_ok-make_room) where
   entries : map (entry_of new.ids) c.in_ok-rows.rows.items ≡ map (entry_of c.from.inside.interner) (drop c.len-begin.result c.as_slice.result.now)
   entries =
       ap (λ (ids : InternerData). map (entry_of ids) c.in_ok-rows.rows.items) ids_are ∙ c.in_ok-rows.ensures.entries
-      ∙ ap (map (entry_of c.from.inside.interner)) (take_rest c.len-begin.result c.as_slice.result.now)
+      ∙ ap (map (entry_of c.from.inside.interner)) (take_rest c.as_slice.result.now c.len-begin.result)
 
   read : extended new c.in_ok-rows.rows.items ≡ c.args.from.now.log
   read = read_whole new c.args.from.now (entry_of c.from.inside.interner) c.in_ok-rows.rows.items c.as_slice.result.now c.len-begin.result others others_log begins long entries

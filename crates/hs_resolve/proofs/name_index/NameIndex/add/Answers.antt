@@ -1,7 +1,8 @@
 use Rattle.std.proofs.Common.{not, map, sym, ap, ◌∙◌, List, ℕ, Bor}
 use Rattle.std.specs.Str.{bytes_eq}
+use Rattle.hs_scheme.proofs.Lists.{any-map}
 use Rattle.hs_resolve.specs.Names.{is_among, with_name}
-use Rattle.hs_resolve.proofs.Lists.{any-map, pushed-map}
+use Rattle.hs_resolve.proofs.Lists.{pushed-map}
 use Rattle.hs_resolve.proofs.name_index.NameIndex.add.Goals as goal
 
 pub returns-clause-new : goal.returns-clause-new

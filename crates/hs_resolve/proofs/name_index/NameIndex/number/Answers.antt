@@ -1,7 +1,7 @@
 use Rattle.std.proofs.Common.{sym, ◌∙◌, ap, List, ℕ, Bor}
 use Rattle.std.specs.Str.{bytes_eq}
+use Rattle.hs_scheme.proofs.Lists.{position-map}
 use Rattle.hs_resolve.specs.Names.{number_of}
-use Rattle.hs_resolve.proofs.Lists.{position-map}
 use Rattle.hs_resolve.proofs.name_index.NameIndex.number.Goals as goal
 
 pub returns-clause-number : goal.returns-clause-number

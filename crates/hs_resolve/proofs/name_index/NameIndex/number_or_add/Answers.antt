@@ -1,9 +1,10 @@
 use Rattle.std.proofs.Common.{◌≡◌, not, map, sym, ap, ◌∙◌, List, ℕ, ◌++◌, Bor}
 use Rattle.std.specs.List.{position_or_len}
 use Rattle.std.specs.Str.{bytes_eq}
+use Rattle.hs_scheme.proofs.Lists.{any-map, prefix-map}
 use Rattle.hs_resolve.specs.Names.{number, with_name}
 use Rattle.hs_resolve.proofs.Growing.{number-here}
-use Rattle.hs_resolve.proofs.Lists.{any-map, prefix-map, pushed-map}
+use Rattle.hs_resolve.proofs.Lists.{pushed-map}
 use Rattle.hs_resolve.proofs.name_index.NameIndex.number_or_add.Goals as goal
 
 pub returns-clause-number : goal.returns-clause-number

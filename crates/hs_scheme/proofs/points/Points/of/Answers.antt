@@ -6,7 +6,7 @@ use Rattle.hs_scheme.specs.declared.points.Row.{Row}
 use Rattle.hs_scheme.specs.Scheme.{SchemeData, AreRules}
 use Rattle.hs_scheme.specs.Parameters.{counts_of}
 use Rattle.hs_scheme.specs.Points.{PointData, PointsData, IsPoints, rules_points, term_points, bodies, points_of}
-use Rattle.hs_scheme.specs.Rows.{point_of, points_in, places_in, ArePlaces, rules_places}
+use Rattle.hs_scheme.specs.Rows.{point_of, points_in, places_in, ArePlacesOfArguments, rules_places}
 use Rattle.hs_scheme.proofs.ParameterLemmas.{sum_few}
 use Rattle.hs_scheme.proofs.PointLemmas.{rule_more, rule_length, body_more, rule_many, are_points}
 use Rattle.hs_scheme.proofs.RowLemmas.{rule_places_more}
@@ -120,5 +120,5 @@ invariant_of-result c =
           (are_points rules (length c.scheme.inside.ranks.items) (subst (λ (rs : List Rule). AreRules rs (length c.scheme.inside.ranks.items)) (sym c.deref-rule-items.ensures.value) c.scheme.invariant)
           (subst (λ (ps : List PointData). length ps ≤ 500000) points (omega (arith, as_many args rows, c.loop-number.invariant.few))) (once rules));
       ranges = c.loop-number.invariant.ranges;
-      places = subst (λ (p : PointsData). ArePlaces p (places_in rows)) same (subst (ArePlaces (points_of rules)) (sym places) (exact rules));
+      places = subst (λ (p : PointsData). ArePlacesOfArguments p (places_in rows)) same (subst (ArePlacesOfArguments (points_of rules)) (sym places) (exact rules));
     }

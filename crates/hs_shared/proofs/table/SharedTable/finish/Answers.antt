@@ -10,7 +10,7 @@ use Rattle.hs_shared.proofs.table.SharedTable.finish.Goals as goal
 pub finish-requires-clause-closed : goal.finish-requires-clause-closed
 finish-requires-clause-closed g c =
     let core = c.enter-hold.result.core in
-    subst (λ (s : SeatData). CanFinish core.base (state_of core) s.known.number c.args.ticket) (sym c.enter-hold.ensures.seat) (may_finish c.args.seat.now core c.enter-hold.ensures.finds c.args.ticket c.requires.own c.requires.closed)
+    subst (λ (s : SeatData). CanFinish core.base (state_of core) s.known.number c.args.ticket) (sym c.enter-hold.ensures.seat) (may_finish c.args.seat.now core c.enter-hold.ensures.finds c.args.ticket c.requires.closed)
 
 pub returns : goal.returns
 returns g c =

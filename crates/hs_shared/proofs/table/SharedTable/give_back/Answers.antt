@@ -10,7 +10,7 @@ use Rattle.hs_shared.proofs.table.SharedTable.give_back.Goals as goal
 pub give_back-requires-clause-ticket : goal.give_back-requires-clause-ticket
 give_back-requires-clause-ticket g c =
     let core = c.enter-hold.result.core in
-    subst (λ (s : SeatData). Holds (state_of core) s.known.number c.args.ticket) (sym c.enter-hold.ensures.seat) (still_holds c.args.seat.now core c.enter-hold.ensures.finds c.args.ticket c.requires.own c.requires.ticket)
+    subst (λ (s : SeatData). Holds (state_of core) s.known.number c.args.ticket) (sym c.enter-hold.ensures.seat) (still_holds c.args.seat.now core c.enter-hold.ensures.finds c.args.ticket c.requires.ticket)
 
 pub returns : goal.returns
 returns g c =

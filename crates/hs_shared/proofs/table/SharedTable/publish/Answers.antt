@@ -11,7 +11,7 @@ use Rattle.hs_shared.proofs.table.SharedTable.publish.Goals as goal
 pub publish-published-requires-clause-ticket : goal.publish-published-requires-clause-ticket
 publish-published-requires-clause-ticket g c =
     let core = c.enter-hold.result.core in
-    subst (λ (s : SeatData). Holds (state_of core) s.known.number c.args.ticket) (sym c.enter-hold.ensures.seat) (still_holds c.args.seat.now core c.enter-hold.ensures.finds c.args.ticket c.requires.own c.requires.ticket)
+    subst (λ (s : SeatData). Holds (state_of core) s.known.number c.args.ticket) (sym c.enter-hold.ensures.seat) (still_holds c.args.seat.now core c.enter-hold.ensures.finds c.args.ticket c.requires.ticket)
 
 pub publish-published-requires-clause-follows : goal.publish-published-requires-clause-follows
 publish-published-requires-clause-follows g c =

@@ -3,7 +3,7 @@ use Rattle.hs_sorts.specs.declared.weights.Mark.{Mark}
 use Rattle.hs_sorts.specs.declared.weights.Step.TheVariants.{Done, Child}
 use Rattle.std.proofs.lemmas.Result.{IfOk-weaker}
 use Rattle.hs_sorts.specs.Weights.{weighed, IsWeighingStep}
-use Rattle.hs_sorts.specs.Search.{Advances, IsAdvance, IsEntry}
+use Rattle.hs_sorts.specs.Search.{AdvancesSearch, IsAdvance, IsEntry}
 use Rattle.hs_sorts.proofs.Searching.{last_below, child_below, popped, weighed_advances, child_advances}
 use Rattle.hs_sorts.proofs.search.Search.advance.Goals as goal
 
@@ -26,8 +26,8 @@ pub returns-in-Done : goal.returns-in-Done
 returns-in-Done c =
     let step : IsWeighingStep c.args.self.now.marks.items c.node_at.result (Done c.in-Done.weight) =
     subst (λ (ms : List Mark). IsWeighingStep ms c.node_at.result (Done c.in-Done.weight)) c.as_slice.ensures.value (subst (IsWeighingStep c.as_slice.result.now c.node_at.result) c.in-Done.is c.in_ok-weight.ensures) in
-    subst (λ (m : Mark). Advances c.args.store.now c.args.self.now.marks.items c.args.self.now.path.items (set c.args.self.now.marks.items c.args.at m) c.pop.new.self.items) (sym c.weighed.ensures)
-    (subst (λ (xs : List ℕ). Advances c.args.store.now c.args.self.now.marks.items c.args.self.now.path.items (set c.args.self.now.marks.items c.args.at (weighed c.in-Done.weight)) xs)
+    subst (λ (m : Mark). AdvancesSearch c.args.store.now c.args.self.now.marks.items c.args.self.now.path.items (set c.args.self.now.marks.items c.args.at m) c.pop.new.self.items) (sym c.weighed.ensures)
+    (subst (λ (xs : List ℕ). AdvancesSearch c.args.store.now c.args.self.now.marks.items c.args.self.now.path.items (set c.args.self.now.marks.items c.args.at (weighed c.in-Done.weight)) xs)
     (sym (popped c.args.self.now.path.items c.pop.new.self.items c.requires.last.0 c.args.at (vec_len c.args.self.now.path) c.requires.last.1 c.pop.ensures.rest (omega (arith, c.args.self.now.path.ok.0))))
     (weighed_advances c.args.store.now c.args.self.now.marks.items c.args.self.now.path.items c.requires.last.0 c.args.at c.node_at.result c.requires.search c.requires.last.1
     c.node_at.ensures.node c.in-Done.weight step))

@@ -1,6 +1,7 @@
 use Rattle.std.proofs.Common.{◌≤◌, length, arith, inl, inr, ◌⊎◌, ap, ◌∙◌, List, ℕ, ◌++◌, take, drop, ◌-◌, ◌≡◌}
+use Rattle.std.proofs.lemmas.List.{take_rest}
 use Rattle.hs_types.specs.Interned.{type_of_id}
-use Rattle.hs_types.proofs.MergeLemmas.{step_less, step_equal, step_greater, merged_end, range_end, rest_all}
+use Rattle.hs_types.proofs.MergeLemmas.{step_less, step_equal, step_greater, merged_end, range_end}
 use Rattle.hs_types.proofs.nodes.Nodes.merge_into.Goals.{then-loop-i-test+else-j-ys, else-loop-i-test}
 use Rattle.hs_types.proofs.OrderLemmas.{member_within}
 use Rattle.hs_types.proofs.nodes.Nodes.merge_into.Goals as goal
@@ -31,7 +32,7 @@ loop-i-preserved c =
 
 -- what the two calls append
 appended : (ms new newer xs ys : List ℕ) (i j : ℕ) → new ≡ ms ++ take (length xs - i) (drop i xs) → newer ≡ new ++ take (length ys - j) (drop j ys) → newer ≡ (ms ++ drop i xs) ++ drop j ys
-appended ms new newer xs ys i j e f = f ∙ (λ q. (e ∙ ap (λ z. ms ++ z) (rest_all i xs)) q ++ rest_all j ys q)
+appended ms new newer xs ys i j e f = f ∙ (λ q. (e ∙ ap (λ z. ms ++ z) (take_rest xs i)) q ++ take_rest ys j q)
 
 pub returns-clause-range : goal.returns-clause-range
 returns-clause-range c =

@@ -1,0 +1,36 @@
+use Rattle.std.proofs.Common.{◌≡◌, ◌∙◌, ap, ◌+◌, [], ◌∷◌, length, length-append, arith}
+use Rattle.hs_scheme.specs.declared.flow.HeadPair.{HeadPair}
+use Rattle.hs_flow_checker.proofs.StartLemmas.{starts_more, start_past}
+use Rattle.hs_flow_checker.proofs.head_pairs.starts_of.Goals as goal
+
+pub loop-point-preserved : goal.loop-point-preserved
+loop-point-preserved c =
+    let pairs = c.args.pairs.now in
+    let t = c.loop-point.point in
+    let n = c.start_at-known.result in
+    record {
+      within = c.start_at-known.ensures.within;
+      before = λ k d lt. omega (arith, c.start_at-known.ensures.before k d lt);
+      long = omega (arith, c.loop-point.invariant.long, ap length c.push_reserved.ensures.items, length-append c.loop-point.starts.items (n ∷ []));
+      each = starts_more (λ (h : HeadPair). h.point) pairs c.loop-point.starts.items c.push_reserved.new.self.items t n c.push_reserved.ensures.items c.loop-point.invariant.long
+          c.start_at-known.ensures c.loop-point.invariant.each;
+      room = omega (arith, c.push_reserved.ensures.capacity, c.loop-point.invariant.room);
+    }
+
+pub returns : goal.returns
+returns c =
+    let pairs = c.args.pairs.now in
+    let news = c.push_reserved-2.new.self.items in
+    let e : c.loop-point.point ≡ c.args.points = omega arith in
+    let long : length news ≡ c.args.points + 1 = omega (arith, e, c.loop-point.invariant.long, ap length c.push_reserved-2.ensures.items, length-append c.loop-point.starts.items (length pairs ∷ [])) in
+    record {
+      each = starts_more (λ (h : HeadPair). h.point) pairs c.loop-point.starts.items news c.args.points (length pairs) c.push_reserved-2.ensures.items (c.loop-point.invariant.long ∙ e)
+          (start_past (λ (h : HeadPair). h.point) pairs c.args.points c.requires.within) c.loop-point.invariant.each;
+      within = λ x k. omega (arith, long, c.requires.within x k);
+    }
+
+pub push_reserved-requires : goal.push_reserved-requires
+push_reserved-requires c = omega (arith, c.loop-point.starts.ok, c.loop-point.invariant.long, c.loop-point.invariant.room, c.loop-point-test.true)
+
+pub push_reserved-requires-2 : goal.push_reserved-requires-2
+push_reserved-requires-2 c = omega (arith, c.loop-point.starts.ok, c.loop-point.invariant.long, c.loop-point.invariant.room)

@@ -1,0 +1,3 @@
+pub mod Gaps
+pub mod PassedOn
+pub mod Starts
