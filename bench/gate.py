@@ -68,24 +68,32 @@ def below(parent):
     return found
 
 
+def look(now, ended, running):
+    """Notes the seconds of the prover's processes among these, and which of those that ran have ended."""
+    for number in now:
+        folder = f"/proc/{number}"
+        try:
+            # Between its start and the call of the prover a process has the words of its parent.
+            process = running.get(number) or Process(folder)
+            if process.is_watched:
+                process.look(folder)
+                running[number] = process
+        except (OSError, ValueError):
+            pass
+    for number in [it for it in running if it not in now]:
+        ended.append(running.pop(number))
+
+
 def watch(run):
-    """All processes of the prover under the run, once it has ended."""
+    """All processes of the prover under the run, once it has ended or was interrupted."""
     ended, running = [], {}
     while run.poll() is None:
-        now = below(run.pid)
-        for number in now:
-            folder = f"/proc/{number}"
-            try:
-                # Between its start and the call of the prover a process has the words of its parent.
-                process = running.get(number) or Process(folder)
-                if process.is_watched:
-                    process.look(folder)
-                    running[number] = process
-            except (OSError, ValueError):
-                pass
-        for number in [it for it in running if it not in now]:
-            ended.append(running.pop(number))
-        time.sleep(EVERY)
+        try:
+            look(below(run.pid), ended, running)
+            time.sleep(EVERY)
+        except KeyboardInterrupt:
+            # Whoever interrupts it sees what it cost so far.
+            run.terminate()
     return [*ended, *running.values()]
 
 
