@@ -1,9 +1,9 @@
 //! The system's files and standard streams. Of them no contract can tell more than what the system
 //! answers, which these lines record; what fails they count.
 
-ghost use Rattle.std.specs.Prelude.{◌≡◌, ◌<◌, ◌≤◌, Ok, length, take, None, IsErr, IfOk, OnErr};
+ghost use Rattle.std.specs.Prelude.{◌≡◌, ◌≢◌, ◌<◌, ◌≤◌, ◌⊎◌, [], Ok, length, take, None, IsOk, IsErr, IfOk, OnOk, OnErr, codes};
 ghost use Rattle.hs_edge.specs.Count.{one_more};
-ghost use Rattle.hs_edge.specs.Reading.{handed};
+ghost use Rattle.hs_edge.specs.Reading.{started, handed};
 ghost use Rattle.hs_edge.specs.Writing.{written};
 ghost use Rattle.hs_edge.specs.FileSource.{new_reader};
 ghost use Rattle.hs_edge.specs.StdSink.{new_stream};
@@ -57,6 +57,28 @@ impl FileSource {
         }
     }
 
+    /// What `start` answers where the system opens a file, or gives an error.
+    fn begin(&mut self, name: &str, outcome: io::Result<Opened>) -> Result<(), Failed>
+        ensures ok { OnOk outcome (IsOk result) }
+        ensures ok_state { OnOk outcome (
+            self.new ≡ record self.old { reading = started name.now self.old.reading }) }
+        ensures err { OnErr outcome (IsErr result) }
+        ensures err_state { OnErr outcome (
+            self.new ≡ record self.old { failures = one_more self.old.failures }) }
+    {
+        match outcome {
+            Ok(opened) => {
+                self.opened = Some(opened);
+                self.reading.note_start(name);
+                Ok(())
+            }
+            Err(_) => {
+                self.failures = self.failures.saturating_add(1);
+                Err(Failed)
+            }
+        }
+    }
+
     /// What `read` answers where the system gives this outcome.
     fn answer(&mut self, buf: &[u8], outcome: io::Result<usize>) -> Result<usize, Failed>
         ensures ok { IfOk outcome (λ n. result ≡ Ok n) }
@@ -91,18 +113,16 @@ impl Source for FileSource {
 
     ghost faults = { λ reader _. reader.failures };
 
-    ghost start_gives = { λ old _ result new. OnErr result (new.failures ≡ one_more old.failures) };
+    ghost start_gives = { λ old name result new. record {
+      standard_input : name ≡ codes "-" → IsOk result;
+      counts : OnErr result (new.failures ≡ one_more old.failures);
+    } };
 
     ghost read_gives = { λ old _ result _ new. OnErr result (new.failures ≡ one_more old.failures) };
 
     fn start(&mut self, name: &str) -> Result<(), Failed> {
-        let Some(opened) = open(&self.rt, name) else {
-            self.failures = self.failures.saturating_add(1);
-            return Err(Failed);
-        };
-        self.opened = Some(opened);
-        self.reading.note_start(name);
-        Ok(())
+        let outcome = open(&self.rt, name);
+        self.begin(name, outcome)
     }
 
     fn read(&mut self, buf: &mut [u8]) -> Result<usize, Failed> {
@@ -123,14 +143,14 @@ impl fmt::Debug for FileSource {
     }
 }
 
-fn open(rt: &HostRuntime, name: &str) -> Option<Opened> {
+/// Standard input, or what the system opens under this name.
+fn open(rt: &HostRuntime, name: &str) -> io::Result<Opened>
+    ensures standard_input { name.now ≡ codes "-" → IsOk result }
+{
     if name == "-" {
-        return Some(Opened::Input(rt.stdin()));
+        return Ok(Opened::Input(rt.stdin()));
     }
-    match File::open(rt, name) {
-        Ok(file) => Some(Opened::File(file)),
-        Err(_) => None,
-    }
+    Ok(Opened::File(File::open(rt, name)?))
 }
 
 #[derive(Clone, Copy, Debug)]
@@ -182,13 +202,13 @@ impl StdSink {
 
     /// What `write` answers where the system gives this outcome.
     fn answer(&mut self, piece: &[u8], outcome: io::Result<usize>) -> Result<usize, Failed>
-        ensures ok { IfOk outcome (λ n. IfOk result (λ m. m ≡ n)) }
+        ensures ok { IfOk outcome (λ n. (0 < n ⊎ piece.now ≡ []) → result ≡ Ok n) }
         ensures ok_state { IfOk result
             (λ n. self.new ≡ record self.old { writing = written piece.now n self.old.writing }) }
+        ensures took_nothing { IfOk outcome (λ n. n ≡ 0 → piece.now ≢ [] → IsErr result) }
         ensures err { OnErr outcome (IsErr result) }
-        ensures fails { OnErr result (
+        ensures err_state { OnErr result (
             self.new ≡ record self.old { failures = one_more self.old.failures }) }
-        ensures takes_some { IfOk result (λ n. 0 < length piece.now → 0 < n) }
         ensures never_falls { self.old.failures ≤ self.new.failures }
     {
         match outcome {

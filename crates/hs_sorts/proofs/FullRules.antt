@@ -18,7 +18,7 @@ use Rattle.hs_sorts.specs.Least.{AreLeastSorts}
 use Rattle.hs_sorts.proofs.Lengthenings.{head_arguments_more}
 use Rattle.hs_sorts.proofs.Solutions.{All_at}
 
-lengthened_get : (rules : List Rule) (ks : List SortTree) (f : ℕ) (r : Rule) → length ks ≡ length rules → slice_get rules f ≡ Some r
+pub lengthened_get : (rules : List Rule) (ks : List SortTree) (f : ℕ) (r : Rule) → length ks ≡ length rules → slice_get rules f ≡ Some r
     → slice_get (lengthening rules ks) f ≡ Some (lengthened (missing r.params (sort_at ks f)) r)
 lengthened_get [] ks f r e at = absurd (cc)
 lengthened_get (q ∷ rules) [] f r e at = absurd (omega (arith, e))

@@ -19,3 +19,4 @@ pub mod Inferring
 pub mod FullRules
 pub mod Assembling
 pub mod Excluding
+pub mod Shortened

@@ -20,4 +20,4 @@ mod weights;
 
 pub use fault::SortFault;
 pub use inference::infer;
-pub use laws::one_fault;
+pub use laws::{one_fault, sorts_are_least_for_lengthened_rules};

@@ -1,6 +1,6 @@
 //! Sets of types and environments, joined.
 
-ghost use Rattle.std.specs.Prelude.{◌≡◌, ◌∷◌, ◌++◌, ◌≤◌, ◌↔◌, take, drop, length, Contains, IsTrue, IfOk, OnOk, MatchResult};
+ghost use Rattle.std.specs.Prelude.{◌≡◌, ◌∷◌, ◌++◌, ◌≤◌, ◌↔◌, take, drop, length, Contains, IsTrue, IfOk, OnOk, OnErr, MatchResult};
 ghost use Rattle.hs_table.specs.Entries.{set_at};
 ghost use Rattle.hs_table_laws.proofs.Sets.{insert as with_type};
 ghost use Rattle.hs_table_plain.specs.Enumeration as plain;
@@ -28,8 +28,10 @@ fn place_of(set: &[Ty], ty: &Ty) -> Result<usize, usize>
 }
 
 /// Adds an equal type to an ascending set, where it isn't there. It looks at the members one by one.
+/// Where memory is refused the set stays as it was.
 pub fn insert_type(alloc: Global, set: &mut Vec<Ty>, ty: &Ty) -> Result<(), OutOfMemory>
-    ensures { OnOk result (set.new.items ≡ with_type ty.now set.old.items) }
+    ensures ok { OnOk result (set.new.items ≡ with_type ty.now set.old.items) }
+    ensures err { OnErr result (set.new.items ≡ set.old.items) }
 {
     if let Err(place) = place_of(set.as_slice(), ty) {
         set.insert(place, ty.copy(alloc)?)?;

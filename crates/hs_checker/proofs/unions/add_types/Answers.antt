@@ -10,4 +10,4 @@ loop-member-preserved c =
     let k = c.loop-member.member-index in
     let next : drop k types ≡ c.member-item.result ∷ drop (k + 1) types =
     drop_more types k c.member-item.result c.loop-member-test.true ∙ ap (λ (t : TypeTree). t ∷ drop (k + 1) types) (sym c.member-item.is) in
-    ap (λ (s : List TypeTree). union s (drop (k + 1) types)) c.in_ok-insert_type.ensures ∙ (ap (union c.loop-member.set.items) (sym next) ∙ c.loop-member.invariant)
+    ap (λ (s : List TypeTree). union s (drop (k + 1) types)) c.in_ok-insert_type.ensures.ok ∙ (ap (union c.loop-member.set.items) (sym next) ∙ c.loop-member.invariant)

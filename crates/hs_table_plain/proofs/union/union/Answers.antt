@@ -10,4 +10,4 @@ loop-member-preserved c =
     let k = c.loop-member.member-index in
     let next : drop k other ≡ c.member-item.result ∷ drop (k + 1) other =
     drop_more other k c.member-item.result c.loop-member-test.true ∙ ap (λ (t : TypeTree). t ∷ drop (k + 1) other) (sym c.member-item.is) in
-    ap (λ (s : List TypeTree). plain.union s (drop (k + 1) other)) c.in_ok-insert_type.ensures ∙ (ap (plain.union c.loop-member.types.items) (sym next) ∙ c.loop-member.invariant)
+    ap (λ (s : List TypeTree). plain.union s (drop (k + 1) other)) c.in_ok-insert_type.ensures.ok ∙ (ap (plain.union c.loop-member.types.items) (sym next) ∙ c.loop-member.invariant)
