@@ -10,8 +10,6 @@ mod forming;
 #[cfg(test)]
 mod holder;
 #[cfg(test)]
-mod meeting;
-#[cfg(test)]
 mod opening;
 #[cfg(test)]
 mod random;

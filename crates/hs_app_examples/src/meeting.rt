@@ -2,6 +2,7 @@
 
 ghost use Rattle.hs_flow.specs.Dependents.{HasDependents};
 
+use crate::running::{CALM, Ended, outside_of, see_run_with};
 use crate::seeing::see;
 use hs_core::{Core, Done, Event};
 use hs_fixtures::cycle;
@@ -129,5 +130,32 @@ fn two_workers_meet(rt: HostRuntime) -> Result<(), Fail> {
     let answer = saturated_cycle(&rt, rt.alloc(), 5, &gate)?;
     see(&rt, gate.alone.load(SeqCst), 0, "alone");
     see(&rt, answer, Some((71, [false, true, true])), "met");
+    Ok(())
+}
+
+/// The report on the generated file of number 5.
+const CYCLE: Ended = (
+    1,
+    b"rejected\nentries 71\npath br/2 br/2 br/2 br/2 br/1 a/1 a/1 a/1 a/1 c\nstate s4\n",
+    "",
+);
+
+#[test]
+fn two_workers_of_a_run_meet(rt: HostRuntime) -> Result<(), Fail> {
+    let gate = Meeting::new();
+    let alloc = rt.alloc();
+    let mut outside = outside_of(alloc, b"", CALM)?;
+    let words = ["horsat", "--gen", "5", "--workers", "2"];
+    see_run_with(
+        &rt,
+        alloc,
+        &mut outside,
+        &words,
+        Vec::new(alloc),
+        &gate,
+        CYCLE,
+    );
+    drop(outside);
+    see(&rt, gate.alone.load(SeqCst), 0, "alone");
     Ok(())
 }
