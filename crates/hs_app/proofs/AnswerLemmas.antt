@@ -24,8 +24,10 @@ use Rattle.hs_app.specs.declared.refusal.Refusal.TheVariants.{Usage, Source, Fil
 use Rattle.hs_app.specs.declared.verdict.Verdict.{Verdict}
 use Rattle.hs_app.specs.declared.verdict.Verdict.TheVariants.{Accepted, Rejected, Long}
 use Rattle.hs_app.specs.declared.verdict.Decided.{Decided}
-use Rattle.hs_app.specs.Problems.{Asked, IsProblemOf, HasManyPoints, HasMuchFlow, IsReportedTable}
-use Rattle.hs_app.specs.Verdict.{max_bytes, HasAnswer, IsSchemeOf, IsSortable, Reports, IsOverBudget, IsAnswerOn, Refused, IsAnsweredWith, HasDecision, IsWithinBudget, IsBoundToExceed, WarrantsOnScheme, HasWarrant, Warrants, HasProblemWithinLimits}
+use Rattle.hs_app.specs.Problems.{Asked, OfForm, HasProblem, HasManyPoints, HasMuchFlow, IsReportedTable}
+use Rattle.hs_app.specs.Headline.{max_bytes, IsSchemeOf, IsWithinLimits, IsWithinAll}
+use Rattle.hs_app.specs.Verdict.{HasAnswer, IsSortable, Reports, IsOverBudget, IsAnswerOn, Refused, IsAnsweredWith, HasDecision, IsWithinBudget, IsBoundToExceed, WarrantsOnScheme, HasWarrant, Warrants}
+use Rattle.hs_app.proofs.OneScheme.{reads_of}
 use Rattle.hs_app.proofs.OneProblem.{one_problem, not_many_points, not_much_flow, many_not_much}
 
 -- ---- what comes of a file, layer by layer: a refusal, of which R holds, or a scheme with sorts, of which S holds
@@ -67,7 +69,7 @@ record Layered (R : Refusal → Type 0) (S : UnsortedData → Type 0) (bytes : L
 
 module _ (R : Refusal → Type 0) (S : UnsortedData → Type 0) (bytes : List ℕ) where
   of_scheme : (u : UnsortedData) → IsSchemeOf bytes u → AtScheme R S u → Layered R S bytes
-  of_scheme u s h = record { answer = Ok s.file; is = s.reads; at = inr (s.faultless, subst (λ (v : UnsortedData). AtScheme R S v) s.is h) }
+  of_scheme u s h = record { answer = Ok s.of.file; is = reads_of bytes u s; at = inr (s.of.faultless, subst (λ (v : UnsortedData). AtScheme R S v) s.of.is h) }
 
   of_sound : (u : UnsortedData) → IsSortable bytes u → S u → Layered R S bytes
   of_sound u s h = of_scheme u s.of_bytes (inr (inferred_inferable u s.sorted s.inferred, h))
@@ -149,7 +151,7 @@ module _ (asked : Asked) (u : UnsortedData) where
   record IsLost : Type 0 where
     rejects : Accepts u.rules u.automaton.transitions → ⊥
     problem : ProblemData
-    of : IsProblemOf asked u problem
+    of : HasProblem asked u problem
     budget : (asked.settings.first ≡ true) ⊎ (Exceeds problem asked.settings.entries → ⊥)
 
   -- what an answer says of the scheme
@@ -158,8 +160,8 @@ module _ (asked : Asked) (u : UnsortedData) where
       Wants a
       ⊎ (((d : Decided) × ((a ≡ Ok d) × ((d.verdict ≡ Accepted) × (Accepts u.rules u.automaton.transitions × IsWithinBudget asked u))))
       ⊎ (((d : Decided) × ((a ≡ Ok d) × (((d.verdict ≡ Rejected) ⊎ (d.verdict ≡ Long)) × IsLost)))
-      ⊎ (((a ≡ Err PointLimit) × HasManyPoints asked u)
-      ⊎ (((a ≡ Err FlowLimit) × HasMuchFlow asked u)
+      ⊎ (((a ≡ Err PointLimit) × OfForm asked u HasManyPoints)
+      ⊎ (((a ≡ Err FlowLimit) × OfForm asked u HasMuchFlow)
       ⊎ ((a ≡ Err EntryLimit) × IsOverBudget asked u)))))
 
   least_within : (p : ProblemData) (T : List EntryData) → IsLeastTable p T → length T ≤ asked.settings.entries → Exceeds p asked.settings.entries → ⊥
@@ -203,8 +205,8 @@ module _ (asked : Asked) (u : UnsortedData) where
   Warranted d =
       ((d ≡ Ok Accepted) × (Accepts u.rules u.automaton.transitions × IsWithinBudget asked u))
       ⊎ (((d ≡ Ok Rejected) × ((Accepts u.rules u.automaton.transitions → ⊥) × IsWithinBudget asked u))
-      ⊎ (((d ≡ Err PointLimit) × HasManyPoints asked u)
-      ⊎ (((d ≡ Err FlowLimit) × HasMuchFlow asked u)
+      ⊎ (((d ≡ Err PointLimit) × OfForm asked u HasManyPoints)
+      ⊎ (((d ≡ Err FlowLimit) × OfForm asked u HasMuchFlow)
       ⊎ ((d ≡ Err EntryLimit) × IsBoundToExceed asked u))))
 
   warranted : (d : Result Verdict Refusal) → WarrantsOnScheme asked u d → Warranted d
@@ -228,7 +230,7 @@ module _ (asked : Asked) (u : UnsortedData) where
   warranted (Err Sink) h = absurd h
 
   -- the scheme has one problem, and what is said of one is said of another
-  exceeds_too : (p q : ProblemData) → IsProblemOf asked u p → IsProblemOf asked u q → Exceeds p asked.settings.entries → Exceeds q asked.settings.entries
+  exceeds_too : (p q : ProblemData) → HasProblem asked u p → HasProblem asked u q → Exceeds p asked.settings.entries → Exceeds q asked.settings.entries
   exceeds_too p q is other h = subst (λ (x : ProblemData). Exceeds x asked.settings.entries) (one_problem asked u p q is other) h
 
   not_over : IsWithinBudget asked u → IsOverBudget asked u → ⊥
@@ -251,7 +253,7 @@ module _ (asked : Asked) (u : UnsortedData) where
       ]
 
   -- an answer beside a scheme that has a problem
-  beside_problem : (d : Result Verdict Refusal) (a : Result Decided Refusal) (p : ProblemData) → IsProblemOf asked u p → Told a
+  beside_problem : (d : Result Verdict Refusal) (a : Result Decided Refusal) (p : ProblemData) → HasProblem asked u p → Told a
       → ((x : Decided) → a ≡ Ok x → x.verdict ≡ Accepted → Accepts u.rules u.automaton.transitions → IsWithinBudget asked u → Matches d a)
       → ((x : Decided) → a ≡ Ok x → (x.verdict ≡ Rejected) ⊎ (x.verdict ≡ Long) → IsLost → Matches d a)
       → (a ≡ Err EntryLimit → IsOverBudget asked u → Matches d a)
@@ -268,9 +270,9 @@ module _ (asked : Asked) (u : UnsortedData) where
 
   -- an answer beside a scheme that has none
   beside_limit : (d : Result Verdict Refusal) (a : Result Decided Refusal) → Told a
-      → ((p : ProblemData) → IsProblemOf asked u p → ⊥)
-      → (a ≡ Err PointLimit → HasManyPoints asked u → Matches d a)
-      → (a ≡ Err FlowLimit → HasMuchFlow asked u → Matches d a)
+      → ((p : ProblemData) → HasProblem asked u p → ⊥)
+      → (a ≡ Err PointLimit → OfForm asked u HasManyPoints → Matches d a)
+      → (a ≡ Err FlowLimit → OfForm asked u HasMuchFlow → Matches d a)
       → Right d a
   beside_limit d a h none many much =
       elim h [
@@ -374,11 +376,15 @@ module _ (asked : Asked) (bytes : List ℕ) where
         ]
       ]
 
+  sortable : (u : UnsortedData) (p : ProblemData) → IsSchemeOf bytes u → HasProblem asked u p → IsSortable bytes u
+  sortable u p of is = record { of_bytes = of; sorted = is.form; inferred = is.of.inferred }
+
   -- a verdict, want of memory, or too many entries
   abbrev pub Comes : Result Decided Refusal → Type 0
   Comes a = Wants a ⊎ (((x : Decided) × (a ≡ Ok x)) ⊎ (a ≡ Err EntryLimit))
 
-  comes_of : (u : UnsortedData) (a : Result Decided Refusal) (p : ProblemData) → IsProblemOf asked u p → Told asked u a → Comes a
+  comes_of : (u : UnsortedData) (a : Result Decided Refusal) (p : ProblemData) → HasProblem asked u p → Told asked u a
+      → Wants a ⊎ (((x : Decided) × (a ≡ Ok x)) ⊎ ((a ≡ Err EntryLimit) × IsOverBudget asked u))
   comes_of u a p is h =
       elim h [
         | inl wants ↦ inl wants
@@ -386,16 +392,44 @@ module _ (asked : Asked) (bytes : List ℕ) where
         | inr (inr (inl (x, (e, v)))) ↦ inr (inl (x, e))
         | inr (inr (inr (inl (e, many)))) ↦ absurd (not_many_points asked u p is many)
         | inr (inr (inr (inr (inl (e, much))))) ↦ absurd (not_much_flow asked u p is much)
-        | inr (inr (inr (inr (inr (e, o))))) ↦ inr (inr e)
+        | inr (inr (inr (inr (inr (e, o))))) ↦ inr (inr (e, o))
       ]
 
+  comes : (u : UnsortedData) (a : Result Decided Refusal) (p : ProblemData) → HasProblem asked u p → Told asked u a → Comes a
+  comes u a p is h =
+      elim (comes_of u a p is h) [
+        | inl wants ↦ inl wants
+        | inr (inl x) ↦ inr (inl x)
+        | inr (inr (e, o)) ↦ inr (inr e)
+      ]
+
+  -- what comes of a file with a problem, of which P says more
+  beside : (P : ProblemData → Type 0) (G : Type 0) (a : Result Decided Refusal) (is : IsWithinLimits asked bytes) → P is.problem
+      → ((u : UnsortedData) (p : ProblemData) → HasProblem asked u p → P p → IsAnswerOn asked u a → G) → Layered (λ s. a ≡ Err s) (λ u. IsAnswerOn asked u a) bytes → G
+  beside P G a is more f l =
+      meet (λ s. ⊥) (λ s. a ≡ Err s) (λ u. (p : ProblemData) × (HasProblem asked u p × P p)) (λ u. IsAnswerOn asked u a) G
+      (λ s never e. absurd never) (λ u q s. f u q.0 q.1.0 q.1.1 s) bytes
+      (of_sound (λ s. ⊥) (λ u. (p : ProblemData) × (HasProblem asked u p × P p)) bytes is.scheme (sortable is.scheme is.problem is.of_bytes is.of) (is.problem, (is.of, more))) l
+
   -- a file with a problem gets a verdict, unless memory is refused or there are too many entries
-  pub readable_comes : (a : Result Decided Refusal) → HasProblemWithinLimits asked bytes → HasAnswer asked a bytes → Comes a
-  readable_comes a r h =
+  pub readable_comes : (a : Result Decided Refusal) → IsWithinLimits asked bytes → HasAnswer asked a bytes → Comes a
+  readable_comes a is h =
+      elim (answer_layers a h.1) [
+        | inl wants ↦ inl wants
+        | inr l ↦ beside (λ p. Unit {0}) (Comes a) a is tt (λ u p has more s. comes u a p has (told asked u a s)) l
+      ]
+
+  -- and where the least table is within the budget, there are not
+  pub decided_comes : (a : Result Decided Refusal) → IsWithinAll asked bytes → HasAnswer asked a bytes → Wants a ⊎ ((x : Decided) × (a ≡ Ok x))
+  decided_comes a is h =
       elim (answer_layers a h.1) [
         | inl wants ↦ inl wants
         | inr l ↦
-            meet (λ s. ⊥) (λ s. a ≡ Err s) (λ u. (p : ProblemData) × IsProblemOf asked u p) (λ u. IsAnswerOn asked u a) (Comes a)
-            (λ s never e. absurd never) (λ u q s. comes_of u a q.0 q.1 (told asked u a s)) bytes
-            (of_sound (λ s. ⊥) (λ u. (p : ProblemData) × IsProblemOf asked u p) bytes r.scheme r.sound (r.problem, r.of)) l
+            beside (λ p. Exceeds p asked.settings.entries → ⊥) (Wants a ⊎ ((x : Decided) × (a ≡ Ok x))) a is.0 is.1
+            (λ u p has few s.
+            elim (comes_of u a p has (told asked u a s)) [
+              | inl wants ↦ inl wants
+              | inr (inl x) ↦ inr x
+              | inr (inr (e, o)) ↦ absurd (few (exceeds_too asked u o.0 p o.1.0 has o.1.1.exceeds))
+            ]) l
       ]

@@ -6,6 +6,7 @@ pub mod OrderLemmas
 pub mod ReadLemmas
 pub mod AnswerLemmas
 pub mod OutcomeLemmas
+pub mod HeadlineLemmas
 pub mod VerdictLemmas
 pub mod SimplifiedLemmas
 pub mod Relined

@@ -23,7 +23,7 @@ use Rattle.hs_scheme.proofs.Sortings.{least_unique, length-ranked, length-length
 use Rattle.hs_scheme.proofs.Lists.{none_in, here, later, uncons}
 use Rattle.hs_sorts.specs.Naming.{lengthened_names}
 use Rattle.hs_table_laws.proofs.Sets.{ascending_same}
-use Rattle.hs_app.specs.Problems.{Asked, form_asked, IsSortedFormOf, IsProblemOf, HasManyPoints, HasMuchFlow}
+use Rattle.hs_app.specs.Problems.{Asked, form_asked, IsSortedFormOf, OfForm, HasProblem, HasManyPoints, HasMuchFlow}
 
 same_rank : (m n : ℕ) → ranked m ≡ ranked n → m ≡ n
 same_rank m n e = sym (length-ranked m) ∙ (ap (λ (k : SortTree). length (arguments k)) e ∙ length-ranked n)
@@ -139,13 +139,13 @@ module _ (rules : List Rule) (a b : FlowData) (of_a : IsFlow rules a.pairs a.hea
 one_asked : (asked : Asked) (u : UnsortedData) (s t : SortedData) → IsSortedFormOf u s → IsSortedFormOf u t → form_asked asked s ≡ form_asked asked t
 one_asked asked u s t is other = ap (λ (x : SortedData). form_asked asked x) (one_form u s t is other)
 
-pub one_problem : (asked : Asked) (u : UnsortedData) (p q : ProblemData) → IsProblemOf asked u p → IsProblemOf asked u q → p ≡ q
+pub one_problem : (asked : Asked) (u : UnsortedData) (p q : ProblemData) → HasProblem asked u p → HasProblem asked u q → p ≡ q
 one_problem asked u p q is other =
-    let sorted : p.sorted ≡ q.sorted = is.made ∙ (one_asked asked u is.form other.form is.of other.of ∙ sym other.made) in
-    let rules : p.sorted.scheme.rules ≡ q.sorted.scheme.rules = ap (λ (s : SortedData). s.scheme.rules) sorted in
-    let points : p.points ≡ q.points = is.points ∙ (ap points_of rules ∙ sym other.points) in
+    let forms : form_asked asked is.form ≡ form_asked asked other.form = one_asked asked u is.form other.form is.of other.of in
+    let sorted : p.sorted ≡ q.sorted = is.holds.same ∙ (forms ∙ sym other.holds.same) in
+    let points : p.points ≡ q.points = is.holds.points ∙ (ap (λ (s : SortedData). points_of s.scheme.rules) forms ∙ sym other.holds.points) in
     let flow : p.flow ≡ q.flow =
-    one_flow q.sorted.scheme.rules p.flow q.flow (subst (λ (rs : List Rule). IsFlow rs p.flow.pairs p.flow.heads) rules is.flow) other.flow is.ascending other.ascending in
+    one_flow (form_asked asked other.form).scheme.rules p.flow q.flow (subst (λ (s : SortedData). IsFlow s.scheme.rules p.flow.pairs p.flow.heads) forms is.holds.flow) other.holds.flow is.holds.ascending other.holds.ascending in
     λ i. record { sorted = sorted i; points = points i; flow = flow i }
 
 -- ---- a problem keeps the limits
@@ -156,28 +156,25 @@ many_pairs flows heads =
     let hs : List Pair = map (λ (h : HeadPair). OfHead h) heads in
     omega (arith, length-append fs hs, length-map flows (λ (f : FlowPair). OfFlow f), length-map heads (λ (h : HeadPair). OfHead h))
 
-module _ (asked : Asked) (u : UnsortedData) (p : ProblemData) (is : IsProblemOf asked u p) where
-  same_form : (form : SortedData) → IsSortedFormOf u form → form_asked asked form ≡ p.sorted
-  same_form form of = one_asked asked u form is.form of is.of ∙ sym is.made
-
-  pub not_many_points : HasManyPoints asked u → ⊥
+module _ (asked : Asked) (u : UnsortedData) (p : ProblemData) (is : HasProblem asked u p) where
+  pub not_many_points : OfForm asked u HasManyPoints → ⊥
   not_many_points h =
-      let same : form_asked asked h.form ≡ p.sorted = same_form h.form h.of in
-      let points : points_of (form_asked asked h.form).scheme.rules ≡ p.points = ap (λ (s : SortedData). points_of s.scheme.rules) same ∙ sym is.points in
-      let many : 500000 < length p.points.points = subst (λ (d : PointsData). 500000 < length d.points) points h.many in
-      omega (arith, many, is.few_points)
+      let same : form_asked asked h.form ≡ form_asked asked is.form = one_asked asked u h.form is.form h.of is.of in
+      let points : points_of (form_asked asked h.form).scheme.rules ≡ p.points = ap (λ (s : SortedData). points_of s.scheme.rules) same ∙ sym is.holds.points in
+      let many : 500000 < length p.points.points = subst (λ (d : PointsData). 500000 < length d.points) points h.holds in
+      omega (arith, many, is.holds.few_points)
 
-  pub not_much_flow : HasMuchFlow asked u → ⊥
+  pub not_much_flow : OfForm asked u HasMuchFlow → ⊥
   not_much_flow h =
-      let same : form_asked asked h.form ≡ p.sorted = same_form h.form h.of in
-      let rules : (form_asked asked h.form).scheme.rules ≡ p.sorted.scheme.rules = ap (λ (s : SortedData). s.scheme.rules) same in
-      let supported : IsSupported p.sorted.scheme.rules h.order = subst (λ (rs : List Rule). IsSupported rs h.order) rules h.supported in
-      let within : length h.order ≤ length (pairs_of p.flow.pairs p.flow.heads) =
-      fewer p.sorted.scheme.rules h.order (pairs_of p.flow.pairs p.flow.heads) supported is.flow.closed in
-      omega (arith, within, many_pairs p.flow.pairs p.flow.heads, h.many, is.few_pairs)
+      let same : form_asked asked h.form ≡ form_asked asked is.form = one_asked asked u h.form is.form h.of is.of in
+      let rules : List Rule = (form_asked asked is.form).scheme.rules in
+      let supported : IsSupported rules h.holds.order = subst (λ (s : SortedData). IsSupported s.scheme.rules h.holds.order) same h.holds.supported in
+      let within : length h.holds.order ≤ length (pairs_of p.flow.pairs p.flow.heads) =
+      fewer rules h.holds.order (pairs_of p.flow.pairs p.flow.heads) supported is.holds.flow.closed in
+      omega (arith, within, many_pairs p.flow.pairs p.flow.heads, h.holds.many, is.holds.few_pairs)
 
-pub many_not_much : (asked : Asked) (u : UnsortedData) → HasManyPoints asked u → HasMuchFlow asked u → ⊥
+pub many_not_much : (asked : Asked) (u : UnsortedData) → OfForm asked u HasManyPoints → OfForm asked u HasMuchFlow → ⊥
 many_not_much asked u h k =
     let same : form_asked asked h.form ≡ form_asked asked k.form = one_asked asked u h.form k.form h.of k.of in
-    let many : 500000 < length (points_of (form_asked asked k.form).scheme.rules).points = subst (λ (s : SortedData). 500000 < length (points_of s.scheme.rules).points) same h.many in
-    omega (arith, many, k.few)
+    let many : 500000 < length (points_of (form_asked asked k.form).scheme.rules).points = subst (λ (s : SortedData). 500000 < length (points_of s.scheme.rules).points) same h.holds in
+    omega (arith, many, k.holds.few)

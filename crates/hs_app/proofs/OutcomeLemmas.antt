@@ -12,9 +12,11 @@ use Rattle.hs_app.specs.declared.verdict.Decided.{Decided}
 use Rattle.hs_app.specs.declared.top.Ending.{Ending}
 use Rattle.hs_app.specs.declared.top.Ending.TheVariants.{Reported, CutOff, Refused}
 use Rattle.hs_app.specs.Refusal.{HasFixedLine, status_of}
-use Rattle.hs_app.specs.Verdict.{max_bytes, HasAnswer, Warrants, IsAnsweredWith, HasProblemWithinLimits}
-use Rattle.hs_app.specs.Order.{FileOrigin, read_file, generate, Order, SourceRun, IsUntouched, IsReadFromFront, bytes_of, IsReadToEnd, IsPart, OfTold}
-use Rattle.hs_app.specs.Outcome.{SinkRun, IsCalm, HasCause, IsOfBytes, IsAnswerOfRun, IsReadFault, IsDue, IsStatusOf, status_of_verdict, status_at, Ends, Complies, Rows}
+use Rattle.hs_app.specs.Headline.{max_bytes, IsWithinLimits}
+use Rattle.hs_app.specs.Verdict.{HasAnswer, Warrants, IsAnsweredWith}
+use Rattle.hs_app.specs.Outside.{SourceRun, SinkRun, IsUntouched, IsReadFromFront}
+use Rattle.hs_app.specs.Order.{FileOrigin, read_file, generate, Order, bytes_of, IsReadToEnd, IsPart, OfTold}
+use Rattle.hs_app.specs.Outcome.{IsCalm, HasCause, IsOfBytes, IsAnswerOfRun, IsReadFault, IsDue, IsStatusOf, status_of_verdict, status_at, Ends, Complies, Rows}
 use Rattle.hs_app.proofs.AnswerLemmas.{Wants, Matches, answer_meets, readable_comes}
 
 -- ---- facts about the bytes of a job's file
@@ -62,8 +64,8 @@ record IsShownBy (job : FileOrigin) (source : SourceRun) (file : List ℕ → Op
 
 shows_told : (job : FileOrigin) (source : SourceRun) → IsShownBy job source source.file
 shows_told (read_file n) source = record {
-  whole = λ P h read. whole_bytes P source.after.given (source.file n) source.left read.told (read.all refl) h;
-  part = λ h read. part_bytes max_bytes source.after.given (source.file n) source.left read.told h;
+  whole = λ P h read. whole_bytes P source.after.given (source.file n) source.left_after read.told (read.all refl) h;
+  part = λ h read. part_bytes max_bytes source.after.given (source.file n) source.left_after read.told h;
 }
 shows_told (generate k) source = record { whole = λ P h read. h; part = λ h read. absurd read }
 
@@ -305,24 +307,24 @@ module _ (o : Order) (source : SourceRun) (file : List ℕ → Option (List ℕ)
   abbrev Comes_to : Result Decided Refusal → Type 0
   Comes_to b = IsFailure b ⊎ (((x : Decided) × (b ≡ Ok x)) ⊎ (b ≡ Err EntryLimit))
 
-  of_readable : (b : Result Decided Refusal) (bytes : List ℕ) → HasProblemWithinLimits o.asked bytes → HasAnswer o.asked b bytes → Comes_to b
+  of_readable : (b : Result Decided Refusal) (bytes : List ℕ) → IsWithinLimits o.asked bytes → HasAnswer o.asked b bytes → Comes_to b
   of_readable b bytes r h =
       elim (readable_comes o.asked bytes b r h) [
         | inl wants ↦ inl (inr wants)
         | inr comes ↦ inr comes
       ]
 
-  readable_has : (b : Result Decided Refusal) → Told (HasProblemWithinLimits o.asked) → Is b → Comes_to b
+  readable_has : (b : Result Decided Refusal) → Told (IsWithinLimits o.asked) → Is b → Comes_to b
   readable_has b r h =
       elim (why b h) [
         | inl fails ↦ inl fails
         | inr (inl (e, long)) ↦
-            absurd (always_of_job ⊥ o.job file (both_of_job (HasProblemWithinLimits o.asked) (λ bytes. max_bytes < length bytes) (λ _. ⊥) (λ bytes q l. omega (arith, q.within, l)) o.job file r long))
+            absurd (always_of_job ⊥ o.job file (both_of_job (IsWithinLimits o.asked) (λ bytes. max_bytes < length bytes) (λ _. ⊥) (λ bytes q l. omega (arith, q.short, l)) o.job file r long))
         | inr (inr has) ↦
-            always_of_job (Comes_to b) o.job file (both_of_job (HasProblemWithinLimits o.asked) (HasAnswer o.asked b) (λ _. Comes_to b) (of_readable b) o.job file r has)
+            always_of_job (Comes_to b) o.job file (both_of_job (IsWithinLimits o.asked) (HasAnswer o.asked b) (λ _. Comes_to b) (of_readable b) o.job file r has)
       ]
 
-  completes : (b : Result Decided Refusal) → Told (HasProblemWithinLimits o.asked) → Is b → Completes (status_due b)
+  completes : (b : Result Decided Refusal) → Told (IsWithinLimits o.asked) → Is b → Completes (status_due b)
   completes b r h =
       elim (readable_has b r h) [
         | inl (inl e) ↦ inr (inl (ap status_due e))

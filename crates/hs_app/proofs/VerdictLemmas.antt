@@ -8,9 +8,7 @@ use Rattle.hs_scheme.specs.Automaton.{next}
 use Rattle.hs_scheme.specs.Steps.{Path, Fails, Reaches, HasNoTransition}
 use Rattle.hs_scheme.specs.Run.{start, Accepts}
 use Rattle.hs_scheme.specs.Unsorted.{UnsortedData, IsUnsorted}
-use Rattle.hs_scheme.specs.Points.{points_of}
 use Rattle.hs_scheme.specs.Sorted.{SortedData, IsSorted, sorts_of}
-use Rattle.hs_scheme.specs.Flow.{IsFlow, IsSupported}
 use Rattle.hs_scheme.specs.Scheme.{AreRules}
 use Rattle.hs_scheme.specs.SameTree.{FailsFromStart, HaveSameTree}
 use Rattle.hs_scheme.specs.declared.term.Head.{Head}
@@ -36,8 +34,10 @@ use Rattle.hs_app.specs.declared.verdict.Settings.{Settings}
 use Rattle.hs_app.specs.declared.verdict.Verdict.{Verdict}
 use Rattle.hs_app.specs.declared.verdict.Verdict.TheVariants.{Accepted, Rejected, Long}
 use Rattle.hs_app.specs.declared.verdict.Decided.{Decided}
-use Rattle.hs_app.specs.Problems.{Asked, IsSimplified, IsRemoved, IsSortedFormOf, IsProblemOf, IsProblemWithin, HasManyPoints, HasMuchFlow, HasLongOrder}
-use Rattle.hs_app.specs.Verdict.{IsSchemeOf, IsSortable, IsSortRefusal, FailsAlong, ReportsBy, DecidesProblem, DecidesForm, DecidesSimplified, DecidesSorted, Refused, IsAnsweredWith}
+use Rattle.hs_app.specs.Problems.{Asked, IsSimplified, IsRemoved, IsSortedFormOf, OfForm, IsProblemOf, HasProblem, HasManyPoints, HasMuchFlow}
+use Rattle.hs_app.specs.Headline.{IsSchemeOf}
+use Rattle.hs_app.proofs.OneScheme.{scheme_is}
+use Rattle.hs_app.specs.Verdict.{IsSortable, IsSortRefusal, FailsAlong, ReportsBy, DecidesProblem, DecidesForm, DecidesSimplified, DecidesSorted, Refused, IsAnsweredWith}
 
 -- a path to a terminal without transition fails
 ends_fail : (rules : List Rule) (ts : List TransitionData) (path : PathData) → IsFailingPath rules ts path → Fails rules ts path.used 0 start path.steps
@@ -179,28 +179,28 @@ module _ (u : UnsortedData) (form : SortedData) (unsorted : IsUnsorted u) (is_so
     }
 
 -- what is decided on a problem is decided on its scheme
-pub of_problem : (settings : Settings) (form : SortedData) (p : ProblemData) (removed : Option ℕ) (r : Result Decided Refusal) → IsProblemWithin form p → DecidesProblem settings p removed r
-    → DecidesForm settings form removed r
-of_problem settings form p removed (Ok d) w h = (p, (w, h))
-of_problem settings form p removed (Err EntryLimit) w h = (p, (w, h))
-of_problem settings form p removed (Err OutOfMemory) w h = tt
-of_problem settings form p removed (Err PointLimit) w h = absurd h
-of_problem settings form p removed (Err FlowLimit) w h = absurd h
-of_problem settings form p removed (Err Usage) w h = absurd h
-of_problem settings form p removed (Err Source) w h = absurd h
-of_problem settings form p removed (Err FileTooLong) w h = absurd h
-of_problem settings form p removed (Err (Syntax line)) w h = absurd h
-of_problem settings form p removed (Err (Limit which)) w h = absurd h
-of_problem settings form p removed (Err (Names fault)) w h = absurd h
-of_problem settings form p removed (Err (IllSorted rule)) w h = absurd h
-of_problem settings form p removed (Err (NotFirstOrder terminal)) w h = absurd h
-of_problem settings form p removed (Err (SortTooLarge rule)) w h = absurd h
-of_problem settings form p removed (Err (RuleTooLong rule)) w h = absurd h
-of_problem settings form p removed (Err Sink) w h = absurd h
+pub of_problem : (settings : Settings) (form : SortedData) (p : ProblemData) (removed : Option ℕ) (r : Result Decided Refusal) → IsProblemOf form p → AreRules form.scheme.rules (length form.scheme.ranks)
+    → DecidesProblem settings p removed r → DecidesForm settings form removed r
+of_problem settings form p removed (Ok d) w are h = (are, (p, (w, h)))
+of_problem settings form p removed (Err EntryLimit) w are h = (p, (w, h))
+of_problem settings form p removed (Err OutOfMemory) w are h = tt
+of_problem settings form p removed (Err PointLimit) w are h = absurd h
+of_problem settings form p removed (Err FlowLimit) w are h = absurd h
+of_problem settings form p removed (Err Usage) w are h = absurd h
+of_problem settings form p removed (Err Source) w are h = absurd h
+of_problem settings form p removed (Err FileTooLong) w are h = absurd h
+of_problem settings form p removed (Err (Syntax line)) w are h = absurd h
+of_problem settings form p removed (Err (Limit which)) w are h = absurd h
+of_problem settings form p removed (Err (Names fault)) w are h = absurd h
+of_problem settings form p removed (Err (IllSorted rule)) w are h = absurd h
+of_problem settings form p removed (Err (NotFirstOrder terminal)) w are h = absurd h
+of_problem settings form p removed (Err (SortTooLarge rule)) w are h = absurd h
+of_problem settings form p removed (Err (RuleTooLong rule)) w are h = absurd h
+of_problem settings form p removed (Err Sink) w are h = absurd h
 
 module _ (asked : Asked) (bytes : List ℕ) (file : File) (reads : IsFileWithin bytes file) (faultless : IsFaultless file) where
   of_file : IsSchemeOf bytes (unsorted_of file)
-  of_file = record { file = file; reads = reads; faultless = faultless; is = refl }
+  of_file = scheme_is bytes file reads faultless
 
   pub refused : (r : Refusal) → IsSortRefusal (unsorted_of file) r → Refused asked bytes r
   refused Usage h = absurd h
@@ -227,41 +227,19 @@ module _ (asked : Asked) (bytes : List ℕ) (file : File) (reads : IsFileWithin 
     form_of is = record { unsorted = unsorted; is_sorted = is; inferred = inferred }
 
     module _ (is_sorted : IsSorted sorted) (form : SortedData) (simplified : IsSimplified asked sorted form) (removed : Option ℕ) (lighter : IsRemoved asked.settings.simplify sorted form removed) where
-      problem : (p : ProblemData) → IsProblemWithin form p → IsProblemOf asked (unsorted_of file) p
-      problem p w =
-          let rules : form.scheme.rules ≡ p.sorted.scheme.rules = ap (λ (s : SortedData). s.scheme.rules) (sym w.same) in
-          record {
-            form = sorted;
-            of = form_of is_sorted;
-            made = w.same ∙ simplified.made;
-            is_sorted = subst (λ (s : SortedData). IsSorted s) (sym w.same) w.is_sorted;
-            points = w.points ∙ ap points_of rules;
-            few_points = w.few_points;
-            flow = subst (λ (rs : List Rule). IsFlow rs p.flow.pairs p.flow.heads) rules w.flow;
-            ascending = w.ascending;
-            few_pairs = w.few_pairs;
-          }
+      problem : (p : ProblemData) → IsProblemOf form p → HasProblem asked (unsorted_of file) p
+      problem p w = record { form = sorted; of = form_of is_sorted; holds = subst (λ (s : SortedData). IsProblemOf s p) simplified.made w }
 
-      many_points : 500000 < length (points_of form.scheme.rules).points → HasManyPoints asked (unsorted_of file)
-      many_points many = record {
-        form = sorted;
-        of = form_of is_sorted;
-        many = subst (λ (s : SortedData). 500000 < length (points_of s.scheme.rules).points) simplified.made many;
-      }
+      many_points : HasManyPoints form → OfForm asked (unsorted_of file) HasManyPoints
+      many_points many = record { form = sorted; of = form_of is_sorted; holds = subst (λ (s : SortedData). HasManyPoints s) simplified.made many }
 
-      much_flow : HasLongOrder form → HasMuchFlow asked (unsorted_of file)
-      much_flow h = record {
-        form = sorted;
-        of = form_of is_sorted;
-        few = subst (λ (s : SortedData). length (points_of s.scheme.rules).points ≤ 500000) simplified.made h.few;
-        order = h.order;
-        supported = subst (λ (s : SortedData). IsSupported s.scheme.rules h.order) simplified.made h.supported;
-        many = h.many;
-      }
+      much_flow : HasMuchFlow form → OfForm asked (unsorted_of file) HasMuchFlow
+      much_flow h = record { form = sorted; of = form_of is_sorted; holds = subst (λ (s : SortedData). HasMuchFlow s) simplified.made h }
 
-      verdict : (d : Decided) (p : ProblemData) → IsProblemWithin form p → DecidesProblem asked.settings p removed (Ok d) → IsAnsweredWith asked bytes (Ok d)
+      verdict : (d : Decided) (p : ProblemData) → IsProblemOf form p → AreRules form.scheme.rules (length form.scheme.ranks) → DecidesProblem asked.settings p removed (Ok d)
+          → IsAnsweredWith asked bytes (Ok d)
       unfolding problem
-      verdict d p w h = record {
+      verdict d p w are h = record {
         scheme = unsorted_of file;
         sound = sound;
         decides = record {
@@ -273,15 +251,15 @@ module _ (asked : Asked) (bytes : List ℕ) (file : File) (reads : IsFileWithin 
           reports =
               judged (unsorted_of file) sorted unsorted is_sorted inferred asked.settings asked refl p
               (subst (λ (s : SortedData). IsSimplified asked sorted s) (sym w.same) simplified) removed
-              (subst (λ (s : SortedData). AreRules s.scheme.rules (length s.scheme.ranks)) (sym w.same) w.are_rules) d.verdict d.report.items h;
+              (subst (λ (s : SortedData). AreRules s.scheme.rules (length s.scheme.ranks)) (sym w.same) are) d.verdict d.report.items h;
         };
       }
 
       of_form_decided : (r : Result Decided Refusal) → DecidesForm asked.settings form removed r → IsAnsweredWith asked bytes r
-      of_form_decided (Ok d) h = verdict d h.0 h.1.0 h.1.1
+      of_form_decided (Ok d) h = verdict d h.1.0 h.1.1.0 h.0 h.1.1.1
       of_form_decided (Err EntryLimit) h = record { scheme = unsorted_of file; sound = sound; decides = (h.0, (problem h.0 h.1.0, h.1.1)) }
-      of_form_decided (Err PointLimit) h = record { scheme = unsorted_of file; sound = sound; decides = many_points h.1 }
-      of_form_decided (Err FlowLimit) h = record { scheme = unsorted_of file; sound = sound; decides = much_flow h.1 }
+      of_form_decided (Err PointLimit) h = record { scheme = unsorted_of file; sound = sound; decides = many_points h }
+      of_form_decided (Err FlowLimit) h = record { scheme = unsorted_of file; sound = sound; decides = much_flow h }
       of_form_decided (Err OutOfMemory) h = tt
       of_form_decided (Err Usage) h = absurd h
       of_form_decided (Err Source) h = absurd h

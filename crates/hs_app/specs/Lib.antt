@@ -1,7 +1,9 @@
 pub mod Line
 pub mod Refusal
+pub mod Outside
 pub mod Problems
-pub mod Verdict
 pub mod Order
+pub mod Headline
+pub mod Verdict
 pub mod Outcome
 pub mod ReadAgain

@@ -1,5 +1,4 @@
 -- What a run comes to.
---     SinkRun               a sink as a run found it and left it
 --     IsAnswerOfRun         the verdict with its report, or why there is none, by the order and by what the source handed out
 --     Ends, status_at       how a run ends, with what comes with it; its exit status
 --     IsDue, Complies       what has to be answered, by the order and by the bytes; that it is answered
@@ -7,7 +6,7 @@
 --     Rows                  all that is claimed of a run
 use Rattle.std.specs.Prelude.{◌≡◌, ◌≢◌, ℕ, ◌<◌, ◌≤◌, true, false, List, ◌++◌, Option, Some, None, Result, Ok, Err, length, ◌⊎◌, IsSomeAnd}
 use Rattle.hs_edge.specs.Count.{Rose}
-use Rattle.hs_edge.specs.Writing.{Writing, AddsPart}
+use Rattle.hs_edge.specs.Writing.{AddsPart}
 use Rattle.hs_app.specs.Refusal.{line_of, status_of, HasFixedLine}
 use Rattle.hs_app.specs.declared.refusal.Refusal.{Refusal}
 use Rattle.hs_app.specs.declared.refusal.Refusal.TheVariants.{Usage, Source, FileTooLong, Sink, OutOfMemory}
@@ -16,25 +15,12 @@ use Rattle.hs_app.specs.declared.top.Ending.TheVariants.{Reported, CutOff, Refus
 use Rattle.hs_app.specs.declared.verdict.Decided.{Decided}
 use Rattle.hs_app.specs.declared.verdict.Verdict.{Verdict}
 use Rattle.hs_app.specs.declared.verdict.Verdict.TheVariants.{Accepted, Rejected, Long}
-use Rattle.hs_app.specs.Order.{Order, SourceRun, IsUntouched, IsReadFromFront, bytes_of, IsReadToEnd, IsPart, HasFault, OfTold}
-use Rattle.hs_app.specs.Verdict.{max_bytes, HasAnswer, Warrants, HasProblemWithinLimits}
+use Rattle.hs_app.specs.Outside.{SourceRun, SinkRun, IsUntouched, IsReadFromFront}
+use Rattle.hs_app.specs.Order.{Order, bytes_of, IsReadToEnd, IsPart, HasFault, OfTold}
+use Rattle.hs_app.specs.Headline.{max_bytes, IsWithinLimits}
+use Rattle.hs_app.specs.Verdict.{HasAnswer, Warrants}
 
 -- ---- the outside
-
--- a sink, before and after
-pub record SinkRun : Type 0 where
-  pub taken : List ℕ
-  pub taken_after : List ℕ
-  pub faults : ℕ
-  pub faults_after : ℕ
-
-abbrev pub sink_run : {S : Type 0} → (S → Writing) → (S → ℕ) → S → S → SinkRun
-sink_run writing faults old new = record {
-  taken = (writing old).taken;
-  taken_after = (writing new).taken;
-  faults = faults old;
-  faults_after = faults new;
-}
 
 -- no call of the source failed
 abbrev pub IsCalm : SourceRun → Type 0
@@ -152,7 +138,7 @@ IsStatusOf (Err refusal) status = status ≡ status_of refusal
 pub record Complies (order : Option Order) (file : List ℕ → Option (List ℕ)) (status : ℕ) : Type 0 where
   pub due : (answer : Result Verdict Refusal) → IsDue order file answer
       → IsStatusOf answer status ⊎ ((status ≡ 8) ⊎ (((status ≡ 9) × (verdict : Verdict) × (answer ≡ Ok verdict)) ⊎ (status ≡ 10)))
-  pub complete : IsSomeAnd order (λ o. OfTold o.job file (HasProblemWithinLimits o.asked)) → (status ≤ 3) ⊎ ((status ≡ 8) ⊎ ((status ≡ 9) ⊎ (status ≡ 10)))
+  pub complete : IsSomeAnd order (λ o. OfTold o.job file (IsWithinLimits o.asked)) → (status ≤ 3) ⊎ ((status ≡ 8) ⊎ ((status ≡ 9) ⊎ (status ≡ 10)))
 
 -- ---- the run
 

@@ -3,14 +3,16 @@
 --     form_asked      what is saturated of a sorted scheme: what the passes make of it, where it is to be simplified
 --     IsSimplified    that it is this, and what it has kept
 --     IsRemoved       how much weight the passes took off, where it was simplified
---     IsProblemOf     the scheme lengthened to its least sorting, simplified where that is asked for, with its points and its flow, all within their limits
+--     IsSortedFormOf  a scheme that is lengthened to its least sorting
+--     OfForm          what is saturated for a scheme has a property
+--     IsProblemOf     the problem of a sorted scheme: its points and its flow, both within their limits
+--     HasProblem      that of a scheme before its sorts are known
 --     HasManyPoints   it has more than 500,000 points
 --     HasMuchFlow     it has not, but more than 4,000,000 pairs of flow
 --     IsReportedTable the list of entries that is reported where the start is rejected: the least table, or, where the first start entry
 --                     is asked for, some supported list; it has the start entry
 use Rattle.std.specs.Prelude.{◌≡◌, ℕ, ◌+◌, ◌≤◌, ◌<◌, Bool, true, false, List, length, Option, Some, None, if◌then◌else◌}
 use Rattle.hs_scheme.specs.declared.flow.Pair.{Pair}
-use Rattle.hs_scheme.specs.Scheme.{AreRules}
 use Rattle.hs_scheme.specs.Points.{points_of}
 use Rattle.hs_scheme.specs.Flow.{IsSupported, IsFlow, IsFlowTable}
 use Rattle.hs_scheme.specs.Unsorted.{UnsortedData, IsUnsorted}
@@ -55,52 +57,39 @@ pub record IsSortedFormOf (u : UnsortedData) (s : SortedData) : Type 0 where
   pub is_sorted : IsSorted s
   pub inferred : IsInferred u s
 
-pub record IsProblemOf (asked : Asked) (u : UnsortedData) (p : ProblemData) : Type 0 where
+-- what is saturated for the scheme has this property
+pub record OfForm (asked : Asked) (u : UnsortedData) (P : SortedData → Type 0) : Type 0 where
   pub form : SortedData
   pub of : IsSortedFormOf u form
-  pub made : p.sorted ≡ form_asked asked form
-  pub is_sorted : IsSorted p.sorted
-  pub points : p.points ≡ points_of p.sorted.scheme.rules
+  pub holds : P (form_asked asked form)
+
+pub record IsProblemOf (s : SortedData) (p : ProblemData) : Type 0 where
+  pub same : p.sorted ≡ s
+  pub points : p.points ≡ points_of s.scheme.rules
   pub few_points : length p.points.points ≤ 500000
-  pub flow : IsFlow p.sorted.scheme.rules p.flow.pairs p.flow.heads
+  pub flow : IsFlow s.scheme.rules p.flow.pairs p.flow.heads
   pub ascending : IsFlowTable p.flow
   pub few_pairs : length p.flow.pairs + length p.flow.heads ≤ 4000000
 
-pub record HasManyPoints (asked : Asked) (u : UnsortedData) : Type 0 where
-  pub form : SortedData
-  pub of : IsSortedFormOf u form
-  pub many : 500000 < length (points_of (form_asked asked form).scheme.rules).points
+-- of a scheme before its sorts are known
+abbrev pub HasProblem : Asked → UnsortedData → ProblemData → Type 0
+HasProblem asked u p = OfForm asked u (λ s. IsProblemOf s p)
 
-pub record HasMuchFlow (asked : Asked) (u : UnsortedData) : Type 0 where
-  pub form : SortedData
-  pub of : IsSortedFormOf u form
-  pub few : length (points_of (form_asked asked form).scheme.rules).points ≤ 500000
+abbrev pub HasManyPoints : SortedData → Type 0
+HasManyPoints s = 500000 < length (points_of s.scheme.rules).points
+
+pub record HasMuchFlow (s : SortedData) : Type 0 where
+  pub few : length (points_of s.scheme.rules).points ≤ 500000
   pub order : List Pair
-  pub supported : IsSupported (form_asked asked form).scheme.rules order
+  pub supported : IsSupported s.scheme.rules order
   pub many : 4000000 < length order
 
--- the problem of a sorted scheme, as `Problems` that are saturated are made; and why there is none
-pub record IsProblemWithin (sorted : SortedData) (p : ProblemData) : Type 0 where
-  pub same : p.sorted ≡ sorted
-  pub is_sorted : IsSorted sorted
-  pub are_rules : AreRules sorted.scheme.rules (length sorted.scheme.ranks)
-  pub points : p.points ≡ points_of sorted.scheme.rules
-  pub few_points : length p.points.points ≤ 500000
-  pub flow : IsFlow sorted.scheme.rules p.flow.pairs p.flow.heads
-  pub ascending : IsFlowTable p.flow
-  pub few_pairs : length p.flow.pairs + length p.flow.heads ≤ 4000000
-
-pub record HasLongOrder (sorted : SortedData) : Type 0 where
-  pub few : length (points_of sorted.scheme.rules).points ≤ 500000
-  pub order : List Pair
-  pub supported : IsSupported sorted.scheme.rules order
-  pub many : 4000000 < length order
-
+-- why there is no problem
 abbrev pub IsPastLimits : SortedData → Refusal → Type 0
-IsPastLimits sorted PointLimit = IsSorted sorted × (500000 < length (points_of sorted.scheme.rules).points)
-IsPastLimits sorted FlowLimit = IsSorted sorted × HasLongOrder sorted
-IsPastLimits sorted OutOfMemory = Unit {0}
-IsPastLimits sorted refusal = ⊥
+IsPastLimits s PointLimit = HasManyPoints s
+IsPastLimits s FlowLimit = HasMuchFlow s
+IsPastLimits s OutOfMemory = Unit {0}
+IsPastLimits s refusal = ⊥
 
 abbrev pub IsReportedTable : Bool → ProblemData → List EntryData → Type 0
 IsReportedTable false p T = IsLeastTable p T × HasStart p T

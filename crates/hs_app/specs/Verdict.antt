@@ -1,14 +1,14 @@
 -- What the bytes of a file are answered with.
---     IsSchemeOf, IsSortable  the bytes are a file without faults in its names, and this is its scheme; it has sorts within the limits
 --     FailsAlong              the path leads, after some number of steps, to a terminal without transition, which it names with its state
 --     Reports                 the text is the report of the verdict on a scheme
+--     IsSortable              the bytes are a file of this scheme, which has sorts within the limits
 --     IsAnsweredWith          the verdict with its report, or the reason why there is none
---     max_bytes, HasAnswer    the most bytes of a file; the answer of a file that isn't longer
+--     HasAnswer               the answer of a file that isn't too long
 --     Warrants                the verdict that the bytes come to, or the reason why there is none, whatever is answered
---     HasProblemWithinLimits  the bytes have a scheme with a problem
 use Rattle.std.specs.Prelude.{◌≡◌, ◌≤◌, ◌<◌, ◌⊎◌, ℕ, Bool, true, false, List, ◌++◌, length, slice_get, Option, Some, None, Result, Ok, Err, if◌then◌else◌}
 use Rattle.hs_scheme.specs.declared.term.Head.{Head}
 use Rattle.hs_scheme.specs.declared.term.Rule.{Rule}
+use Rattle.hs_scheme.specs.Scheme.{AreRules}
 use Rattle.hs_scheme.specs.Transition.{TransitionData}
 use Rattle.hs_scheme.specs.Tree.{Tree}
 use Rattle.hs_scheme.specs.Unsorted.{UnsortedData}
@@ -19,8 +19,7 @@ use Rattle.hs_scheme.specs.Steps.{Path, Reaches, HasNoTransition}
 use Rattle.hs_reader.specs.Raw.{File}
 use Rattle.hs_reader.specs.Faults.{IsFileWithin, IsSyntaxFault, IsLimitFault}
 use Rattle.hs_resolve.specs.declared.fault.NameFault.{NameFault}
-use Rattle.hs_resolve.specs.Numbering.{unsorted_of}
-use Rattle.hs_resolve.specs.Answer.{IsFaultless, IsAnswered}
+use Rattle.hs_resolve.specs.Answer.{IsAnswered}
 use Rattle.hs_sorts.specs.declared.fault.SortFault.TheVariants as sorts
 use Rattle.hs_sorts.specs.Inference.{IsInferred, IsSortFault}
 use Rattle.hs_table.specs.Entries.{EntryData}
@@ -41,24 +40,8 @@ use Rattle.hs_app.specs.declared.verdict.Settings.{Settings}
 use Rattle.hs_app.specs.declared.verdict.Verdict.{Verdict}
 use Rattle.hs_app.specs.declared.verdict.Verdict.TheVariants.{Accepted, Rejected, Long}
 use Rattle.hs_app.specs.declared.verdict.Decided.{Decided}
-use Rattle.hs_app.specs.Problems.{Asked, IsSimplified, IsRemoved, IsProblemOf, IsProblemWithin, IsPastLimits, HasManyPoints, HasMuchFlow, IsReportedTable}
-
--- 16 MiB
-abbrev pub max_bytes : ℕ
-max_bytes = 16777216
-
--- the bytes are a file without faults in its names, and this is its scheme
-pub record IsSchemeOf (bytes : List ℕ) (scheme : UnsortedData) : Type 0 where
-  pub file : File
-  pub reads : IsFileWithin bytes file
-  pub faultless : IsFaultless file
-  pub is : scheme ≡ unsorted_of file
-
--- the scheme has sorts, none of them too large, and no rule that is too long
-pub record IsSortable (bytes : List ℕ) (scheme : UnsortedData) : Type 0 where
-  pub of_bytes : IsSchemeOf bytes scheme
-  pub sorted : SortedData
-  pub inferred : IsInferred scheme sorted
+use Rattle.hs_app.specs.Problems.{Asked, IsSimplified, IsRemoved, OfForm, IsProblemOf, HasProblem, IsPastLimits, HasManyPoints, HasMuchFlow, IsReportedTable}
+use Rattle.hs_app.specs.Headline.{IsSchemeOf, max_bytes}
 
 -- ---- the verdict on a scheme, with its report
 
@@ -146,7 +129,7 @@ ReportsBy settings rules ts p removed Long text = ReportsLong settings rules ts 
 -- those of the file.
 pub record Reports (asked : Asked) (u : UnsortedData) (verdict : Verdict) (text : List ℕ) : Type 0 where
   pub problem : ProblemData
-  pub of : IsProblemOf asked u problem
+  pub of : HasProblem asked u problem
   pub rest : KeepsRest of.form problem.sorted
   pub removed : Option ℕ
   pub lighter : IsRemoved asked.settings.simplify of.form problem.sorted removed
@@ -158,13 +141,13 @@ pub record IsOver (settings : Settings) (p : ProblemData) : Type 0 where
   pub first : settings.first ≡ true → (T : List EntryData) × (IsSupportedTable p T × (length T ≡ settings.entries) × (HasStart p T → ⊥))
 
 abbrev pub IsOverBudget : Asked → UnsortedData → Type 0
-IsOverBudget asked u = (p : ProblemData) × (IsProblemOf asked u p × IsOver asked.settings p)
+IsOverBudget asked u = (p : ProblemData) × (HasProblem asked u p × IsOver asked.settings p)
 
 -- what is answered on a scheme that has its sorts
 abbrev pub IsAnswerOn : Asked → UnsortedData → Result Decided Refusal → Type 0
 IsAnswerOn asked u (Ok decided) = Reports asked u decided.verdict decided.report.items
-IsAnswerOn asked u (Err PointLimit) = HasManyPoints asked u
-IsAnswerOn asked u (Err FlowLimit) = HasMuchFlow asked u
+IsAnswerOn asked u (Err PointLimit) = OfForm asked u HasManyPoints
+IsAnswerOn asked u (Err FlowLimit) = OfForm asked u HasMuchFlow
 IsAnswerOn asked u (Err EntryLimit) = IsOverBudget asked u
 IsAnswerOn asked u (Err OutOfMemory) = Unit {0}
 IsAnswerOn asked u (Err refusal) = ⊥
@@ -178,8 +161,9 @@ DecidesProblem settings p removed (Err refusal) = ⊥
 
 -- the same of a scheme from which so much weight was taken off, and which may pass a limit
 abbrev pub DecidesForm : Settings → SortedData → Option ℕ → Result Decided Refusal → Type 0
-DecidesForm settings form removed (Ok decided) = (p : ProblemData) × (IsProblemWithin form p × DecidesProblem settings p removed (Ok decided))
-DecidesForm settings form removed (Err EntryLimit) = (p : ProblemData) × (IsProblemWithin form p × DecidesProblem settings p removed (Err EntryLimit))
+DecidesForm settings form removed (Ok decided) =
+    AreRules form.scheme.rules (length form.scheme.ranks) × ((p : ProblemData) × (IsProblemOf form p × DecidesProblem settings p removed (Ok decided)))
+DecidesForm settings form removed (Err EntryLimit) = (p : ProblemData) × (IsProblemOf form p × DecidesProblem settings p removed (Err EntryLimit))
 DecidesForm settings form removed (Err refusal) = IsPastLimits form refusal
 
 -- the same of a sorted scheme, which may be simplified before
@@ -196,6 +180,12 @@ DecidesSorted asked sorted (Err OutOfMemory) = Unit {0}
 DecidesSorted asked sorted answer = DecidesSimplified asked sorted answer
 
 -- ---- the faults of a file
+
+-- the scheme has sorts, none of them too large, and no rule that is too long
+pub record IsSortable (bytes : List ℕ) (scheme : UnsortedData) : Type 0 where
+  pub of_bytes : IsSchemeOf bytes scheme
+  pub sorted : SortedData
+  pub inferred : IsInferred scheme sorted
 
 -- a name of the file is wrong
 pub record HasNameFault (bytes : List ℕ) (wrong : NameFault) : Type 0 where
@@ -258,21 +248,21 @@ HasAnswer asked answer bytes = (length bytes ≤ max_bytes) × IsAnsweredWith as
 -- the least table has at most as many entries as are allowed
 pub record IsWithinBudget (asked : Asked) (u : UnsortedData) : Type 0 where
   pub problem : ProblemData
-  pub of : IsProblemOf asked u problem
+  pub of : HasProblem asked u problem
   pub few : Exceeds problem asked.settings.entries → ⊥
 
 -- it has more, and that is told: the first start entry isn't asked for, or there is none
 pub record IsBoundToExceed (asked : Asked) (u : UnsortedData) : Type 0 where
   pub problem : ProblemData
-  pub of : IsProblemOf asked u problem
+  pub of : HasProblem asked u problem
   pub exceeds : Exceeds problem asked.settings.entries
   pub tells : (asked.settings.first ≡ false) ⊎ Accepts u.rules u.automaton.transitions
 
 abbrev pub WarrantsOnScheme : Asked → UnsortedData → Result Verdict Refusal → Type 0
 WarrantsOnScheme asked u (Ok Accepted) = Accepts u.rules u.automaton.transitions × IsWithinBudget asked u
 WarrantsOnScheme asked u (Ok Rejected) = (Accepts u.rules u.automaton.transitions → ⊥) × IsWithinBudget asked u
-WarrantsOnScheme asked u (Err PointLimit) = HasManyPoints asked u
-WarrantsOnScheme asked u (Err FlowLimit) = HasMuchFlow asked u
+WarrantsOnScheme asked u (Err PointLimit) = OfForm asked u HasManyPoints
+WarrantsOnScheme asked u (Err FlowLimit) = OfForm asked u HasMuchFlow
 WarrantsOnScheme asked u (Err EntryLimit) = IsBoundToExceed asked u
 WarrantsOnScheme asked u answer = ⊥
 
@@ -293,11 +283,3 @@ Warrants asked (Err FlowLimit) bytes = (length bytes ≤ max_bytes) × HasWarran
 Warrants asked (Err EntryLimit) bytes = (length bytes ≤ max_bytes) × HasWarrant asked bytes (Err EntryLimit)
 Warrants asked (Err refusal) bytes = (length bytes ≤ max_bytes) × Refused asked bytes refusal
 Warrants asked (Ok verdict) bytes = (length bytes ≤ max_bytes) × HasWarrant asked bytes (Ok verdict)
-
--- a file within the size, without faults, whose scheme has a problem within the limits
-pub record HasProblemWithinLimits (asked : Asked) (bytes : List ℕ) : Type 0 where
-  pub within : length bytes ≤ max_bytes
-  pub scheme : UnsortedData
-  pub sound : IsSortable bytes scheme
-  pub problem : ProblemData
-  pub of : IsProblemOf asked scheme problem

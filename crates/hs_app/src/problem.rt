@@ -1,9 +1,10 @@
 //! The problem of a scheme: its points and its flow, within their limits.
 
-ghost use Rattle.std.specs.Prelude.{◌≡◌, ◌+◌, ◌<◌, ◌≤◌, length, MatchResult};
+ghost use Rattle.std.specs.Prelude.{◌≡◌, ◌+◌, ◌<◌, ◌≤◌, length, IfOk, MatchResult};
+ghost use Rattle.hs_scheme.specs.Scheme.{AreRules};
 ghost use Rattle.hs_scheme.specs.Points.{points_of};
 ghost use Rattle.hs_scheme.specs.declared.flow.Pair.{Pair};
-ghost use Rattle.hs_app.specs.Problems.{IsProblemWithin, IsPastLimits};
+ghost use Rattle.hs_app.specs.Problems.{IsProblemOf, IsPastLimits};
 
 use crate::refusal::Refusal;
 use hs_flow::{FlowFault, analyse};
@@ -19,7 +20,7 @@ const MAX_PAIRS: u32 = 4_000_000;
 fn with_flow(alloc: Global, sorted: Sorted, points: Points) -> Result<Problem, Refusal>
     requires points { points ≡ points_of sorted.scheme.rules }
     requires few { length points.points ≤ 500000 }
-    ensures { MatchResult result (IsProblemWithin sorted) (IsPastLimits sorted) }
+    ensures { MatchResult result (IsProblemOf sorted) (IsPastLimits sorted) }
 {
     match analyse(alloc, &sorted.scheme, &points, MAX_PAIRS) {
         Ok(flow) => Ok(Problem::new(sorted, points, flow)),
@@ -37,7 +38,8 @@ fn with_flow(alloc: Global, sorted: Sorted, points: Points) -> Result<Problem, R
 /// The problem of a scheme. `PointLimit` and `FlowLimit` come exactly where it has more than 500,000
 /// points, or more than 4,000,000 pairs of flow.
 pub(crate) fn problem_of(alloc: Global, sorted: Sorted) -> Result<Problem, Refusal>
-    ensures { MatchResult result (IsProblemWithin sorted) (IsPastLimits sorted) }
+    ensures problem { MatchResult result (IsProblemOf sorted) (IsPastLimits sorted) }
+    ensures rules { IfOk result (λ _. AreRules sorted.scheme.rules (length sorted.scheme.ranks)) }
 {
     match Points::of(alloc, &sorted.scheme) {
         Ok(points) => with_flow(alloc, sorted, points),

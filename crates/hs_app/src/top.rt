@@ -1,10 +1,11 @@
 //! The top call.
 
-ghost use Rattle.std.specs.Prelude.{◌≡◌, ◌≢◌, ◌≤◌, ◌<◌, ◌^◌, map, Some, All, MatchResult};
+ghost use Rattle.std.specs.Prelude.{◌≡◌, ◌≢◌, ◌⊎◌, ◌≤◌, ◌<◌, ◌^◌, map, Some, All, MatchResult};
 ghost use Rattle.hs_words.specs.Words.{texts, said_by};
-ghost use Rattle.hs_app.specs.Order.{read_file, ordered, settings_of, source_run, ReadsNothing};
+ghost use Rattle.hs_app.specs.Outside.{source_run, sink_run};
+ghost use Rattle.hs_app.specs.Order.{read_file, ordered, settings_of, ReadsNothing};
 ghost use Rattle.hs_app.specs.Problems.{asked_of};
-ghost use Rattle.hs_app.specs.Outcome.{sink_run};
+ghost use Rattle.hs_app.specs.Headline as headline;
 ghost use Rattle.hs_app.specs.Outcome as outcome;
 ghost use Rattle.hs_app.specs.Verdict.{AreSettingsWithin, HasAnswer};
 ghost use Rattle.hs_gen.specs.Cycle.{cycle_file_text};
@@ -268,6 +269,14 @@ pub fn run<R: Threads + Wait + Sync, S: Source, O: Sink, E: Sink, G: Gate + Sync
     mut passes: Vec<Box<dyn Pass>>,
 ) -> u8
     requires { All (λ p. taken p ≡ 0) passes.items }
+    ensures accepted { result ≡ 0 → headline.OfInput (texts words.now)
+        (source_run S.file S.left S.reading S.faults source.old source.new) headline.IsAccepted }
+    ensures rejected { (result ≡ 1) ⊎ (result ≡ 2) → headline.OfInput (texts words.now)
+        (source_run S.file S.left S.reading S.faults source.old source.new) headline.IsRejected }
+    ensures decided { headline.IsDecided (map (λ p. image p) passes.items) (texts words.now)
+        (source_run S.file S.left S.reading S.faults source.old source.new)
+        (sink_run O.writing O.faults out.old out.new) result }
+    // All that is claimed of a run, from which the three above follow.
     ensures rows { outcome.Rows (ordered (map (λ p. image p) passes.items) (texts words.now))
         (source_run S.file S.left S.reading S.faults source.old source.new)
         (sink_run O.writing O.faults out.old out.new) (sink_run E.writing E.faults err.old err.new) result }

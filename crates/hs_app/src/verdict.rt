@@ -5,7 +5,8 @@ ghost use Rattle.hs_scheme.specs.Sorted.{IsSorted};
 ghost use Rattle.hs_scheme.specs.Unsorted.{UnsortedData, IsUnsorted};
 ghost use Rattle.hs_sorts.specs.Inference.{IsSortFault};
 ghost use Rattle.hs_app.specs.Problems.{Asked, asked_of};
-ghost use Rattle.hs_app.specs.Verdict.{AreSettingsWithin, IsSchemeOf, DecidesForm, DecidesSorted, Refused, IsAnsweredWith, IsSortRefusal};
+ghost use Rattle.hs_app.specs.Headline.{IsSchemeOf};
+ghost use Rattle.hs_app.specs.Verdict.{AreSettingsWithin, DecidesForm, DecidesSorted, Refused, IsAnsweredWith, IsSortRefusal};
 
 use crate::deciding::decide_problem;
 use crate::problem::problem_of;

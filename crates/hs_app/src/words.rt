@@ -1,12 +1,13 @@
 //! The run on the words of the command line, as the system gives them.
 
-ghost use Rattle.std.specs.Prelude.{◌≡◌, ◌≢◌, ◌⊎◌, map, All, IfOk, IfErr, OnErr, string_bytes};
+ghost use Rattle.std.specs.Prelude.{◌≡◌, ◌≢◌, ◌⊎◌, map, All, IsOkAnd, IfOk, IfErr, OnErr, string_bytes};
 ghost use Rattle.std.specs.IoError.{error_kind};
 ghost use Rattle.std.specs.Vec.Iter.{into_iter_items};
 ghost use Rattle.hs_words.specs.Words.{texts};
+ghost use Rattle.hs_app.specs.Outside.{source_run, sink_run};
+ghost use Rattle.hs_app.specs.Order.{ordered};
+ghost use Rattle.hs_app.specs.Headline as headline;
 ghost use Rattle.hs_app.specs.Outcome as outcome;
-ghost use Rattle.hs_app.specs.Order.{ordered, source_run};
-ghost use Rattle.hs_app.specs.Outcome.{sink_run};
 
 use crate::top::run;
 use hs_edge::{Sink, Source};
@@ -51,6 +52,16 @@ pub fn run_on<R: Threads + Wait + Sync, S: Source, O: Sink, E: Sink>(
     passes: Vec<Box<dyn Pass>>,
 ) -> u8
     requires { All (λ p. taken p ≡ 0) passes.items }
+    ensures accepted { result ≡ 0 → IsOkAnd words (λ given.
+        headline.OfInput (map string_bytes (into_iter_items given))
+        (source_run S.file S.left S.reading S.faults source.old source.new) headline.IsAccepted) }
+    ensures rejected { (result ≡ 1) ⊎ (result ≡ 2) → IsOkAnd words (λ given.
+        headline.OfInput (map string_bytes (into_iter_items given))
+        (source_run S.file S.left S.reading S.faults source.old source.new) headline.IsRejected) }
+    ensures decided { IfOk words (λ given.
+        headline.IsDecided (map (λ p. image p) passes.items) (map string_bytes (into_iter_items given))
+        (source_run S.file S.left S.reading S.faults source.old source.new)
+        (sink_run O.writing O.faults out.old out.new) result) }
     ensures rows { IfOk words (λ given.
         ((result ≡ 10) × (source.new ≡ source.old) × (out.new ≡ out.old) × (err.new ≡ err.old))
         ⊎ outcome.Rows (ordered (map (λ p. image p) passes.items) (map string_bytes (into_iter_items given)))

@@ -6,7 +6,8 @@ use Rattle.hs_words.specs.Words.{OptionsData, texts, said_by, options_of}
 use Rattle.hs_app.specs.declared.verdict.Settings.{Settings}
 use Rattle.hs_passes.specs.Passing.{Image}
 use Rattle.hs_app.specs.Problems.{asked_of}
-use Rattle.hs_app.specs.Order.{Order, FileOrigin, generate, read_file, job_of, order_of, ordered, settings_of, source_run, ReadsNothing}
+use Rattle.hs_app.specs.Order.{Order, FileOrigin, generate, read_file, job_of, order_of, ordered, settings_of, ReadsNothing}
+use Rattle.hs_app.specs.Outside.{source_run}
 use Rattle.hs_app.specs.Outcome.{IsAnswerOfRun}
 use Rattle.hs_app.specs.Verdict.{AreSettingsWithin}
 use Rattle.hs_app.proofs.OrderLemmas.{options_in}
@@ -40,7 +41,7 @@ returns-in-Some-clause-answer g c =
     let job : job_of o ≡ generate c.in-Some.k = ap (λ (x : Option ℕ). option_map_or (λ k. generate k) x (read_file (unwrap_or o.file (codes "-")))) c.in-Some.is in
     subst (λ (x : Option Order). IsAnswerOfRun x source c.verdict_on_cycle.result)
     (sym (order_is _ (texts c.args.words.now) o (generate c.in-Some.k) c.settings_of-settings.result c.in-Ok.ensures.ok job c.settings_of-settings.ensures))
-    (of_cycle c.in-Some.k _ source c.verdict_on_cycle.result refl c.verdict_on_cycle.ensures)
+    (of_cycle c.in-Some.k _ source c.verdict_on_cycle.result (record { same_reading = refl; same_left = refl }) c.verdict_on_cycle.ensures)
 
 -- the name that is read where no file is given
 name_is : (file : Option (Bor (List ℕ))) (default : Bor (List ℕ)) → default.now ≡ codes "-" → (unwrap_or file default).now ≡ unwrap_or (option_map (λ (f : Bor (List ℕ)). f.now) file) (codes "-")

@@ -2,8 +2,9 @@ use Rattle.std.proofs.Common.{refl, sym, ◌∙◌, ap, subst, inl, inr, ◌++�
 use Rattle.hs_app.specs.declared.refusal.Refusal.{Refusal}
 use Rattle.hs_app.specs.Refusal.{line_of}
 use Rattle.hs_words.specs.Words.{texts}
-use Rattle.hs_app.specs.Order.{ordered, source_run}
-use Rattle.hs_app.specs.Outcome.{sink_run, HasCause, HasTakenOrFailed, Refuses}
+use Rattle.hs_app.specs.Order.{ordered}
+use Rattle.hs_app.specs.Outside.{source_run, sink_run}
+use Rattle.hs_app.specs.Outcome.{HasCause, HasTakenOrFailed, Refuses}
 use Rattle.hs_app.proofs.OutcomeLemmas.{any_cause}
 use Rattle.hs_app.proofs.top.end.Goals as goal
 

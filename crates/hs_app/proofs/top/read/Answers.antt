@@ -1,6 +1,6 @@
 use Rattle.std.proofs.Common.{◌≡◌, ◌∙◌, sym, length, false, Result, Ok, Err, arith, rules}
 use Rattle.std.specs.Prelude.{OnOk, is_err}
-use Rattle.hs_app.specs.Order.{source_run}
+use Rattle.hs_app.specs.Outside.{source_run}
 use Rattle.hs_app.proofs.ReadLemmas.{read_whole}
 use Rattle.hs_app.proofs.top.read.Goals as goal
 

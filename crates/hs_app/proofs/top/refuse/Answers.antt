@@ -1,5 +1,6 @@
 use Rattle.std.proofs.Common.{◌≡◌, refl, subst, List, ℕ, true, false, inr}
-use Rattle.hs_app.specs.Outcome.{HasTakenOrFailed, sink_run}
+use Rattle.hs_app.specs.Outside.{sink_run}
+use Rattle.hs_app.specs.Outcome.{HasTakenOrFailed}
 use Rattle.hs_app.proofs.top.refuse.Goals as goal
 
 false_true : false ≡ true → ⊥

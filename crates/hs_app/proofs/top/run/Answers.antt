@@ -1,7 +1,8 @@
 use Rattle.hs_words.specs.Words.{texts}
-use Rattle.hs_app.specs.Order.{ordered, source_run}
-use Rattle.hs_app.specs.Outcome.{sink_run}
+use Rattle.hs_app.specs.Order.{ordered}
+use Rattle.hs_app.specs.Outside.{source_run, sink_run}
 use Rattle.hs_app.proofs.OutcomeLemmas.{rows}
+use Rattle.hs_app.proofs.HeadlineLemmas.{accepted, rejected, decided}
 use Rattle.hs_app.proofs.top.run.Goals as goal
 
 pub returns-clause-rows : goal.returns-clause-rows
@@ -11,3 +12,12 @@ returns-clause-rows g c =
     (sink_run g.O.Sink.writing g.O.Sink.faults c.args.out.now c.end.new.out)
     (sink_run g.E.Sink.writing g.E.Sink.faults c.args.err.now c.end.new.err)
     c.end.result c.exit_status.result c.end.ensures.ends c.end.ensures.calm c.exit_status.ensures
+
+pub returns-clause-accepted : goal.returns-clause-accepted
+returns-clause-accepted g c = λ e. accepted _ _ _ _ c.exit_status.result (texts c.args.words.now) (returns-clause-rows g c) e
+
+pub returns-clause-rejected : goal.returns-clause-rejected
+returns-clause-rejected g c = λ e. rejected _ _ _ _ c.exit_status.result (texts c.args.words.now) (returns-clause-rows g c) e
+
+pub returns-clause-decided : goal.returns-clause-decided
+returns-clause-decided g c = decided _ _ _ _ c.exit_status.result (texts c.args.words.now) (returns-clause-rows g c)

@@ -4,20 +4,20 @@ use Rattle.hs_scheme.specs.Unsorted.{UnsortedData, IsUnsorted}
 use Rattle.hs_resolve.specs.Numbering.{unsorted_of}
 use Rattle.hs_sorts.specs.Inference.{IsInferred, IsSortFault}
 use Rattle.hs_app.proofs.VerdictLemmas.{refused, decided}
-use Rattle.hs_app.proofs.OneScheme.{one_scheme, scheme_is}
+use Rattle.hs_app.proofs.OneScheme.{one_scheme, scheme_is, reads_of}
 use Rattle.hs_app.proofs.verdict.decide.Goals as goal
 
 pub returns-in-Ok : goal.returns-in-Ok
 returns-in-Ok g c =
     let s = c.in_ok-unsorted.ensures.scheme in
-    decided _ c.args.bytes.now s.file s.reads s.faultless c.in-Ok.sorted
-    (subst (λ (u : UnsortedData). IsInferred u c.in-Ok.sorted) s.is c.in-Ok.ensures.ok)
-    (subst (λ (u : UnsortedData). IsUnsorted u) s.is c.know_unsorted.ensures) c.decide_scheme.result c.decide_scheme.ensures
+    decided _ c.args.bytes.now s.of.file (reads_of _ _ s) s.of.faultless c.in-Ok.sorted
+    (subst (λ (u : UnsortedData). IsInferred u c.in-Ok.sorted) s.of.is c.in-Ok.ensures.ok)
+    (subst (λ (u : UnsortedData). IsUnsorted u) s.of.is c.know_unsorted.ensures) c.decide_scheme.result c.decide_scheme.ensures
 
 pub returns-in-Err : goal.returns-in-Err
 returns-in-Err g c =
     let s = c.in_ok-unsorted.ensures.scheme in
-    refused _ c.args.bytes.now s.file s.reads s.faultless c.sort_refusal.result (c.sort_refusal.ensures (unsorted_of s.file) (scheme_is c.args.bytes.now s.file s.reads s.faultless))
+    refused _ c.args.bytes.now s.of.file (reads_of _ _ s) s.of.faultless c.sort_refusal.result (c.sort_refusal.ensures (unsorted_of s.of.file) (scheme_is c.args.bytes.now s.of.file (reads_of _ _ s) s.of.faultless))
 
 pub returns-in_err-unsorted : goal.returns-in_err-unsorted
 returns-in_err-unsorted g c =

@@ -1,0 +1,150 @@
+-- What the exit statuses 0, 1 and 2 mean, and which files get one of them. Three clauses of `run` and of `run_on` say it:
+--     accepted    status 0 comes only where the bytes of the input are a file whose tree the automaton accepts
+--     rejected    1 and 2 come only where they are a file whose tree it doesn't accept
+--     decided     an input within the limits, whose least table is within the budget, ends with 0, 1 or 2, memory and counted faults aside
+-- All else that is claimed of a run stands in `Rows` of `Outcome`, from which these three follow.
+-- To read, each file behind those that it leads to, with the number of its lines that these clauses lead to; `.ci/headline --names` names
+-- the definitions. What stands in the toolchain's libraries (lists, numbers, options, `clap`) is vocabulary that is trusted.
+-- For `accepted` and `rejected`, 613 lines of 27 files:
+--      27  hs_edge/specs/Reading.antt
+--      36  hs_app/specs/Outside.antt
+--       3  hs_edge/specs/Count.antt
+--       5  hs_scheme/specs/Transition.antt
+--      10  hs_scheme/specs/Automaton.antt
+--       6  hs_scheme/specs/Names.antt
+--      20  hs_scheme/specs/Tree.antt
+--      18  hs_scheme/src/term.rt
+--       6  hs_scheme/specs/Unsorted.antt
+--     102  hs_reader/specs/Tokens.antt
+--       7  hs_reader/specs/Limits.antt
+--       6  hs_reader/src/raw.rt
+--      11  hs_reader/specs/Raw.antt
+--      46  hs_reader/specs/Grammar.antt
+--       2  hs_reader/specs/Faults.antt
+--      13  hs_resolve/specs/Names.antt
+--      48  hs_resolve/specs/Numbering.antt
+--      38  hs_resolve/specs/LineFaults.antt
+--       5  hs_resolve/specs/Answer.antt
+--      14  hs_scheme/specs/Replacement.antt
+--      23  hs_scheme/specs/Cut.antt
+--      16  hs_scheme/specs/Run.antt
+--      19  hs_gen/specs/Cycle.antt
+--      56  hs_words/specs/Words.antt
+--      14  hs_app/specs/Order.antt
+--       3  hs_edge/src/errors.rt
+--      59  hs_edge/src/source.rt
+-- Further for `decided`, 732 lines, 53 files in all:
+--       9  hs_edge/specs/Writing.antt
+--      12  hs_app/specs/Outside.antt
+--      18  hs_reader/src/fault.rt
+--      22  hs_scheme/specs/Scheme.antt
+--      66  hs_scheme/specs/Sorting.antt
+--      13  hs_scheme/specs/Unsorted.antt
+--      29  hs_scheme/specs/Sorted.antt
+--       4  hs_passes/specs/Weight.antt
+--      10  hs_passes/specs/Passing.antt
+--      83  hs_reader/specs/Faults.antt
+--       2  hs_scheme/specs/Parameters.antt
+--      37  hs_scheme/specs/Points.antt
+--      21  hs_scheme/src/flow.rt
+--      54  hs_scheme/specs/Flow.antt
+--       4  hs_scheme/specs/Problem.antt
+--      37  hs_table/specs/Types.antt
+--      24  hs_table/specs/Entries.antt
+--      12  hs_table/src/support.rt
+--      74  hs_table/specs/Follows.antt
+--       5  hs_table/specs/Tables.antt
+--      31  hs_scheme/specs/Steps.antt
+--       6  hs_scheme/specs/SameTree.antt
+--      13  hs_scheme/specs/Lengthening.antt
+--      13  hs_sorts/specs/Naming.antt
+--      20  hs_sorts/specs/Inference.antt
+--      16  hs_app/src/verdict.rt
+--      27  hs_app/specs/Problems.antt
+--      17  hs_app/specs/Order.antt
+--      26  hs_edge/src/sink.rt
+--      27  hs_passes/src/pass.rt
+-- At most 640 lines, and 760 further.
+use Rattle.std.specs.Prelude.{◌≡◌, ◌≤◌, ◌<◌, ◌⊎◌, ℕ, List, length, IfSome, IsSomeAnd}
+use Rattle.hs_edge.specs.Count.{Rose}
+use Rattle.hs_scheme.specs.Unsorted.{UnsortedData}
+use Rattle.hs_scheme.specs.Problem.{ProblemData}
+use Rattle.hs_scheme.specs.Run.{Accepts}
+use Rattle.hs_reader.specs.Raw.{File}
+use Rattle.hs_reader.specs.Tokens.{Placed, Lexes}
+use Rattle.hs_reader.specs.Grammar.{IsFile}
+use Rattle.hs_reader.specs.Faults.{kinds, NoLimit}
+use Rattle.hs_resolve.specs.Numbering.{unsorted_of}
+use Rattle.hs_resolve.specs.Answer.{IsFaultless}
+use Rattle.hs_passes.specs.Passing.{Image}
+use Rattle.hs_table.specs.Tables.{Exceeds}
+use Rattle.hs_app.specs.Outside.{SourceRun, SinkRun}
+use Rattle.hs_app.specs.Problems.{Asked, HasProblem}
+use Rattle.hs_app.specs.Order.{Order, job_in, ordered, bytes_of, IsReadToEnd, IsPart, HasFault}
+
+-- ---- accepted and rejected
+
+-- The bytes are a file of this scheme: they are cut into tokens, these are rules and transitions by the grammar, none of the names in
+-- them has a fault, and with numbers for the names they are the scheme.
+pub record IsFileOf (bytes : List ℕ) (scheme : UnsortedData) : Type 0 where
+  pub tokens : List Placed
+  pub lexes : Lexes bytes tokens
+  pub file : File
+  pub is_file : IsFile (kinds tokens) file
+  pub faultless : IsFaultless file
+  pub is : scheme ≡ unsorted_of file
+
+-- they are one whose value tree its automaton accepts
+pub record IsAccepted (bytes : List ℕ) : Type 0 where
+  pub scheme : UnsortedData
+  pub of_bytes : IsFileOf bytes scheme
+  pub accepts : Accepts scheme.rules scheme.automaton.transitions
+
+-- they are one whose value tree it doesn't accept
+pub record IsRejected (bytes : List ℕ) : Type 0 where
+  pub scheme : UnsortedData
+  pub of_bytes : IsFileOf bytes scheme
+  pub rejects : Accepts scheme.rules scheme.automaton.transitions → ⊥
+
+-- This holds of the bytes of the input: of those that the source handed out from the start of the file on that the words name, up to
+-- its end; or of those of the generated file, where the words ask for one.
+abbrev pub OfInput : List (List ℕ) → SourceRun → (List ℕ → Type 0) → Type 0
+OfInput words source P = IsSomeAnd (job_in words) (λ job. P (bytes_of job source.after.given) × IsReadToEnd job source)
+
+-- ---- which files are decided
+
+-- they are a file of this scheme in which nothing passes a limit of the text
+pub record IsSchemeOf (bytes : List ℕ) (scheme : UnsortedData) : Type 0 where
+  pub of : IsFileOf bytes scheme
+  pub within : NoLimit (kinds of.tokens)
+
+-- 16 MiB
+abbrev pub max_bytes : ℕ
+max_bytes = 16777216
+
+-- they are at most so many, and such a file, of which what is saturated has its points and its flow within their limits
+pub record IsWithinLimits (asked : Asked) (bytes : List ℕ) : Type 0 where
+  pub short : length bytes ≤ max_bytes
+  pub scheme : UnsortedData
+  pub of_bytes : IsSchemeOf bytes scheme
+  pub problem : ProblemData
+  pub of : HasProblem asked scheme problem
+
+-- and no supported table has more entries than are allowed, so the least table has not
+abbrev pub IsWithinAll : Asked → List ℕ → Type 0
+IsWithinAll asked bytes = (is : IsWithinLimits asked bytes) × (Exceeds is.problem asked.settings.entries → ⊥)
+
+-- more bytes were handed out, or all of them, and these aren't within the limits and the budget
+abbrev pub IsOutside : Order → SourceRun → Type 0
+IsOutside o source =
+    ((max_bytes < length source.after.given) × IsPart o.job source)
+    ⊎ ((IsWithinAll o.asked (bytes_of o.job source.after.given) → ⊥) × IsReadToEnd o.job source)
+
+-- the status is that of a fault of the source, or of `out`, and its count rose
+abbrev pub IsFault : Order → SourceRun → SinkRun → ℕ → Type 0
+IsFault o source out status = ((status ≡ 8) × HasFault o.job source) ⊎ ((status ≡ 9) × Rose out.faults out.faults_after)
+
+-- Where the words are taken the status is 0, 1 or 2, or that of a fault, or 10 for want of memory, or the input is outside of the limits.
+abbrev pub IsDecided : List Image → List (List ℕ) → SourceRun → SinkRun → ℕ → Type 0
+IsDecided images words source out status =
+    IfSome (ordered images words) (λ o. (status ≤ 2) ⊎ (IsFault o source out status ⊎ ((status ≡ 10) ⊎ IsOutside o source)))
