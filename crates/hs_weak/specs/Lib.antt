@@ -1,0 +1,11 @@
+pub mod Strength
+pub mod StrengthExamples
+pub mod Weak
+pub mod WeakExamples
+pub mod Reads
+pub mod ReadsExamples
+pub mod Sites
+pub mod SitesExamples
+pub mod Void
+pub mod Certificate
+pub mod CertificateExamples

@@ -1,0 +1,7 @@
+pub mod Relations
+pub mod Choices
+pub mod NeverVoid
+pub mod Building
+pub mod Reading
+pub mod Complete
+pub mod Verdict

@@ -1,0 +1,2 @@
+pub mod WeaklyTyped
+pub mod Built

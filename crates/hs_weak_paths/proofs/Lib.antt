@@ -1,0 +1,5 @@
+pub mod Rejected
+pub mod Strength
+pub mod Heads
+pub mod Rejecting
+pub mod Deciding
