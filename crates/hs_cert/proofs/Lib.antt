@@ -1,0 +1,14 @@
+pub mod Fronts
+pub mod Unique
+pub mod Above
+pub mod Reading
+pub mod Sets
+pub mod Environments
+pub mod Numbers
+pub mod Entries
+pub mod LineLemmas
+pub mod Heads
+pub mod Right
+pub mod Names
+pub mod OneTable
+pub mod Clear

@@ -1,0 +1,125 @@
+-- What stands at the front of a text, and what behind it; only private contracts cite it.
+--     IsAboveLast                            an element is greater than the last of a list
+--     type_then, members_then, sets_then     the text of a type, of the types of a set behind its brace, of the sets of an environment
+--                                            behind its bracket, and this rest
+--     IsTypeFront, IsMembersFront            such a type or set stands at the front
+--     IsSetsFront                            such sets stand there, the first of them that of parameter k
+--     IsPlaceFront, IsNextEntry              a point with its rule; an entry on a line
+--     HasHead, HasBegun                      the first three lines; those and some entries
+use Rattle.std.specs.Prelude.{◌≡◌, ℕ, ◌+◌, ◌<◌, ◌≤◌, ◌^◌, ◌==◌, List, [], ◌∷◌, ◌++◌, length, map, codes, decimal, Option, Some, None, All, if◌then◌else◌}
+use Rattle.std.specs.List.{flat_map}
+use Rattle.std.specs.declared.cmp.Ordering.{Ordering}
+use Rattle.std.specs.declared.cmp.Ordering.TheVariants.{Less}
+use Rattle.hs_scheme.specs.Tree.{Tree, Trees, node, none, more, forest, height, heights}
+use Rattle.hs_scheme.specs.Flow.{IsAscending}
+use Rattle.hs_scheme.specs.Points.{point_at}
+use Rattle.hs_scheme.specs.Problem.{ProblemData}
+use Rattle.hs_reader.specs.Tokens.{EndsRun}
+use Rattle.hs_table.specs.Types.{TypeTree, IsSet, IsType, AreTypes}
+use Rattle.hs_table.specs.Entries.{Env, EntryData, InShape, entry_cmp}
+use Rattle.hs_text.specs.Canonical.{name_at}
+use Rattle.hs_cert.specs.Certificate.{AreStateNames, ended, IsInLine, IsNested, IsEntry, verdict_line, entries_line, checked_line, line_text}
+
+-- the element is greater than the last of the list, where it has one
+abbrev pub IsAboveLast : {X : Type 0} → (X → X → Ordering) → List X → X → Type 0
+IsAboveLast {X} cmp xs x = (front : List X) (last : X) → xs ≡ front ++ last ∷ [] → cmp last x ≡ Less
+
+-- names with numbers below 2 ^ 32
+pub record AreStates (names : List (List ℕ)) : Type 0 where
+  pub are : AreStateNames names
+  pub few : length names < 2 ^ 32
+
+-- these are the names of the problem's states, one for each, and it has no more points than a problem may have
+pub record IsOfProblem (p : ProblemData) (names : List (List ℕ)) : Type 0 where
+  pub is : names ≡ p.sorted.names.states
+  pub each : length p.sorted.names.states ≡ p.sorted.automaton.states
+  pub few : length p.points.points ≤ 500000
+
+abbrev mutual
+  pub type_then : List (List ℕ) → Tree (Option ℕ) → List ℕ → List ℕ
+  type_then names (node (Some q) us) rest = name_at names q ++ rest
+  type_then names (node None us) rest = arrow_then names us rest
+
+  pub arrow_then : List (List ℕ) → Trees (Option ℕ) → List ℕ → List ℕ
+  arrow_then names none rest = rest
+  arrow_then names (more t us) rest = codes "{" ++ members_then names us (codes " -> " ++ type_then names t rest)
+
+  pub members_then : List (List ℕ) → Trees (Option ℕ) → List ℕ → List ℕ
+  members_then names none rest = codes "}" ++ rest
+  members_then names (more t us) rest = type_then names t (others_then names us rest)
+
+  -- the types behind the first
+  pub others_then : List (List ℕ) → Trees (Option ℕ) → List ℕ → List ℕ
+  others_then names none rest = codes "}" ++ rest
+  others_then names (more t us) rest = codes "," ++ type_then names t (others_then names us rest)
+
+pub record IsTypeFront (names : List (List ℕ)) (limit : ℕ) (bytes : List ℕ) (t : TypeTree) (rest : List ℕ) : Type 0 where
+  pub spelled : bytes ≡ type_then names t rest
+  pub ends : EndsRun rest
+  pub shape : IsType (length names) t
+  pub low : height t < limit
+
+pub record IsMembersFront (names : List (List ℕ)) (limit : ℕ) (bytes : List ℕ) (s : List TypeTree) (rest : List ℕ) : Type 0 where
+  pub spelled : bytes ≡ members_then names (forest s) rest
+  pub shape : AreTypes (length names) (forest s)
+  pub low : heights (forest s) ≤ limit
+  pub set : IsSet s
+
+-- what stands before the set of parameter k
+abbrev pub label_text : List (List ℕ) → ℕ → List ℕ
+label_text params k = (if k == 0 then [] else codes "; ") ++ (name_at params k ++ codes ":{")
+
+-- the sets of the parameters from k on, and the bracket
+abbrev pub sets_then : List (List ℕ) → List (List ℕ) → ℕ → Env → List ℕ → List ℕ
+sets_then names params k [] rest = codes "]" ++ rest
+sets_then names params k (s ∷ env) rest = label_text params k ++ members_then names (forest s) (sets_then names params (k + 1) env rest)
+
+-- a set of types in shape, of which none is as high as that
+pub record IsLowSet (n limit : ℕ) (s : List TypeTree) : Type 0 where
+  pub shape : AreTypes n (forest s)
+  pub low : heights (forest s) ≤ limit
+  pub set : IsSet s
+
+pub record IsSetsFront (names params : List (List ℕ)) (count : ℕ) (bytes : List ℕ) (env : Env) (rest : List ℕ) : Type 0 where
+  pub spelled : bytes ≡ sets_then names params 0 env rest
+  pub long : length env ≡ count
+  pub sets : All (IsLowSet (length names) 1000) env
+
+abbrev pub head_lines : ℕ → ℕ → List (List ℕ)
+head_lines n m = verdict_line ∷ (entries_line n ∷ (checked_line m ∷ []))
+
+abbrev pub text_of : List (List ℕ) → List ℕ
+text_of lines = flat_map ended lines
+
+-- these lines stand at the front of the bytes, and behind them the rest
+pub record Cut (bytes : List ℕ) (lines : List (List ℕ)) (rest : List ℕ) : Type 0 where
+  pub are : bytes ≡ text_of lines ++ rest
+  pub clear : All IsInLine lines
+
+pub record HasHead (bytes : List ℕ) (n m : ℕ) (rest : List ℕ) : Type 0 where
+  pub cut : Cut bytes (head_lines n m) rest
+  pub few : n ≤ 1000000
+  pub fits : m < 2 ^ 64
+
+-- the first lines are right: a head with these numbers, and these entries
+pub record HasBegun (p : ProblemData) (bytes : List ℕ) (n m : ℕ) (table : List EntryData) (rest : List ℕ) : Type 0 where
+  pub cut : Cut bytes (head_lines n m ++ map (line_text p) table) rest
+  pub few : n ≤ 1000000
+  pub fits : m < 2 ^ 64
+  pub within : length table ≤ n
+  pub shape : All (InShape p) table
+  pub nested : All IsNested table
+  pub ascending : IsAscending entry_cmp table
+
+-- the number of a point of the problem with the name of its rule, and the bracket
+pub record IsPlaceFront (p : ProblemData) (bytes : List ℕ) (point : ℕ) (rest : List ℕ) : Type 0 where
+  pub spelled : bytes ≡ decimal point ++ (codes " " ++ (name_at p.sorted.names.rules (point_at p.points point).rule ++ (codes " [" ++ rest)))
+  pub within : point < length p.points.points
+
+-- the entry stands on the line at the front, and is greater than the last of these
+pub record IsNextEntry (p : ProblemData) (before : List EntryData) (bytes : List ℕ) (e : EntryData) (rest : List ℕ) : Type 0 where
+  pub text : List ℕ
+  pub spelled : bytes ≡ ended text ++ rest
+  pub inside : IsInLine text
+  pub entry : IsEntry p text e
+  pub above : IsAboveLast entry_cmp before e

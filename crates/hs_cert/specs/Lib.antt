@@ -1,0 +1,4 @@
+pub mod Certificate
+pub mod Front
+pub mod Misreading
+pub mod Examples
