@@ -12,6 +12,8 @@ pub mod Parameters
 pub mod Names
 pub mod Unsorted
 pub mod Steps
+pub mod FailingPath
+pub mod Failing
 pub mod Points
 pub mod Rows
 pub mod Flow
@@ -27,3 +29,5 @@ pub mod Copying
 pub mod Problem
 pub mod SortingExamples
 pub mod StepsExamples
+pub mod RunExamples
+pub mod PointsExamples

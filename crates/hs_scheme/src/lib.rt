@@ -9,6 +9,7 @@
 mod automaton;
 mod checked;
 mod copying;
+mod failing_path;
 mod flow;
 mod flow_laws;
 mod limits;
@@ -28,6 +29,7 @@ mod transitions;
 pub use automaton::{Automaton, Transition};
 pub use checked::scheme_of;
 pub use copying::copied;
+pub use failing_path::FailingPath;
 pub use flow::{FlowPair, FlowTable, HeadPair, Pair};
 pub use flow_laws::flow_is_unique;
 pub use limits::{MAX_ARGUMENTS, MAX_PARAMETERS, MAX_RULES};

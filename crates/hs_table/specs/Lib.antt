@@ -4,3 +4,4 @@ pub mod TypeFalls
 pub mod Entries
 pub mod Follows
 pub mod Tables
+pub mod FollowsExamples

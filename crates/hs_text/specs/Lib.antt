@@ -1,3 +1,4 @@
 pub mod Canonical
 pub mod Pieces
 pub mod Report
+pub mod ReportExamples

@@ -16,7 +16,7 @@ use Rattle.hs_scheme.specs.Points.{point_at}
 use Rattle.hs_scheme.specs.Problem.{ProblemData}
 use Rattle.hs_table.specs.Types.{TypeTree}
 use Rattle.hs_table.specs.Entries.{Env, EntryData, entry_cmp}
-use Rattle.hs_trace.specs.Path.{PathData}
+use Rattle.hs_scheme.specs.FailingPath.{FailingPathData}
 use Rattle.hs_text.specs.Canonical.{name_at, params_at}
 use Rattle.hs_text.specs.declared.verdict.Verdict.{Verdict}
 use Rattle.hs_text.specs.declared.verdict.Verdict.TheVariants.{Accepted, Rejected, Long}
@@ -64,7 +64,7 @@ entry_line p e = entry_text p.sorted.names (point_at p.points e.point).rule e ++
 abbrev pub step_text : NamesData → ℕ × ℕ → List ℕ
 step_text names s = name_at names.terminals s.0 ++ (codes "/" ++ (decimal s.1 ++ codes " "))
 
-abbrev pub path_lines : NamesData → PathData → List ℕ
+abbrev pub path_lines : NamesData → FailingPathData → List ℕ
 path_lines names path =
     codes "path "
     ++ (flat_map (step_text names) path.steps ++ (name_at names.terminals path.last ++ (codes "\nstate " ++ (name_at names.states path.state ++ codes "\n"))))

@@ -11,9 +11,8 @@ ghost use Rattle.hs_text.specs.Report.{IsReport};
 use crate::pieces::{Text, names_of, push_number, state_name, terminal_name};
 use crate::table::push_table;
 use crate::verdict::Verdict;
-use hs_scheme::{Names, OutOfMemory, Problem};
+use hs_scheme::{FailingPath, Names, OutOfMemory, Problem};
 use hs_table::Entry;
-use hs_trace::Path;
 use std::alloc::Global;
 
 /// Puts a line of these words and a number at the end.
@@ -47,7 +46,7 @@ fn push_steps(names: &Names, steps: &[(u32, u32)], text: &mut Text)
 }
 
 /// Puts the lines of a path at the end.
-fn push_path(names: &Names, path: &Path, text: &mut Text)
+fn push_path(names: &Names, path: &FailingPath, text: &mut Text)
     ensures { Puts text.old text.new (lines.path_lines names.now path.now) }
 {
     text.push(b"path ");

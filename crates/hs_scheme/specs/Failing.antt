@@ -9,9 +9,9 @@ use Rattle.hs_scheme.specs.Automaton.{next}
 use Rattle.hs_scheme.specs.Tree.{Trees, node}
 use Rattle.hs_scheme.specs.Run.{start}
 use Rattle.hs_scheme.specs.Steps.{Reaches}
-use Rattle.hs_trace.specs.Path.{PathData}
+use Rattle.hs_scheme.specs.FailingPath.{FailingPathData}
 
-pub record IsFailingPath (rules : List Rule) (ts : List TransitionData) (path : PathData) : Type 0 where
+pub record IsFailingPath (rules : List Rule) (ts : List TransitionData) (path : FailingPathData) : Type 0 where
   pub arguments : Trees Head
   pub reaches : Reaches rules ts path.used 0 start path.steps path.state (node (Tm path.last) arguments)
   pub stuck : next ts path.state path.last ≡ None

@@ -4,7 +4,7 @@ use std::marker::Model;
 
 /// A path of a value tree at whose end the automaton fails.
 #[derive(Debug, Drop)]
-pub struct Path {
+pub struct FailingPath {
     /// Each terminal on the way, with the number of the child that follows, counted from 1.
     pub steps: Vec<(u32, u32)>,
     /// The terminal at the end.
@@ -15,12 +15,12 @@ pub struct Path {
     pub used: u64,
 }
 
-impl Model for Path {
-    ghost use Rattle.hs_trace.specs.Path.{PathData, coded_path};
+impl Model for FailingPath {
+    ghost use Rattle.hs_scheme.specs.FailingPath.{FailingPathData, coded_failing_path};
 
-    ghost Value = { PathData };
+    ghost Value = { FailingPathData };
 
-    ghost coded = { coded_path };
+    ghost coded = { coded_failing_path };
 
     ghost view = { λ a. record { steps = a.steps.items; last = a.last; state = a.state; used = a.used } };
 }
