@@ -1,8 +1,9 @@
 //! `horsat FILE`: whether the automaton of a file accepts the value tree of its scheme.
 #![tactic(auto)]
 
-use hs_app::{NO_MEMORY, run_on};
+use hs_app::run_on;
 use hs_edge::{FileSource, Sink, Source, StdSink};
+use hs_front::NO_MEMORY;
 use hs_passes::{DropUnreachable, DropUnused, FoldAliases, Pass, add};
 use hs_scheme::OutOfMemory;
 use std::alloc::Global;

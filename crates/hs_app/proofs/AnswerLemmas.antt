@@ -1,130 +1,53 @@
 -- The bytes of a file come to one answer, want of memory and the length of a path aside.
-use Rattle.std.proofs.Common.{◌≡◌, refl, sym, ◌∙◌, ap, subst, ℕ, ◌<◌, ◌≤◌, List, slice_get, Some, Result, Ok, Err, Bool, true, false, length, ◌⊎◌, inl, inr, arith}
+use Rattle.std.proofs.Common.{◌≡◌, refl, sym, ◌∙◌, ap, subst, ℕ, ◌<◌, ◌≤◌, List, Result, Ok, Err, Bool, true, false, length, ◌⊎◌, inl, inr, arith}
 use Rattle.hs_scheme.specs.Unsorted.{UnsortedData}
 use Rattle.hs_scheme.specs.Problem.{ProblemData}
 use Rattle.hs_scheme.specs.Run.{Accepts}
-use Rattle.hs_reader.specs.Raw.{File}
-use Rattle.hs_reader.specs.declared.fault.ReadFault.{ReadFault}
-use Rattle.hs_reader.specs.declared.fault.ReadFault.TheVariants as read
-use Rattle.hs_reader.specs.Faults.{IsAnswer}
-use Rattle.hs_reader.proofs.Exact.{one_answer_is}
-use Rattle.hs_resolve.specs.declared.fault.NameFault.{NameFault}
-use Rattle.hs_resolve.specs.Numbering.{unsorted_of}
-use Rattle.hs_resolve.specs.Answer.{IsFaultless, IsAnswered}
-use Rattle.hs_resolve.proofs.FirstFault.{not_both, one_fault_is as one_name_fault}
-use Rattle.hs_sorts.specs.declared.fault.SortFault.{SortFault}
-use Rattle.hs_sorts.specs.declared.fault.SortFault.TheVariants as sorts
-use Rattle.hs_sorts.specs.Inference.{IsInferable, IsSortFault}
-use Rattle.hs_sorts.proofs.Excluding.{only_memory, inferred_inferable, one_fault_is as one_sort_fault}
 use Rattle.hs_table.specs.Entries.{EntryData}
 use Rattle.hs_table.specs.Tables.{IsLeastTable, Exceeds}
 use Rattle.hs_table_laws.proofs.Least.{least_decides}
-use Rattle.hs_app.specs.declared.refusal.Refusal.{Refusal}
-use Rattle.hs_app.specs.declared.refusal.Refusal.TheVariants.{Usage, Source, FileTooLong, Syntax, Limit, Names, IllSorted, NotFirstOrder, SortTooLarge, RuleTooLong, PointLimit, FlowLimit, EntryLimit, Sink, OutOfMemory}
+use Rattle.hs_front.specs.declared.refusal.Refusal.{Refusal}
+use Rattle.hs_front.specs.declared.refusal.Refusal.TheVariants.{Usage, Source, FileTooLong, Syntax, Limit, Names, IllSorted, NotFirstOrder, SortTooLarge, RuleTooLong, PointLimit, FlowLimit, EntryLimit, Sink, OutOfMemory}
 use Rattle.hs_app.specs.declared.verdict.Verdict.{Verdict}
 use Rattle.hs_app.specs.declared.verdict.Verdict.TheVariants.{Accepted, Rejected, Long}
 use Rattle.hs_app.specs.declared.verdict.Decided.{Decided}
-use Rattle.hs_app.specs.Problems.{Asked, OfForm, HasProblem, HasManyPoints, HasMuchFlow, IsReportedTable}
-use Rattle.hs_app.specs.Headline.{max_bytes, IsSchemeOf, IsWithinLimits, IsWithinAll}
-use Rattle.hs_app.specs.Verdict.{HasAnswer, IsSortable, Reports, IsOverBudget, IsAnswerOn, Refused, IsAnsweredWith, HasDecision, IsWithinBudget, IsBoundToExceed, WarrantsOnScheme, HasWarrant, Warrants}
-use Rattle.hs_app.proofs.OneScheme.{reads_of}
+use Rattle.hs_front.specs.Problems.{HasManyPoints, HasMuchFlow}
+use Rattle.hs_front.specs.Faults.{IsFileFault}
+use Rattle.hs_front.proofs.Layers.{Layered, of_sound, of_fault, meet}
+use Rattle.hs_app.specs.Problems.{Asked, OfForm, HasProblem, IsReportedTable}
+use Rattle.hs_front.specs.Files.{max_bytes, IsSchemeOf}
+use Rattle.hs_app.specs.Headline.{IsWithinLimits, IsWithinAll}
+use Rattle.hs_front.specs.Faults.{IsSortable}
+use Rattle.hs_app.specs.Verdict.{HasAnswer, Reports, IsOverBudget, IsAnswerOn, Refused, IsAnsweredWith, HasDecision, IsWithinBudget, IsBoundToExceed, WarrantsOnScheme, HasWarrant, Warrants}
 use Rattle.hs_app.proofs.OneProblem.{one_problem, not_many_points, not_much_flow, many_not_much}
 
--- ---- what comes of a file, layer by layer: a refusal, of which R holds, or a scheme with sorts, of which S holds
+-- ---- what comes of a file, layer by layer
 
-abbrev TellsSort : UnsortedData → SortFault → Refusal → Type 0
-TellsSort u (sorts.IllSorted rule) r = r ≡ IllSorted rule
-TellsSort u (sorts.TerminalNotFirstOrder a) r = (name : List ℕ) × (slice_get u.names.terminals a ≡ Some name) × (r ≡ NotFirstOrder name)
-TellsSort u (sorts.SortTooLarge rule) r = r ≡ SortTooLarge rule
-TellsSort u (sorts.RuleTooLong rule) r = r ≡ RuleTooLong rule
-TellsSort u sorts.OutOfMemory r = ⊥
-
-told_once : (u : UnsortedData) (f : SortFault) (a b : Refusal) → TellsSort u f a → TellsSort u f b → a ≡ b
-told_once u (sorts.IllSorted rule) a b p q = p ∙ sym q
-told_once u (sorts.TerminalNotFirstOrder t) a b (m, at, is) (n, at', is') =
-    let e : m ≡ n = cc in is ∙ (ap (λ (name : List ℕ). NotFirstOrder name) e ∙ sym is')
-told_once u (sorts.SortTooLarge rule) a b p q = p ∙ sym q
-told_once u (sorts.RuleTooLong rule) a b p q = p ∙ sym q
-told_once u sorts.OutOfMemory a b p q = absurd p
-
-told_of_memory : (u : UnsortedData) (f : SortFault) (a : Refusal) → f ≡ sorts.OutOfMemory → TellsSort u f a → ⊥
-told_of_memory u f a e h = subst (λ (g : SortFault). TellsSort u g a) e h
-
-abbrev AtScheme : (Refusal → Type 0) → (UnsortedData → Type 0) → UnsortedData → Type 0
-AtScheme R S u = ((f : SortFault) × (IsSortFault u.rules u.ranks f × ((r : Refusal) × (TellsSort u f r × R r)))) ⊎ (IsInferable u.rules u.ranks × S u)
-
-abbrev AtFile : (Refusal → Type 0) → (UnsortedData → Type 0) → File → Type 0
-AtFile R S file = ((f : NameFault) × (IsAnswered file f × R (Names f))) ⊎ (IsFaultless file × AtScheme R S (unsorted_of file))
-
-abbrev AtBytes : (Refusal → Type 0) → (UnsortedData → Type 0) → Result File ReadFault → Type 0
-AtBytes R S (Ok file) = AtFile R S file
-AtBytes R S (Err (read.Syntax line)) = R (Syntax line)
-AtBytes R S (Err (read.Limit which)) = R (Limit which)
-AtBytes R S (Err read.OutOfMemory) = ⊥
-
-record Layered (R : Refusal → Type 0) (S : UnsortedData → Type 0) (bytes : List ℕ) : Type 0 where
-  answer : Result File ReadFault
-  is : IsAnswer bytes answer
-  at : AtBytes R S answer
-
-module _ (R : Refusal → Type 0) (S : UnsortedData → Type 0) (bytes : List ℕ) where
-  of_scheme : (u : UnsortedData) → IsSchemeOf bytes u → AtScheme R S u → Layered R S bytes
-  of_scheme u s h = record { answer = Ok s.of.file; is = reads_of bytes u s; at = inr (s.of.faultless, subst (λ (v : UnsortedData). AtScheme R S v) s.of.is h) }
-
-  of_sound : (u : UnsortedData) → IsSortable bytes u → S u → Layered R S bytes
-  of_sound u s h = of_scheme u s.of_bytes (inr (inferred_inferable u s.sorted s.inferred, h))
+module _ (R : Refusal → Type 0) (S : UnsortedData → Type 0) (asked : Asked) (bytes : List ℕ) where
+  of_file_fault : (r : Refusal) → IsFileFault bytes r → R r → (r ≡ OutOfMemory) ⊎ (HasDecision asked bytes (Err r) ⊎ Layered R S bytes)
+  of_file_fault r h k =
+      elim (of_fault R S bytes r h k) [
+        | inl e ↦ inl e
+        | inr l ↦ inr (inr l)
+      ]
 
   -- the refusals of what comes before a scheme has its sorts
-  of_refusal : (asked : Asked) (r : Refusal) → Refused asked bytes r → R r
-      → (r ≡ OutOfMemory) ⊎ (HasDecision asked bytes (Err r) ⊎ Layered R S bytes)
-  of_refusal asked Usage h k = absurd h
-  of_refusal asked Source h k = absurd h
-  of_refusal asked FileTooLong h k = absurd h
-  of_refusal asked (Syntax line) h k = inr (inr (record { answer = Err (read.Syntax line); is = h; at = k }))
-  of_refusal asked (Limit which) h k = inr (inr (record { answer = Err (read.Limit which); is = h; at = k }))
-  of_refusal asked (Names fault) h k = inr (inr (record { answer = Ok h.file; is = h.reads; at = inl (fault, (h.fault, k)) }))
-  of_refusal asked (IllSorted rule) h k = inr (inr (of_scheme h.scheme h.of_bytes (inl (sorts.IllSorted rule, (h.fault, (IllSorted rule, (refl, k)))))))
-  of_refusal asked (NotFirstOrder terminal) h k =
-      inr (inr (of_scheme h.scheme h.of_bytes (inl (sorts.TerminalNotFirstOrder h.fault.number, (h.fault.fault, (NotFirstOrder terminal, ((terminal, h.fault.named, refl), k)))))))
-  of_refusal asked (SortTooLarge rule) h k = inr (inr (of_scheme h.scheme h.of_bytes (inl (sorts.SortTooLarge rule, (h.fault, (SortTooLarge rule, (refl, k)))))))
-  of_refusal asked (RuleTooLong rule) h k = inr (inr (of_scheme h.scheme h.of_bytes (inl (sorts.RuleTooLong rule, (h.fault, (RuleTooLong rule, (refl, k)))))))
-  of_refusal asked PointLimit h k = inr (inl h)
-  of_refusal asked FlowLimit h k = inr (inl h)
-  of_refusal asked EntryLimit h k = inr (inl h)
-  of_refusal asked Sink h k = absurd h
-  of_refusal asked OutOfMemory h k = inl refl
-
--- ---- two that come of one file
-
-module _ (Q R : Refusal → Type 0) (P S : UnsortedData → Type 0) (G : Type 0) (same : (r : Refusal) → Q r → R r → G) (both : (u : UnsortedData) → P u → S u → G) where
-  meet_told : (u : UnsortedData) (f : SortFault) (a b : Refusal) → TellsSort u f a → Q a → TellsSort u f b → R b → G
-  meet_told u f a b p q p' r = same b (subst Q (told_once u f a b p p') q) r
-
-  meet_scheme : (u : UnsortedData) → AtScheme Q P u → AtScheme R S u → G
-  meet_scheme u (inl (f, (is, (a, (tells, q))))) (inl (g, (is', (b, (tells', r))))) =
-      elim (one_sort_fault u.rules u.ranks f g is is') [
-        | inl e ↦ absurd (told_of_memory u f a e tells)
-        | inr (inl e) ↦ absurd (told_of_memory u g b e tells')
-        | inr (inr e) ↦ meet_told u g a b (subst (λ (k : SortFault). TellsSort u k a) e tells) q tells' r
-      ]
-  meet_scheme u (inl (f, (is, (a, (tells, q))))) (inr (small, s)) = absurd (told_of_memory u f a (only_memory u.rules u.ranks f small is) tells)
-  meet_scheme u (inr (small, p)) (inl (g, (is, (b, (tells, r))))) = absurd (told_of_memory u g b (only_memory u.rules u.ranks g small is) tells)
-  meet_scheme u (inr (small, p)) (inr (small', s)) = both u p s
-
-  meet_file : (file : File) → AtFile Q P file → AtFile R S file → G
-  meet_file file (inl (f, (is, q))) (inl (g, (is', r))) = same (Names g) (subst (λ (k : NameFault). Q (Names k)) (one_name_fault file f g is is') q) r
-  meet_file file (inl (f, (is, q))) (inr (clean, at)) = absurd (not_both file f clean is)
-  meet_file file (inr (clean, at)) (inl (g, (is, r))) = absurd (not_both file g clean is)
-  meet_file file (inr (clean, at)) (inr (clean', at')) = meet_scheme (unsorted_of file) at at'
-
-  meet_bytes : (answer : Result File ReadFault) → AtBytes Q P answer → AtBytes R S answer → G
-  meet_bytes (Ok file) p q = meet_file file p q
-  meet_bytes (Err (read.Syntax line)) p q = same (Syntax line) p q
-  meet_bytes (Err (read.Limit which)) p q = same (Limit which) p q
-  meet_bytes (Err read.OutOfMemory) p q = absurd p
-
-  meet : (bytes : List ℕ) → Layered Q P bytes → Layered R S bytes → G
-  meet bytes l m = meet_bytes m.answer (subst (λ (r : Result File ReadFault). AtBytes Q P r) (one_answer_is bytes l.answer m.answer l.is m.is) l.at) m.at
+  of_refusal : (r : Refusal) → Refused asked bytes r → R r → (r ≡ OutOfMemory) ⊎ (HasDecision asked bytes (Err r) ⊎ Layered R S bytes)
+  of_refusal Usage h k = absurd h
+  of_refusal Source h k = absurd h
+  of_refusal FileTooLong h k = absurd h
+  of_refusal (Syntax line) h k = of_file_fault (Syntax line) h k
+  of_refusal (Limit which) h k = of_file_fault (Limit which) h k
+  of_refusal (Names fault) h k = of_file_fault (Names fault) h k
+  of_refusal (IllSorted rule) h k = of_file_fault (IllSorted rule) h k
+  of_refusal (NotFirstOrder terminal) h k = of_file_fault (NotFirstOrder terminal) h k
+  of_refusal (SortTooLarge rule) h k = of_file_fault (SortTooLarge rule) h k
+  of_refusal (RuleTooLong rule) h k = of_file_fault (RuleTooLong rule) h k
+  of_refusal PointLimit h k = inr (inl h)
+  of_refusal FlowLimit h k = inr (inl h)
+  of_refusal EntryLimit h k = inr (inl h)
+  of_refusal Sink h k = absurd h
+  of_refusal OutOfMemory h k = inl refl
 
 -- ---- an answer and a warrant on a scheme
 
@@ -318,7 +241,7 @@ module _ (asked : Asked) (bytes : List ℕ) where
   answer_layers : (a : Result Decided Refusal) → IsAnsweredWith asked bytes a → Wants a ⊎ Layered (λ r. a ≡ Err r) (λ u. IsAnswerOn asked u a) bytes
   answer_layers (Ok d) h = inr (of_sound (λ r. Ok d ≡ Err r) (λ u. IsAnswerOn asked u (Ok d)) bytes h.scheme h.sound h.decides)
   answer_layers (Err r) h =
-      elim (of_refusal (λ s. Err r ≡ Err s) (λ u. IsAnswerOn asked u (Err r)) bytes asked r h refl) [
+      elim (of_refusal (λ s. Err r ≡ Err s) (λ u. IsAnswerOn asked u (Err r)) asked bytes r h refl) [
         | inl e ↦ inl (ap (λ (s : Refusal). Err s) e)
         | inr (inl d) ↦ inr (of_sound (λ s. Err r ≡ Err s) (λ u. IsAnswerOn asked u (Err r)) bytes d.scheme d.sound d.decides)
         | inr (inr l) ↦ inr l
@@ -334,11 +257,16 @@ module _ (asked : Asked) (bytes : List ℕ) where
     abbrev Layers : Type 0
     Layers = Layered IsRefusal OnScheme bytes
 
-    at_scheme : (u : UnsortedData) → IsSchemeOf bytes u → (f : SortFault) → IsSortFault u.rules u.ranks f → (r : Refusal) → TellsSort u f r → d ≡ Err r → Layers
-    at_scheme u of f fault r tells e = of_scheme IsRefusal OnScheme bytes u of (inl (f, (fault, (r, (tells, e)))))
-
     of_warrant : HasWarrant asked bytes d → Layers
     of_warrant w = of_sound IsRefusal OnScheme bytes w.scheme w.sound w.warrants
+
+    -- no refusal by the front end is want of memory
+    of_refused : (r : Refusal) → (r ≡ OutOfMemory → ⊥) → IsFileFault bytes r → d ≡ Err r → Layers
+    of_refused r other h e =
+        elim (of_fault IsRefusal OnScheme bytes r h e) [
+          | inl wants ↦ absurd (other wants)
+          | inr l ↦ l
+        ]
 
   -- the file is too long, or not, and then there are the layers
   abbrev Lies : Result Verdict Refusal → Type 0
@@ -351,14 +279,13 @@ module _ (asked : Asked) (bytes : List ℕ) where
   warrant_layers (Err Sink) h = absurd h
   warrant_layers (Err OutOfMemory) h = absurd h
   warrant_layers (Err FileTooLong) h = inl h
-  warrant_layers (Err (Syntax line)) h = inr (h.0, record { answer = Err (read.Syntax line); is = h.1; at = refl })
-  warrant_layers (Err (Limit which)) h = inr (h.0, record { answer = Err (read.Limit which); is = h.1; at = refl })
-  warrant_layers (Err (Names fault)) h = inr (h.0, record { answer = Ok h.1.file; is = h.1.reads; at = inl (fault, (h.1.fault, refl)) })
-  warrant_layers (Err (IllSorted rule)) h = inr (h.0, at_scheme (Err (IllSorted rule)) h.1.scheme h.1.of_bytes (sorts.IllSorted rule) h.1.fault (IllSorted rule) refl refl)
-  warrant_layers (Err (NotFirstOrder terminal)) h =
-      inr (h.0, at_scheme (Err (NotFirstOrder terminal)) h.1.scheme h.1.of_bytes (sorts.TerminalNotFirstOrder h.1.fault.number) h.1.fault.fault (NotFirstOrder terminal) (terminal, h.1.fault.named, refl) refl)
-  warrant_layers (Err (SortTooLarge rule)) h = inr (h.0, at_scheme (Err (SortTooLarge rule)) h.1.scheme h.1.of_bytes (sorts.SortTooLarge rule) h.1.fault (SortTooLarge rule) refl refl)
-  warrant_layers (Err (RuleTooLong rule)) h = inr (h.0, at_scheme (Err (RuleTooLong rule)) h.1.scheme h.1.of_bytes (sorts.RuleTooLong rule) h.1.fault (RuleTooLong rule) refl refl)
+  warrant_layers (Err (Syntax line)) h = inr (h.0, of_refused (Err (Syntax line)) (Syntax line) (λ e. (cc)) h.1 refl)
+  warrant_layers (Err (Limit which)) h = inr (h.0, of_refused (Err (Limit which)) (Limit which) (λ e. (cc)) h.1 refl)
+  warrant_layers (Err (Names fault)) h = inr (h.0, of_refused (Err (Names fault)) (Names fault) (λ e. (cc)) h.1 refl)
+  warrant_layers (Err (IllSorted rule)) h = inr (h.0, of_refused (Err (IllSorted rule)) (IllSorted rule) (λ e. (cc)) h.1 refl)
+  warrant_layers (Err (NotFirstOrder terminal)) h = inr (h.0, of_refused (Err (NotFirstOrder terminal)) (NotFirstOrder terminal) (λ e. (cc)) h.1 refl)
+  warrant_layers (Err (SortTooLarge rule)) h = inr (h.0, of_refused (Err (SortTooLarge rule)) (SortTooLarge rule) (λ e. (cc)) h.1 refl)
+  warrant_layers (Err (RuleTooLong rule)) h = inr (h.0, of_refused (Err (RuleTooLong rule)) (RuleTooLong rule) (λ e. (cc)) h.1 refl)
   warrant_layers (Err PointLimit) h = inr (h.0, of_warrant (Err PointLimit) h.1)
   warrant_layers (Err FlowLimit) h = inr (h.0, of_warrant (Err FlowLimit) h.1)
   warrant_layers (Err EntryLimit) h = inr (h.0, of_warrant (Err EntryLimit) h.1)

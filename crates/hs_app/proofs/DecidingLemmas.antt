@@ -15,7 +15,7 @@ use Rattle.hs_core.specs.Core.{CoreData, log_of, IsCore, StartsAt}
 use Rattle.hs_core.specs.Answers.{IsLeastAnswer, IsOverAnswer, IsFirstAnswer}
 use Rattle.hs_core.proofs.Tables.{core_table}
 use Rattle.hs_workers.specs.Answers.{IsShared}
-use Rattle.hs_app.specs.declared.verdict.Settings.{Settings}
+use Rattle.hs_words.specs.declared.options.Settings.{Settings}
 use Rattle.hs_app.specs.Problems.{IsReportedTable}
 use Rattle.hs_app.specs.Verdict.{IsOver}
 use Rattle.hs_app.proofs.ReportedTables.{reported_least, reported_first}

@@ -1,56 +1,28 @@
 -- The three clauses of the headline follow from the rows.
-use Rattle.std.proofs.Common.{◌≡◌, refl, sym, ◌∙◌, ap, subst, ℕ, ◌≤◌, List, Option, Some, None, Result, Ok, Err, ◌⊎◌, inl, inr, arith}
+use Rattle.std.proofs.Common.{◌≡◌, refl, sym, ◌∙◌, subst, ℕ, ◌≤◌, List, Option, Some, None, Ok, Err, ◌⊎◌, inl, inr, arith}
 use Rattle.std.specs.Prelude.{option_map}
 use Rattle.std.specs.Option.{IsSomeAnd, IfSome}
-use Rattle.hs_resolve.specs.declared.fault.NameFault.{NameFault}
-use Rattle.hs_resolve.specs.declared.fault.NameFault.TheVariants as name
 use Rattle.hs_scheme.specs.Unsorted.{UnsortedData}
 use Rattle.hs_scheme.specs.Run.{Accepts}
-use Rattle.hs_app.specs.declared.refusal.Refusal.{Refusal}
-use Rattle.hs_app.specs.declared.refusal.Refusal.TheVariants.{Usage, Source, FileTooLong, Syntax, Limit, Names, IllSorted, NotFirstOrder, SortTooLarge, RuleTooLong, PointLimit, FlowLimit, EntryLimit, Sink, OutOfMemory}
+use Rattle.hs_front.specs.declared.refusal.Refusal.{Refusal}
+use Rattle.hs_front.specs.declared.refusal.Refusal.TheVariants.{Usage, Source, FileTooLong, Syntax, Limit, Names, IllSorted, NotFirstOrder, SortTooLarge, RuleTooLong, PointLimit, FlowLimit, EntryLimit, Sink, OutOfMemory}
 use Rattle.hs_app.specs.declared.verdict.Verdict.{Verdict}
 use Rattle.hs_app.specs.declared.verdict.Verdict.TheVariants.{Accepted, Rejected, Long}
 use Rattle.hs_app.specs.declared.verdict.Decided.{Decided}
 use Rattle.hs_app.specs.declared.top.Ending.{Ending}
 use Rattle.hs_app.specs.declared.top.Ending.TheVariants.{Reported, CutOff, Refused}
-use Rattle.hs_app.specs.Refusal.{names_status, status_of}
-use Rattle.hs_app.specs.Outside.{SourceRun, SinkRun}
+use Rattle.hs_front.specs.Refusal.{status_of}
+use Rattle.hs_front.proofs.Statuses.{past}
+use Rattle.hs_front.specs.Outside.{SourceRun, SinkRun}
 use Rattle.hs_app.specs.Problems.{Asked}
 use Rattle.hs_words.specs.Words.{OptionsData, options_of}
 use Rattle.hs_passes.specs.Passing.{Image}
 use Rattle.hs_app.specs.Order.{FileOrigin, Order, job_of, order_of, ordered, bytes_of, IsReadToEnd}
-use Rattle.hs_app.specs.Headline.{IsAccepted, IsRejected, OfInput, IsWithinAll, IsOutside, IsFault, IsDecided}
-use Rattle.hs_app.specs.Verdict.{Reports, HasDecision, HasAnswer}
+use Rattle.hs_front.specs.Files.{IsAccepted, IsRejected}
+use Rattle.hs_app.specs.Headline.{OfInput, IsOutside, IsFault, IsDecided}
+use Rattle.hs_app.specs.Verdict.{Reports, HasDecision}
 use Rattle.hs_app.specs.Outcome.{IsOfBytes, HasCause, status_of_verdict, status_at, Ends, Rows}
 use Rattle.hs_app.proofs.AnswerLemmas.{decided_comes}
-
--- a refusal has another status
-past_names : (f : NameFault) → 3 ≤ names_status f
-past_names name.TooManyStates = omega arith
-past_names name.OutOfMemory = omega arith
-past_names (name.DuplicateRule line) = omega arith
-past_names (name.DuplicateParam line) = omega arith
-past_names (name.Undefined line) = omega arith
-past_names (name.StartHasParams line) = omega arith
-past_names (name.DuplicateTransition line) = omega arith
-past_names (name.RankClash line) = omega arith
-
-past : (r : Refusal) → 3 ≤ status_of r
-past Usage = omega arith
-past Source = omega arith
-past FileTooLong = omega arith
-past (Syntax line) = omega arith
-past (Limit which) = omega arith
-past (Names fault) = past_names fault
-past (IllSorted rule) = omega arith
-past (NotFirstOrder terminal) = omega arith
-past (SortTooLarge rule) = omega arith
-past (RuleTooLong rule) = omega arith
-past PointLimit = omega arith
-past FlowLimit = omega arith
-past EntryLimit = omega arith
-past Sink = omega arith
-past OutOfMemory = omega arith
 
 -- ---- what a verdict says of the tree
 

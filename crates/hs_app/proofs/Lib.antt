@@ -1,9 +1,6 @@
 pub mod OneProblem
-pub mod OneScheme
 pub mod ReportedTables
 pub mod DecidingLemmas
-pub mod OrderLemmas
-pub mod ReadLemmas
 pub mod AnswerLemmas
 pub mod OutcomeLemmas
 pub mod HeadlineLemmas

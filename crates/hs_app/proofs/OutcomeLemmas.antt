@@ -1,22 +1,24 @@
 -- What is claimed of a run, from how it ends.
-use Rattle.std.proofs.Common.{◌≡◌, ◌≢◌, refl, sym, ◌∙◌, ap, subst, ℕ, ◌<◌, ◌≤◌, true, List, [], ◌++◌, append-nil, Option, Some, None, Result, Ok, Err, length, length-append, ◌⊎◌, inl, inr, arith}
+use Rattle.std.proofs.Common.{◌≡◌, ◌≢◌, refl, sym, ◌∙◌, ap, subst, ℕ, ◌<◌, ◌≤◌, true, List, Option, Some, None, Result, Ok, Err, length, ◌⊎◌, inl, inr, arith}
 use Rattle.std.specs.Option.{IsSomeAnd, IfSome}
-use Rattle.std.specs.Io.KnownBytes.{prepend_known}
 use Rattle.hs_gen.specs.Cycle.{cycle_file_text}
-use Rattle.hs_app.specs.declared.refusal.Refusal.{Refusal}
-use Rattle.hs_app.specs.declared.refusal.Refusal.TheVariants.{Usage, Source, FileTooLong, Syntax, Limit, Names, IllSorted, NotFirstOrder, SortTooLarge, RuleTooLong, PointLimit, FlowLimit, EntryLimit, Sink, OutOfMemory}
+use Rattle.hs_front.specs.declared.refusal.Refusal.{Refusal}
+use Rattle.hs_front.specs.declared.refusal.Refusal.TheVariants.{Usage, Source, FileTooLong, Syntax, Limit, Names, IllSorted, NotFirstOrder, SortTooLarge, RuleTooLong, PointLimit, FlowLimit, EntryLimit, Sink, OutOfMemory}
 use Rattle.hs_app.specs.Problems.{Asked}
 use Rattle.hs_app.specs.declared.verdict.Verdict.{Verdict}
 use Rattle.hs_app.specs.declared.verdict.Verdict.TheVariants.{Accepted, Rejected, Long}
 use Rattle.hs_app.specs.declared.verdict.Decided.{Decided}
 use Rattle.hs_app.specs.declared.top.Ending.{Ending}
 use Rattle.hs_app.specs.declared.top.Ending.TheVariants.{Reported, CutOff, Refused}
-use Rattle.hs_app.specs.Refusal.{HasFixedLine, status_of}
-use Rattle.hs_app.specs.Headline.{max_bytes, IsWithinLimits}
+use Rattle.hs_front.specs.Refusal.{HasFixedLine, status_of}
+use Rattle.hs_front.specs.Files.{max_bytes}
+use Rattle.hs_app.specs.Headline.{IsWithinLimits}
 use Rattle.hs_app.specs.Verdict.{HasAnswer, Warrants, IsAnsweredWith}
-use Rattle.hs_app.specs.Outside.{SourceRun, SinkRun, IsUntouched, IsReadFromFront}
+use Rattle.hs_front.specs.Outside.{SourceRun, SinkRun, IsUntouched, IsReadFromFront, IsCalm}
 use Rattle.hs_app.specs.Order.{FileOrigin, read_file, generate, Order, bytes_of, IsReadToEnd, IsPart, OfTold}
-use Rattle.hs_app.specs.Outcome.{IsCalm, HasCause, IsOfBytes, IsAnswerOfRun, IsReadFault, IsDue, IsStatusOf, status_of_verdict, status_at, Ends, Complies, Rows}
+use Rattle.hs_front.specs.Telling.{IsReadFault}
+use Rattle.hs_app.specs.Outcome.{HasCause, IsOfBytes, IsAnswerOfRun, IsDue, IsStatusOf, status_of_verdict, status_at, Ends, Complies, Rows}
+use Rattle.hs_front.proofs.ReadLemmas.{whole_bytes, part_bytes}
 use Rattle.hs_app.proofs.AnswerLemmas.{Wants, Matches, answer_meets, readable_comes}
 
 -- ---- facts about the bytes of a job's file
@@ -44,18 +46,6 @@ always_of_bytes R (Some bytes) h = h
 always_of_job : (R : Type 0) (j : FileOrigin) (file : List ℕ → Option (List ℕ)) → OfTold j file (λ _. R) → R
 always_of_job R (read_file n) file h = always_of_bytes R (file n) h
 always_of_job R (generate k) file h = h
-
--- the file that was read up to its end has the bytes that were handed out
-whole_bytes : (P : List ℕ → Type 0) (given : List ℕ) (told left : Option (List ℕ)) → told ≡ prepend_known given left → IfSome left (λ l. l ≡ []) → P given → IfSome told P
-whole_bytes P given told None is all p = subst (λ (o : Option (List ℕ)). IfSome o P) (sym is) tt
-whole_bytes P given told (Some l) is all p =
-    subst (λ (o : Option (List ℕ)). IfSome o P) (sym is) (subst P (sym (ap (λ (k : List ℕ). given ++ k) all ∙ append-nil given)) p)
-
--- a file of which so much was handed out is longer
-part_bytes : (limit : ℕ) (given : List ℕ) (told left : Option (List ℕ)) → told ≡ prepend_known given left → limit < length given → IfSome told (λ bytes. limit < length bytes)
-part_bytes limit given told None is p = subst (λ (o : Option (List ℕ)). IfSome o (λ bytes. limit < length bytes)) (sym is) tt
-part_bytes limit given told (Some l) is p =
-    subst (λ (o : Option (List ℕ)). IfSome o (λ bytes. limit < length bytes)) (sym is) (rw (length-append given l) (omega (arith, p)))
 
 -- What was handed out says of these files what it says itself.
 record IsShownBy (job : FileOrigin) (source : SourceRun) (file : List ℕ → Option (List ℕ)) : Type 1 where
@@ -99,7 +89,7 @@ pub has_of : (asked : Asked) (r : Result Decided Refusal) (slice bytes given : L
 has_of asked r slice bytes given e f short h = subst (λ (b : List ℕ). HasAnswer asked r b) (e ∙ f) (subst (λ (b : List ℕ). length b ≤ max_bytes) (sym e) short, h)
 
 -- a file that wasn't read whole
-pub of_fault : (name : List ℕ) (asked : Asked) (source : SourceRun) (r : Refusal) → IsReadFault name source r
+pub of_fault : (name : List ℕ) (asked : Asked) (source : SourceRun) (r : Refusal) → IsReadFault max_bytes name source r
     → IsAnswerOfRun (Some (record { job = read_file name; asked = asked })) source (Err r)
 of_fault name asked source Source h = h
 of_fault name asked source FileTooLong h = h

@@ -5,9 +5,9 @@ use Rattle.hs_scheme.specs.SameTree.{HaveSameTree}
 use Rattle.hs_scheme.specs.Sorted.{SortedData, IsSorted}
 use Rattle.hs_passes.specs.Weight.{weight}
 use Rattle.hs_passes.specs.Passing.{KeepsRest, Image, composed}
-use Rattle.hs_app.specs.declared.refusal.Refusal.{Refusal}
-use Rattle.hs_app.specs.declared.refusal.Refusal.TheVariants.{Usage, Source, FileTooLong, Syntax, Limit, Names, IllSorted, NotFirstOrder, SortTooLarge, RuleTooLong, PointLimit, FlowLimit, EntryLimit, Sink, OutOfMemory}
-use Rattle.hs_app.specs.declared.verdict.Settings.{Settings}
+use Rattle.hs_front.specs.declared.refusal.Refusal.{Refusal}
+use Rattle.hs_front.specs.declared.refusal.Refusal.TheVariants.{Usage, Source, FileTooLong, Syntax, Limit, Names, IllSorted, NotFirstOrder, SortTooLarge, RuleTooLong, PointLimit, FlowLimit, EntryLimit, Sink, OutOfMemory}
+use Rattle.hs_words.specs.declared.options.Settings.{Settings}
 use Rattle.hs_app.specs.declared.verdict.Decided.{Decided}
 use Rattle.hs_app.specs.Problems.{Asked, asked_of, form_asked, IsRemoved}
 use Rattle.hs_app.specs.Verdict.{DecidesForm, DecidesSimplified, DecidesSorted}

@@ -1,5 +1,5 @@
 -- From what is answered on a sorted scheme to what is answered on the bytes of its file.
-use Rattle.std.proofs.Common.{◌≡◌, refl, sym, ◌∙◌, subst, ap, List, length, ℕ, ◌<◌, ◌≤◌, Bool, true, false, Option, None, Result, Ok, Err}
+use Rattle.std.proofs.Common.{◌≡◌, refl, sym, ◌∙◌, subst, ap, List, length, ℕ, Bool, true, false, Option, None, Result, Ok, Err}
 use Rattle.std.specs.Prelude.{if◌then◌else◌}
 use Rattle.hs_scheme.specs.declared.term.Rule.{Rule}
 use Rattle.hs_scheme.specs.Transition.{TransitionData}
@@ -26,21 +26,23 @@ use Rattle.hs_resolve.specs.Numbering.{unsorted_of}
 use Rattle.hs_resolve.specs.Answer.{IsFaultless}
 use Rattle.hs_sorts.specs.Inference.{IsInferred}
 use Rattle.hs_passes.specs.Passing.{KeepsRest}
-use Rattle.hs_trace.specs.Path.{PathData}
-use Rattle.hs_trace.specs.Failing.{IsFailingPath}
-use Rattle.hs_app.specs.declared.refusal.Refusal.{Refusal}
-use Rattle.hs_app.specs.declared.refusal.Refusal.TheVariants.{Usage, Source, FileTooLong, Syntax, Limit, Names, IllSorted, NotFirstOrder, SortTooLarge, RuleTooLong, PointLimit, FlowLimit, EntryLimit, Sink, OutOfMemory}
-use Rattle.hs_app.specs.declared.verdict.Settings.{Settings}
+use Rattle.hs_scheme.specs.FailingPath.{FailingPathData}
+use Rattle.hs_scheme.specs.Failing.{IsFailingPath}
+use Rattle.hs_front.specs.declared.refusal.Refusal.{Refusal}
+use Rattle.hs_front.specs.declared.refusal.Refusal.TheVariants.{Usage, Source, FileTooLong, Syntax, Limit, Names, IllSorted, NotFirstOrder, SortTooLarge, RuleTooLong, PointLimit, FlowLimit, EntryLimit, Sink, OutOfMemory}
+use Rattle.hs_words.specs.declared.options.Settings.{Settings}
 use Rattle.hs_app.specs.declared.verdict.Verdict.{Verdict}
 use Rattle.hs_app.specs.declared.verdict.Verdict.TheVariants.{Accepted, Rejected, Long}
 use Rattle.hs_app.specs.declared.verdict.Decided.{Decided}
-use Rattle.hs_app.specs.Problems.{Asked, IsSimplified, IsRemoved, IsSortedFormOf, OfForm, IsProblemOf, HasProblem, HasManyPoints, HasMuchFlow}
-use Rattle.hs_app.specs.Headline.{IsSchemeOf}
-use Rattle.hs_app.proofs.OneScheme.{scheme_is}
-use Rattle.hs_app.specs.Verdict.{IsSortable, IsSortRefusal, FailsAlong, ReportsBy, DecidesProblem, DecidesForm, DecidesSimplified, DecidesSorted, Refused, IsAnsweredWith}
+use Rattle.hs_front.specs.Problems.{IsSortedFormOf, IsProblemOf, HasManyPoints, HasMuchFlow}
+use Rattle.hs_app.specs.Problems.{Asked, IsSimplified, IsRemoved, OfForm, HasProblem}
+use Rattle.hs_front.specs.Files.{IsSchemeOf}
+use Rattle.hs_front.proofs.OneScheme.{scheme_is}
+use Rattle.hs_front.specs.Faults.{IsSortable, IsFileFault}
+use Rattle.hs_app.specs.Verdict.{FailsAlong, ReportsBy, DecidesProblem, DecidesForm, DecidesSimplified, DecidesSorted, Refused, IsAnsweredWith}
 
 -- a path to a terminal without transition fails
-ends_fail : (rules : List Rule) (ts : List TransitionData) (path : PathData) → IsFailingPath rules ts path → Fails rules ts path.used 0 start path.steps
+ends_fail : (rules : List Rule) (ts : List TransitionData) (path : FailingPathData) → IsFailingPath rules ts path → Fails rules ts path.used 0 start path.steps
 ends_fail rules ts path h = ends_fails rules ts path.used 0 start path.steps (path.state, node (Tm path.last) h.arguments, h.reaches, h.stuck)
 
 -- ---- the rules that were saturated, the lengthened ones, and those of the file
@@ -55,7 +57,7 @@ module _ (u : UnsortedData) (form : SortedData) (unsorted : IsUnsorted u) (is_so
   are_sorted : AreSortedBy u.rules (length u.ranks) u.ranks u.automaton.transitions (sorts_of form.sorts form.scheme.ranks)
   are_sorted = record { are_rules = unsorted.rules; sorting = made.sorting; agree = unsorted.ranks }
 
-  fails_too : (path : PathData) → IsFailingPath form.scheme.rules form.automaton.transitions path → IsFailingPath u.rules u.automaton.transitions path
+  fails_too : (path : FailingPathData) → IsFailingPath form.scheme.rules form.automaton.transitions path → IsFailingPath u.rules u.automaton.transitions path
   fails_too path h = record {
     arguments = h.arguments;
     reaches = (reaches_of_file u form unsorted is_sorted made path.used path.steps path.state _).1 h.reaches;
@@ -94,7 +96,7 @@ module _ (u : UnsortedData) (form : SortedData) (unsorted : IsUnsorted u) (is_so
     rejects_back path h accepts = let g = failing_back path h in no_failure_accepted u.rules u.automaton.transitions accepts g.0 path g.1
 
     -- so it does to the same terminal
-    ends_back : AreRules p.sorted.scheme.rules (length p.sorted.scheme.ranks) → (path : PathData) → IsFailingPath p.sorted.scheme.rules ts path
+    ends_back : AreRules p.sorted.scheme.rules (length p.sorted.scheme.ranks) → (path : FailingPathData) → IsFailingPath p.sorted.scheme.rules ts path
         → FailsAlong u.rules u.automaton.transitions path
     ends_back are path h =
         let back : HaveSameTree form.scheme.ranks p.sorted.scheme.rules form.scheme.rules = λ l agree q way. let both = simplified.same_tree l agree q way in (both.1, both.0) in
@@ -113,7 +115,7 @@ module _ (u : UnsortedData) (form : SortedData) (unsorted : IsUnsorted u) (is_so
         )
 
     -- where nothing was simplified, steps are counted along the file's rules
-    walked_back : (b : Bool) → (b ≡ false → p.sorted ≡ form) → (path : PathData)
+    walked_back : (b : Bool) → (b ≡ false → p.sorted ≡ form) → (path : FailingPathData)
         → IsFailingPath (if b then p.sorted.scheme.rules else p.sorted.scheme.rules) ts path
         → IsFailingPath (if b then p.sorted.scheme.rules else u.rules) u.automaton.transitions path
     walked_back true same path h = subst (λ (l : List TransitionData). IsFailingPath p.sorted.scheme.rules l path) of_rules h
@@ -198,26 +200,27 @@ of_problem settings form p removed (Err (SortTooLarge rule)) w are h = absurd h
 of_problem settings form p removed (Err (RuleTooLong rule)) w are h = absurd h
 of_problem settings form p removed (Err Sink) w are h = absurd h
 
+-- a refusal by the front end
+pub refused : (asked : Asked) (bytes : List ℕ) (r : Refusal) → IsFileFault bytes r → Refused asked bytes r
+refused asked bytes Usage h = absurd h
+refused asked bytes Source h = absurd h
+refused asked bytes FileTooLong h = absurd h
+refused asked bytes (Syntax line) h = h
+refused asked bytes (Limit which) h = h
+refused asked bytes (Names fault) h = h
+refused asked bytes (IllSorted rule) h = h
+refused asked bytes (NotFirstOrder terminal) h = h
+refused asked bytes (SortTooLarge rule) h = h
+refused asked bytes (RuleTooLong rule) h = h
+refused asked bytes PointLimit h = absurd h
+refused asked bytes FlowLimit h = absurd h
+refused asked bytes EntryLimit h = absurd h
+refused asked bytes Sink h = absurd h
+refused asked bytes OutOfMemory h = tt
+
 module _ (asked : Asked) (bytes : List ℕ) (file : File) (reads : IsFileWithin bytes file) (faultless : IsFaultless file) where
   of_file : IsSchemeOf bytes (unsorted_of file)
   of_file = scheme_is bytes file reads faultless
-
-  pub refused : (r : Refusal) → IsSortRefusal (unsorted_of file) r → Refused asked bytes r
-  refused Usage h = absurd h
-  refused Source h = absurd h
-  refused FileTooLong h = absurd h
-  refused (Syntax line) h = absurd h
-  refused (Limit which) h = absurd h
-  refused (Names fault) h = absurd h
-  refused (IllSorted rule) h = record { scheme = unsorted_of file; of_bytes = of_file; fault = h }
-  refused (NotFirstOrder terminal) h = record { scheme = unsorted_of file; of_bytes = of_file; fault = h }
-  refused (SortTooLarge rule) h = record { scheme = unsorted_of file; of_bytes = of_file; fault = h }
-  refused (RuleTooLong rule) h = record { scheme = unsorted_of file; of_bytes = of_file; fault = h }
-  refused PointLimit h = absurd h
-  refused FlowLimit h = absurd h
-  refused EntryLimit h = absurd h
-  refused Sink h = absurd h
-  refused OutOfMemory h = tt
 
   module _ (sorted : SortedData) (inferred : IsInferred (unsorted_of file) sorted) (unsorted : IsUnsorted (unsorted_of file)) where
     sound : IsSortable bytes (unsorted_of file)

@@ -5,106 +5,81 @@
 -- All else that is claimed of a run stands in `Rows` of `Outcome`, from which these three follow.
 -- To read, each file behind those that it leads to, with the number of its lines that these clauses lead to; `.ci/headline --names` names
 -- the definitions. What stands in the toolchain's libraries (lists, numbers, options, `clap`) is vocabulary that is trusted.
--- For `accepted` and `rejected`, 613 lines of 27 files:
---      27  hs_edge/specs/Reading.antt
---      36  hs_app/specs/Outside.antt
---       3  hs_edge/specs/Count.antt
---       5  hs_scheme/specs/Transition.antt
---      10  hs_scheme/specs/Automaton.antt
---       6  hs_scheme/specs/Names.antt
---      20  hs_scheme/specs/Tree.antt
---      18  hs_scheme/src/term.rt
---       6  hs_scheme/specs/Unsorted.antt
+-- For `accepted` and `rejected`, 648 lines of 29 files:
 --     102  hs_reader/specs/Tokens.antt
+--      20  hs_scheme/specs/Tree.antt
 --       7  hs_reader/specs/Limits.antt
 --       6  hs_reader/src/raw.rt
 --      11  hs_reader/specs/Raw.antt
 --      46  hs_reader/specs/Grammar.antt
 --       2  hs_reader/specs/Faults.antt
 --      13  hs_resolve/specs/Names.antt
+--       5  hs_scheme/specs/Transition.antt
+--      10  hs_scheme/specs/Automaton.antt
+--       6  hs_scheme/specs/Names.antt
+--      18  hs_scheme/src/term.rt
+--       6  hs_scheme/specs/Unsorted.antt
 --      48  hs_resolve/specs/Numbering.antt
 --      38  hs_resolve/specs/LineFaults.antt
 --       5  hs_resolve/specs/Answer.antt
 --      14  hs_scheme/specs/Replacement.antt
 --      23  hs_scheme/specs/Cut.antt
 --      16  hs_scheme/specs/Run.antt
+--      19  hs_front/specs/Files.antt
+--      16  hs_words/src/options.rt
+--       3  hs_edge/specs/Count.antt
+--      27  hs_edge/specs/Reading.antt
+--      36  hs_front/specs/Outside.antt
 --      19  hs_gen/specs/Cycle.antt
 --      56  hs_words/specs/Words.antt
 --      14  hs_app/specs/Order.antt
 --       3  hs_edge/src/errors.rt
 --      59  hs_edge/src/source.rt
--- Further for `decided`, 732 lines, 53 files in all:
---       9  hs_edge/specs/Writing.antt
---      12  hs_app/specs/Outside.antt
+-- Further for `decided`, 721 lines, 55 files in all:
 --      18  hs_reader/src/fault.rt
---      22  hs_scheme/specs/Scheme.antt
---      66  hs_scheme/specs/Sorting.antt
---      13  hs_scheme/specs/Unsorted.antt
---      29  hs_scheme/specs/Sorted.antt
---       4  hs_passes/specs/Weight.antt
---      10  hs_passes/specs/Passing.antt
 --      83  hs_reader/specs/Faults.antt
+--      22  hs_scheme/specs/Scheme.antt
+--      13  hs_scheme/specs/Unsorted.antt
+--       7  hs_front/specs/Files.antt
 --       2  hs_scheme/specs/Parameters.antt
 --      37  hs_scheme/specs/Points.antt
 --      21  hs_scheme/src/flow.rt
 --      54  hs_scheme/specs/Flow.antt
+--      66  hs_scheme/specs/Sorting.antt
+--      29  hs_scheme/specs/Sorted.antt
 --       4  hs_scheme/specs/Problem.antt
+--      13  hs_scheme/specs/Lengthening.antt
+--      13  hs_sorts/specs/Naming.antt
+--      20  hs_sorts/specs/Inference.antt
+--      12  hs_front/specs/Problems.antt
+--       4  hs_passes/specs/Weight.antt
+--      10  hs_passes/specs/Passing.antt
+--      31  hs_scheme/specs/Steps.antt
+--       6  hs_scheme/specs/SameTree.antt
 --      37  hs_table/specs/Types.antt
 --      24  hs_table/specs/Entries.antt
 --      12  hs_table/src/support.rt
 --      74  hs_table/specs/Follows.antt
 --       5  hs_table/specs/Tables.antt
---      31  hs_scheme/specs/Steps.antt
---       6  hs_scheme/specs/SameTree.antt
---      13  hs_scheme/specs/Lengthening.antt
---      13  hs_sorts/specs/Naming.antt
---      20  hs_sorts/specs/Inference.antt
---      16  hs_app/src/verdict.rt
---      27  hs_app/specs/Problems.antt
---      17  hs_app/specs/Order.antt
+--      15  hs_app/specs/Problems.antt
+--       9  hs_edge/specs/Writing.antt
+--      12  hs_front/specs/Outside.antt
+--      15  hs_app/specs/Order.antt
 --      26  hs_edge/src/sink.rt
 --      27  hs_passes/src/pass.rt
--- At most 640 lines, and 760 further.
+-- At most 660 lines, and 760 further.
 use Rattle.std.specs.Prelude.{◌≡◌, ◌≤◌, ◌<◌, ◌⊎◌, ℕ, List, length, IfSome, IsSomeAnd}
 use Rattle.hs_edge.specs.Count.{Rose}
 use Rattle.hs_scheme.specs.Unsorted.{UnsortedData}
 use Rattle.hs_scheme.specs.Problem.{ProblemData}
-use Rattle.hs_scheme.specs.Run.{Accepts}
-use Rattle.hs_reader.specs.Raw.{File}
-use Rattle.hs_reader.specs.Tokens.{Placed, Lexes}
-use Rattle.hs_reader.specs.Grammar.{IsFile}
-use Rattle.hs_reader.specs.Faults.{kinds, NoLimit}
-use Rattle.hs_resolve.specs.Numbering.{unsorted_of}
-use Rattle.hs_resolve.specs.Answer.{IsFaultless}
+use Rattle.hs_front.specs.Files.{IsSchemeOf, max_bytes}
 use Rattle.hs_passes.specs.Passing.{Image}
 use Rattle.hs_table.specs.Tables.{Exceeds}
-use Rattle.hs_app.specs.Outside.{SourceRun, SinkRun}
+use Rattle.hs_front.specs.Outside.{SourceRun, SinkRun}
 use Rattle.hs_app.specs.Problems.{Asked, HasProblem}
 use Rattle.hs_app.specs.Order.{Order, job_in, ordered, bytes_of, IsReadToEnd, IsPart, HasFault}
 
 -- ---- accepted and rejected
-
--- The bytes are a file of this scheme: they are cut into tokens, these are rules and transitions by the grammar, none of the names in
--- them has a fault, and with numbers for the names they are the scheme.
-pub record IsFileOf (bytes : List ℕ) (scheme : UnsortedData) : Type 0 where
-  pub tokens : List Placed
-  pub lexes : Lexes bytes tokens
-  pub file : File
-  pub is_file : IsFile (kinds tokens) file
-  pub faultless : IsFaultless file
-  pub is : scheme ≡ unsorted_of file
-
--- they are one whose value tree its automaton accepts
-pub record IsAccepted (bytes : List ℕ) : Type 0 where
-  pub scheme : UnsortedData
-  pub of_bytes : IsFileOf bytes scheme
-  pub accepts : Accepts scheme.rules scheme.automaton.transitions
-
--- they are one whose value tree it doesn't accept
-pub record IsRejected (bytes : List ℕ) : Type 0 where
-  pub scheme : UnsortedData
-  pub of_bytes : IsFileOf bytes scheme
-  pub rejects : Accepts scheme.rules scheme.automaton.transitions → ⊥
 
 -- This holds of the bytes of the input: of those that the source handed out from the start of the file on that the words name, up to
 -- its end; or of those of the generated file, where the words ask for one.
@@ -113,16 +88,8 @@ OfInput words source P = IsSomeAnd (job_in words) (λ job. P (bytes_of job sourc
 
 -- ---- which files are decided
 
--- they are a file of this scheme in which nothing passes a limit of the text
-pub record IsSchemeOf (bytes : List ℕ) (scheme : UnsortedData) : Type 0 where
-  pub of : IsFileOf bytes scheme
-  pub within : NoLimit (kinds of.tokens)
-
--- 16 MiB
-abbrev pub max_bytes : ℕ
-max_bytes = 16777216
-
--- they are at most so many, and such a file, of which what is saturated has its points and its flow within their limits
+-- the bytes are at most so many, and a file in which nothing passes a limit of the text, and what is saturated of it has its points and
+-- its flow within their limits
 pub record IsWithinLimits (asked : Asked) (bytes : List ℕ) : Type 0 where
   pub short : length bytes ≤ max_bytes
   pub scheme : UnsortedData

@@ -1,6 +1,3 @@
-pub mod Line
-pub mod Refusal
-pub mod Outside
 pub mod Problems
 pub mod Order
 pub mod Headline

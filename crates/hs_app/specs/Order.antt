@@ -13,9 +13,8 @@ use Rattle.hs_edge.specs.Count.{Rose}
 use Rattle.hs_gen.specs.Cycle.{cycle_file_text}
 use Rattle.hs_words.specs.Words.{OptionsData, options_of}
 use Rattle.hs_passes.specs.Passing.{Image}
-use Rattle.hs_app.specs.declared.verdict.Settings.{Settings}
 use Rattle.hs_app.specs.Problems.{Asked, asked_of}
-use Rattle.hs_app.specs.Outside.{SourceRun, IsUntouched, IsReadFromFront}
+use Rattle.hs_front.specs.Outside.{SourceRun, IsUntouched, IsReadFromFront}
 
 pub data FileOrigin : Type 0 where
   read_file : List ℕ → FileOrigin
@@ -32,12 +31,9 @@ job_of o = option_map_or (λ k. generate k) o.cycle (read_file (unwrap_or o.file
 abbrev pub job_in : List (List ℕ) → Option FileOrigin
 job_in words = option_map job_of (options_of words)
 
-abbrev pub settings_of : OptionsData → Settings
-settings_of o = record { workers = o.workers; entries = o.entries; steps = o.steps; table = o.table; first = o.first; simplify = o.simplify }
-
 -- with what each pass makes of a scheme
 abbrev pub order_of : List Image → OptionsData → Order
-order_of images o = record { job = job_of o; asked = asked_of (settings_of o) images }
+order_of images o = record { job = job_of o; asked = asked_of o.settings images }
 
 abbrev pub ordered : List Image → List (List ℕ) → Option Order
 ordered images words = option_map (order_of images) (options_of words)

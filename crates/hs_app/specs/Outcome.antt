@@ -4,32 +4,23 @@
 --     IsDue, Complies       what has to be answered, by the order and by the bytes; that it is answered
 --     Keeps                 what a run leaves as it was, and what doesn't fall
 --     Rows                  all that is claimed of a run
-use Rattle.std.specs.Prelude.{◌≡◌, ◌≢◌, ℕ, ◌<◌, ◌≤◌, true, false, List, ◌++◌, Option, Some, None, Result, Ok, Err, length, ◌⊎◌, IsSomeAnd}
+use Rattle.std.specs.Prelude.{◌≡◌, ◌≢◌, ℕ, ◌<◌, ◌≤◌, List, ◌++◌, Option, Some, None, Result, Ok, Err, length, codes, ◌⊎◌, IsSomeAnd}
 use Rattle.hs_edge.specs.Count.{Rose}
 use Rattle.hs_edge.specs.Writing.{AddsPart}
-use Rattle.hs_app.specs.Refusal.{line_of, status_of, HasFixedLine}
-use Rattle.hs_app.specs.declared.refusal.Refusal.{Refusal}
-use Rattle.hs_app.specs.declared.refusal.Refusal.TheVariants.{Usage, Source, FileTooLong, Sink, OutOfMemory}
+use Rattle.hs_front.specs.Refusal.{line_of, status_of}
+use Rattle.hs_front.specs.declared.refusal.Refusal.{Refusal}
+use Rattle.hs_front.specs.declared.refusal.Refusal.TheVariants.{Usage, Source, FileTooLong, Sink, OutOfMemory}
 use Rattle.hs_app.specs.declared.top.Ending.{Ending}
 use Rattle.hs_app.specs.declared.top.Ending.TheVariants.{Reported, CutOff, Refused}
 use Rattle.hs_app.specs.declared.verdict.Decided.{Decided}
 use Rattle.hs_app.specs.declared.verdict.Verdict.{Verdict}
 use Rattle.hs_app.specs.declared.verdict.Verdict.TheVariants.{Accepted, Rejected, Long}
-use Rattle.hs_app.specs.Outside.{SourceRun, SinkRun, IsUntouched, IsReadFromFront}
+use Rattle.hs_front.specs.Line.{ended}
+use Rattle.hs_front.specs.Outside.{SourceRun, SinkRun, IsUntouched, IsCalm, KeepsSource, HasTakenOrFailed, HasTakenNothing}
 use Rattle.hs_app.specs.Order.{Order, bytes_of, IsReadToEnd, IsPart, HasFault, OfTold}
-use Rattle.hs_app.specs.Headline.{max_bytes, IsWithinLimits}
+use Rattle.hs_front.specs.Files.{max_bytes}
+use Rattle.hs_app.specs.Headline.{IsWithinLimits}
 use Rattle.hs_app.specs.Verdict.{HasAnswer, Warrants}
-
--- ---- the outside
-
--- no call of the source failed
-abbrev pub IsCalm : SourceRun → Type 0
-IsCalm source = (any : List ℕ) → source.faults_after any ≡ source.faults any
-
--- what a run leaves as it was, and what doesn't fall
-pub record KeepsSource (source : SourceRun) : Type 0 where
-  pub same_files : (any : List ℕ) → source.file_after any ≡ source.file any
-  pub never_falls : (any : List ℕ) → source.faults any ≤ source.faults_after any
 
 -- ---- the answer
 
@@ -52,35 +43,11 @@ module _ (order : Option Order) (source : SourceRun) where
   IsAnswerOfRun (Ok decided) = IsOfBytes (Ok decided)
   IsAnswerOfRun (Err refusal) = HasCause refusal
 
--- a file was read whole: these are its bytes, which were handed out
-pub record IsReadWhole (name : List ℕ) (source : SourceRun) (bytes : List ℕ) : Type 0 where
-  pub given : bytes ≡ source.after.given
-  pub within : length bytes ≤ max_bytes
-  pub read : IsReadFromFront source true name
-
--- why it wasn't
-abbrev pub IsReadFault : List ℕ → SourceRun → Refusal → Type 0
-IsReadFault name source Source = Rose (source.faults name) (source.faults_after name) × (IsUntouched source ⊎ IsReadFromFront source false name)
-IsReadFault name source FileTooLong = (max_bytes < length source.after.given) × IsReadFromFront source false name
-IsReadFault name source OutOfMemory = IsReadFromFront source false name
-IsReadFault name source refusal = ⊥
-
 -- ---- how a run ends
 
--- the bytes were taken, or a part of them beside a fault
-abbrev pub HasTakenOrFailed : SinkRun → List ℕ → Type 0
-HasTakenOrFailed sink text = (sink.taken_after ≡ sink.taken ++ text) ⊎ (AddsPart sink.taken sink.taken_after text × Rose sink.faults sink.faults_after)
-
--- nothing was taken, and nothing failed
-pub record HasTakenNothing (sink : SinkRun) : Type 0 where
-  pub same_taken : sink.taken_after ≡ sink.taken
-  pub same_faults : sink.faults_after ≡ sink.faults
-
--- the refusal is told, or want of memory in its place where its line isn't a fixed one
-abbrev pub TellsRefusal : Refusal → SinkRun → Refusal → Type 0
-TellsRefusal refusal err told =
-    ((told ≡ refusal) × HasTakenOrFailed err (line_of refusal))
-    ⊎ ((HasFixedLine refusal → ⊥) × (told ≡ OutOfMemory) × HasTakenOrFailed err (line_of OutOfMemory))
+-- the line where the words are refused
+abbrev pub usage : List ℕ
+usage = ended (codes "usage: horsat [--workers N] [--entries N] [--steps N] [--table] [--first] [--simplify] [--gen K] [FILE]")
 
 module _ (order : Option Order) (source : SourceRun) (out err : SinkRun) where
   -- the verdict was reported whole
@@ -95,13 +62,13 @@ module _ (order : Option Order) (source : SourceRun) (out err : SinkRun) where
     pub answer : IsAnswerOfRun order source (Ok decided)
     pub part : AddsPart out.taken out.taken_after decided.report.items
     pub cause : Rose out.faults out.faults_after
-    pub told : HasTakenOrFailed err (line_of Sink)
+    pub told : HasTakenOrFailed err (line_of usage Sink)
 
   -- there is no verdict
   pub record Refuses (refusal : Refusal) : Type 0 where
     pub cause : HasCause order source refusal
     pub silent : HasTakenNothing out
-    pub told : HasTakenOrFailed err (line_of refusal)
+    pub told : HasTakenOrFailed err (line_of usage refusal)
 
   abbrev pub Ends : Ending → Type 0
   Ends (Reported decided) = IsReported decided

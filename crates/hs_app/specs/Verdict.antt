@@ -1,11 +1,10 @@
 -- What the bytes of a file are answered with.
 --     FailsAlong              the path leads, after some number of steps, to a terminal without transition, which it names with its state
 --     Reports                 the text is the report of the verdict on a scheme
---     IsSortable              the bytes are a file of this scheme, which has sorts within the limits
 --     IsAnsweredWith          the verdict with its report, or the reason why there is none
 --     HasAnswer               the answer of a file that isn't too long
 --     Warrants                the verdict that the bytes come to, or the reason why there is none, whatever is answered
-use Rattle.std.specs.Prelude.{◌≡◌, ◌≤◌, ◌<◌, ◌⊎◌, ℕ, Bool, true, false, List, ◌++◌, length, slice_get, Option, Some, None, Result, Ok, Err, if◌then◌else◌}
+use Rattle.std.specs.Prelude.{◌≡◌, ◌≤◌, ◌<◌, ◌⊎◌, ℕ, Bool, true, false, List, ◌++◌, length, Option, Some, None, Result, Ok, Err, if◌then◌else◌}
 use Rattle.hs_scheme.specs.declared.term.Head.{Head}
 use Rattle.hs_scheme.specs.declared.term.Rule.{Rule}
 use Rattle.hs_scheme.specs.Scheme.{AreRules}
@@ -16,12 +15,6 @@ use Rattle.hs_scheme.specs.Sorted.{SortedData, IsSorted}
 use Rattle.hs_scheme.specs.Problem.{ProblemData}
 use Rattle.hs_scheme.specs.Run.{start, Accepts}
 use Rattle.hs_scheme.specs.Steps.{Path, Reaches, HasNoTransition}
-use Rattle.hs_reader.specs.Raw.{File}
-use Rattle.hs_reader.specs.Faults.{IsFileWithin, IsSyntaxFault, IsLimitFault}
-use Rattle.hs_resolve.specs.declared.fault.NameFault.{NameFault}
-use Rattle.hs_resolve.specs.Answer.{IsAnswered}
-use Rattle.hs_sorts.specs.declared.fault.SortFault.TheVariants as sorts
-use Rattle.hs_sorts.specs.Inference.{IsInferred, IsSortFault}
 use Rattle.hs_table.specs.Entries.{EntryData}
 use Rattle.hs_scheme.specs.SameTree.{FailsFromStart}
 use Rattle.hs_table.specs.Follows.{Support}
@@ -29,37 +22,30 @@ use Rattle.hs_table.specs.Tables.{IsSupportedTable, IsLeastTable, HasSupports, H
 use Rattle.hs_naming.specs.Naming.{NamesPath}
 use Rattle.hs_checker.specs.Checked.{IsCount}
 use Rattle.hs_passes.specs.Passing.{KeepsRest}
-use Rattle.hs_trace.specs.Path.{PathData}
-use Rattle.hs_trace.specs.Failing.{IsFailingPath}
+use Rattle.hs_scheme.specs.FailingPath.{FailingPathData}
+use Rattle.hs_scheme.specs.Failing.{IsFailingPath}
 use Rattle.hs_text.specs.Report.{IsReport}
 use Rattle.hs_text.specs.declared.verdict.Verdict as shown
 use Rattle.hs_text.specs.declared.verdict.Verdict.TheVariants as shown_as
-use Rattle.hs_app.specs.declared.refusal.Refusal.{Refusal}
-use Rattle.hs_app.specs.declared.refusal.Refusal.TheVariants.{Usage, Source, FileTooLong, Syntax, Limit, Names, IllSorted, NotFirstOrder, SortTooLarge, RuleTooLong, PointLimit, FlowLimit, EntryLimit, Sink, OutOfMemory}
-use Rattle.hs_app.specs.declared.verdict.Settings.{Settings}
+use Rattle.hs_front.specs.declared.refusal.Refusal.{Refusal}
+use Rattle.hs_front.specs.declared.refusal.Refusal.TheVariants.{Usage, Source, FileTooLong, PointLimit, FlowLimit, EntryLimit, Sink, OutOfMemory}
+use Rattle.hs_words.specs.declared.options.Settings.{Settings}
 use Rattle.hs_app.specs.declared.verdict.Verdict.{Verdict}
 use Rattle.hs_app.specs.declared.verdict.Verdict.TheVariants.{Accepted, Rejected, Long}
 use Rattle.hs_app.specs.declared.verdict.Decided.{Decided}
-use Rattle.hs_app.specs.Problems.{Asked, IsSimplified, IsRemoved, OfForm, IsProblemOf, HasProblem, IsPastLimits, HasManyPoints, HasMuchFlow, IsReportedTable}
-use Rattle.hs_app.specs.Headline.{IsSchemeOf, max_bytes}
+use Rattle.hs_front.specs.Problems.{IsProblemOf, IsPastLimits, HasManyPoints, HasMuchFlow}
+use Rattle.hs_front.specs.Faults.{IsSortable, IsFileFault}
+use Rattle.hs_app.specs.Problems.{Asked, IsSimplified, IsRemoved, OfForm, HasProblem, IsReportedTable}
+use Rattle.hs_front.specs.Files.{max_bytes}
 
 -- ---- the verdict on a scheme, with its report
-
--- what is asked for is within its range
-pub record AreSettingsWithin (settings : Settings) : Type 0 where
-  pub least_workers : 1 ≤ settings.workers
-  pub most_workers : settings.workers ≤ 16
-  pub least_entries : 1 ≤ settings.entries
-  pub most_entries : settings.entries ≤ 1000000
-  pub least_steps : 1 ≤ settings.steps
-  pub most_steps : settings.steps ≤ 4000000
 
 -- the text is the report of the verdict, and shows the entries where they are asked for
 abbrev pub IsShown : ProblemData → Bool → shown.Verdict → List EntryData → Option ℕ → List ℕ → Type 0
 IsShown p table verdict log removed text = IsReport p verdict (if table then Some log else None) removed text
 
 -- the path leads to its last terminal, which has no transition in its state, after some number of steps
-abbrev pub FailsAlong : List Rule → List TransitionData → PathData → Type 0
+abbrev pub FailsAlong : List Rule → List TransitionData → FailingPathData → Type 0
 FailsAlong rules ts path = (used : ℕ) × IsFailingPath rules ts (record path { used = used })
 
 -- The rules whose tree is judged, with their transitions, the problem that was saturated, how much weight was taken off before, and the
@@ -89,7 +75,7 @@ module _ (settings : Settings) (rules : List Rule) (ts : List TransitionData) (p
     pub table : List EntryData
     pub reported : IsReportedTable settings.first p table
     pub within : length table ≤ settings.entries
-    pub path : PathData
+    pub path : FailingPathData
     pub fails : FailsAlong rules ts path
     pub walked : IsFailingPath rules_walked ts path
     pub few : path.used ≤ settings.steps
@@ -179,39 +165,7 @@ abbrev pub DecidesSorted : Asked → SortedData → Result Decided Refusal → T
 DecidesSorted asked sorted (Err OutOfMemory) = Unit {0}
 DecidesSorted asked sorted answer = DecidesSimplified asked sorted answer
 
--- ---- the faults of a file
-
--- the scheme has sorts, none of them too large, and no rule that is too long
-pub record IsSortable (bytes : List ℕ) (scheme : UnsortedData) : Type 0 where
-  pub of_bytes : IsSchemeOf bytes scheme
-  pub sorted : SortedData
-  pub inferred : IsInferred scheme sorted
-
--- a name of the file is wrong
-pub record HasNameFault (bytes : List ℕ) (wrong : NameFault) : Type 0 where
-  pub file : File
-  pub reads : IsFileWithin bytes file
-  pub fault : IsAnswered file wrong
-
--- the terminal's sort is not first order
-pub record HasHigherTerminal (scheme : UnsortedData) (terminal : List ℕ) : Type 0 where
-  pub number : ℕ
-  pub named : slice_get scheme.names.terminals number ≡ Some terminal
-  pub fault : IsSortFault scheme.rules scheme.ranks (sorts.TerminalNotFirstOrder number)
-
--- a refusal of a scheme by its sorts
-abbrev pub IsSortRefusal : UnsortedData → Refusal → Type 0
-IsSortRefusal scheme (IllSorted rule) = IsSortFault scheme.rules scheme.ranks (sorts.IllSorted rule)
-IsSortRefusal scheme (NotFirstOrder terminal) = HasHigherTerminal scheme terminal
-IsSortRefusal scheme (SortTooLarge rule) = IsSortFault scheme.rules scheme.ranks (sorts.SortTooLarge rule)
-IsSortRefusal scheme (RuleTooLong rule) = IsSortFault scheme.rules scheme.ranks (sorts.RuleTooLong rule)
-IsSortRefusal scheme OutOfMemory = Unit {0}
-IsSortRefusal scheme refusal = ⊥
-
-pub record HasSortFault (bytes : List ℕ) (refusal : Refusal) : Type 0 where
-  pub scheme : UnsortedData
-  pub of_bytes : IsSchemeOf bytes scheme
-  pub fault : IsSortRefusal scheme refusal
+-- ---- the answer on the bytes of a file
 
 -- what is answered on a scheme that has its sorts
 pub record HasDecision (asked : Asked) (bytes : List ℕ) (answer : Result Decided Refusal) : Type 0 where
@@ -219,22 +173,12 @@ pub record HasDecision (asked : Asked) (bytes : List ℕ) (answer : Result Decid
   pub sound : IsSortable bytes scheme
   pub decides : IsAnswerOn asked scheme answer
 
+-- a refusal of bytes: by the front end, or of a scheme that has its sorts
 abbrev pub Refused : Asked → List ℕ → Refusal → Type 0
-Refused asked bytes Usage = ⊥
-Refused asked bytes Source = ⊥
-Refused asked bytes FileTooLong = ⊥
-Refused asked bytes (Syntax line) = IsSyntaxFault bytes line
-Refused asked bytes (Limit which) = IsLimitFault bytes which
-Refused asked bytes (Names fault) = HasNameFault bytes fault
-Refused asked bytes (IllSorted rule) = HasSortFault bytes (IllSorted rule)
-Refused asked bytes (NotFirstOrder terminal) = HasSortFault bytes (NotFirstOrder terminal)
-Refused asked bytes (SortTooLarge rule) = HasSortFault bytes (SortTooLarge rule)
-Refused asked bytes (RuleTooLong rule) = HasSortFault bytes (RuleTooLong rule)
 Refused asked bytes PointLimit = HasDecision asked bytes (Err PointLimit)
 Refused asked bytes FlowLimit = HasDecision asked bytes (Err FlowLimit)
 Refused asked bytes EntryLimit = HasDecision asked bytes (Err EntryLimit)
-Refused asked bytes Sink = ⊥
-Refused asked bytes OutOfMemory = Unit {0}
+Refused asked bytes refusal = IsFileFault bytes refusal
 
 abbrev pub IsAnsweredWith : Asked → List ℕ → Result Decided Refusal → Type 0
 IsAnsweredWith asked bytes (Ok decided) = HasDecision asked bytes (Ok decided)

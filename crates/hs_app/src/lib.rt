@@ -3,13 +3,10 @@
 
 mod deciding;
 mod laws;
-mod line;
-mod problem;
-mod refusal;
 mod top;
 mod verdict;
 mod words;
 
 pub use laws::canonical_file_is_read_again;
 pub use top::run;
-pub use words::{NO_MEMORY, NO_WORDS, run_on};
+pub use words::run_on;

@@ -1,23 +1,23 @@
 //! The top call.
 
-ghost use Rattle.std.specs.Prelude.{◌≡◌, ◌≢◌, ◌⊎◌, ◌≤◌, ◌<◌, ◌^◌, map, Some, All, MatchResult};
-ghost use Rattle.hs_words.specs.Words.{texts, said_by};
-ghost use Rattle.hs_app.specs.Outside.{source_run, sink_run};
-ghost use Rattle.hs_app.specs.Order.{read_file, ordered, settings_of, ReadsNothing};
+ghost use Rattle.std.specs.Prelude.{◌≡◌, ◌≢◌, ◌⊎◌, ◌≤◌, ◌^◌, map, Some, All};
+ghost use Rattle.hs_words.specs.Words.{texts, AreSettingsWithin};
+ghost use Rattle.hs_front.specs.Files.{IsAccepted, IsRejected};
+ghost use Rattle.hs_front.specs.Outside.{source_run, sink_run, IsCalm, KeepsSource};
+ghost use Rattle.hs_app.specs.Order.{read_file, ordered, ReadsNothing};
 ghost use Rattle.hs_app.specs.Problems.{asked_of};
 ghost use Rattle.hs_app.specs.Headline as headline;
 ghost use Rattle.hs_app.specs.Outcome as outcome;
-ghost use Rattle.hs_app.specs.Verdict.{AreSettingsWithin, HasAnswer};
+ghost use Rattle.hs_app.specs.Verdict.{HasAnswer};
 ghost use Rattle.hs_gen.specs.Cycle.{cycle_file_text};
 
-use crate::line::OUT_OF_MEMORY;
-use crate::refusal::{Refusal, line, status};
-use crate::verdict::{Decided, Settings, Verdict, decide};
-use hs_edge::{ReadAll, Sink, Source, read_all, write_all};
+use crate::verdict::{Decided, Verdict, decide};
+use hs_edge::{Sink, Source, write_all};
+use hs_front::{Refusal, read, refuse, status};
 use hs_gen::cycle_file;
 use hs_passes::Pass;
 use hs_reader::MAX_BYTES;
-use hs_words::{Options, WordsFault, read_words};
+use hs_words::{Settings, WordsFault, read_words};
 use hs_workers::Gate;
 use std::alloc::Global;
 use std::sync::Wait;
@@ -26,26 +26,9 @@ use std::thread::Threads;
 /// The name under which standard input is read.
 const STANDARD_INPUT: &str = "-";
 
-/// Reads the file of this name.
-fn read<S: Source>(alloc: Global, name: &str, source: &mut S) -> Result<Vec<u8>, Refusal>
-    ensures answer { MatchResult result
-        (λ bytes. outcome.IsReadWhole name.now
-        (source_run S.file S.left S.reading S.faults source.old source.new) bytes.items)
-        (outcome.IsReadFault name.now (source_run S.file S.left S.reading S.faults source.old source.new)) }
-    ensures calm { result ≢ Err Refusal.Source
-        → outcome.IsCalm (source_run S.file S.left S.reading S.faults source.old source.new) }
-    ensures keeps { outcome.KeepsSource (source_run S.file S.left S.reading S.faults source.old source.new) }
-{
-    if source.start(name).is_err() {
-        return Err(Refusal::Source);
-    }
-    match read_all(alloc, source, MAX_BYTES) {
-        Ok(bytes) => Ok(bytes),
-        Err(ReadAll::ReadFault) => Err(Refusal::Source),
-        Err(ReadAll::TooLong) => Err(Refusal::FileTooLong),
-        Err(ReadAll::OutOfMemory) => Err(Refusal::OutOfMemory),
-    }
-}
+/// The line where the words are refused.
+const USAGE: &str =
+    "usage: horsat [--workers N] [--entries N] [--steps N] [--table] [--first] [--simplify] [--gen K] [FILE]\n";
 
 /// Reads the file of this name, and gives the verdict on it.
 fn verdict_on<R: Threads + Wait + Sync, S: Source, G: Gate + Sync>(
@@ -67,10 +50,10 @@ fn verdict_on<R: Threads + Wait + Sync, S: Source, G: Gate + Sync>(
         }))
         (source_run S.file S.left S.reading S.faults source.old source.new) result }
     ensures calm { result ≢ Err Refusal.Source
-        → outcome.IsCalm (source_run S.file S.left S.reading S.faults source.old source.new) }
-    ensures keeps { outcome.KeepsSource (source_run S.file S.left S.reading S.faults source.old source.new) }
+        → IsCalm (source_run S.file S.left S.reading S.faults source.old source.new) }
+    ensures keeps { KeepsSource (source_run S.file S.left S.reading S.faults source.old source.new) }
 {
-    match read(alloc, name, source) {
+    match read(alloc, name, source, MAX_BYTES) {
         Ok(bytes) => decide(rt, alloc, bytes.as_slice(), settings, passes, gate),
         Err(refusal) => Err(refusal),
     }
@@ -97,20 +80,6 @@ fn verdict_on_cycle<R: Threads + Wait + Sync, G: Gate + Sync>(
     }
 }
 
-/// The settings that the words ask for.
-fn settings_of(options: &Options) -> Settings
-    ensures { result ≡ settings_of (said_by options.now) }
-{
-    Settings {
-        workers: options.workers,
-        entries: options.entries,
-        steps: options.steps,
-        table: options.table,
-        first: options.first,
-        simplify: options.simplify,
-    }
-}
-
 /// The verdict on what the words name: the file of a name, or the generated file of a number.
 fn answer<R: Threads + Wait + Sync, S: Source, G: Gate + Sync>(
     rt: &R,
@@ -124,8 +93,8 @@ fn answer<R: Threads + Wait + Sync, S: Source, G: Gate + Sync>(
     ensures answer { outcome.IsAnswerOfRun (ordered (map (λ p. image p) passes.old.items) (texts words.now))
         (source_run S.file S.left S.reading S.faults source.old source.new) result }
     ensures calm { result ≢ Err Refusal.Source
-        → outcome.IsCalm (source_run S.file S.left S.reading S.faults source.old source.new) }
-    ensures keeps { outcome.KeepsSource (source_run S.file S.left S.reading S.faults source.old source.new) }
+        → IsCalm (source_run S.file S.left S.reading S.faults source.old source.new) }
+    ensures keeps { KeepsSource (source_run S.file S.left S.reading S.faults source.old source.new) }
     ensures untouched { ReadsNothing (ordered (map (λ p. image p) passes.old.items) (texts words.now))
         → source.new ≡ source.old }
 {
@@ -134,7 +103,7 @@ fn answer<R: Threads + Wait + Sync, S: Source, G: Gate + Sync>(
         Err(WordsFault::Usage) => return Err(Refusal::Usage),
         Err(WordsFault::OutOfMemory) => return Err(Refusal::OutOfMemory),
     };
-    let settings = settings_of(&options);
+    let settings = options.settings;
     match options.cycle {
         Some(k) => verdict_on_cycle(rt, alloc, k, settings, passes, gate),
         None => verdict_on(
@@ -146,32 +115,6 @@ fn answer<R: Threads + Wait + Sync, S: Source, G: Gate + Sync>(
             passes,
             gate,
         ),
-    }
-}
-
-/// Writes a line to standard error. A fault there changes nothing else.
-fn tell<E: Sink>(err: &mut E, text: &[u8])
-    ensures gains { outcome.HasTakenOrFailed (sink_run E.writing E.faults err.old err.new) text.now }
-    ensures never_falls { E.faults err.old ≤ E.faults err.new }
-{
-    let _ = write_all(err, text);
-}
-
-/// Writes the line of a refusal, and answers the refusal that was told: want of memory, where it is
-/// refused while the line is formed.
-fn refuse<E: Sink>(alloc: Global, err: &mut E, refusal: Refusal) -> Refusal
-    ensures tells { outcome.TellsRefusal refusal (sink_run E.writing E.faults err.old err.new) result }
-    ensures never_falls { E.faults err.old ≤ E.faults err.new }
-{
-    match line(alloc, &refusal) {
-        Ok(line) => {
-            tell(err, line.bytes());
-            refusal
-        }
-        Err(_) => {
-            tell(err, OUT_OF_MEMORY.as_bytes());
-            Refusal::OutOfMemory
-        }
     }
 }
 
@@ -202,7 +145,7 @@ fn end<R: Threads + Wait + Sync, S: Source, O: Sink, E: Sink, G: Gate + Sync>(
         (source_run S.file S.left S.reading S.faults source.old source.new)
         (sink_run O.writing O.faults out.old out.new) (sink_run E.writing E.faults err.old err.new) result }
     ensures calm { result ≢ Ending.Refused Refusal.Source
-        → outcome.IsCalm (source_run S.file S.left S.reading S.faults source.old source.new) }
+        → IsCalm (source_run S.file S.left S.reading S.faults source.old source.new) }
     ensures keeps { outcome.Keeps (source_run S.file S.left S.reading S.faults source.old source.new)
         (sink_run O.writing O.faults out.old out.new) (sink_run E.writing E.faults err.old err.new) }
     ensures untouched { ReadsNothing (ordered (map (λ p. image p) passes.old.items) (texts words.now))
@@ -212,11 +155,11 @@ fn end<R: Threads + Wait + Sync, S: Source, O: Sink, E: Sink, G: Gate + Sync>(
         Ok(decided) => match write_all(out, decided.report.as_slice()) {
             Ok(()) => Ending::Reported(decided),
             Err(_) => {
-                let _ = refuse(alloc, err, Refusal::Sink);
+                let _ = refuse(alloc, err, USAGE, Refusal::Sink);
                 Ending::CutOff(decided)
             }
         },
-        Err(refusal) => Ending::Refused(refuse(alloc, err, refusal)),
+        Err(refusal) => Ending::Refused(refuse(alloc, err, USAGE, refusal)),
     }
 }
 
@@ -270,9 +213,9 @@ pub fn run<R: Threads + Wait + Sync, S: Source, O: Sink, E: Sink, G: Gate + Sync
 ) -> u8
     requires { All (λ p. taken p ≡ 0) passes.items }
     ensures accepted { result ≡ 0 → headline.OfInput (texts words.now)
-        (source_run S.file S.left S.reading S.faults source.old source.new) headline.IsAccepted }
+        (source_run S.file S.left S.reading S.faults source.old source.new) IsAccepted }
     ensures rejected { (result ≡ 1) ⊎ (result ≡ 2) → headline.OfInput (texts words.now)
-        (source_run S.file S.left S.reading S.faults source.old source.new) headline.IsRejected }
+        (source_run S.file S.left S.reading S.faults source.old source.new) IsRejected }
     ensures decided { headline.IsDecided (map (λ p. image p) passes.items) (texts words.now)
         (source_run S.file S.left S.reading S.faults source.old source.new)
         (sink_run O.writing O.faults out.old out.new) result }

@@ -3,41 +3,22 @@
 ghost use Rattle.std.specs.Prelude.{◌≡◌, ◌≢◌, ◌⊎◌, map, All, IsOkAnd, IfOk, IfErr, OnErr, string_bytes};
 ghost use Rattle.std.specs.IoError.{error_kind};
 ghost use Rattle.std.specs.Vec.Iter.{into_iter_items};
-ghost use Rattle.hs_words.specs.Words.{texts};
-ghost use Rattle.hs_app.specs.Outside.{source_run, sink_run};
+ghost use Rattle.hs_front.specs.Files.{IsAccepted, IsRejected};
+ghost use Rattle.hs_front.specs.Outside.{source_run, sink_run};
 ghost use Rattle.hs_app.specs.Order.{ordered};
 ghost use Rattle.hs_app.specs.Headline as headline;
 ghost use Rattle.hs_app.specs.Outcome as outcome;
 
 use crate::top::run;
 use hs_edge::{Sink, Source};
+use hs_front::{NO_MEMORY, NO_WORDS, borrowed, collected};
 use hs_passes::Pass;
 use hs_workers::Open;
-use std::alloc::{AllocError, Global};
+use std::alloc::Global;
 use std::env::Args;
 use std::io::{self, ErrorKind};
 use std::sync::Wait;
 use std::thread::Threads;
-
-/// The status where memory is refused before the run.
-pub const NO_MEMORY: u8 = 10;
-
-/// The status where the system doesn't give the words of the command line.
-pub const NO_WORDS: u8 = 13;
-
-/// The words in a list.
-fn collected(alloc: Global, words: Args) -> Result<Vec<String>, AllocError>
-    ensures { IfOk result (λ all. all.items ≡ into_iter_items words) }
-{
-    words.collect(alloc)
-}
-
-/// The words as texts.
-fn borrowed(alloc: Global, words: &[String]) -> Result<Vec<&str>, AllocError>
-    ensures { IfOk result (λ all. texts all.items ≡ map string_bytes words.now) }
-{
-    words.iter().map(|word| word.as_str()).collect(alloc)
-}
 
 /// The run on the words that the system gave: the status is that of `run` on all of them, in their
 /// order. Where the system gives none, or one isn't UTF-8, it is 13, and 10 where there is no memory
@@ -54,10 +35,10 @@ pub fn run_on<R: Threads + Wait + Sync, S: Source, O: Sink, E: Sink>(
     requires { All (λ p. taken p ≡ 0) passes.items }
     ensures accepted { result ≡ 0 → IsOkAnd words (λ given.
         headline.OfInput (map string_bytes (into_iter_items given))
-        (source_run S.file S.left S.reading S.faults source.old source.new) headline.IsAccepted) }
+        (source_run S.file S.left S.reading S.faults source.old source.new) IsAccepted) }
     ensures rejected { (result ≡ 1) ⊎ (result ≡ 2) → IsOkAnd words (λ given.
         headline.OfInput (map string_bytes (into_iter_items given))
-        (source_run S.file S.left S.reading S.faults source.old source.new) headline.IsRejected) }
+        (source_run S.file S.left S.reading S.faults source.old source.new) IsRejected) }
     ensures decided { IfOk words (λ given.
         headline.IsDecided (map (λ p. image p) passes.items) (map string_bytes (into_iter_items given))
         (source_run S.file S.left S.reading S.faults source.old source.new)

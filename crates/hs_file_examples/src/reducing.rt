@@ -106,14 +106,14 @@ const CUTS: [(&str, &str, u32, &str); 4] = [
         "S -> a b.",
         "q0 a -> q0.",
         3,
-        "Error(Path { steps: [(0, 1)], last: 1, state: 0, used: 2 })",
+        "Error(FailingPath { steps: [(0, 1)], last: 1, state: 0, used: 2 })",
     ),
     (BRANCHING, BRANCHING_REJECTED, 10, "NoError"),
     (
         BRANCHING,
         BRANCHING_REJECTED,
         11,
-        "Error(Path { steps: [(1, 2), (2, 1), (1, 2), (2, 1), (1, 1), (3, 1)], last: 3, state: 1, used: 10 })",
+        "Error(FailingPath { steps: [(1, 2), (2, 1), (1, 2), (2, 1), (1, 1), (3, 1)], last: 3, state: 1, used: 10 })",
     ),
 ];
 

@@ -1,18 +1,16 @@
 //! What the words of the command line say. Words that are refused are rows of `.ci/rows`.
 
-use hs_words::{Options, read_words};
+use hs_words::{Options, Settings, read_words};
 use std::alloc::Global;
 use std::process::Abort;
 
-const DEFAULT: Options<'static> = Options {
+const DEFAULT: Settings = Settings {
     workers: 4,
     entries: 200_000,
     steps: 1_000_000,
     table: false,
     first: false,
     simplify: false,
-    cycle: None,
-    file: None,
 };
 
 /// Looks at what these words say.
@@ -44,11 +42,15 @@ const FLAGS: [(&[&str], bool, bool, Option<&str>); 12] = [
 #[test]
 fn files_and_flags(rt: HostRuntime) {
     for (words, table, first, file) in &FLAGS {
-        let expected = Options {
+        let settings = Settings {
             table: *table,
             first: *first,
-            file: *file,
             ..DEFAULT
+        };
+        let expected = Options {
+            settings,
+            cycle: None,
+            file: *file,
         };
         see_words(&rt, rt.alloc(), words, expected);
     }
@@ -82,11 +84,15 @@ const NUMBERS: [(&[&str], u32, u64, Option<u32>); 11] = [
 #[test]
 fn numbers_within_their_ranges(rt: HostRuntime) {
     for (words, entries, steps, cycle) in &NUMBERS {
-        let expected = Options {
+        let settings = Settings {
             entries: *entries,
             steps: *steps,
-            cycle: *cycle,
             ..DEFAULT
+        };
+        let expected = Options {
+            settings,
+            cycle: *cycle,
+            file: None,
         };
         see_words(&rt, rt.alloc(), words, expected);
     }
@@ -105,11 +111,15 @@ const WORKERS: [(&[&str], u32, bool, Option<&str>); 6] = [
 #[test]
 fn workers_and_simplification(rt: HostRuntime) {
     for (words, workers, simplify, file) in &WORKERS {
-        let expected = Options {
+        let settings = Settings {
             workers: *workers,
             simplify: *simplify,
-            file: *file,
             ..DEFAULT
+        };
+        let expected = Options {
+            settings,
+            cycle: None,
+            file: *file,
         };
         see_words(&rt, rt.alloc(), words, expected);
     }

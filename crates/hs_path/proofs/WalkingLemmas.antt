@@ -20,7 +20,7 @@ use Rattle.hs_naming.specs.Naming.{support_at, Move, Named, IsFirstStart, NamesP
 use Rattle.hs_naming.specs.Leading.{LeadsBy as Led, Leads, StartLeads}
 use Rattle.hs_naming.proofs.Ending.{named_and_fails}
 use Rattle.hs_core.specs.Core.{StartsAt}
-use Rattle.hs_trace.specs.Path.{PathData}
+use Rattle.hs_scheme.specs.FailingPath.{FailingPathData}
 use Rattle.hs_path.specs.declared.evidence.Store.{Store}
 use Rattle.hs_path.specs.declared.evidence.Spot.{Spot}
 use Rattle.hs_path.specs.Stored.{Piled, GrowsStore, Nothing}
@@ -217,14 +217,14 @@ module _ (p : ProblemData) (T : List EntryData) (supports : List Support) where
         goes_on = no_step w.state once.state w.term once.term (listed label) once.step;
       }
 
-    pub walk_end : (limit terminal state : ℕ) (path : PathData) → used ≤ limit → terminal ≡ terminal_at p T spot.node.place → Here ≡ Terminal state None
+    pub walk_end : (limit terminal state : ℕ) (path : FailingPathData) → used ≤ limit → terminal ≡ terminal_at p T spot.node.place → Here ≡ Terminal state None
         → path ≡ record { steps = trail; last = terminal; state = state; used = used } → IsNamedPath p T supports limit path
     walk_end limit terminal state path few one is e =
         let k = ended Here (terminal_at p T spot.node.place) (owns T spot.node.place w.at.node.own) w.state w.term Stack w.steps w.rest open_ state is in
         let names : NamesPath p T supports used trail =
         along (λ (n : ℕ). NamesPath p T supports n trail) (let same : w.need ≡ used = omega (arith, w.counted, k.steps_none) in same)
         (along (λ (l : Path). NamesPath p T supports w.need l) (w.whole ∙ (ap (λ l. trail ++ l) k.rest_none ∙ append-nil trail)) w.names) in
-        along (λ (x : PathData). IsNamedPath p T supports limit x) (sym e) (record {
+        along (λ (x : FailingPathData). IsNamedPath p T supports limit x) (sym e) (record {
           names = names;
           few = few;
           fails = record {

@@ -12,12 +12,12 @@ use Rattle.hs_scheme.specs.Steps.{Path, Reaches, HasNoTransition}
 use Rattle.hs_table.specs.Entries.{EntryData}
 use Rattle.hs_table.specs.Follows.{Support}
 use Rattle.hs_naming.specs.Naming.{NamesPath}
-use Rattle.hs_trace.specs.Path.{PathData}
-use Rattle.hs_trace.specs.Failing.{IsFailingPath}
+use Rattle.hs_scheme.specs.FailingPath.{FailingPathData}
+use Rattle.hs_scheme.specs.Failing.{IsFailingPath}
 use Rattle.hs_path.specs.declared.answer.Walk.{Walk}
 use Rattle.hs_path.specs.declared.answer.Walk.TheVariants.{Found, StepLimit}
 
-pub record IsNamedPath (p : ProblemData) (log : List EntryData) (supports : List Support) (limit : ℕ) (path : PathData) : Type 0 where
+pub record IsNamedPath (p : ProblemData) (log : List EntryData) (supports : List Support) (limit : ℕ) (path : FailingPathData) : Type 0 where
   pub names : NamesPath p log supports path.used path.steps
   pub few : path.used ≤ limit
   pub fails : IsFailingPath p.sorted.scheme.rules p.sorted.automaton.transitions path

@@ -13,8 +13,7 @@ use crate::turning::{Turn, next_turn};
 use hs_core::Core;
 use hs_history::every_history_supported;
 use hs_naming::namings_lead_the_start;
-use hs_scheme::{OutOfMemory, Problem};
-use hs_trace::Path;
+use hs_scheme::{FailingPath, OutOfMemory, Problem};
 use hs_verdict::is_sorted_problem;
 use std::alloc::Global;
 
@@ -47,7 +46,7 @@ fn walk_from(
     loop {
         match next_turn(problem, core, &mut store, &mut stack, spot)? {
             Turn::End { terminal, state } => {
-                return Ok(Walk::Found(Path {
+                return Ok(Walk::Found(FailingPath {
                     steps: trail,
                     last: terminal,
                     state,

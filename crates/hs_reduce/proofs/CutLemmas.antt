@@ -22,7 +22,7 @@ use Rattle.hs_steps.proofs.Sorted.{step_sorted}
 use Rattle.hs_steps.proofs.Failing.{within_refused}
 use Rattle.hs_steps.proofs.PathLemmas.{after_replacement, after_descent}
 use Rattle.hs_reduce.specs.Graph.{term_at, terms_at, head_of, arguments_of, NamesTerms}
-use Rattle.hs_trace.specs.Path.{PathData}
+use Rattle.hs_scheme.specs.FailingPath.{FailingPathData}
 use Rattle.hs_reduce.specs.Path.{IsErrorFrom}
 use Rattle.hs_reduce.specs.Advances.{HasKnownSorts}
 use Rattle.hs_reduce.specs.Bounds.{ReadsCut, IsErrorWithin}
@@ -30,7 +30,7 @@ use Rattle.hs_reduce.proofs.ReplacementLemmas.{whole}
 use Rattle.hs_reduce.proofs.ReplayLemmas.{arguments_by_rank, states_by_rank}
 
 -- a path with one more step in front
-abbrev pub longer : List (ℕ × ℕ) → PathData → PathData
+abbrev pub longer : List (ℕ × ℕ) → FailingPathData → FailingPathData
 longer label path = record { steps = label; last = path.last; state = path.state; used = path.used + 1 }
 
 module _ (s : SortedData) where
@@ -43,7 +43,7 @@ module _ (s : SortedData) where
   abbrev sorts : Sorts
   sorts = sorts_of s.sorts s.scheme.ranks
 
-  abbrev IsError : ℕ → Tree Head → PathData → Type 0
+  abbrev IsError : ℕ → Tree Head → FailingPathData → Type 0
   IsError q t path = IsErrorFrom rules ts q t path
 
   pub read_replaced : (n q f : ℕ) (t u : Tree Head) → 0 < n → head_of t ≡ Nt f → unfolded rules f (arguments_of t) ≡ Some u → ReadsCut s (n - 1) q u → ReadsCut s n q t
@@ -63,7 +63,7 @@ module _ (s : SortedData) where
   one_later : (n : ℕ) → suc n ≡ n + 1
   one_later n = omega arith
 
-  pub error_replaced : (q f : ℕ) (t u : Tree Head) (path : PathData) → head_of t ≡ Nt f → unfolded rules f (arguments_of t) ≡ Some u → IsError q u path → IsError q t (longer path.steps path)
+  pub error_replaced : (q f : ℕ) (t u : Tree Head) (path : FailingPathData) → head_of t ≡ Nt f → unfolded rules f (arguments_of t) ≡ Some u → IsError q u path → IsError q t (longer path.steps path)
   error_replaced q f t u path front e error =
       let us = forest (arguments_of t) in
       let fronted : node (Nt f) us ≡ t = sym (ap (λ h. node h us) front) ∙ whole t in
@@ -83,7 +83,7 @@ module _ (s : SortedData) where
       along (λ (x : Tree Head). IsError q x (record { steps = steps; last = a; state = q; used = 0 })) fronted (record { fails = (none, e); arguments = us; reaches = (none, (refl, refl)) })
 
   module _ (sorted : HasKnownSorts s) where
-    pub refused : (n q : ℕ) (t : Tree Head) (path : PathData) → IsErrorWithin s n q t path → run ts q (cut rules n t) ≡ false
+    pub refused : (n q : ℕ) (t : Tree Head) (path : FailingPathData) → IsErrorWithin s n q t path → run ts q (cut rules n t) ≡ false
     refused zero q t path e = absurd (omega (arith, e.within))
     refused (suc n) q t path e =
         along (λ k. run ts q (cut rules k t) ≡ false) (sym (one_later n)) (within_refused rules ts n q t (path.steps, path.used, omega (arith, e.within), e.error.fails))
@@ -133,7 +133,7 @@ module _ (s : SortedData) where
             step_sorted rules (length s.scheme.ranks) (known s.scheme.ranks) ts sorts sorted q (get_or to i 0) (node (Tm a) us) (term_at trees child) ((a, i + 1) ∷ [])
             (to, e, record { place = i; labelled = refl; state = in_state; term = child_term }) front_typed
 
-        pub error_below : (path : PathData) → IsError (get_or to i 0) (term_at trees child) path → IsError q t (longer ((a, i + 1) ∷ path.steps) path)
+        pub error_below : (path : FailingPathData) → IsError (get_or to i 0) (term_at trees child) path → IsError q t (longer ((a, i + 1) ∷ path.steps) path)
         error_below path error = along (λ (x : Tree Head). IsError q x (longer ((a, i + 1) ∷ path.steps) path)) fronted (record {
           fails = along (λ k. Fails rules ts k q (node (Tm a) us) ((a, i + 1) ∷ path.steps)) (one_later path.used)
               (after_descent rules ts (HasNoTransition ts) path.used q (get_or to i 0) a i to us (term_at trees child) path.steps e in_state child_term error.fails);

@@ -10,18 +10,18 @@ use Rattle.hs_scheme.specs.Run.{run, start}
 use Rattle.hs_scheme.specs.Sorted.{SortedData}
 use Rattle.hs_reduce.specs.declared.answers.Bounded.{Bounded}
 use Rattle.hs_reduce.specs.declared.answers.Bounded.TheVariants.{NoError, Error}
-use Rattle.hs_trace.specs.Path.{PathData}
+use Rattle.hs_scheme.specs.FailingPath.{FailingPathData}
 use Rattle.hs_reduce.specs.Path.{IsErrorFrom}
 
 -- the automaton reads the tree of t, cut at n, to its end
 abbrev pub ReadsCut : SortedData → ℕ → ℕ → Tree Head → Type 0
 ReadsCut s n q t = IsTrue (run s.automaton.transitions q (cut s.scheme.rules n t))
 
-pub record IsErrorWithin (s : SortedData) (n q : ℕ) (t : Tree Head) (path : PathData) : Type 0 where
+pub record IsErrorWithin (s : SortedData) (n q : ℕ) (t : Tree Head) (path : FailingPathData) : Type 0 where
   pub within : path.used < n
   pub error : IsErrorFrom s.scheme.rules s.automaton.transitions q t path
 
-abbrev pub IsFoundWithin : SortedData → ℕ → ℕ → Tree Head → Option PathData → Type 0
+abbrev pub IsFoundWithin : SortedData → ℕ → ℕ → Tree Head → Option FailingPathData → Type 0
 IsFoundWithin s n q t None = ReadsCut s n q t
 IsFoundWithin s n q t (Some path) = IsErrorWithin s n q t path
 

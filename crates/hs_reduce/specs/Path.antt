@@ -8,9 +8,9 @@ use Rattle.hs_scheme.specs.declared.term.Rule.{Rule}
 use Rattle.hs_scheme.specs.Transition.{TransitionData}
 use Rattle.hs_scheme.specs.Tree.{Tree, Trees, node}
 use Rattle.hs_scheme.specs.Steps.{Reaches, Fails}
-use Rattle.hs_trace.specs.Path.{PathData}
+use Rattle.hs_scheme.specs.FailingPath.{FailingPathData}
 
-pub record IsErrorFrom (rules : List Rule) (ts : List TransitionData) (q : ℕ) (t : Tree Head) (path : PathData) : Type 0 where
+pub record IsErrorFrom (rules : List Rule) (ts : List TransitionData) (q : ℕ) (t : Tree Head) (path : FailingPathData) : Type 0 where
   pub fails : Fails rules ts path.used q t path.steps
   pub arguments : Trees Head
   pub reaches : Reaches rules ts path.used q t path.steps path.state (node (Tm path.last) arguments)

@@ -1,6 +1,6 @@
 //! What the calls answer.
 
-use hs_trace::Path;
+use hs_scheme::FailingPath;
 
 /// What a reduction along a path comes to.
 #[derive(Clone, Copy, Debug, PartialEq, Eq, Drop)]
@@ -35,5 +35,5 @@ pub enum Bounded {
     /// The automaton reads the cut to its end.
     NoError,
     /// It doesn't, and the path leads to an error in fewer steps than the cut has.
-    Error(Path),
+    Error(FailingPath),
 }

@@ -3,7 +3,7 @@
 ghost use Rattle.std.specs.Prelude.{◌≡◌, ◌<◌, ◌≤◌, ◌+◌, ◌∷◌, length, slice_index, IfOk, OnOk};
 ghost use Rattle.hs_scheme.specs.TreeTerms.{IsTreeTerm};
 ghost use Rattle.hs_scheme.specs.Sorted.{sorts_of};
-ghost use Rattle.hs_trace.specs.Path.{PathData};
+ghost use Rattle.hs_scheme.specs.FailingPath.{FailingPathData};
 ghost use Rattle.hs_reduce.specs.Graph.{term_at, GrowsTrees};
 ghost use Rattle.hs_reduce.specs.Advances.{HasKnownSorts};
 ghost use Rattle.hs_reduce.specs.Bounds.{IsFoundWithin, IsBoundedAnswer};
@@ -12,8 +12,7 @@ use crate::answers::Bounded;
 use crate::graph::Graph;
 use crate::limits::MAX_CUT;
 use crate::replacement::replace;
-use hs_scheme::{Head, OutOfMemory, Sorted};
-use hs_trace::Path;
+use hs_scheme::{FailingPath, Head, OutOfMemory, Sorted};
 use std::alloc::Global;
 
 /// The rank of a terminal, 0 of one that there isn't.
@@ -28,7 +27,7 @@ fn rank_of(sorted: &Sorted, terminal: u32) -> u32
 }
 
 /// The path with a replacement in front.
-fn after_replacement(path: Path) -> Path
+fn after_replacement(path: FailingPath) -> FailingPath
     requires { path.used < MAX_CUT }
     ensures { result ≡ record {
       steps = path.steps;
@@ -37,7 +36,7 @@ fn after_replacement(path: Path) -> Path
       used = path.used + 1;
     } }
 {
-    Path {
+    FailingPath {
         used: path.used + 1,
         steps: path.steps,
         last: path.last,
@@ -46,7 +45,7 @@ fn after_replacement(path: Path) -> Path
 }
 
 /// The path with a descent in front.
-fn after_descent(path: Path, terminal: u32, number: u32) -> Result<Path, OutOfMemory>
+fn after_descent(path: FailingPath, terminal: u32, number: u32) -> Result<FailingPath, OutOfMemory>
     requires { path.used < MAX_CUT }
     ensures { IfOk result (λ made. made ≡ record {
       steps = (terminal, number) ∷ path.steps;
@@ -70,7 +69,7 @@ fn first_error(
     n: u32,
     state: u32,
     place: usize,
-) -> Result<Option<Path>, OutOfMemory>
+) -> Result<Option<FailingPath>, OutOfMemory>
     requires sorted { HasKnownSorts sorted.now }
     requires few { n ≤ MAX_CUT }
     requires place { place < length graph.old }
@@ -94,7 +93,7 @@ fn first_error(
         }
         Head::Tm(terminal) => {
             let Some(to) = sorted.automaton.next(state, terminal) else {
-                return Ok(Some(Path {
+                return Ok(Some(FailingPath {
                     steps: Vec::new(alloc),
                     last: terminal,
                     state,

@@ -3,6 +3,7 @@
 -- that FILE and `--gen` exclude one another, are our own.
 --     horsat        the command
 --     number_in     the number that one to nine digits write, where it is in a range
+--     settings_in   what the matches say of how the verdict is found and of what is shown
 --     said          what the matches say
 --     options_of    what the words say; none where they are refused
 --     AreWithin     what holds of options that were read
@@ -18,6 +19,7 @@ use Rattle.clap.specs.Walk.{Row, Rule, first_of, is_empty}
 use Rattle.clap.specs.Simple.{App, Shape, new_app, new_rule, with_rule, matches_of, on_top}
 use Rattle.clap.specs.Faults.{fault_of}
 use Rattle.hs_words.specs.declared.options.Options.{Options}
+use Rattle.hs_words.specs.declared.options.Settings.{Settings}
 
 -- `--name`, and `--name` with a value
 abbrev pub flag : List ℕ → Rule
@@ -60,12 +62,7 @@ abbrev pub is_set : Option (List ℕ) → Bool
 is_set value = option_map_or (λ text. bytes_eq text (codes "true")) value false
 
 pub record OptionsData : Type 0 where
-  pub workers : ℕ
-  pub entries : ℕ
-  pub steps : ℕ
-  pub table : Bool
-  pub first : Bool
-  pub simplify : Bool
+  pub settings : Settings
   pub cycle : Option ℕ
   pub file : Option (List ℕ)
 
@@ -73,17 +70,24 @@ pub record OptionsData : Type 0 where
 abbrev pub unless_both : OptionsData → Option OptionsData
 unless_both o = if is_some o.cycle && is_some o.file then None else Some o
 
--- what the values of the options say
-abbrev pub said_by_values : Option (List ℕ) → Option (List ℕ) → Option (List ℕ) → Option (List ℕ) → Option (List ℕ) → Option (List ℕ) → Option (List ℕ) → Option (List ℕ) → Option OptionsData
-said_by_values workers entries steps table first simplify cycle file =
-    option_and_then (λ w. option_and_then (λ e. option_and_then (λ s. option_and_then (λ c.
-    unless_both (record { workers = w; entries = e; steps = s; table = is_set table; first = is_set first; simplify = is_set simplify; cycle = c; file = file }))
-    (number_if 1 300 cycle)) (number_or 1000000 1 4000000 steps)) (number_or 200000 1 1000000 entries)) (number_or 4 1 16 workers)
+-- what the values of the options say of the settings, and of the whole
+abbrev pub settings_by_values : Option (List ℕ) → Option (List ℕ) → Option (List ℕ) → Bool → Bool → Bool → Option Settings
+settings_by_values workers entries steps table first simplify =
+    option_and_then (λ w. option_and_then (λ e. option_and_then (λ s. Some (record { workers = w; entries = e; steps = s; table = table; first = first; simplify = simplify }))
+    (number_or 1000000 1 4000000 steps)) (number_or 200000 1 1000000 entries)) (number_or 4 1 16 workers)
+
+abbrev pub said_by_values : Option Settings → Option (List ℕ) → Option (List ℕ) → Option OptionsData
+said_by_values settings cycle file =
+    option_and_then (λ s. option_and_then (λ c. unless_both (record { settings = s; cycle = c; file = file })) (number_if 1 300 cycle)) settings
+
+-- what the matches say of the settings, and of the whole
+abbrev pub settings_in : List Row → Option Settings
+settings_in rows =
+    settings_by_values (first_of (codes "workers") rows) (first_of (codes "entries") rows) (first_of (codes "steps") rows)
+    (is_set (first_of (codes "table") rows)) (is_set (first_of (codes "first") rows)) (is_set (first_of (codes "simplify") rows))
 
 abbrev pub said : List Row → Option OptionsData
-said rows =
-    said_by_values (first_of (codes "workers") rows) (first_of (codes "entries") rows) (first_of (codes "steps") rows) (first_of (codes "table") rows) (first_of (codes "first") rows)
-    (first_of (codes "simplify") rows) (first_of (codes "gen") rows) (first_of (codes "file") rows)
+said rows = said_by_values (settings_in rows) (first_of (codes "gen") rows) (first_of (codes "file") rows)
 
 abbrev pub options_of : List (List ℕ) → Option OptionsData
 options_of words = if is_empty (fault_of horsat words) then said (matches_of horsat words) else None
@@ -93,13 +97,19 @@ abbrev pub texts : List (Bor (List ℕ)) → List (List ℕ)
 texts words = map (λ w. w.now) words
 
 abbrev pub said_by : Options → OptionsData
-said_by o =
-    record { workers = o.workers; entries = o.entries; steps = o.steps; table = o.table; first = o.first; simplify = o.simplify; cycle = o.cycle; file = option_map (λ f. f.now) o.file }
+said_by o = record { settings = o.settings; cycle = o.cycle; file = option_map (λ f. f.now) o.file }
+
+-- the numbers are in their ranges
+pub record AreSettingsWithin (settings : Settings) : Type 0 where
+  pub least_workers : 1 ≤ settings.workers
+  pub most_workers : settings.workers ≤ 16
+  pub least_entries : 1 ≤ settings.entries
+  pub most_entries : settings.entries ≤ 1000000
+  pub least_steps : 1 ≤ settings.steps
+  pub most_steps : settings.steps ≤ 4000000
 
 -- the numbers are in their ranges, and not both a file and a cycle are given
 pub record AreWithin (o : Options) : Type 0 where
-  pub workers : (1 ≤ o.workers) × (o.workers ≤ 16)
-  pub entries : (1 ≤ o.entries) × (o.entries ≤ 1000000)
-  pub steps : (1 ≤ o.steps) × (o.steps ≤ 4000000)
+  pub settings : AreSettingsWithin o.settings
   pub cycle : (k : ℕ) → o.cycle ≡ Some k → (1 ≤ k) × (k ≤ 300)
   pub one : is_some o.cycle && is_some o.file ≡ false

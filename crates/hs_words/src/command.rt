@@ -5,12 +5,12 @@ ghost use Rattle.clap.specs.Matches.{found_of};
 ghost use Rattle.clap.specs.Walk.{first_of, rows_of, rule_of};
 ghost use Rattle.clap.specs.Words.{app_of};
 ghost use Rattle.hs_words.specs.Words as words;
-ghost use Rattle.hs_words.specs.Words.{AreWithin, options_of, said_by, texts};
+ghost use Rattle.hs_words.specs.Words.{AreSettingsWithin, AreWithin, options_of, said_by, texts};
 ghost use Rattle.hs_words.specs.declared.fault.WordsFault.TheVariants.{Usage};
 
 use crate::fault::WordsFault;
 use crate::number::{is_set, number_if, number_or};
-use crate::options::Options;
+use crate::options::{Options, Settings};
 use clap::{Arg, ArgAction, ArgMatches, Command};
 use std::alloc::{AllocError, Global};
 
@@ -73,26 +73,37 @@ fn value<'a>(matches: &ArgMatches<'a>, name: &str) -> Option<&'a str>
     matches.get_str(name)
 }
 
-/// What the matches say. `None` where a number is refused, or FILE and `--gen` are both given.
-fn options<'a>(matches: &ArgMatches<'a>) -> Option<Options<'a>>
-    ensures said { option_map said_by result ≡ words.said (rows_of (found_of matches.now)) }
-    ensures within { IfSome result AreWithin }
+/// The settings among the matches. `None` where a number is refused.
+fn settings<'a>(matches: &ArgMatches<'a>) -> Option<Settings>
+    ensures said { result ≡ words.settings_in (rows_of (found_of matches.now)) }
+    ensures within { IfSome result AreSettingsWithin }
 {
     let workers = number_or(4, 1, 16, value(matches, "workers"))?;
     let entries = number_or(200_000, 1, 1_000_000, value(matches, "entries"))?;
     let steps = number_or(1_000_000, 1, 4_000_000, value(matches, "steps"))?;
-    let cycle = number_if(1, 300, value(matches, "gen"))?;
-    let file = value(matches, "file");
-    if cycle.is_some() && file.is_some() {
-        return None;
-    }
-    Some(Options {
+    Some(Settings {
         workers,
         entries,
         steps: u64::from(steps),
         table: is_set(value(matches, "table")),
         first: is_set(value(matches, "first")),
         simplify: is_set(value(matches, "simplify")),
+    })
+}
+
+/// What the matches say. `None` where a number is refused, or FILE and `--gen` are both given.
+fn options<'a>(matches: &ArgMatches<'a>) -> Option<Options<'a>>
+    ensures said { option_map said_by result ≡ words.said (rows_of (found_of matches.now)) }
+    ensures within { IfSome result AreWithin }
+{
+    let settings = settings(matches)?;
+    let cycle = number_if(1, 300, value(matches, "gen"))?;
+    let file = value(matches, "file");
+    if cycle.is_some() && file.is_some() {
+        return None;
+    }
+    Some(Options {
+        settings,
         cycle,
         file,
     })

@@ -8,4 +8,4 @@ mod options;
 
 pub use command::read_words;
 pub use fault::WordsFault;
-pub use options::Options;
+pub use options::{Options, Settings};

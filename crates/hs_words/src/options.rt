@@ -1,8 +1,8 @@
 //! What the words say.
 
-/// What the words of the command line say.
+/// How the verdict is found, and what is shown with it.
 #[derive(Clone, Copy, Debug, PartialEq, Eq)]
-pub struct Options<'a> {
+pub struct Settings {
     /// How many workers saturate, 1 to 16.
     pub workers: u32,
     /// The most entries of a table, 1 to 1,000,000.
@@ -15,6 +15,12 @@ pub struct Options<'a> {
     pub first: bool,
     /// Whether the scheme is made smaller before it is decided.
     pub simplify: bool,
+}
+
+/// What the words of the command line say.
+#[derive(Clone, Copy, Debug, PartialEq, Eq)]
+pub struct Options<'a> {
+    pub settings: Settings,
     /// The number of states of the generated file that is read in place of a file, 1 to 300: the
     /// value of `--gen`.
     pub cycle: Option<u32>,

@@ -2,7 +2,7 @@ use Rattle.std.proofs.Common.{sym, subst, ℕ, ◌≤◌, List, length}
 use Rattle.hs_scheme.specs.declared.term.Rule.{Rule}
 use Rattle.hs_scheme.specs.Problem.{ProblemData}
 use Rattle.hs_table.specs.Tables.{HasSupports}
-use Rattle.hs_trace.specs.Failing.{IsFailingPath}
+use Rattle.hs_scheme.specs.Failing.{IsFailingPath}
 use Rattle.hs_scheme.specs.Run.{start}
 use Rattle.hs_scheme.specs.Steps.{Reaches}
 use Rattle.hs_text.specs.declared.verdict.Verdict.TheVariants.{Rejected, Long}

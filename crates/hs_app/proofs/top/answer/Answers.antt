@@ -3,36 +3,31 @@ use Rattle.std.specs.Prelude.{option_map, unwrap_or, codes}
 use Rattle.std.specs.Option.{option_map_or}
 use Rattle.std.specs.Borrow.{Bor}
 use Rattle.hs_words.specs.Words.{OptionsData, texts, said_by, options_of}
-use Rattle.hs_app.specs.declared.verdict.Settings.{Settings}
 use Rattle.hs_passes.specs.Passing.{Image}
 use Rattle.hs_app.specs.Problems.{asked_of}
-use Rattle.hs_app.specs.Order.{Order, FileOrigin, generate, read_file, job_of, order_of, ordered, settings_of, ReadsNothing}
-use Rattle.hs_app.specs.Outside.{source_run}
+use Rattle.hs_app.specs.Order.{Order, FileOrigin, generate, read_file, job_of, order_of, ordered, ReadsNothing}
+use Rattle.hs_front.specs.Outside.{source_run}
 use Rattle.hs_app.specs.Outcome.{IsAnswerOfRun}
-use Rattle.hs_app.specs.Verdict.{AreSettingsWithin}
-use Rattle.hs_app.proofs.OrderLemmas.{options_in}
 use Rattle.hs_app.proofs.OutcomeLemmas.{of_cycle}
 use Rattle.hs_app.proofs.top.answer.Goals as goal
 
 -- what the words that were taken order
-order_is : (images : List Image) (words : List (List ℕ)) (o : OptionsData) (job : FileOrigin) (settings : Settings) → options_of words ≡ Some o → job_of o ≡ job → settings ≡ settings_of o
-    → ordered images words ≡ Some (record { job = job; asked = asked_of settings images })
-order_is images words o job settings e f g =
-    ap (λ (x : Option OptionsData). option_map (λ (y : OptionsData). order_of images y) x) e ∙ (λ i. Some (record { job = f i; asked = asked_of (sym g i) images }))
+order_is : (images : List Image) (words : List (List ℕ)) (o : OptionsData) (job : FileOrigin) → options_of words ≡ Some o → job_of o ≡ job
+    → ordered images words ≡ Some (record { job = job; asked = asked_of o.settings images })
+order_is images words o job e f =
+    ap (λ (x : Option OptionsData). option_map (λ (y : OptionsData). order_of images y) x) e ∙ (λ i. Some (record { job = f i; asked = asked_of o.settings images }))
 
 pub verdict_on_cycle-requires-clause-least : goal.verdict_on_cycle-requires-clause-least
-verdict_on_cycle-requires-clause-least g c κs within = ((options_in (texts c.args.words.now) (said_by c.in-Ok.options) c.in-Ok.ensures.ok).cycle c.in-Some.k c.in-Some.is).above
+verdict_on_cycle-requires-clause-least g c κs within = (c.in-Ok.ensures.within.cycle c.in-Some.k c.in-Some.is).0
 
 pub verdict_on_cycle-requires-clause-most : goal.verdict_on_cycle-requires-clause-most
-verdict_on_cycle-requires-clause-most g c κs within = ((options_in (texts c.args.words.now) (said_by c.in-Ok.options) c.in-Ok.ensures.ok).cycle c.in-Some.k c.in-Some.is).below
+verdict_on_cycle-requires-clause-most g c κs within = (c.in-Ok.ensures.within.cycle c.in-Some.k c.in-Some.is).1
 
 pub verdict_on_cycle-requires-clause-settings : goal.verdict_on_cycle-requires-clause-settings
-verdict_on_cycle-requires-clause-settings g c κs within =
-    subst (λ (s : Settings). AreSettingsWithin s) (sym c.settings_of-settings.ensures) (options_in (texts c.args.words.now) (said_by c.in-Ok.options) c.in-Ok.ensures.ok).settings
+verdict_on_cycle-requires-clause-settings g c κs within = c.in-Ok.ensures.within.settings
 
 pub verdict_on-requires-clause-settings : goal.verdict_on-requires-clause-settings
-verdict_on-requires-clause-settings g c κs within =
-    subst (λ (s : Settings). AreSettingsWithin s) (sym c.settings_of-settings.ensures) (options_in (texts c.args.words.now) (said_by c.in-Ok.options) c.in-Ok.ensures.ok).settings
+verdict_on-requires-clause-settings g c κs within = c.in-Ok.ensures.within.settings
 
 pub returns-in-Some-clause-answer : goal.returns-in-Some-clause-answer
 returns-in-Some-clause-answer g c =
@@ -40,7 +35,7 @@ returns-in-Some-clause-answer g c =
     let o : OptionsData = said_by c.in-Ok.options in
     let job : job_of o ≡ generate c.in-Some.k = ap (λ (x : Option ℕ). option_map_or (λ k. generate k) x (read_file (unwrap_or o.file (codes "-")))) c.in-Some.is in
     subst (λ (x : Option Order). IsAnswerOfRun x source c.verdict_on_cycle.result)
-    (sym (order_is _ (texts c.args.words.now) o (generate c.in-Some.k) c.settings_of-settings.result c.in-Ok.ensures.ok job c.settings_of-settings.ensures))
+    (sym (order_is _ (texts c.args.words.now) o (generate c.in-Some.k) c.in-Ok.ensures.ok job))
     (of_cycle c.in-Some.k _ source c.verdict_on_cycle.result (record { same_reading = refl; same_left = refl }) c.verdict_on_cycle.ensures)
 
 -- the name that is read where no file is given
@@ -56,7 +51,7 @@ returns-in-None-clause-answer g c =
     let job : job_of o ≡ read_file c.unwrap_or.result.now =
     ap (λ (x : Option ℕ). option_map_or (λ k. generate k) x (read_file (unwrap_or o.file (codes "-")))) c.in-None.is ∙ ap (λ (n : List ℕ). read_file n) (sym name) in
     subst (λ (x : Option Order). IsAnswerOfRun x source c.verdict_on.result)
-    (sym (order_is _ (texts c.args.words.now) o (read_file c.unwrap_or.result.now) c.settings_of-settings.result c.in-Ok.ensures.ok job c.settings_of-settings.ensures))
+    (sym (order_is _ (texts c.args.words.now) o (read_file c.unwrap_or.result.now) c.in-Ok.ensures.ok job))
     c.verdict_on.ensures.answer
 
 pub returns-in-None-clause-untouched : goal.returns-in-None-clause-untouched
@@ -65,4 +60,4 @@ returns-in-None-clause-untouched g c = λ nothing.
     let name : c.unwrap_or.result.now ≡ unwrap_or o.file (codes "-") = ap (λ (b : Bor (List ℕ)). b.now) c.unwrap_or.ensures ∙ name_is c.in-Ok.options.file _ refl in
     let job : job_of o ≡ read_file c.unwrap_or.result.now =
     ap (λ (x : Option ℕ). option_map_or (λ k. generate k) x (read_file (unwrap_or o.file (codes "-")))) c.in-None.is ∙ ap (λ (n : List ℕ). read_file n) (sym name) in
-    absurd (subst (λ (x : Option Order). ReadsNothing x) (order_is _ (texts c.args.words.now) o (read_file c.unwrap_or.result.now) c.settings_of-settings.result c.in-Ok.ensures.ok job c.settings_of-settings.ensures) nothing)
+    absurd (subst (λ (x : Option Order). ReadsNothing x) (order_is _ (texts c.args.words.now) o (read_file c.unwrap_or.result.now) c.in-Ok.ensures.ok job) nothing)

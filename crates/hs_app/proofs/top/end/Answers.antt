@@ -1,10 +1,10 @@
 use Rattle.std.proofs.Common.{refl, sym, ◌∙◌, ap, subst, inl, inr, ◌++◌, ℕ, List}
-use Rattle.hs_app.specs.declared.refusal.Refusal.{Refusal}
-use Rattle.hs_app.specs.Refusal.{line_of}
+use Rattle.hs_front.specs.declared.refusal.Refusal.{Refusal}
+use Rattle.hs_front.specs.Refusal.{line_of}
 use Rattle.hs_words.specs.Words.{texts}
 use Rattle.hs_app.specs.Order.{ordered}
-use Rattle.hs_app.specs.Outside.{source_run, sink_run}
-use Rattle.hs_app.specs.Outcome.{HasCause, HasTakenOrFailed, Refuses}
+use Rattle.hs_front.specs.Outside.{source_run, sink_run, HasTakenOrFailed}
+use Rattle.hs_app.specs.Outcome.{usage, HasCause, Refuses}
 use Rattle.hs_app.proofs.OutcomeLemmas.{any_cause}
 use Rattle.hs_app.proofs.top.end.Goals as goal
 
@@ -18,12 +18,12 @@ returns-in-Err-clause-ends g c =
       | inl (is, gains) ↦ record {
         cause = subst (HasCause name source) (sym is) c.in-Err.ensures.answer;
         silent = record { same_taken = refl; same_faults = refl };
-        told = subst (λ (r : Refusal). HasTakenOrFailed err (line_of r)) (sym is) gains;
+        told = subst (λ (r : Refusal). HasTakenOrFailed err (line_of usage r)) (sym is) gains;
       }
       | inr (changes, is, gains) ↦ record {
         cause = subst (HasCause name source) (sym is) (any_cause name source c.in-Err.refusal c.in-Err.ensures.answer changes);
         silent = record { same_taken = refl; same_faults = refl };
-        told = subst (λ (r : Refusal). HasTakenOrFailed err (line_of r)) (sym is) gains;
+        told = subst (λ (r : Refusal). HasTakenOrFailed err (line_of usage r)) (sym is) gains;
       }
     ]
 

@@ -1,6 +1,6 @@
 use Rattle.hs_words.specs.Words.{texts}
 use Rattle.hs_app.specs.Order.{ordered}
-use Rattle.hs_app.specs.Outside.{source_run, sink_run}
+use Rattle.hs_front.specs.Outside.{source_run, sink_run}
 use Rattle.hs_app.proofs.OutcomeLemmas.{rows}
 use Rattle.hs_app.proofs.HeadlineLemmas.{accepted, rejected, decided}
 use Rattle.hs_app.proofs.top.run.Goals as goal

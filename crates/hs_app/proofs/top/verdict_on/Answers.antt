@@ -1,4 +1,4 @@
-use Rattle.hs_app.specs.Outside.{source_run}
+use Rattle.hs_front.specs.Outside.{source_run}
 use Rattle.hs_app.proofs.OutcomeLemmas.{of_whole, has_of, of_fault}
 use Rattle.hs_app.proofs.top.verdict_on.Goals as goal
 

@@ -1,7 +1,7 @@
 use Rattle.std.proofs.Common.{sym, ◌∙◌, subst, List, ℕ, ◌≤◌, length, arith}
 use Rattle.hs_gen.specs.Cycle.{cycle_file_text}
 use Rattle.hs_gen.proofs.Short.{cycle_short}
-use Rattle.hs_app.specs.Headline.{max_bytes}
+use Rattle.hs_front.specs.Files.{max_bytes}
 use Rattle.hs_app.proofs.OutcomeLemmas.{has_of}
 use Rattle.hs_app.proofs.top.verdict_on_cycle.Goals as goal
 

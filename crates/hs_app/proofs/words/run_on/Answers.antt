@@ -3,9 +3,10 @@ use Rattle.std.specs.Prelude.{map, IsOkAnd, IfOk, string_bytes}
 use Rattle.std.specs.Vec.Iter.{into_iter_items}
 use Rattle.hs_words.specs.Words.{texts}
 use Rattle.hs_passes.specs.Passing.{Image}
-use Rattle.hs_app.specs.Outside.{SourceRun, source_run, SinkRun, sink_run}
+use Rattle.hs_front.specs.Outside.{SourceRun, source_run, SinkRun, sink_run}
 use Rattle.hs_app.specs.Order.{ordered}
-use Rattle.hs_app.specs.Headline.{IsAccepted, IsRejected, OfInput, IsDecided}
+use Rattle.hs_front.specs.Files.{IsAccepted, IsRejected}
+use Rattle.hs_app.specs.Headline.{OfInput, IsDecided}
 use Rattle.hs_app.specs.Outcome.{Rows}
 use Rattle.hs_app.proofs.HeadlineLemmas.{without_memory}
 use Rattle.hs_app.proofs.words.run_on.Goals as goal

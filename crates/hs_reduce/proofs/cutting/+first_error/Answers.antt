@@ -6,7 +6,7 @@ use Rattle.hs_scheme.specs.Automaton.{next}
 use Rattle.hs_scheme.specs.Cut.{unfolded}
 use Rattle.hs_scheme.specs.Sorted.{SortedData, sorts_of}
 use Rattle.hs_scheme.specs.TreeTerms.{IsTreeTerm}
-use Rattle.hs_trace.specs.Path.{PathData}
+use Rattle.hs_scheme.specs.FailingPath.{FailingPathData}
 use Rattle.hs_reduce.specs.Path.{IsErrorFrom}
 use Rattle.hs_reduce.specs.Graph.{term_at, arguments_of, NamesTerms, Unfolds}
 use Rattle.hs_reduce.specs.Bounds.{ReadsCut, IsErrorWithin, IsFoundWithin}
@@ -30,7 +30,7 @@ returns-in-None-clause-found t c =
     let a = c.if-n-eq0.false in
     let found = subst (λ (o : Option ℕ). Unfolds old new o (unfolded s.scheme.rules c.in-Nt.number (arguments_of term))) c.in-Some.is c.in_ok-body-in-Nt.ensures in
     let read : ReadsCut s (c.args.n - 1) c.args.state (term_at new c.in-Some.body) =
-    subst (λ (o : Option PathData). IsFoundWithin s (c.args.n - 1) c.args.state (term_at new c.in-Some.body) o) c.in-None.is c.in_ok-first_error-in-Nt.ensures.found in
+    subst (λ (o : Option FailingPathData). IsFoundWithin s (c.args.n - 1) c.args.state (term_at new c.in-Some.body) o) c.in-None.is c.in_ok-first_error-in-Nt.ensures.found in
     read_replaced s c.args.n c.args.state c.in-Nt.number term found.0 (omega arith) (sym c.in-Nt.ensures) found.1
     (subst (λ (u : Tree Head). ReadsCut s (c.args.n - 1) c.args.state u) found.2.term read)
 
@@ -40,9 +40,9 @@ returns-in-Some-2-clause-found t c =
     let path = c.in-Some-2.path in
     let found = subst (λ (o : Option ℕ). Unfolds old new o (unfolded s.scheme.rules c.in-Nt.number (arguments_of term))) c.in-Some.is c.in_ok-body-in-Nt.ensures in
     let error : IsErrorWithin s (c.args.n - 1) c.args.state (term_at new c.in-Some.body) path =
-    subst (λ (o : Option PathData). IsFoundWithin s (c.args.n - 1) c.args.state (term_at new c.in-Some.body) o) c.in-Some-2.is c.in_ok-first_error-in-Nt.ensures.found in
+    subst (λ (o : Option FailingPathData). IsFoundWithin s (c.args.n - 1) c.args.state (term_at new c.in-Some.body) o) c.in-Some-2.is c.in_ok-first_error-in-Nt.ensures.found in
     let below = subst (λ (u : Tree Head). IsErrorFrom s.scheme.rules s.automaton.transitions c.args.state u path) found.2.term error.error in
-    subst (λ (p : PathData). IsErrorWithin s c.args.n c.args.state term p) (sym c.after_replacement.ensures)
+    subst (λ (p : FailingPathData). IsErrorWithin s c.args.n c.args.state term p) (sym c.after_replacement.ensures)
     (record { within = omega (arith, error.within); error = error_replaced s c.args.state c.in-Nt.number term found.0 path (sym c.in-Nt.ensures) found.1 below })
 
 pub index-child-requires : goal.index-child-requires
@@ -96,9 +96,9 @@ returns-in-Some-3-clause-found t c =
     let there = child_there s c.requires.sorted c.args.n c.args.state c.in-Tm.terminal term c.requires.tree front to e old places named i child lt c.index-child.ensures in
     let same = c.loop-index.invariant.grows.same child there in
     let error : IsErrorWithin s (c.args.n - 1) (get_or to i 0) (term_at mid child) path =
-    subst (λ (o : Option PathData). IsFoundWithin s (c.args.n - 1) (get_or to i 0) (term_at mid child) o) c.in-Some-3.is c.in_ok-path-in-Tm.ensures.found in
+    subst (λ (o : Option FailingPathData). IsFoundWithin s (c.args.n - 1) (get_or to i 0) (term_at mid child) o) c.in-Some-3.is c.in_ok-path-in-Tm.ensures.found in
     let below = subst (λ (u : Tree Head). IsErrorFrom s.scheme.rules s.automaton.transitions (get_or to i 0) u path) same error.error in
-    subst (λ (p : PathData). IsErrorWithin s c.args.n c.args.state term p) (sym c.in_ok-after_descent-in-Tm.ensures)
+    subst (λ (p : FailingPathData). IsErrorWithin s c.args.n c.args.state term p) (sym c.in_ok-after_descent-in-Tm.ensures)
     (record { within = omega (arith, error.within); error = error_below s c.requires.sorted c.args.n c.args.state c.in-Tm.terminal term c.requires.tree front to e old places named i child lt c.index-child.ensures path below })
 
 pub loop-index-preserved : goal.loop-index-preserved
@@ -114,7 +114,7 @@ loop-index-preserved t c =
     let there = child_there s c.requires.sorted c.args.n c.args.state c.in-Tm.terminal term c.requires.tree front to e old places named i child lt c.index-child.ensures in
     let same = c.loop-index.invariant.grows.same child there in
     let read : ReadsCut s (c.args.n - 1) (get_or to i 0) (term_at mid child) =
-    subst (λ (o : Option PathData). IsFoundWithin s (c.args.n - 1) (get_or to i 0) (term_at mid child) o) c.in_default-2.is c.in_ok-path-in-Tm.ensures.found in
+    subst (λ (o : Option FailingPathData). IsFoundWithin s (c.args.n - 1) (get_or to i 0) (term_at mid child) o) c.in_default-2.is c.in_ok-path-in-Tm.ensures.found in
     record {
       grows = Grows-then old mid c.first_error-in-loop-index.new.graph c.loop-index.invariant.grows c.in_ok-path-in-Tm.ensures.grows;
       rest = one_more_read s c.requires.sorted c.args.n c.args.state c.in-Tm.terminal term c.requires.tree front to e old places named i child lt c.index-child.ensures
@@ -164,7 +164,7 @@ overflow_sub-n-in-loop-index t c = omega (arith, c.if-n-eq0.false)
 pub after_replacement-requires : goal.after_replacement-requires
 after_replacement-requires t c =
     let error : IsErrorWithin c.args.sorted.now (c.args.n - 1) c.args.state (term_at c.replace.new.graph c.in-Some.body) c.in-Some-2.path =
-    subst (λ (o : Option PathData). IsFoundWithin c.args.sorted.now (c.args.n - 1) c.args.state (term_at c.replace.new.graph c.in-Some.body) o) c.in-Some-2.is c.in_ok-first_error-in-Nt.ensures.found in
+    subst (λ (o : Option FailingPathData). IsFoundWithin c.args.sorted.now (c.args.n - 1) c.args.state (term_at c.replace.new.graph c.in-Some.body) o) c.in-Some-2.is c.in_ok-first_error-in-Nt.ensures.found in
     omega (arith, error.within, c.requires.few)
 
 pub returns-in-None-clause-grows : goal.returns-in-None-clause-grows
@@ -189,7 +189,7 @@ pub after_descent-requires : goal.after_descent-requires
 after_descent-requires t c =
     let s = c.args.sorted.now in let to = c.in-Some-next.to.now in let i = c.loop-index.index in let u = term_at c.loop-index.graph c.index-child.result.now in
     let error : IsErrorWithin s (c.args.n - 1) (get_or to i 0) u c.in-Some-3.path =
-    subst (λ (o : Option PathData). IsFoundWithin s (c.args.n - 1) (get_or to i 0) u o) c.in-Some-3.is c.in_ok-path-in-Tm.ensures.found in
+    subst (λ (o : Option FailingPathData). IsFoundWithin s (c.args.n - 1) (get_or to i 0) u o) c.in-Some-3.is c.in_ok-path-in-Tm.ensures.found in
     omega (arith, error.within, c.requires.few)
 
 pub returns-in-Some-3-clause-grows : goal.returns-in-Some-3-clause-grows

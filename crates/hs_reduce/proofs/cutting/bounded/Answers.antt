@@ -4,7 +4,7 @@ use Rattle.hs_scheme.specs.Scheme.{IsScheme}
 use Rattle.hs_scheme.specs.Sorted.{SortedData, IsSorted}
 use Rattle.hs_scheme.specs.Tree.{Tree}
 use Rattle.hs_scheme.specs.declared.term.Head.{Head}
-use Rattle.hs_trace.specs.Path.{PathData}
+use Rattle.hs_scheme.specs.FailingPath.{FailingPathData}
 use Rattle.hs_reduce.specs.Graph.{term_at}
 use Rattle.hs_reduce.specs.Advances.{HasKnownSorts}
 use Rattle.hs_reduce.specs.Bounds.{IsErrorWithin, IsFoundWithin}
@@ -19,5 +19,5 @@ returns c =
     let sorted : HasKnownSorts s = has_sorting s (subst IsSorted c.sorted.view_is c.sorted.invariant) (subst IsScheme scheme_is c.scheme.invariant) in
     let t = term_at c.add.new.self c.in_ok-start.start in
     let error : IsErrorWithin s c.args.n 0 start c.in-Some.path = subst (λ (u : Tree Head). IsErrorWithin s c.args.n 0 u c.in-Some.path) c.in_ok-start.ensures.term
-    (subst (λ (o : Option PathData). IsFoundWithin s c.args.n 0 t o) c.in-Some.is c.in_ok-first_error.ensures.found) in
+    (subst (λ (o : Option FailingPathData). IsFoundWithin s c.args.n 0 t o) c.in-Some.is c.in_ok-first_error.ensures.found) in
     (refused s sorted c.args.n 0 start c.in-Some.path error, error)
