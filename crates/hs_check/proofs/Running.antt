@@ -1,0 +1,214 @@
+-- From the calls to what a run comes to.
+use Rattle.std.proofs.Common.{◌≡◌, sym, ap, subst, ℕ, ◌≤◌, true, List, length, Option, Some, None, Result, Ok, Err, ◌⊎◌, inl, inr, arith}
+use Rattle.std.specs.Prelude.{MatchResult, OnOk}
+use Rattle.std.specs.Option.{IsSomeAnd}
+use Rattle.hs_scheme.specs.Problem.{ProblemData}
+use Rattle.hs_table.specs.Entries.{EntryData}
+use Rattle.hs_checker.specs.Checked.{IsMissing}
+use Rattle.hs_cert.specs.Certificate.{IsCertificate}
+use Rattle.hs_front.specs.declared.refusal.Refusal.{Refusal}
+use Rattle.hs_front.specs.declared.refusal.Refusal.TheVariants.{Usage, Source, FileTooLong, Syntax, Limit, Names, IllSorted, NotFirstOrder, SortTooLarge, RuleTooLong, PointLimit, FlowLimit, EntryLimit, Sink, OutOfMemory}
+use Rattle.hs_front.specs.Files.{max_bytes}
+use Rattle.hs_front.specs.Yields.{Yields}
+use Rattle.hs_front.specs.Outside.{SourceRun, SinkRun, IsUntouched, IsReadFromFront, HasTakenOrFailed, HasTakenNothing}
+use Rattle.hs_front.specs.Telling.{IsReadWhole, IsReadFault}
+use Rattle.hs_check.specs.declared.fault.Fault.{Fault}
+use Rattle.hs_check.specs.declared.fault.Fault.TheVariants.{Front, TableTooLong, TableLine, Missing, HasStart, Instances}
+use Rattle.hs_check.specs.Words.{FilePair}
+use Rattle.hs_check.specs.Fault.{no_memory, table_fault, line_of, HasFixedLine}
+use Rattle.hs_check.specs.Evidence.{max_table, TellsMissing, TableShows, OfCertificate, TextShows, ComesTo}
+use Rattle.hs_check.specs.Outcome.{OfBothFiles, HasCause, IsAnswerOfRun, TellsFault, IsUnverified}
+
+-- ---- the file of the scheme
+
+module _ (name other : List ℕ) (scheme table : SourceRun) (none : IsUntouched table) where
+  abbrev Causes : Refusal → Type 0
+  Causes r = HasCause (Some (record { scheme = name; table = other })) scheme table (Front r)
+
+  pub scheme_unread : (r : Refusal) → IsReadFault max_bytes name scheme r → Causes r
+  scheme_unread Source h = inl (h, none)
+  scheme_unread FileTooLong h = (h, none)
+  scheme_unread OutOfMemory h = inl (inl (h, none))
+  scheme_unread Usage h = absurd h
+  scheme_unread Sink h = absurd h
+  scheme_unread (Syntax line) h = absurd h
+  scheme_unread (Limit which) h = absurd h
+  scheme_unread (Names fault) h = absurd h
+  scheme_unread (IllSorted rule) h = absurd h
+  scheme_unread (NotFirstOrder terminal) h = absurd h
+  scheme_unread (SortTooLarge rule) h = absurd h
+  scheme_unread (RuleTooLong rule) h = absurd h
+  scheme_unread PointLimit h = absurd h
+  scheme_unread FlowLimit h = absurd h
+  scheme_unread EntryLimit h = absurd h
+
+  module _ (read : IsReadFromFront scheme true name) (short : length scheme.after.given ≤ max_bytes) where
+    refused : (r : Refusal) → Yields scheme.after.given (Err r) → Causes r
+    refused Usage h = absurd h.1
+    refused Source h = absurd h.1
+    refused FileTooLong h = absurd (omega (arith, h, short))
+    refused Sink h = absurd h.1
+    refused OutOfMemory h = absurd h
+    refused (Syntax line) h = (h, (read, none))
+    refused (Limit which) h = (h, (read, none))
+    refused (Names fault) h = (h, (read, none))
+    refused (IllSorted rule) h = (h, (read, none))
+    refused (NotFirstOrder terminal) h = (h, (read, none))
+    refused (SortTooLarge rule) h = (h, (read, none))
+    refused (RuleTooLong rule) h = (h, (read, none))
+    refused PointLimit h = (h, (read, none))
+    refused FlowLimit h = (h, (read, none))
+    refused EntryLimit h = (h, (read, none))
+
+    of_yield : (r : Refusal) → (r ≡ OutOfMemory) ⊎ Yields scheme.after.given (Err r) → Causes r
+    of_yield r (inl e) = subst Causes (sym e) (inr (inl (read, none)))
+    of_yield r (inr h) = refused r h
+
+-- the bytes of the slice are those that were handed out
+given_yields : (scheme : SourceRun) (slice bytes : List ℕ) (r : Refusal) → slice ≡ bytes → bytes ≡ scheme.after.given → (r ≡ OutOfMemory) ⊎ Yields slice (Err r) → (r ≡ OutOfMemory) ⊎ Yields scheme.after.given (Err r)
+given_yields scheme slice bytes r e f h = subst (λ (b : List ℕ). (r ≡ OutOfMemory) ⊎ Yields b (Err r)) f (subst (λ (b : List ℕ). (r ≡ OutOfMemory) ⊎ Yields b (Err r)) e h)
+
+pub scheme_refused : (name : List ℕ) (scheme : SourceRun) (slice bytes : List ℕ) → slice ≡ bytes → IsReadWhole max_bytes name scheme bytes → (r : Refusal) → (r ≡ OutOfMemory) ⊎ Yields slice (Err r)
+    → (other : List ℕ) (table : SourceRun) → IsUntouched table → HasCause (Some (record { scheme = name; table = other })) scheme table (Front r)
+scheme_refused name scheme slice bytes e whole r h other table none =
+    of_yield name other scheme table none whole.read (subst (λ (b : List ℕ). length b ≤ max_bytes) whole.given whole.within) r
+    (given_yields scheme slice bytes r e whole.given h)
+
+pub scheme_answered : (name : List ℕ) (scheme : SourceRun) (slice bytes : List ℕ) → slice ≡ bytes → IsReadWhole max_bytes name scheme bytes → (r : Result ProblemData Refusal)
+    → MatchResult r (λ p. Yields slice (Ok p)) (λ x. (x ≡ OutOfMemory) ⊎ Yields slice (Err x))
+    → MatchResult r (λ p. Yields scheme.after.given (Ok p) × IsReadFromFront scheme true name)
+    (λ x. (other : List ℕ) (table : SourceRun) → IsUntouched table → HasCause (Some (record { scheme = name; table = other })) scheme table (Front x))
+scheme_answered name scheme slice bytes e whole (Ok p) h =
+    (subst (λ (b : List ℕ). Yields b (Ok p)) whole.given (subst (λ (b : List ℕ). Yields b (Ok p)) e h), whole.read)
+scheme_answered name scheme slice bytes e whole (Err x) h = scheme_refused name scheme slice bytes e whole x h
+
+-- ---- the file of the table
+
+module _ (p : ProblemData) (other name : List ℕ) (scheme table : SourceRun) (yields : Yields scheme.after.given (Ok p)) (before : IsReadFromFront scheme true other) where
+  abbrev Comes : Result ℕ Fault → Type 0
+  Comes a = IsAnswerOfRun (Some (record { scheme = other; table = name })) scheme table a
+
+  pub table_unread : (r : Refusal) → IsReadFault max_table name table r → Comes (Err (table_fault r))
+  table_unread Source h = inr (((p, yields), before), h)
+  table_unread FileTooLong h = (((p, yields), before), h)
+  table_unread OutOfMemory h = inl (inr (((p, yields), before), h))
+  table_unread Usage h = absurd h
+  table_unread Sink h = absurd h
+  table_unread (Syntax line) h = absurd h
+  table_unread (Limit which) h = absurd h
+  table_unread (Names fault) h = absurd h
+  table_unread (IllSorted rule) h = absurd h
+  table_unread (NotFirstOrder terminal) h = absurd h
+  table_unread (SortTooLarge rule) h = absurd h
+  table_unread (RuleTooLong rule) h = absurd h
+  table_unread PointLimit h = absurd h
+  table_unread FlowLimit h = absurd h
+  table_unread EntryLimit h = absurd h
+
+  module _ (read : IsReadFromFront table true name) (short : length table.after.given ≤ max_table) where
+    answered : (a : Result ℕ Fault) → TextShows p table.after.given a → Comes a
+    answered (Ok count) h = (record { problem = p; yields = yields; answers = (short, h) }, (before, read))
+    answered (Err (Front refusal)) h = absurd h.shows
+    answered (Err TableTooLong) h = absurd h.shows
+    answered (Err (TableLine line)) h = (record { problem = p; yields = yields; answers = (short, h) }, (before, read))
+    answered (Err (Missing entry)) h = (record { problem = p; yields = yields; answers = (short, h) }, (before, read))
+    answered (Err HasStart) h = (record { problem = p; yields = yields; answers = (short, h) }, (before, read))
+    answered (Err (Instances count)) h = (record { problem = p; yields = yields; answers = (short, h) }, (before, read))
+
+    of_answer : (a : Result ℕ Fault) → (a ≡ Err no_memory) ⊎ TextShows p table.after.given a → Comes a
+    of_answer a (inl e) = subst Comes (sym e) (inr (inr (((p, yields), before), read)))
+    of_answer a (inr h) = answered a h
+
+given_answers : (p : ProblemData) (table : SourceRun) (slice bytes : List ℕ) (a : Result ℕ Fault) → slice ≡ bytes → bytes ≡ table.after.given → (a ≡ Err no_memory) ⊎ TextShows p slice a → (a ≡ Err no_memory) ⊎ TextShows p table.after.given a
+given_answers p table slice bytes a e f h = subst (λ (b : List ℕ). (a ≡ Err no_memory) ⊎ TextShows p b a) f (subst (λ (b : List ℕ). (a ≡ Err no_memory) ⊎ TextShows p b a) e h)
+
+pub table_answered : (p : ProblemData) (name : List ℕ) (table : SourceRun) (slice bytes : List ℕ) → slice ≡ bytes → IsReadWhole max_table name table bytes → (a : Result ℕ Fault) → (a ≡ Err no_memory) ⊎ TextShows p slice a
+    → (other : List ℕ) (scheme : SourceRun) → Yields scheme.after.given (Ok p) → IsReadFromFront scheme true other → IsAnswerOfRun (Some (record { scheme = other; table = name })) scheme table a
+table_answered p name table slice bytes e whole a h other scheme yields before =
+    of_answer p other name scheme table yields before whole.read (subst (λ (b : List ℕ). length b ≤ max_table) whole.given whole.within) a
+    (given_answers p table slice bytes a e whole.given h)
+
+-- ---- what a table shows
+
+abbrev failing : Fault → Result ℕ Fault
+failing f = Err f
+
+pub missing_shows : (p : ProblemData) (table : List EntryData) (checked : ℕ) (e : EntryData) → IsMissing p table e → (f : Fault) → (f ≡ no_memory) ⊎ TellsMissing p e f
+    → (failing f ≡ failing no_memory) ⊎ TableShows p table checked (failing f)
+missing_shows p table checked e missing f (inl is) = inl (ap failing is)
+missing_shows p table checked e missing (Missing entry) (inr h) = inr (e, (missing, h))
+missing_shows p table checked e missing (Front refusal) (inr h) = absurd h
+missing_shows p table checked e missing TableTooLong (inr h) = absurd h
+missing_shows p table checked e missing (TableLine line) (inr h) = absurd h
+missing_shows p table checked e missing HasStart (inr h) = absurd h
+missing_shows p table checked e missing (Instances count) (inr h) = absurd h
+
+module _ (p : ProblemData) (bytes : List ℕ) (table : List EntryData) (checked : ℕ) (certificate : IsCertificate p bytes table checked) where
+  of_certificate : (a : Result ℕ Fault) → TableShows p table checked a → OfCertificate p bytes a
+  of_certificate a h = record { table = table; checked = checked; certificate = certificate; shows = h }
+
+  certified : (a : Result ℕ Fault) → TableShows p table checked a → TextShows p bytes a
+  certified (Ok count) h = of_certificate (Ok count) h
+  certified (Err (Front refusal)) h = absurd h
+  certified (Err TableTooLong) h = absurd h
+  certified (Err (TableLine line)) h = absurd h
+  certified (Err (Missing entry)) h = of_certificate (Err (Missing entry)) h
+  certified (Err HasStart) h = of_certificate (Err HasStart) h
+  certified (Err (Instances count)) h = of_certificate (Err (Instances count)) h
+
+pub certificate_answers : (p : ProblemData) (bytes : List ℕ) (slice table : List EntryData) (checked : ℕ) → slice ≡ table → IsCertificate p bytes table checked → (a : Result ℕ Fault)
+    → (a ≡ Err no_memory) ⊎ TableShows p slice checked a → (a ≡ Err no_memory) ⊎ TextShows p bytes a
+certificate_answers p bytes slice table checked e certificate a (inl is) = inl is
+certificate_answers p bytes slice table checked e certificate a (inr h) =
+    inr (certified p bytes table checked certificate a (subst (λ (t : List EntryData). TableShows p t checked a) e h))
+
+-- ---- memory that is refused for the report
+
+memory_cause : (files : Option FilePair) (scheme table : SourceRun) (a : Result ℕ Fault) → OfBothFiles files scheme table (λ s t. ComesTo s t a) → HasCause files scheme table no_memory
+memory_cause None scheme table a h = absurd h
+memory_cause (Some f) scheme table a h = inr (inr (((h.0.problem, h.0.yields), h.1.0), h.1.1))
+
+pub without_report : (files : Option FilePair) (scheme table : SourceRun) (out err : SinkRun) (count : ℕ) (told : Fault) → told ≡ no_memory → HasTakenNothing out
+    → HasTakenOrFailed err (line_of no_memory) → IsAnswerOfRun files scheme table (Ok count) → IsUnverified files scheme table out err told
+without_report files scheme table out err count told is silent line h =
+    subst (λ (f : Fault). IsUnverified files scheme table out err f) (sym is) (record { cause = memory_cause files scheme table (Ok count) h; silent = silent; told = line })
+
+-- ---- memory that is refused for the line of a fault
+
+refused_cause : (files : Option FilePair) (scheme table : SourceRun) (r : Refusal) → IsSomeAnd files (λ f. Yields scheme.after.given (Err r) × (IsReadFromFront scheme true f.scheme × IsUntouched table))
+    → HasCause files scheme table no_memory
+refused_cause None scheme table r h = absurd h
+refused_cause (Some f) scheme table r h = inr (inl h.1)
+
+lineless : (files : Option FilePair) (scheme table : SourceRun) (fault : Fault) → HasCause files scheme table fault → (HasFixedLine fault → ⊥) → HasCause files scheme table no_memory
+lineless files scheme table (Front Usage) h none = absurd (none tt)
+lineless files scheme table (Front Source) h none = absurd (none tt)
+lineless files scheme table (Front FileTooLong) h none = absurd (none tt)
+lineless files scheme table (Front (Syntax line)) h none = refused_cause files scheme table (Syntax line) h
+lineless files scheme table (Front (Limit which)) h none = absurd (none tt)
+lineless files scheme table (Front (Names fault)) h none = refused_cause files scheme table (Names fault) h
+lineless files scheme table (Front (IllSorted rule)) h none = refused_cause files scheme table (IllSorted rule) h
+lineless files scheme table (Front (NotFirstOrder terminal)) h none = refused_cause files scheme table (NotFirstOrder terminal) h
+lineless files scheme table (Front (SortTooLarge rule)) h none = refused_cause files scheme table (SortTooLarge rule) h
+lineless files scheme table (Front (RuleTooLong rule)) h none = refused_cause files scheme table (RuleTooLong rule) h
+lineless files scheme table (Front PointLimit) h none = absurd (none tt)
+lineless files scheme table (Front FlowLimit) h none = absurd (none tt)
+lineless files scheme table (Front EntryLimit) h none = absurd (none tt)
+lineless files scheme table (Front Sink) h none = absurd (none tt)
+lineless files scheme table (Front OutOfMemory) h none = absurd (none tt)
+lineless files scheme table TableTooLong h none = absurd (none tt)
+lineless files scheme table (TableLine line) h none = memory_cause files scheme table (Err (TableLine line)) h
+lineless files scheme table (Missing entry) h none = memory_cause files scheme table (Err (Missing entry)) h
+lineless files scheme table HasStart h none = absurd (none tt)
+lineless files scheme table (Instances count) h none = memory_cause files scheme table (Err (Instances count)) h
+
+pub unverified : (files : Option FilePair) (scheme table : SourceRun) (out err : SinkRun) (fault told : Fault) → HasCause files scheme table fault → HasTakenNothing out → TellsFault fault err told
+    → IsUnverified files scheme table out err told
+unverified files scheme table out err fault told h silent (inl (is, line)) =
+    subst (λ (f : Fault). IsUnverified files scheme table out err f) (sym is) (record { cause = h; silent = silent; told = line })
+unverified files scheme table out err fault told h silent (inr (none, is, line)) =
+    subst (λ (f : Fault). IsUnverified files scheme table out err f) (sym is) (record { cause = lineless files scheme table fault h none; silent = silent; told = line })
+
+pub on_ok : {T E : Type 0} (r : Result T E) (P Q : Type 0) → (P → Q) → OnOk r P → OnOk r Q
+on_ok (Ok x) P Q f h = f h
+on_ok (Err e) P Q f h = tt
