@@ -1,10 +1,16 @@
 -- Worked examples of certificates and of void lists.
 --     `S -> F c. F x -> b x.` with `q0 b -> q1. q1 c -> .`
 --         reads_closed     the body of S is read in q0, so is that of F; x is read in q1, and so is c
+--         reads_least      no closed list lacks one of these four pairs
 --         certificate      nothing that follows from no entries is read: no entries and no void environments are a certificate
+--     the same with `q0 c -> .` in place of `q1 c -> .`
+--         refused          c is rejected in q1, in which it is read, and S has no void environments: without entries there is no certificate,
+--                          whatever the pairs and the void environments
 --     `S -> F c. F x -> x.` with `q0 c -> .`
 --         void             without entries no call gives F an argument that is rejected in q0
 --         not_void         with the entry of c, too, it isn't blocked: its environment asks nothing of S
+--     any problem
+--         with_start       no entries with the start entry among them are a certificate
 use Rattle.std.specs.Prelude.{◌≡◌, refl, ℕ, zero, suc, ◌<◌, List, [], ◌∷◌, length, slice_get, replicate, set, Option, Some, None, Contains}
 use Rattle.std.proofs.Common.{sym, ◌∙◌, ap, subst, arith, inl, inr}
 use Rattle.hs_scheme.specs.declared.term.Head.{Head}
@@ -22,15 +28,17 @@ use Rattle.std.proofs.lemmas.Option.{same_Some}
 use Rattle.hs_table.specs.declared.support.HeadBy.{HeadBy}
 use Rattle.hs_table.specs.declared.support.HeadBy.TheVariants.{Terminal, Rule as FromRule, Param}
 use Rattle.hs_table.specs.Types.{TypeTree, state, arrows}
-use Rattle.hs_table.specs.Entries.{Env, EntryData, Has, set_at, InShape}
+use Rattle.hs_table.specs.Entries.{Env, EntryData, Has, set_at, InShape, params_of}
 use Rattle.hs_table.specs.Follows.{rank_of, IsHeadType, IsTerminalType}
+use Rattle.hs_table.specs.Tables.{HasStart}
 use Rattle.hs_table_laws.proofs.Arrows.{arrows_same}
 use Rattle.hs_table_laws.proofs.Sets.{no_set}
 use Rattle.hs_weak.specs.Strength.{AsStrongAs, same_state}
 use Rattle.hs_weak.specs.Weak.{WeaklyChosen, done, next_argument, choose, WeaklyFollows}
-use Rattle.hs_weak.specs.Reads.{PointIs, FlowsTo, reads_start, reads_body, reads_child, reads_flow, reads_later_child, IsClosedReads, last_state}
+use Rattle.hs_weak.specs.WeakExamples.{none_at, one_place, chosen_long}
+use Rattle.hs_weak.specs.Reads.{PointIs, FlowsTo, reads_start, reads_body, reads_child, reads_flow, reads_later_child, IsClosedReads, IsReads, last_state}
 use Rattle.hs_weak.specs.Sites.{SiteData, IsSite, IsChain}
-use Rattle.hs_weak.specs.Void.{VoidData, sets_for, IsUnionOf, IsBlocked, IsVoidList}
+use Rattle.hs_weak.specs.Void.{VoidData, IsVoid, sets_for, IsUnionOf, IsBlocked, IsVoidList}
 use Rattle.hs_weak.specs.Certificate.{Matters, IsAcceptanceCertificate}
 
 abbrev leaf : Head → Tree Head
@@ -107,13 +115,6 @@ body_read w q rule f b args (at_2 e k) at there = let h : Tm 0 ≡ Nt f = (heads
 body_read w q rule f b args (at_3 e k) at there = let h : Var 0 ≡ Nt f = (heads head_3 rule (Nt f) args (data_at reader w 3 head_3 _ e refl at)).1 in absurd (cc)
 body_read w q rule f b args (at_1 e k) at there = let h : Tm 1 ≡ Nt f = (heads head_1 rule (Nt f) args (data_at reader w 1 head_1 _ e refl at)).1 in absurd (cc)
 
-none_at : {A : Type 0} (i : ℕ) (x : A) → slice_get [] i ≡ Some x → ⊥
-none_at i x e = cc
-
-one_place : (x i y : ℕ) → slice_get (x ∷ []) i ≡ Some y → (i ≡ 0) × (x ≡ y)
-one_place x zero y e = (refl, same_Some x y e)
-one_place x (suc i) y e = absurd (cc)
-
 child_read : (w q rule a i u r : ℕ) (args qs : List ℕ) → ReadCase w q → PointIs reader w rule (Tm a) args → next reader.sorted.automaton.transitions q a ≡ Some qs → slice_get args i ≡ Some u → slice_get qs i ≡ Some r
     → Contains read_pairs (u, r)
 child_read w q rule a i u r args qs (at_0 e k) at moves at_u at_r = let h : Nt 1 ≡ Tm a = (heads head_0 rule (Tm a) args (data_at reader w 0 head_0 _ e refl at)).1 in absurd (cc)
@@ -153,6 +154,34 @@ reads_closed point q (reads_child {point = w} {rule = rule} {a = a} {q = s} {arg
 reads_closed point q (reads_flow {point = w} {rule = rule} {x = x} {args = args} m at flows) = flow_read w q rule x point args (read_case w q m) at flows
 reads_closed point q (reads_later_child {point = w} {rule = rule} {x = x} {q = s} {args = args} j m at flows becomes moves at_u at_r) = absurd (later_read w s rule x j point args (read_case w s m) at at_u)
 
+-- each of the four is demanded by those before it
+each_read : (S : List (ℕ × ℕ)) → IsClosedReads reader S → (point q : ℕ) → ReadCase point q → Contains S (point, q)
+each_read S closed point q case = by case
+  where
+    at_body : Contains S (0, 0)
+    at_body = closed 0 0 (reads_start refl)
+
+    at_f : Contains S (2, 0)
+    at_f = closed 2 0 (reads_body {point = 0} {rule = 0} {f = 1} {args = 1 ∷ []} at_body refl refl)
+
+    at_x : Contains S (3, 1)
+    at_x = closed 3 1 (reads_child {point = 2} {rule = 1} {a = 0} {q = 0} {args = 3 ∷ []} {qs = 1 ∷ []} 0 at_f refl refl refl refl)
+
+    at_arg : Contains S (1, 1)
+    at_arg = closed 1 1 (reads_flow {point = 3} {rule = 1} {x = 0} {args = []} at_x refl (here (record { rule = 1; param = 0; point = 1 }) []))
+
+    there : (n r : ℕ) → point ≡ n → q ≡ r → Contains S (n, r) → Contains S (point, q)
+    there n r e k m = subst (λ z. Contains S (z, q)) (sym e) (subst (λ z. Contains S (n, z)) (sym k) m)
+
+    by : ReadCase point q → Contains S (point, q)
+    by (at_0 e k) = there 0 0 e k at_body
+    by (at_2 e k) = there 2 0 e k at_f
+    by (at_3 e k) = there 3 1 e k at_x
+    by (at_1 e k) = there 1 1 e k at_arg
+
+pub reads_least : IsReads reader read_pairs
+reads_least = record { closed = reads_closed; least = λ S closed point q m. each_read S closed point q (read_case point q m) }
+
 -- nothing is chosen from no entries
 none_chosen : (R : TypeTree → TypeTree → Type 0) (p : ProblemData) {i : ℕ} {us : List ℕ} {ss : Env} {args : List (ℕ × ℕ)} {es : List EntryData} → WeaklyChosen R p [] i us ss args es → (j : ℕ) (a : TypeTree) → Has ss j a → ⊥
 none_chosen R p done j a h = none_in a h
@@ -163,11 +192,6 @@ none_chosen R p (choose {place = place} {e = e} holds point ty c) j a h = none_a
 last_of : (ss : Env) (t : TypeTree) → last_state (arrows ss t) ≡ last_state t
 last_of [] t = refl
 last_of (s ∷ ss) t = last_of ss t
-
-chosen_long : (R : TypeTree → TypeTree → Type 0) (p : ProblemData) (E : List EntryData) {i : ℕ} {us : List ℕ} {ss : Env} {args : List (ℕ × ℕ)} {es : List EntryData} → WeaklyChosen R p E i us ss args es → length ss ≡ length us
-chosen_long R p E done = refl
-chosen_long R p E (next_argument c) = ap suc (chosen_long R p E c)
-chosen_long R p E (choose holds point ty c) = chosen_long R p E c
 
 abbrev moves_of : ℕ → ℕ → Option (List ℕ)
 moves_of q a = next reader.sorted.automaton.transitions q a
@@ -231,6 +255,49 @@ certificate = record {
   no_start = λ h. none_in h.0 h.1.1;
   covered = λ e follows matters. absurd (nothing_read e follows matters);
 }
+
+abbrev rejecting : ProblemData
+rejecting = problem reader.sorted.scheme.rules (1 ∷ 0 ∷ []) 2 (record { from = 0; terminal = 0; to = 1 ∷ [] } ∷ record { from = 0; terminal = 1; to = [] } ∷ [])
+
+abbrev c_in_q1 : EntryData
+c_in_q1 = record { point = 1; env = []; ty = state 1 }
+
+c_follows : WeaklyFollows AsStrongAs rejecting [] c_in_q1
+c_follows = (
+  record { head = Terminal 1 None; args = [] },
+  record {
+    of = head_1;
+    at = refl;
+    sets = [];
+    head = (omega arith, record { moves = refl; is = refl });
+    chosen = [];
+    are = done;
+    env = record { long = refl; sets = λ j. no_set };
+    union = λ j a lt. absurd (omega (arith, lt));
+  },
+)
+
+-- as above, each pair is demanded by the one before it
+c_read : (R : List (ℕ × ℕ)) → IsClosedReads rejecting R → Contains R (1, 1)
+c_read R closed =
+    let at_body : Contains R (0, 0) = closed 0 0 (reads_start refl) in
+    let at_f : Contains R (2, 0) = closed 2 0 (reads_body {point = 0} {rule = 0} {f = 1} {args = 1 ∷ []} at_body refl refl) in
+    let at_x : Contains R (3, 1) = closed 3 1 (reads_child {point = 2} {rule = 1} {a = 0} {q = 0} {args = 3 ∷ []} {qs = 1 ∷ []} 0 at_f refl refl refl refl) in
+    closed 1 1 (reads_flow {point = 3} {rule = 1} {x = 0} {args = []} at_x refl (here (record { rule = 1; param = 0; point = 1 }) []))
+
+-- S has the empty chain, in which no site is blocked, and none misses a type
+void_for_none : (p : ProblemData) (C : List EntryData) (V : List VoidData) → IsVoidList p C V → (G : ℕ) (E : Env) → params_of p G ≡ 0 → IsVoid p C V G E → ⊥
+void_for_none p C V list G E no_params (inl (v, (m, same, asks))) = let b = list v m [] (sym (ap (λ k. params_of p k) same ∙ no_params)) in none_in b.0 b.1.0
+void_for_none p C V list G E no_params (inr missed) = let b = missed [] (sym no_params) in none_in b.0 b.1.0
+
+pub refused : (V : List VoidData) (R : List (ℕ × ℕ)) → IsAcceptanceCertificate rejecting [] V R → ⊥
+refused V R h = elim (h.covered c_in_q1 c_follows (c_read R h.reads)) [
+  | inl k ↦ none_at k.0 k.1 k.2.0.at
+  | inr (of, (at, void)) ↦ let is : head_1 ≡ of = same_Some head_1 of at in void_for_none rejecting [] V h.void of.rule [] (sym (ap (λ (d : PointData). params_of rejecting d.rule) is)) void
+]
+
+pub with_start : (p : ProblemData) (C : List EntryData) (V : List VoidData) (R : List (ℕ × ℕ)) → HasStart p C → IsAcceptanceCertificate p C V R → ⊥
+with_start p C V R start h = h.no_start start
 
 -- the points are 0 `F c`, 1 `c` and 2 `x`
 abbrev caller : ProblemData

@@ -7,5 +7,7 @@ pub mod ReadsExamples
 pub mod Sites
 pub mod SitesExamples
 pub mod Void
+pub mod VoidExamples
 pub mod Certificate
 pub mod CertificateExamples
+pub mod VoidEntryExamples

@@ -33,10 +33,10 @@ more_asked h = lacks (asked_of h (state 2) (later (state 0) (state 2) (state 2 �
 pub stronger_argument : AsStrongAs (arrow (arrow (state 0 ∷ []) (state 1) ∷ []) (state 2)) (arrow (arrow [] (state 1) ∷ []) (state 2))
 stronger_argument = stronger_arrow same_state (λ a m. one_asked (arrow [] (state 1)) [] (arrow (state 0 ∷ []) (state 1)) a (stronger_arrow same_state (λ b k. absurd (none_in b k))) m)
 
-abbrev asks_nothing : EntryData
+abbrev pub asks_nothing : EntryData
 asks_nothing = record { point = 4; env = [] ∷ []; ty = state 1 }
 
-abbrev asks_q1 : EntryData
+abbrev pub asks_q1 : EntryData
 asks_q1 = record { point = 4; env = (state 1 ∷ []) ∷ []; ty = state 1 }
 
 nothing_asked : (j : ℕ) (a : TypeTree) → Contains (set_at ([] ∷ []) j) a → ⊥

@@ -1,0 +1,3 @@
+pub mod Unions
+pub mod Slots
+pub mod Numbered

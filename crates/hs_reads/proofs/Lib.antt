@@ -1,0 +1,10 @@
+mod ListLemmas
+mod GrowLemmas
+mod BecomingLemmas
+mod PairLemmas
+mod Equalities
+mod SpreadLemmas
+mod PushLemmas
+mod ListingLemmas
+mod HeadLemmas
+mod HoldsLemmas

@@ -1,0 +1,17 @@
+use Rattle.std.proofs.Common.{◌≡◌, ℕ, ◌+◌, List, slice_get, Some, Contains}
+use Rattle.hs_scheme.specs.Automaton.{next}
+use Rattle.hs_reads.specs.Becomings.{AnyBecoming}
+use Rattle.hs_reads.proofs.GrowLemmas.{grows_then, grows_has, next_more}
+use Rattle.hs_reads.proofs.reading.add_all_behind.Goals as goal
+
+pub loop-becoming-preserved : goal.loop-becoming-preserved
+loop-becoming-preserved c =
+    let old = c.loop-becoming.pairs.keys in
+    let new = c.add_behind.new.pairs.keys in
+    record {
+      grows = grows_then c.args.pairs.now.keys old new c.loop-becoming.invariant.grows c.in_ok-add_behind.ensures.grows;
+      there = next_more (λ (b : AnyBecoming). (j u r : ℕ) (qs : List ℕ) → next c.args.sorted.now.automaton.transitions c.args.state b.terminal ≡ Some qs
+          → slice_get c.args.args.now j ≡ Some u → slice_get qs (b.given + j) ≡ Some r → Contains new (u, r))
+          c.args.terminals.now c.loop-becoming.becoming-index (record { rule = 0; param = 0; terminal = 0; given = 0 }) c.loop-becoming-test.true
+          (λ b m j u r qs moves at_u at_r. grows_has old new (u, r) c.in_ok-add_behind.ensures.grows (c.loop-becoming.invariant.there b m j u r qs moves at_u at_r)) c.in_ok-add_behind.ensures.there;
+    }

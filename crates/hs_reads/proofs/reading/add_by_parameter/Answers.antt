@@ -1,0 +1,61 @@
+use Rattle.std.proofs.Common.{◌≡◌, refl, sym, ◌∙◌, ap, subst, ℕ, List, filter, ◌&&◌, nat_eq, slice_get, Some, Contains}
+use Rattle.std.proofs.lemmas.Result.{on_ok_weaker}
+use Rattle.hs_scheme.specs.declared.flow.FlowPair.{FlowPair}
+use Rattle.hs_scheme.specs.Automaton.{AutomatonData, next}
+use Rattle.hs_scheme.specs.Points.{point_at}
+use Rattle.hs_scheme.specs.Parameters.{IsParameter, parameter_of}
+use Rattle.hs_scheme.specs.Problem.{ProblemData}
+use Rattle.hs_reads.specs.Lists.{list_of}
+use Rattle.hs_reads.specs.Becomings.{AnyBecoming}
+use Rattle.hs_reads.proofs.GrowLemmas.{grows_then, grows_has, both_ok}
+use Rattle.hs_reads.proofs.HeadLemmas.{start_kept, demands_var, in_row, none_at}
+use Rattle.hs_reads.proofs.reading.add_by_parameter.Goals as goal
+
+pub returns-clause-grows : goal.returns-clause-grows
+returns-clause-grows c =
+    on_ok_weaker c.add_all_behind.result (λ g. grows_then c.args.pairs.now.keys c.add_points.new.pairs.keys c.add_all_behind.new.pairs.keys c.in_ok-add_points.ensures.grows g) c.add_all_behind.ensures.grows
+
+pub returns-clause-there : goal.returns-clause-there
+returns-clause-there c =
+    let p = c.args.problem.now in
+    let w = c.args.point in
+    let q = c.args.state in
+    let x = c.args.param in
+    let own = (point_at p.points w).rule in
+    let mid = c.add_points.new.pairs.keys in
+    let new = c.add_all_behind.new.pairs.keys in
+    let rule : c.rule_of-rule.result ≡ own = c.rule_of-rule.ensures.rule ∙ ap (λ (z : ProblemData). (point_at z.points w).rule) c.problem.view_is in
+    let args : c.args_of-args.result.now ≡ (point_at p.points w).args = c.args_of-args.ensures.args ∙ ap (λ (z : ProblemData). (point_at z.points w).args) c.problem.view_is in
+    let row : c.flow_of.result.now ≡ filter (λ (f : FlowPair). nat_eq f.rule own && nat_eq f.param x) p.flow.pairs =
+    c.flow_of.ensures.pairs ∙ (λ i. filter (λ (f : FlowPair). nat_eq f.rule (rule i) && nat_eq f.param x) (ap (λ (z : ProblemData). z.flow.pairs) c.problem.view_is i)) in
+    let counts : c.params.result.now ≡ p.points.params = c.params.ensures.params ∙ ap (λ (z : ProblemData). z.points.params) c.problem.view_is in
+    let list : c.list_at-list.result.now ≡ list_of c.args.terminals.now (parameter_of p.points.params own x) =
+    subst (λ (ns : List ℕ). IsParameter ns own x → c.list_at-list.result.now ≡ list_of c.args.terminals.now (parameter_of ns own x)) counts
+    (subst (λ (n : ℕ). IsParameter c.params.result.now n x → c.list_at-list.result.now ≡ list_of c.args.terminals.now (parameter_of c.params.result.now n x)) rule c.list_at-list.ensures.list) c.requires.parameter in
+    let automaton = ap (λ (z : ProblemData). z.sorted.automaton) c.problem.view_is in
+    both_ok c.add_all_behind.result (λ grows there start.
+    demands_var p w q new (start_kept p c.args.pairs.now.keys new (grows_then c.args.pairs.now.keys mid new c.in_ok-add_points.ensures.grows grows) start) p.points refl x (sym c.requires.head)
+    (λ v flows. grows_has mid new (v, q) grows (c.in_ok-add_points.ensures.there (record { rule = own; param = x; point = v })
+    (subst (λ (fs : List FlowPair). Contains fs (record { rule = own; param = x; point = v })) (sym row) (in_row p.flow.pairs own x v flows))))
+    (λ v a g j u r qs flows becomes moves at_u at_r.
+    there (record { rule = own; param = x; terminal = a; given = g }) j u r qs
+    (subst (λ (bs : List AnyBecoming). Contains bs (record { rule = own; param = x; terminal = a; given = g })) (sym list) (c.requires.terminals own x v a g c.requires.parameter flows becomes))
+    (subst (λ (z : AutomatonData). next z.transitions q a ≡ Some qs) (sym automaton) moves) (subst (λ (us : List ℕ). slice_get us j ≡ Some u) (sym args) at_u) at_r))
+    c.add_all_behind.ensures.grows c.add_all_behind.ensures.there
+
+pub returns-then-is_empty-clause-there : goal.returns-then-is_empty-clause-there
+returns-then-is_empty-clause-there c = λ start.
+    let p = c.args.problem.now in
+    let w = c.args.point in
+    let q = c.args.state in
+    let x = c.args.param in
+    let own = (point_at p.points w).rule in
+    let new = c.add_points.new.pairs.keys in
+    let rule : c.rule_of-rule.result ≡ own = c.rule_of-rule.ensures.rule ∙ ap (λ (z : ProblemData). (point_at z.points w).rule) c.problem.view_is in
+    let args : c.args_of-args.result.now ≡ (point_at p.points w).args = c.args_of-args.ensures.args ∙ ap (λ (z : ProblemData). (point_at z.points w).args) c.problem.view_is in
+    let row : c.flow_of.result.now ≡ filter (λ (f : FlowPair). nat_eq f.rule own && nat_eq f.param x) p.flow.pairs =
+    c.flow_of.ensures.pairs ∙ (λ i. filter (λ (f : FlowPair). nat_eq f.rule (rule i) && nat_eq f.param x) (ap (λ (z : ProblemData). z.flow.pairs) c.problem.view_is i)) in
+    demands_var p w q new (start_kept p c.args.pairs.now.keys new c.in_ok-add_points.ensures.grows start) p.points refl x (sym c.requires.head)
+    (λ v flows. c.in_ok-add_points.ensures.there (record { rule = own; param = x; point = v })
+    (subst (λ (fs : List FlowPair). Contains fs (record { rule = own; param = x; point = v })) (sym row) (in_row p.flow.pairs own x v flows)))
+    (λ v a g j u r qs flows becomes moves at_u at_r. absurd (none_at c.args_of-args.result.now j u c.is_empty.result c.is_empty.ensures c.if-is_empty.true (subst (λ (us : List ℕ). slice_get us j ≡ Some u) (sym args) at_u)))

@@ -1,0 +1,37 @@
+-- Which terminals parameters may become, with how many arguments given.
+--     AreBecomings p found       the list leaves out nothing that a parameter may become
+--     IsByHead p flows lists     each of the flow pairs whose point has a parameter at its head stands in the list of that parameter's number
+--     IsByParameter              what is found stands in the list of its parameter's number
+--     HasTerminals p lists       each parameter's list leaves out nothing that a point that flows to it may become
+use Rattle.std.specs.Prelude.{◌≡◌, ℕ, ◌+◌, ◌<◌, List, length, sum, Contains}
+use Rattle.hs_scheme.specs.declared.term.Head.TheVariants.{Var, Tm}
+use Rattle.hs_scheme.specs.declared.flow.FlowPair.{FlowPair}
+use Rattle.hs_scheme.specs.Parameters.{IsParameter, parameter_of}
+use Rattle.hs_scheme.specs.Problem.{ProblemData}
+use Rattle.hs_weak.specs.Reads.{PointIs, FlowsTo, Becomes}
+use Rattle.hs_reads.specs.declared.becoming.Becoming.{Becoming}
+use Rattle.hs_reads.specs.Lists.{list_of}
+
+abbrev pub AnyBecoming : Type 0
+AnyBecoming = Becoming
+
+pub record AreBecomings (p : ProblemData) (found : List Becoming) : Type 0 where
+  pub first : (f : FlowPair) (rule a : ℕ) (args : List ℕ) → Contains p.flow.pairs f → PointIs p f.point rule (Tm a) args
+      → Contains found (record { rule = f.rule; param = f.param; terminal = a; given = length args })
+  pub next : (b : Becoming) (f : FlowPair) (args : List ℕ) → Contains found b → Contains p.flow.pairs f → PointIs p f.point b.rule (Var b.param) args
+      → Contains found (record { rule = f.rule; param = f.param; terminal = b.terminal; given = b.given + length args })
+
+pub record IsByHead (p : ProblemData) (flows : List FlowPair) (lists : List (List FlowPair)) : Type 0 where
+  pub len : length lists ≡ sum p.points.params
+  pub has : (f : FlowPair) (rule x : ℕ) (args : List ℕ) → Contains flows f → PointIs p f.point rule (Var x) args
+      → IsParameter p.points.params rule x × Contains (list_of lists (parameter_of p.points.params rule x)) f
+  pub points : (k : ℕ) (f : FlowPair) → Contains (list_of lists k) f → f.point < length p.points.points
+
+pub record IsByParameter (params : List ℕ) (found : List Becoming) (lists : List (List Becoming)) : Type 0 where
+  pub len : length lists ≡ sum params
+  pub has : (b : Becoming) → Contains found b → IsParameter params b.rule b.param → Contains (list_of lists (parameter_of params b.rule b.param)) b
+
+abbrev pub HasTerminals : ProblemData → List (List Becoming) → Type 0
+HasTerminals p lists =
+    (rule x v a g : ℕ) → IsParameter p.points.params rule x → FlowsTo p rule x v → Becomes p v a g
+    → Contains (list_of lists (parameter_of p.points.params rule x)) (record { rule = rule; param = x; terminal = a; given = g })

@@ -1,0 +1,313 @@
+//! Which terminals parameters may become.
+
+ghost use Rattle.std.specs.Prelude.{◌≡◌, ◌+◌, ◌<◌, ◌≤◌, ℕ, List, Contains, IfOk, OnOk, length, slice_get, sum};
+ghost use Rattle.hs_scheme.specs.declared.flow.FlowPair.{FlowPair as AnyFlow};
+ghost use Rattle.hs_scheme.specs.declared.term.Head.{Head as AnyHead};
+ghost use Rattle.hs_scheme.specs.declared.term.Head.TheVariants.{Var, Tm};
+ghost use Rattle.hs_scheme.specs.Parameters.{IsParameter, parameter_of};
+ghost use Rattle.hs_weak.specs.Reads.{PointIs};
+ghost use Rattle.hs_reads.specs.Lists.{list_of};
+ghost use Rattle.hs_reads.specs.Growing.{Grows};
+ghost use Rattle.hs_reads.specs.Becomings.{AnyBecoming, HasTerminals, AreBecomings, IsByHead, IsByParameter};
+
+use crate::lists::Lists;
+use crate::stop::Stop;
+use hs_scheme::{FlowPair, Head, OutOfMemory, Parameters, Problem};
+use hs_verdict::is_sorted_problem;
+use indexmap::IndexSet;
+use std::alloc::Global;
+
+/// The most of what is found.
+pub(crate) const MOST: usize = 4_000_000;
+
+/// The parameter may become the terminal with so many arguments given.
+#[derive(Clone, Copy, Debug, PartialEq, Eq, Hash)]
+pub(crate) struct Becoming {
+    pub(crate) rule: u32,
+    pub(crate) param: u32,
+    pub(crate) terminal: u32,
+    pub(crate) given: usize,
+}
+
+/// Adds this, unless it is there. `Limit` comes where there is then more than `MOST`.
+fn add(found: &mut IndexSet<Becoming>, becoming: Becoming) -> Result<(), Stop>
+    ensures grows { OnOk result (Grows found.old.keys found.new.keys) }
+    ensures there { OnOk result (Contains found.new.keys becoming) }
+{
+    found.insert(becoming)?;
+    if found.len() > MOST {
+        return Err(Stop::Limit);
+    }
+    Ok(())
+}
+
+/// Adds what the pair's parameter becomes by the pair, where its point has a terminal at its head.
+fn add_terminal(
+    problem: &Problem,
+    found: &mut IndexSet<Becoming>,
+    pair: &FlowPair,
+) -> Result<(), Stop>
+    requires { pair.now.point < length problem.now.points.points }
+    ensures grows { OnOk result (Grows found.old.keys found.new.keys) }
+    ensures there { OnOk result ((rule a : ℕ) (args : List ℕ)
+        → PointIs problem.now pair.now.point rule (Tm a) args
+        → Contains found.new.keys (record {
+          rule = pair.now.rule;
+          param = pair.now.param;
+          terminal = a;
+          given = length args;
+        })) }
+{
+    let Head::Tm(terminal) = problem.points.head_of(pair.point) else {
+        return Ok(());
+    };
+    let given = problem.points.args_of(pair.point).len();
+    add(
+        found,
+        Becoming {
+            rule: pair.rule,
+            param: pair.param,
+            terminal,
+            given,
+        },
+    )
+}
+
+/// The flow pairs.
+fn flow_pairs(problem: &Problem) -> &[FlowPair]
+    ensures { result.now ≡ problem.now.flow.pairs }
+{
+    problem.flow.pairs.as_slice()
+}
+
+/// Adds what parameters become by points with a terminal at their head.
+fn add_terminals(problem: &Problem, found: &mut IndexSet<Becoming>) -> Result<(), Stop>
+    ensures grows { OnOk result (Grows found.old.keys found.new.keys) }
+    ensures there { OnOk result ((f : AnyFlow) (rule a : ℕ) (args : List ℕ)
+        → Contains problem.now.flow.pairs f
+        → PointIs problem.now f.point rule (Tm a) args
+        → Contains found.new.keys (record {
+          rule = f.rule;
+          param = f.param;
+          terminal = a;
+          given = length args;
+        })) }
+{
+    is_sorted_problem(problem);
+    for pair in flow_pairs(problem) {
+        add_terminal(problem, found, pair)?;
+    }
+    Ok(())
+}
+
+/// Adds the pair to the list of the parameter at its point's head.
+fn add_by_head(
+    problem: &Problem,
+    lists: &mut Lists<FlowPair>,
+    pair: FlowPair,
+) -> Result<(), OutOfMemory>
+    requires point { pair.point < length problem.now.points.points }
+    requires lists { length lists.old ≡ sum problem.now.points.params }
+    ensures len { OnOk result (length lists.new ≡ sum problem.now.points.params) }
+    ensures kept { OnOk result ((k : ℕ) (f : AnyFlow) → Contains (list_of lists.old k) f → Contains (list_of
+        lists.new k) f) }
+    ensures there { OnOk result ((rule x : ℕ) (args : List ℕ)
+        → PointIs problem.now pair.point rule (Var x) args
+        → IsParameter problem.now.points.params rule x
+        × Contains (list_of lists.new (parameter_of problem.now.points.params rule x)) pair) }
+    ensures points { OnOk result (((k : ℕ) (f : AnyFlow) → Contains (list_of lists.old k) f → f.point < length
+        problem.now.points.points) → (k : ℕ) (f : AnyFlow) → Contains (list_of lists.new k) f
+        → f.point < length
+        problem.now.points.points) }
+{
+    let Head::Var(param) = problem.points.head_of(pair.point) else {
+        return Ok(());
+    };
+    let rule = problem.points.rule_of(pair.point);
+    let Some(number) = problem.points.params().number(rule, param) else {
+        return Ok(());
+    };
+    lists.push(number as usize, pair)
+}
+
+/// The flow pairs by the parameter at their point's head, in the list of its number.
+fn by_head(alloc: Global, problem: &Problem) -> Result<Lists<FlowPair>, OutOfMemory>
+    ensures { IfOk result (IsByHead problem.now problem.now.flow.pairs) }
+{
+    is_sorted_problem(problem);
+    let mut lists = Lists::empty(alloc, problem.points.params().count() as usize)?;
+    for pair in flow_pairs(problem) {
+        add_by_head(problem, &mut lists, *pair)?;
+    }
+    Ok(lists)
+}
+
+/// Adds what the pair's parameter becomes by the pair, where the parameter at its point's head becomes
+/// this.
+fn pass(
+    problem: &Problem,
+    found: &mut IndexSet<Becoming>,
+    becoming: Becoming,
+    pair: &FlowPair,
+) -> Result<(), Stop>
+    requires { pair.now.point < length problem.now.points.points }
+    ensures grows { OnOk result (Grows found.old.keys found.new.keys) }
+    ensures there { OnOk result ((rule : ℕ) (h : AnyHead) (args : List ℕ)
+        → PointIs problem.now pair.now.point rule h args
+        → Contains found.new.keys (record {
+          rule = pair.now.rule;
+          param = pair.now.param;
+          terminal = becoming.terminal;
+          given = becoming.given + length args;
+        })) }
+{
+    let more = problem.points.args_of(pair.point).len();
+    let Some(given) = becoming.given.checked_add(more) else {
+        return Err(Stop::Limit);
+    };
+    add(
+        found,
+        Becoming {
+            rule: pair.rule,
+            param: pair.param,
+            terminal: becoming.terminal,
+            given,
+        },
+    )
+}
+
+/// Adds what the parameters of these pairs become, where the parameter at their points' heads becomes
+/// this.
+fn pass_all(
+    problem: &Problem,
+    found: &mut IndexSet<Becoming>,
+    becoming: Becoming,
+    pairs: &[FlowPair],
+) -> Result<(), Stop>
+    requires { (f : AnyFlow) → Contains pairs.now f → f.point < length problem.now.points.points }
+    ensures grows { OnOk result (Grows found.old.keys found.new.keys) }
+    ensures there { OnOk result ((f : AnyFlow) (rule : ℕ) (h : AnyHead) (args : List ℕ) → Contains pairs.now f
+        → PointIs problem.now f.point rule h args
+        → Contains found.new.keys (record {
+          rule = f.rule;
+          param = f.param;
+          terminal = becoming.terminal;
+          given = becoming.given + length args;
+        })) }
+{
+    for pair in pairs {
+        pass(problem, found, becoming, pair)?;
+    }
+    Ok(())
+}
+
+/// What was found at this place, where there is something.
+fn becoming_at(found: &IndexSet<Becoming>, place: usize) -> Option<Becoming>
+    ensures { result ≡ slice_get found.now.keys place }
+{
+    found.get_index(place).copied()
+}
+
+/// The list of a parameter's number, empty where it is none.
+pub(crate) fn list_at<'a, T: Drop>(
+    lists: &'a Lists<T>,
+    params: &Parameters,
+    rule: u32,
+    param: u32,
+) -> &'a [T]
+    ensures list { IsParameter params.now rule param
+        → result.now ≡ list_of lists.now (parameter_of params.now rule param) }
+    ensures from { (x : T) → Contains result.now x → (k : ℕ) × Contains (list_of lists.now k) x }
+{
+    match params.number(rule, param) {
+        Some(number) => lists.list(number as usize),
+        None => &[],
+    }
+}
+
+/// Adds all that parameters become by what they are found to become.
+fn spread(
+    problem: &Problem,
+    lists: &Lists<FlowPair>,
+    found: &mut IndexSet<Becoming>,
+) -> Result<(), Stop>
+    requires lists { IsByHead problem.now problem.now.flow.pairs lists.now }
+    requires few { length found.old.keys ≤ 4000000 }
+    requires first { (f : AnyFlow) (rule a : ℕ) (args : List ℕ) → Contains problem.now.flow.pairs f
+        → PointIs problem.now f.point rule (Tm a) args
+        → Contains found.old.keys (record {
+          rule = f.rule;
+          param = f.param;
+          terminal = a;
+          given = length args;
+        }) }
+    ensures { OnOk result (AreBecomings problem.now found.new.keys) }
+{
+    let mut taken = 0;
+    while let Some(becoming) = becoming_at(found, taken) {
+        let pairs = list_at(
+            lists,
+            problem.points.params(),
+            becoming.rule,
+            becoming.param,
+        );
+        pass_all(problem, found, becoming, pairs)?;
+        taken += 1;
+    }
+    Ok(())
+}
+
+/// Adds this to the list of its parameter's number.
+fn add_to_list(
+    params: &Parameters,
+    lists: &mut Lists<Becoming>,
+    becoming: Becoming,
+) -> Result<(), OutOfMemory>
+    requires { length lists.old ≡ sum params.now }
+    ensures len { OnOk result (length lists.new ≡ sum params.now) }
+    ensures kept { OnOk result ((k : ℕ) (b : AnyBecoming) → Contains (list_of lists.old k) b
+        → Contains (list_of lists.new k) b) }
+    ensures there { OnOk result (IsParameter params.now becoming.rule becoming.param
+        → Contains (list_of lists.new (parameter_of params.now becoming.rule becoming.param)) becoming) }
+{
+    let Some(number) = params.number(becoming.rule, becoming.param) else {
+        return Ok(());
+    };
+    lists.push(number as usize, becoming)
+}
+
+/// What is found, in the list of its parameter's number.
+fn by_parameter(
+    alloc: Global,
+    params: &Parameters,
+    found: &[Becoming],
+) -> Result<Lists<Becoming>, OutOfMemory>
+    ensures { IfOk result (IsByParameter params.now found.now) }
+{
+    let mut lists = Lists::empty(alloc, params.count() as usize)?;
+    for becoming in found {
+        add_to_list(params, &mut lists, *becoming)?;
+    }
+    Ok(lists)
+}
+
+/// What parameters become.
+fn find(alloc: Global, problem: &Problem, found: &mut IndexSet<Becoming>) -> Result<(), Stop>
+    requires { length found.old.keys ≤ 4000000 }
+    ensures { OnOk result (AreBecomings problem.now found.new.keys) }
+{
+    add_terminals(problem, found)?;
+    let lists = by_head(alloc, problem)?;
+    spread(problem, &lists, found)
+}
+
+/// The terminals that each parameter may become, in the list of its number. `Limit` comes where there
+/// are more than `MOST`.
+pub(crate) fn terminals(alloc: Global, problem: &Problem) -> Result<Lists<Becoming>, Stop>
+    ensures { IfOk result (HasTerminals problem.now) }
+{
+    let mut found = IndexSet::new(alloc);
+    find(alloc, problem, &mut found)?;
+    let lists = by_parameter(alloc, problem.points.params(), found.as_slice())?;
+    Ok(lists)
+}

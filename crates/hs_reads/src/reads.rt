@@ -1,0 +1,129 @@
+//! The pairs of a point and a state in which the point may be read.
+
+ghost use Rattle.std.specs.Prelude.{◌≡◌, ◌↔◌, ◌+◌, ◌≤◌, ℕ, Contains, IfOk, OnOk, IsTrue, length, slice_get};
+ghost use Rattle.hs_weak.specs.Reads.{IsClosedReads};
+ghost use Rattle.hs_reads.specs.Becomings.{HasTerminals};
+ghost use Rattle.hs_reads.specs.Pairs.{HasStart};
+
+use crate::becoming::{Becoming, terminals};
+use crate::lists::Lists;
+use crate::reading::{Pairs, add_demanded, add_start};
+use crate::stop::Stop;
+use hs_scheme::{OutOfMemory, Problem, Sorted};
+use hs_verdict::is_sorted_problem;
+use indexmap::IndexSet;
+use std::alloc::Global;
+use std::marker::Model;
+
+/// Pairs of a point and a state in which the automaton may read the point: those that are listed, or
+/// where none are listed all pairs of this many points and states, which aren't stored. Contracts see
+/// the list of the pairs.
+#[derive(Drop)]
+pub struct Reads {
+    listed: Option<Pairs>,
+    points: u32,
+    states: u32,
+}
+
+impl Model for Reads {
+    ghost use Rattle.std.specs.Prelude.{List, ℕ};
+    ghost use Rattle.std.specs.Option.{option_map};
+    ghost use Rattle.std.specs.Coded.{coded_list, coded×, coded_ℕ};
+    ghost use Rattle.hs_reads.specs.Pairs.{pairs_in};
+
+    ghost Value = { List (ℕ × ℕ) };
+
+    ghost coded = { coded_list (coded× coded_ℕ coded_ℕ) };
+
+    ghost view = { λ a. pairs_in (option_map (λ s. s.keys) a.listed) a.points a.states };
+}
+
+/// The pair at this place, where there is one.
+fn pair_at(pairs: &Pairs, place: usize) -> Option<(u32, u32)>
+    ensures { result ≡ slice_get pairs.now.keys place }
+{
+    pairs.get_index(place).copied()
+}
+
+/// Adds all pairs that are demanded by those that are there.
+fn spread(problem: &Problem, terminals: &Lists<Becoming>, pairs: &mut Pairs) -> Result<(), Stop>
+    requires terminals { HasTerminals problem.now terminals.now }
+    requires start { HasStart problem.now pairs.old.keys }
+    requires few { length pairs.old.keys ≤ 4000000 }
+    ensures { OnOk result (IsClosedReads problem.now pairs.new.keys) }
+{
+    let mut taken = 0;
+    while let Some((point, state)) = pair_at(pairs, taken) {
+        add_demanded(problem, terminals, pairs, point, state)?;
+        taken += 1;
+    }
+    Ok(())
+}
+
+/// Adds the pairs that are demanded from the start on.
+fn find(alloc: Global, problem: &Problem, pairs: &mut Pairs) -> Result<(), Stop>
+    requires { length pairs.old.keys ≤ 4000000 }
+    ensures { OnOk result (IsClosedReads problem.now pairs.new.keys) }
+{
+    let terminals = terminals(alloc, problem)?;
+    add_start(problem, pairs)?;
+    spread(problem, &terminals, pairs)
+}
+
+/// The number of states.
+fn states_of(sorted: &Sorted) -> u32
+    ensures { result ≡ sorted.now.automaton.states }
+{
+    sorted.automaton.states()
+}
+
+/// All pairs of a point and a state of the problem.
+fn all(problem: &Problem) -> Reads
+    ensures { IsClosedReads problem.now result }
+{
+    is_sorted_problem(problem);
+    Reads {
+        listed: None,
+        points: problem.points.count(),
+        states: states_of(&problem.sorted),
+    }
+}
+
+impl Reads {
+    /// The states in which each point of the problem may be read, by a worklist that takes each pair once.
+    /// Where more than 4,000,000 pairs come, or parameters may become more than 4,000,000 terminals together,
+    /// they are all pairs, which aren't stored.
+    ///
+    /// The pairs are closed: none is left out that they demand. That there are no more than needed isn't
+    /// claimed.
+    ///
+    /// Memory is in proportion to the points, the flow and the pairs. Time is in proportion to these and, for
+    /// each pair whose point has a parameter at its head, to the flow of that parameter, and to the terminals
+    /// that it may become times the point's arguments; for each of those terminals one transition is looked
+    /// up, on average in constant time.
+    pub fn of(alloc: Global, problem: &Problem) -> Result<Reads, OutOfMemory>
+        ensures { IfOk result (IsClosedReads problem.now) }
+    {
+        let mut pairs = IndexSet::new(alloc);
+        match find(alloc, problem, &mut pairs) {
+            Ok(()) => Ok(Reads {
+                listed: Some(pairs),
+                points: 0,
+                states: 0,
+            }),
+            Err(Stop::Limit) => Ok(all(problem)),
+            Err(Stop::OutOfMemory) => Err(OutOfMemory),
+        }
+    }
+
+    /// Whether the point, counted from 0, may be read in the state. Takes no memory, and constant time
+    /// on average.
+    pub fn holds(&self, point: u32, state: u32) -> bool
+        ensures { IsTrue result ↔ Contains self.now (point, state) }
+    {
+        match &self.listed {
+            Some(listed) => listed.contains(&(point, state)),
+            None => point < self.points && state < self.states,
+        }
+    }
+}

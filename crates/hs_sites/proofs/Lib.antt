@@ -1,0 +1,5 @@
+mod Adding
+mod Inserted
+mod Collected
+mod Ordered
+pub mod Walking

@@ -1,0 +1,4 @@
+pub mod Listed
+pub mod Walks
+pub mod Reaching
+pub mod Collecting

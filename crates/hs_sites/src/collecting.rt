@@ -1,0 +1,163 @@
+//! The sites are collected point by point.
+
+ghost use Rattle.std.specs.Prelude.{◌≡◌, ◌<◌, Contains, OnOk, IfOk, length};
+ghost use Rattle.hs_scheme.specs.declared.term.Head.TheVariants.{Var};
+ghost use Rattle.hs_scheme.specs.Points.{point_at};
+ghost use Rattle.hs_sites.specs.Listed.{AnySite, AreSites};
+ghost use Rattle.hs_sites.specs.Collecting.{AnyTurn, IsSiteAt, HasBases, AddsTo, IsFrom, AreTurns};
+
+use crate::bases::{Base, ParameterBases};
+use crate::sites::Site;
+use hs_flow_checker::HeadPairs;
+use hs_scheme::{Head, OutOfMemory, Problem};
+use std::alloc::Global;
+
+/// When the sites at a point are collected: those of a rule in the order of the parameters at their
+/// heads. So what a parameter may become is looked for once.
+#[derive(Clone, Copy, Debug, PartialEq, Eq, PartialOrd, Ord)]
+struct Turn {
+    rule: u32,
+    /// The parameter at the point's head, or 0 where the head is none.
+    param: u32,
+    point: u32,
+}
+
+/// The point's turn.
+fn turn_of(problem: &Problem, point: u32) -> Turn
+    requires { point < length problem.now.points.points }
+    ensures { result.point ≡ point }
+{
+    let rule = problem.points.rule_of(point);
+    let param = match problem.points.head_of(point) {
+        Head::Var(param) => param,
+        Head::Nt(_) | Head::Tm(_) => 0,
+    };
+    Turn { rule, param, point }
+}
+
+/// The turns of all points, one behind the other.
+fn turns_of(alloc: Global, problem: &Problem) -> Result<Vec<Turn>, OutOfMemory>
+    ensures { IfOk result (λ turns. AreTurns problem.now turns.items) }
+{
+    let count = problem.points.count();
+    let mut turns = Vec::with_capacity(alloc, count as usize)?;
+    for point in 0..count {
+        turns.push_reserved(turn_of(problem, point));
+    }
+    turns.sort_unstable();
+    Ok(turns)
+}
+
+/// Adds the sites at the point by these bases of its head.
+fn add_by_bases(sites: &mut Vec<Site>, bases: &[Base], point: u32) -> Result<(), OutOfMemory>
+    ensures { OnOk result (AddsTo (λ (s : AnySite). IsFrom bases.now point s) sites.old.items
+        sites.new.items) }
+{
+    for base in bases {
+        let site = Site {
+            nonterminal: base.nonterminal,
+            given: base.given,
+            point,
+        };
+        sites.push(site)?;
+    }
+    Ok(())
+}
+
+/// Adds the sites at the point, with this parameter at its head. `bases` are those of a parameter, and
+/// then of this one.
+fn add_by_parameter(
+    alloc: Global,
+    problem: &Problem,
+    heads: &HeadPairs,
+    bases: &mut ParameterBases,
+    sites: &mut Vec<Site>,
+    point: u32,
+    param: u32,
+) -> Result<(), OutOfMemory>
+    requires point { point < length problem.now.points.points }
+    requires head { (point_at problem.now.points point).head ≡ Var param }
+    requires args { 0 < length (point_at problem.now.points point).args }
+    requires heads { heads.now ≡ problem.now.flow.heads }
+    requires bases { HasBases problem.now bases.old }
+    ensures bases { OnOk result (HasBases problem.now bases.new) }
+    ensures sites { OnOk result (AddsTo (IsSiteAt problem.now point) sites.old.items sites.new.items) }
+{
+    bases.turn_to(alloc, problem, heads, problem.points.rule_of(point), param)?;
+    add_by_bases(sites, bases.bases(), point)
+}
+
+/// Adds the sites at the point.
+fn add_at(
+    alloc: Global,
+    problem: &Problem,
+    heads: &HeadPairs,
+    bases: &mut ParameterBases,
+    sites: &mut Vec<Site>,
+    point: u32,
+) -> Result<(), OutOfMemory>
+    requires point { point < length problem.now.points.points }
+    requires heads { heads.now ≡ problem.now.flow.heads }
+    requires bases { HasBases problem.now bases.old }
+    ensures bases { OnOk result (HasBases problem.now bases.new) }
+    ensures sites { OnOk result (AddsTo (IsSiteAt problem.now point) sites.old.items sites.new.items) }
+{
+    if problem.points.args_of(point).is_empty() {
+        return Ok(());
+    }
+    match problem.points.head_of(point) {
+        Head::Tm(_) => Ok(()),
+        Head::Nt(nonterminal) => {
+            let site = Site {
+                nonterminal,
+                given: 0,
+                point,
+            };
+            sites.push(site)?;
+            Ok(())
+        }
+        Head::Var(param) => add_by_parameter(alloc, problem, heads, bases, sites, point, param),
+    }
+}
+
+/// Adds the sites at the points that have a turn.
+fn add_in_turn(
+    alloc: Global,
+    problem: &Problem,
+    heads: &HeadPairs,
+    turns: &[Turn],
+    bases: &mut ParameterBases,
+    sites: &mut Vec<Site>,
+) -> Result<(), OutOfMemory>
+    requires points { (t : AnyTurn) → Contains turns.now t → t.point < length problem.now.points.points }
+    requires heads { heads.now ≡ problem.now.flow.heads }
+    requires bases { HasBases problem.now bases.old }
+    ensures { OnOk result (AddsTo (λ (s : AnySite). (t : AnyTurn) × (Contains turns.now t
+        × IsSiteAt problem.now t.point s))
+        sites.old.items sites.new.items) }
+{
+    for turn in turns {
+        add_at(alloc, problem, heads, bases, sites, turn.point)?;
+    }
+    Ok(())
+}
+
+/// Adds all sites to none.
+fn add_all(alloc: Global, problem: &Problem, sites: &mut Vec<Site>) -> Result<(), OutOfMemory>
+    requires { length sites.old.items ≡ 0 }
+    ensures { OnOk result (AreSites problem.now sites.new.items) }
+{
+    let turns = turns_of(alloc, problem)?;
+    let heads = HeadPairs::of(alloc, problem)?;
+    let mut bases = ParameterBases::of(alloc, problem, &heads, 0, 0)?;
+    add_in_turn(alloc, problem, &heads, turns.as_slice(), &mut bases, sites)
+}
+
+/// All sites of the problem, in the order of the turns of their points.
+pub(crate) fn collect(alloc: Global, problem: &Problem) -> Result<Vec<Site>, OutOfMemory>
+    ensures { IfOk result (λ sites. AreSites problem.now sites.items) }
+{
+    let mut sites = Vec::new(alloc);
+    add_all(alloc, problem, &mut sites)?;
+    Ok(sites)
+}

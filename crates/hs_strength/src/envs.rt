@@ -1,0 +1,82 @@
+//! Which environments ask at least what others ask.
+
+ghost use Rattle.std.specs.Prelude.{◌<◌, ◌↔◌, length, All, IfOk, IsTrue};
+ghost use Rattle.hs_table.specs.Entries.{set_at};
+ghost use Rattle.hs_weak.specs.Strength.{AsStrongAs, AsksEach, AsksAtLeast};
+ghost use Rattle.hs_types.specs.Interned.{set_of_id, env_of_id};
+ghost use Rattle.hs_strength.specs.Remembered.{Remembers, AsksSome};
+
+use crate::memo::Strengths;
+use hs_scheme::OutOfMemory;
+use hs_types::{EnvId, Interner, SetId};
+
+impl Strengths {
+    /// Whether the environment's set at a parameter asks at least each type of the other set. A set that
+    /// is missing is empty.
+    fn asks_at(
+        &mut self,
+        types: &Interner,
+        env: EnvId,
+        parameter: usize,
+        other: SetId,
+    ) -> Result<bool, OutOfMemory>
+        requires env { env < length types.now.envs }
+        requires other { other < length types.now.sets }
+        requires memo { Remembers types.now self.old }
+        ensures ok { IfOk result (λ answer. IsTrue answer
+            ↔ AsksEach AsStrongAs (set_at (env_of_id types.now env) parameter)
+            (set_of_id types.now other)) }
+        ensures memo { Remembers types.now self.new }
+    {
+        match types.sets(env).get(parameter) {
+            Some(set) => self.asks_each(types, *set, other),
+            None => Ok(types.members(other).is_empty()),
+        }
+    }
+
+    /// Whether an environment asks at least what the other asks, as `hs_weak::asks_at_least` answers for
+    /// the trees. A look-up for each parameter, where the pairs of sets were compared before; ends at
+    /// the first that is refused.
+    pub fn asks_at_least(
+        &mut self,
+        types: &Interner,
+        env: EnvId,
+        other: EnvId,
+    ) -> Result<bool, OutOfMemory>
+        requires env { env < length types.now.envs }
+        requires other { other < length types.now.envs }
+        requires memo { Remembers types.now self.old }
+        ensures ok { IfOk result (λ answer. IsTrue answer
+            ↔ AsksAtLeast AsStrongAs (env_of_id types.now env) (env_of_id types.now other)) }
+        ensures memo { Remembers types.now self.new }
+    {
+        let sets = types.sets(other);
+        for (parameter, set) in sets.iter().enumerate() {
+            if !self.asks_at(types, env, parameter, *set)? {
+                return Ok(false);
+            }
+        }
+        Ok(true)
+    }
+
+    /// Whether an environment asks at least what one of the others asks. Ends at the first such one.
+    pub fn asks_some(
+        &mut self,
+        types: &Interner,
+        env: EnvId,
+        others: &[EnvId],
+    ) -> Result<bool, OutOfMemory>
+        requires env { env < length types.now.envs }
+        requires others { All (λ e. e < length types.now.envs) others.now }
+        requires memo { Remembers types.now self.old }
+        ensures ok { IfOk result (λ answer. IsTrue answer ↔ AsksSome types.now env others.now) }
+        ensures memo { Remembers types.now self.new }
+    {
+        for other in others {
+            if self.asks_at_least(types, env, *other)? {
+                return Ok(true);
+            }
+        }
+        Ok(false)
+    }
+}

@@ -1,0 +1,167 @@
+//! Which types and sets are as strong as others.
+
+ghost use Rattle.std.specs.Prelude.{◌<◌, ◌↔◌, length, IfOk, IsTrue};
+ghost use Rattle.hs_weak.specs.Strength.{AsStrongAs, AsksFor, AsksEach};
+ghost use Rattle.hs_types.specs.Interned.{type_of_id, set_of_id};
+ghost use Rattle.hs_strength.specs.Remembered.{Remembers};
+
+use crate::memo::{Question, Strengths};
+use hs_scheme::OutOfMemory;
+use hs_types::{Interner, SetId, TyId, View};
+
+/// Whether two types have the same number of arguments and the same last state, without which neither
+/// is as strong as the other. Looks at no set.
+fn end_alike(types: &Interner, ty: TyId, other: TyId) -> bool
+    requires ty { ty < length types.now.types }
+    requires other { other < length types.now.types }
+    ensures { AsStrongAs (type_of_id types.now ty) (type_of_id types.now other) → IsTrue result }
+{
+    match types.view(ty) {
+        View::State(q) => match types.view(other) {
+            View::State(p) => q == p,
+            View::Arrow(_, _) => false,
+        },
+        View::Arrow(_, rest) => match types.view(other) {
+            View::State(_) => false,
+            View::Arrow(_, other_rest) => end_alike(types, rest, other_rest),
+        },
+    }
+}
+
+impl Strengths {
+    /// Whether the type is as strong as the other, as `hs_weak::is_as_strong` answers for the trees.
+    ///
+    /// Constant time on average for equal numbers, and in proportion to the number of arguments for
+    /// types with different last states, after each type was walked once. Of the other pairs, each is
+    /// compared once, and so is each pair of sets: later it is a look-up, as long as the answers don't
+    /// get too many. Recurses as deep as the types are nested.
+    #[cycle(strength)]
+    pub fn is_as_strong(
+        &mut self,
+        types: &Interner,
+        ty: TyId,
+        other: TyId,
+    ) -> Result<bool, OutOfMemory>
+        requires ty { ty < length types.now.types }
+        requires other { other < length types.now.types }
+        requires memo { Remembers types.now self.old }
+        ensures ok { IfOk result (λ answer. IsTrue answer
+            ↔ AsStrongAs (type_of_id types.now ty) (type_of_id types.now other)) }
+        ensures memo { Remembers types.now self.new }
+    {
+        if ty == other {
+            self.see_type(types, ty)?;
+            return Ok(true);
+        }
+        if !end_alike(types, ty, other) {
+            return Ok(false);
+        }
+        if let Some(answer) = self.find(Question::Types(ty, other)) {
+            return Ok(answer);
+        }
+        let answer = self.compare(types, ty, other)?;
+        self.keep(Question::Types(ty, other), answer)?;
+        Ok(answer)
+    }
+
+    /// Whether the type is as strong as the other: compares their results, and then their sets.
+    #[cycle(strength)]
+    fn compare(&mut self, types: &Interner, ty: TyId, other: TyId) -> Result<bool, OutOfMemory>
+        requires ty { ty < length types.now.types }
+        requires other { other < length types.now.types }
+        requires memo { Remembers types.now self.old }
+        ensures ok { IfOk result (λ answer. IsTrue answer
+            ↔ AsStrongAs (type_of_id types.now ty) (type_of_id types.now other)) }
+        ensures memo { Remembers types.now self.new }
+    {
+        match types.view(ty) {
+            View::State(q) => match types.view(other) {
+                View::State(p) => Ok(q == p),
+                View::Arrow(_, _) => Ok(false),
+            },
+            View::Arrow(set, rest) => match types.view(other) {
+                View::State(_) => Ok(false),
+                View::Arrow(other_set, other_rest) => {
+                    if !self.is_as_strong(types, rest, other_rest)? {
+                        return Ok(false);
+                    }
+                    self.asks_each(types, other_set, set)
+                }
+            },
+        }
+    }
+
+    /// Whether for each type of the other set some type of the set is as strong. Each pair of sets is
+    /// compared once, and where they are equal or the other is empty, no types are compared.
+    #[cycle(strength)]
+    pub(crate) fn asks_each(
+        &mut self,
+        types: &Interner,
+        set: SetId,
+        other: SetId,
+    ) -> Result<bool, OutOfMemory>
+        requires set { set < length types.now.sets }
+        requires other { other < length types.now.sets }
+        requires memo { Remembers types.now self.old }
+        ensures ok { IfOk result (λ answer. IsTrue answer
+            ↔ AsksEach AsStrongAs (set_of_id types.now set) (set_of_id types.now other)) }
+        ensures memo { Remembers types.now self.new }
+    {
+        if types.members(other).is_empty() {
+            return Ok(true);
+        }
+        if set == other {
+            self.see_set(types, set)?;
+            return Ok(true);
+        }
+        if let Some(answer) = self.find(Question::Sets(set, other)) {
+            return Ok(answer);
+        }
+        let answer = self.compare_sets(types, set, other)?;
+        self.keep(Question::Sets(set, other), answer)?;
+        Ok(answer)
+    }
+
+    /// Whether for each type of the other set some type of the set is as strong: compares them.
+    #[cycle(strength)]
+    fn compare_sets(
+        &mut self,
+        types: &Interner,
+        set: SetId,
+        other: SetId,
+    ) -> Result<bool, OutOfMemory>
+        requires set { set < length types.now.sets }
+        requires other { other < length types.now.sets }
+        requires memo { Remembers types.now self.old }
+        ensures ok { IfOk result (λ answer. IsTrue answer
+            ↔ AsksEach AsStrongAs (set_of_id types.now set) (set_of_id types.now other)) }
+        ensures memo { Remembers types.now self.new }
+    {
+        let members = types.members(other);
+        for member in members {
+            if !self.asks(types, set, *member)? {
+                return Ok(false);
+            }
+        }
+        Ok(true)
+    }
+
+    /// Whether some type of the set is as strong as this one.
+    #[cycle(strength)]
+    fn asks(&mut self, types: &Interner, set: SetId, ty: TyId) -> Result<bool, OutOfMemory>
+        requires set { set < length types.now.sets }
+        requires ty { ty < length types.now.types }
+        requires memo { Remembers types.now self.old }
+        ensures ok { IfOk result (λ answer. IsTrue answer
+            ↔ AsksFor AsStrongAs (set_of_id types.now set) (type_of_id types.now ty)) }
+        ensures memo { Remembers types.now self.new }
+    {
+        let members = types.members(set);
+        for member in members {
+            if self.is_as_strong(types, *member, ty)? {
+                return Ok(true);
+            }
+        }
+        Ok(false)
+    }
+}
