@@ -1,0 +1,9 @@
+mod Rounds
+mod Order
+mod Places
+mod Filling
+mod Adding
+mod Sorted
+mod Gathered
+mod Keeping
+mod Fronts
