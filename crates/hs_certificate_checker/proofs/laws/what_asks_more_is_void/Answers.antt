@@ -1,5 +1,0 @@
-use Rattle.hs_certificate_checker.proofs.Asking.{void_more}
-use Rattle.hs_certificate_checker.proofs.laws.what_asks_more_is_void.Goals as goal
-
-pub returns : goal.returns
-returns c = void_more
