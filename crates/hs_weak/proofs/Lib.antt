@@ -1,2 +1,3 @@
 pub mod Strength
 pub mod ComparingLemmas
+mod VoidLemmas

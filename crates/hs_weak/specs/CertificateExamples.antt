@@ -27,18 +27,18 @@ use Rattle.hs_scheme.proofs.Lists.{none_in, here, uncons, only, Contains-at}
 use Rattle.std.proofs.lemmas.Option.{same_Some}
 use Rattle.hs_table.specs.declared.support.HeadBy.{HeadBy}
 use Rattle.hs_table.specs.declared.support.HeadBy.TheVariants.{Terminal, Rule as FromRule, Param}
-use Rattle.hs_table.specs.Types.{TypeTree, state, arrows}
+use Rattle.hs_table.specs.Types.{TypeTree, state, arrows, IsSet, IsType}
 use Rattle.hs_table.specs.Entries.{Env, EntryData, Has, set_at, InShape, params_of}
 use Rattle.hs_table.specs.Follows.{rank_of, IsHeadType, IsTerminalType}
 use Rattle.hs_table.specs.Tables.{HasStart}
 use Rattle.hs_table_laws.proofs.Arrows.{arrows_same}
-use Rattle.hs_table_laws.proofs.Sets.{no_set}
+use Rattle.hs_table_laws.proofs.Sets.{no_set, one_set}
 use Rattle.hs_weak.specs.Strength.{AsStrongAs, same_state}
 use Rattle.hs_weak.specs.Weak.{WeaklyChosen, done, next_argument, choose, WeaklyFollows}
 use Rattle.hs_weak.specs.WeakExamples.{none_at, one_place, chosen_long}
 use Rattle.hs_weak.specs.Reads.{PointIs, FlowsTo, reads_start, reads_body, reads_child, reads_flow, reads_later_child, IsClosedReads, IsReads, last_state}
 use Rattle.hs_weak.specs.Sites.{SiteData, IsSite, IsChain}
-use Rattle.hs_weak.specs.Void.{VoidData, IsVoid, sets_for, IsUnionOf, IsBlocked, IsVoidList}
+use Rattle.hs_weak.specs.Void.{VoidData, IsVoid, sets_for, IsUnionOf, IsBlocked, IsVoidShape, IsVoidList}
 use Rattle.hs_weak.specs.Certificate.{Matters, IsAcceptanceCertificate}
 
 abbrev leaf : Head → Tree Head
@@ -287,7 +287,7 @@ c_read R closed =
 
 -- S has the empty chain, in which no site is blocked, and none misses a type
 void_for_none : (p : ProblemData) (C : List EntryData) (V : List VoidData) → IsVoidList p C V → (G : ℕ) (E : Env) → params_of p G ≡ 0 → IsVoid p C V G E → ⊥
-void_for_none p C V list G E no_params (inl (v, (m, same, asks))) = let b = list v m [] (sym (ap (λ k. params_of p k) same ∙ no_params)) in none_in b.0 b.1.0
+void_for_none p C V list G E no_params (inl (v, (m, same, asks))) = let b = (list v m).1 [] (sym (ap (λ k. params_of p k) same ∙ no_params)) in none_in b.0 b.1.0
 void_for_none p C V list G E no_params (inr missed) = let b = missed [] (sym no_params) in none_in b.0 b.1.0
 
 pub refused : (V : List VoidData) (R : List (ℕ × ℕ)) → IsAcceptanceCertificate rejecting [] V R → ⊥
@@ -318,8 +318,22 @@ blocked s of given site d at places chosen are env union =
     by_arguments [] lt c = omega (arith, lt)
     by_arguments (u ∷ us) lt c = none_chosen AsStrongAs caller c 0 (state 0) (subst (λ k. Contains (set_at asks_q0.env k) (state 0)) (sym given) (here (state 0) []))
 
+f_in_shape : IsVoidShape caller asks_q0
+f_in_shape = record { rule = omega arith; env = record { long = refl; sets = each_set }; types = each_type }
+  where
+    each_set : (j : ℕ) → IsSet (set_at asks_q0.env j)
+    each_set zero = one_set (state 0)
+    each_set (suc j) = no_set
+
+    each_type : (j : ℕ) (a : TypeTree) → Has asks_q0.env j a → IsType 1 a
+    each_type zero a m = subst (λ (t : TypeTree). IsType 1 t) (sym (only (state 0) a m)) (omega arith, refl)
+    each_type (suc j) a m = absurd (none_in a m)
+
 pub void : IsVoidList caller [] (asks_q0 ∷ [])
-void v m sites chain = by_sites sites (subst (λ k. IsChain caller k sites) (ap (λ (k : VoidData). k.rule) is) chain)
+void v m = (
+  subst (λ (k : VoidData). IsVoidShape caller k) (sym is) f_in_shape,
+  λ sites chain. by_sites sites (subst (λ k. IsChain caller k sites) (ap (λ (k : VoidData). k.rule) is) chain),
+)
   where
     is : v ≡ asks_q0
     is = only asks_q0 v m
@@ -351,7 +365,7 @@ call_is_site = record { at = refl; base = (refl, refl); some = omega arith }
 
 pub not_void : IsVoidList caller (at_c ∷ []) (asks_q0 ∷ []) → ⊥
 not_void list =
-    let b = list asks_q0 (here asks_q0 []) (call ∷ []) (refl, (at_call, (call_is_site, refl))) in
+    let b = (list asks_q0 (here asks_q0 [])).1 (call ∷ []) (refl, (at_call, (call_is_site, refl))) in
     let here_blocked = subst (λ (s : SiteData). IsBlocked caller (at_c ∷ []) (asks_q0 ∷ []) s asks_q0.env) (only call b.0 b.1.0) b.1.1 in
     let chosen : WeaklyChosen AsStrongAs caller (at_c ∷ []) 0 (1 ∷ []) ((state 0 ∷ []) ∷ []) ((0, 0) ∷ []) (at_c ∷ []) =
     choose (record { at = refl; shape = c_in_shape }) refl same_state (next_argument done) in

@@ -2,14 +2,20 @@
 --     HasEntry         some entry in shape at the point has a type as strong as this one
 --     IsMissed         by the entries alone: in each chain some site gives an argument without an entry that is asked of it
 --     VoidData         a nonterminal with an environment for its parameters
+--     void_cmp         pairs are ordered by nonterminal and environment
 --     IsVoid           it asks at least what one of the list asks, or is missed
 --     IsBlocked        where a site's arguments have what the environment asks, what they ask in their own rule is void
---     IsVoidList       in each chain for an environment of the list some site is blocked
-use Rattle.std.specs.Prelude.{◌≡◌, ℕ, suc, ◌<◌, List, [], ◌∷◌, slice_get, Some, Contains, ◌⊎◌, ◌↔◌}
+--     IsVoidShape      the nonterminal is one of the problem, and the environment one for its parameters
+--     IsVoidPair       so is it, and in each chain for the environment some site is blocked
+--     IsVoidList       this holds of each pair of the list
+use Rattle.std.specs.Prelude.{◌≡◌, refl, ℕ, suc, ◌<◌, List, [], ◌∷◌, length, slice_get, Some, Contains, ◌⊎◌, ◌↔◌}
+use Rattle.std.specs.Coded.{Coded, code_by, coded×, coded_ℕ, coded_list}
+use Rattle.std.specs.Ordering.{nat_cmp, ordering_then}
+use Rattle.std.specs.declared.cmp.Ordering.{Ordering}
 use Rattle.hs_scheme.specs.Points.{PointData}
 use Rattle.hs_scheme.specs.Problem.{ProblemData}
-use Rattle.hs_table.specs.Types.{TypeTree}
-use Rattle.hs_table.specs.Entries.{Env, EntryData, Has, set_at, IsEnv, params_of}
+use Rattle.hs_table.specs.Types.{TypeTree, coded_type, IsType}
+use Rattle.hs_table.specs.Entries.{Env, EntryData, Has, set_at, env_cmp, IsEnv, params_of}
 use Rattle.hs_table.specs.Follows.{IsAt, AnyHas}
 use Rattle.hs_weak.specs.Strength.{AsStrongAs, AsksAtLeast}
 use Rattle.hs_weak.specs.Weak.{WeaklyChosen}
@@ -31,10 +37,16 @@ pub record Misses (p : ProblemData) (C : List EntryData) (s : SiteData) (E : Env
 abbrev pub IsMissed : ProblemData → List EntryData → ℕ → Env → Type 0
 IsMissed p C G E = (sites : List SiteData) → IsChain p G sites → (s : SiteData) × (Contains sites s × Misses p C s E)
 
--- a set that the environment lacks is empty
 pub record VoidData : Type 0 where
   pub rule : ℕ
   pub env : Env
+
+abbrev pub coded_void : Coded VoidData
+coded_void =
+    code_by (ℕ × Env) (coded× coded_ℕ (coded_list (coded_list coded_type))) (λ v. (v.rule, v.env)) (λ p. record { rule = p.0; env = p.1 }) (λ _. refl)
+
+abbrev pub void_cmp : VoidData → VoidData → Ordering
+void_cmp v w = ordering_then (nat_cmp v.rule w.rule) (env_cmp v.env w.env)
 
 abbrev pub IsVoid : ProblemData → List EntryData → List VoidData → ℕ → Env → Type 0
 IsVoid p C V G E = ((v : VoidData) × (Contains V v × (v.rule ≡ G) × AsksAtLeast AsStrongAs E v.env)) ⊎ IsMissed p C G E
@@ -56,5 +68,13 @@ IsBlocked p C V s B =
     → (places : List (ℕ × ℕ)) (chosen : List EntryData) → WeaklyChosen AsStrongAs p C 0 of.args (sets_for B s.given of.args) places chosen
     → (env : Env) → IsUnionOf (params_of p of.rule) chosen env → IsVoid p C V of.rule env
 
+pub record IsVoidShape (p : ProblemData) (v : VoidData) : Type 0 where
+  pub rule : v.rule < length p.sorted.scheme.rules
+  pub env : IsEnv (params_of p v.rule) v.env
+  pub types : (j : ℕ) (a : TypeTree) → Has v.env j a → IsType p.sorted.automaton.states a
+
+abbrev pub IsVoidPair : ProblemData → List EntryData → List VoidData → VoidData → Type 0
+IsVoidPair p C V v = IsVoidShape p v × ((sites : List SiteData) → IsChain p v.rule sites → (s : SiteData) × (Contains sites s × IsBlocked p C V s v.env))
+
 abbrev pub IsVoidList : ProblemData → List EntryData → List VoidData → Type 0
-IsVoidList p C V = (v : VoidData) → Contains V v → (sites : List SiteData) → IsChain p v.rule sites → (s : SiteData) × (Contains sites s × IsBlocked p C V s v.env)
+IsVoidList p C V = (v : VoidData) → Contains V v → IsVoidPair p C V v

@@ -29,7 +29,7 @@ use Rattle.hs_weak.specs.Weak.{WeaklyChosen, done, next_argument, choose, Weakly
 use Rattle.hs_weak.specs.WeakExamples.{none_at, one_place, chosen_long}
 use Rattle.hs_weak.specs.Reads.{reads_start, reads_body, reads_child, reads_flow, reads_later_child, IsClosedReads}
 use Rattle.hs_weak.specs.Sites.{SiteData, IsSite, IsChain}
-use Rattle.hs_weak.specs.Void.{Misses, IsMissed, VoidData, IsVoid, sets_for, IsUnionOf, IsBlocked, IsVoidList}
+use Rattle.hs_weak.specs.Void.{Misses, IsMissed, VoidData, IsVoid, sets_for, IsUnionOf, IsBlocked, IsVoidShape, IsVoidList}
 use Rattle.hs_weak.specs.Certificate.{IsVoidEntry, IsAcceptanceCertificate}
 
 abbrev leaf : Head → Tree Head
@@ -287,12 +287,15 @@ type_asked : (j : ℕ) (a : TypeTree) → Has asks_q0 j a → a ≡ state 0
 type_asked zero a m = only (state 0) a m
 type_asked (suc j) a m = absurd (none_in a m)
 
+each_type : (j : ℕ) (a : TypeTree) → Has asks_q0 j a → IsType 1 a
+each_type j a m = subst (λ (t : TypeTree). IsType 1 t) (sym (type_asked j a m)) (omega arith, refl)
+
 x_in_shape : InShape example second_x
 x_in_shape = record {
   of = at_x;
   at = refl;
   env = record { long = refl; sets = each_set };
-  types = λ j a m. subst (λ (t : TypeTree). IsType 1 t) (sym (type_asked j a m)) (omega arith, refl);
+  types = each_type;
   ty = (omega arith, refl);
 }
 
@@ -353,8 +356,14 @@ blocked s of given at some d at_d places chosen are env union = by s.point at_d
     by (suc (suc (suc (suc (suc zero))))) there = absurd (no_arguments at_x there refl)
     by (suc (suc (suc (suc (suc (suc n)))))) there = absurd (cc)
 
+f_in_shape : IsVoidShape example of_f
+f_in_shape = record { rule = omega arith; env = record { long = refl; sets = each_set }; types = each_type }
+
 void : IsVoidList example entries (of_f ∷ [])
-void v m sites chain = by_sites sites (subst (λ k. IsChain example k sites) (ap (λ (k : VoidData). k.rule) is) chain)
+void v m = (
+  subst (λ (k : VoidData). IsVoidShape example k) (sym is) f_in_shape,
+  λ sites chain. by_sites sites (subst (λ k. IsChain example k sites) (ap (λ (k : VoidData). k.rule) is) chain),
+)
   where
     is : v ≡ of_f
     is = only of_f v m

@@ -21,7 +21,7 @@ use Rattle.hs_weak.specs.Strength.{AsStrongAs, same_state, AsksAtLeast}
 use Rattle.hs_weak.specs.Weak.{WeaklyChosen, done, next_argument, choose}
 use Rattle.hs_weak.specs.WeakExamples.{one_place}
 use Rattle.hs_weak.specs.Sites.{SiteData, IsSite, IsChain}
-use Rattle.hs_weak.specs.Void.{Misses, VoidData, IsVoid, sets_for, IsUnionOf, IsBlocked, IsVoidList}
+use Rattle.hs_weak.specs.Void.{Misses, VoidData, IsVoid, sets_for, IsUnionOf, IsBlocked, IsVoidShape, IsVoidPair, IsVoidList}
 
 abbrev leaf : Head → Tree Head
 leaf h = node h none
@@ -150,19 +150,6 @@ blocked s of given at some d at_d places chosen are env union =
     by (calls_with_y r e) =
         inl (of_g, (later of_f of_g (of_g ∷ []) (here of_g []), sym r, asks_it (params_of handing d.rule) chosen env (one 2 r refl) (first_asks 5 chosen (found 5 e)) union))
 
--- a chain of a nonterminal with a parameter begins with a site
-by_chain : (v : VoidData) → params_of handing v.rule ≡ 1 → v.env ≡ asks_q0 → (sites : List SiteData) → IsChain handing v.rule sites → (s : SiteData) × (Contains sites s × IsBlocked handing entries pairs s v.env)
-by_chain v one asks [] e = absurd (omega (arith, e, one))
-by_chain v one asks (s ∷ sites) (given, (of, (site, rest))) = (s, (here s sites, subst (λ (k : Env). IsBlocked handing entries pairs s k) (sym asks) (blocked s of given site.at site.some)))
-
-pub circle : IsVoidList handing entries pairs
-circle v m sites chain = elim (uncons of_f v (of_g ∷ []) m) [
-  | inl is ↦ by_chain v (ap (λ (k : VoidData). params_of handing k.rule) is) (ap (λ (k : VoidData). k.env) is) sites chain
-  | inr there ↦
-      let is = only of_g v there in
-      by_chain v (ap (λ (k : VoidData). params_of handing k.rule) is) (ap (λ (k : VoidData). k.env) is) sites chain
-]
-
 each_set : (j : ℕ) → IsSet (set_at asks_q0 j)
 each_set zero = one_set (state 0)
 each_set (suc j) = no_set
@@ -173,6 +160,25 @@ type_asked (suc j) a m = absurd (none_in a m)
 
 each_type : (j : ℕ) (a : TypeTree) → Has asks_q0 j a → IsType 1 a
 each_type j a m = subst (λ (t : TypeTree). IsType 1 t) (sym (type_asked j a m)) (omega arith, refl)
+
+in_shape : (rule : ℕ) → rule < 3 → params_of handing rule ≡ 1 → IsVoidShape handing (record { rule = rule; env = asks_q0 })
+in_shape rule lt one = record { rule = lt; env = record { long = sym one; sets = each_set }; types = each_type }
+
+-- a chain of a nonterminal with a parameter begins with a site
+by_chain : (v : VoidData) → params_of handing v.rule ≡ 1 → v.env ≡ asks_q0 → (sites : List SiteData) → IsChain handing v.rule sites → (s : SiteData) × (Contains sites s × IsBlocked handing entries pairs s v.env)
+by_chain v one asks [] e = absurd (omega (arith, e, one))
+by_chain v one asks (s ∷ sites) (given, (of, (site, rest))) = (s, (here s sites, subst (λ (k : Env). IsBlocked handing entries pairs s k) (sym asks) (blocked s of given site.at site.some)))
+
+pub circle : IsVoidList handing entries pairs
+circle v m = elim (uncons of_f v (of_g ∷ []) m) [
+  | inl is ↦ whole v (ap (λ (k : VoidData). params_of handing k.rule) is) (ap (λ (k : VoidData). k.env) is) (subst (λ (k : VoidData). IsVoidShape handing k) (sym is) (in_shape 1 (omega arith) refl))
+  | inr there ↦
+      let is = only of_g v there in
+      whole v (ap (λ (k : VoidData). params_of handing k.rule) is) (ap (λ (k : VoidData). k.env) is) (subst (λ (k : VoidData). IsVoidShape handing k) (sym is) (in_shape 2 (omega arith) refl))
+]
+  where
+    whole : (v : VoidData) → params_of handing v.rule ≡ 1 → v.env ≡ asks_q0 → IsVoidShape handing v → IsVoidPair handing entries pairs v
+    whole v one asks shape = (shape, by_chain v one asks)
 
 x_in_shape : InShape handing at_x
 x_in_shape = record {
@@ -220,7 +226,7 @@ not_missed m =
 
 pub not_alone : IsVoidList handing entries (of_f ∷ []) → ⊥
 not_alone list =
-    let b = list of_f (here of_f []) (call_f ∷ []) (refl, (at_call_f, (call_f_is_site, refl))) in
+    let b = (list of_f (here of_f [])).1 (call_f ∷ []) (refl, (at_call_f, (call_f_is_site, refl))) in
     let here_blocked = subst (λ (s : SiteData). IsBlocked handing entries (of_f ∷ []) s asks_q0) (only call_f b.0 b.1.0) b.1.1 in
     let chosen : WeaklyChosen AsStrongAs handing entries 0 (5 ∷ []) asks_q0 ((0, 1) ∷ []) (at_y ∷ []) =
     choose (record { at = refl; shape = y_in_shape }) refl same_state (next_argument done) in

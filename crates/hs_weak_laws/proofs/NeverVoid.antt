@@ -110,7 +110,7 @@ module _ (p : ProblemData) (C : List EntryData) (V : List VoidData) (list : IsVo
       no_miss pieces E (from_first cs E h) m.0 m.1.0 m.1.1
   never G cs pieces long none E h (inl (v, (m, same, asks))) =
       let chain : IsChainFrom p v.rule 0 (sites_of pieces) = subst (λ k. IsChainFrom p k 0 (sites_of pieces)) (sym same) (chain_of pieces (omega (arith, long))) in
-      let b = list v m (sites_of pieces) chain in
+      let b = (list v m).1 (sites_of pieces) chain in
       none b.0 b.1.0 v.env (from_first cs v.env (weaken_env AsStrongAs p C strong_trans cs E v.env asks h)) b.1.1
 
   -- by recursion on how the tuple is built: what a blocked site's arguments ask would be void for the tuple under them
