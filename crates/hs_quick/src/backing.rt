@@ -8,12 +8,11 @@
 //! is *backed*: along some chain of sites each has a witness, which is one entry for each type that it
 //! has to give, so that the union of what they ask is backed at the rule where the site stands.
 
-use crate::ended::{Ended, at};
+use crate::ended::{Ended, number_at, put};
 use crate::envs::{EMPTY, Status};
 use crate::look::params_of;
 use crate::search::{Demand, Search};
 use crate::sites::{Allowed, Site, has_bit, holds, set};
-use std::alloc::Global;
 
 /// After so many unions for one environment it counts as backed.
 const MOST_UNIONS: u32 = 2_000;
@@ -26,15 +25,6 @@ struct Level {
     union: u32,
 }
 
-/// The search for a witness at a site, which gives the parameters before `end`.
-#[derive(Drop)]
-struct Hunt {
-    end: u32,
-    /// The pools of the demands, those with fewer items first.
-    cells: Vec<u32>,
-    levels: Vec<Level>,
-}
-
 /// An environment that is being asked.
 #[derive(Drop)]
 struct Question {
@@ -45,7 +35,12 @@ struct Question {
     reached: Vec<bool>,
     /// The number of the next site to try.
     next: usize,
-    hunt: Option<Hunt>,
+    /// Before which parameter the site ends at which a witness is searched for.
+    end: u32,
+    /// The pools of what is asked of that site's arguments.
+    cells: Vec<u32>,
+    /// The choices so far, none where no witness is searched for.
+    levels: Vec<Level>,
     /// How many unions were formed.
     unions: u32,
 }
@@ -58,201 +53,205 @@ enum Step {
     Settled(Status),
 }
 
-/// A demand's pool, and how many items it has.
-#[derive(Clone, Copy, PartialEq, Eq, PartialOrd, Ord)]
-struct Sized {
-    items: usize,
-    pool: u32,
-}
-
 impl<'a> Search<'a> {
     /// The status of the environment, where it can be told at a look.
-    fn look(&mut self, env: u32) -> Result<Status, Ended> {
-        let status = self.envs.status(env)?;
+    fn look(&mut self, env: u32) -> Status {
+        let status = self.envs.status(env);
         if status != Status::Open {
-            return Ok(status);
+            return status;
         }
-        let rule = self.envs.rule(env)?;
-        for known in self.void.list(rule) {
-            if self.envs.asks(env, *known)? {
-                self.envs.set_status(env, Status::Missed)?;
-                return Ok(Status::Missed);
+        for known in self.void.list(self.envs.rule(env)) {
+            if self.envs.asks(env, *known) {
+                self.envs.set_status(env, Status::Missed);
+                return Status::Missed;
             }
         }
-        Ok(Status::Open)
+        Status::Open
     }
 
     /// Begins to ask the environment, unless the sites tell at a look that it is missed.
-    fn open(&mut self, env: u32, stack: &mut Vec<Question>) -> Result<(), Ended> {
-        let rule = self.envs.rule(env)?;
-        self.sites.find(self.problem, &self.uses, rule)?;
-        let Some(allowed) = self
+    fn open(&mut self, env: u32, stack: &mut Vec<Question>) {
+        let rule = self.envs.rule(env);
+        self.sites
+            .find(self.problem, &mut self.envs, &self.uses, rule);
+        match self
             .sites
-            .allowed(self.problem, &mut self.envs, &self.table, env)?
-        else {
-            return self.envs.set_status(env, Status::Missed);
-        };
-        self.envs.set_status(env, Status::Asked)?;
-        let mut reached = Vec::from_elem(self.alloc, false, allowed.useful.len())?;
-        set(&mut reached, 0);
-        stack.push(Question {
+            .allowed(self.problem, &mut self.envs, &self.table, env)
+        {
+            Ok(Some(allowed)) => self.ask(env, rule, allowed, stack),
+            Ok(None) => self.envs.set_status(env, Status::Missed),
+            Err(_) => self.envs.end(Ended::OutOfMemory),
+        }
+    }
+
+    /// Begins to ask the environment at the sites that are allowed.
+    fn ask(&mut self, env: u32, rule: u32, allowed: Allowed, stack: &mut Vec<Question>) {
+        self.envs.set_status(env, Status::Asked);
+        let mut reached = Vec::new(self.alloc);
+        for place in 0..allowed.useful.len() {
+            put(&mut reached, place == 0, &mut self.refused);
+        }
+        let question = Question {
             env,
             rule,
             allowed,
             reached,
             next: 0,
-            hunt: None,
+            end: 0,
+            cells: Vec::new(self.alloc),
+            levels: Vec::new(self.alloc),
             unions: 0,
-        })?;
-        Ok(())
+        };
+        put(stack, question, &mut self.refused);
     }
 
-    /// The pools of what the environment asks of the site's arguments, those with fewer items first.
-    fn demands(&mut self, env: u32, site: Site) -> Result<Vec<Sized>, Ended> {
-        let mut demands = Vec::new(self.alloc);
-        for place in 0..self.envs.size(env) {
-            let atom = self.envs.atom(*at(self.envs.atoms(env)?, place)?)?;
+    /// The pools of what the environment asks of the site's arguments, the one with the fewest items first.
+    fn demands(&mut self, env: u32, site: Site) -> Vec<u32> {
+        let mut cells = Vec::new(self.alloc);
+        for place in 0..self.envs.atoms(env).len() {
+            let atom = self.envs.atom(number_at(self.envs.atoms(env), place));
             if let Some(point) = site.argument(self.problem, atom.param) {
-                let pool = self.cell(Demand { point, ty: atom.ty })?;
-                let items = self.pools.pool(pool)?.items.len();
-                demands.push(Sized { items, pool })?;
+                let pool = self.cell(Demand { point, ty: atom.ty });
+                put(&mut cells, pool, &mut self.refused);
             }
         }
-        demands.sort_unstable();
-        demands.dedup();
-        Ok(demands)
+        cells.sort_unstable();
+        cells.dedup();
+        let mut least = 0;
+        for place in 0..cells.len() {
+            if self.count_of(cells.as_slice(), place) < self.count_of(cells.as_slice(), least) {
+                least = place;
+            }
+        }
+        if least < cells.len() {
+            cells.swap(0, least);
+        }
+        cells
+    }
+
+    /// How many items the pool at the place has.
+    fn count_of(&self, cells: &[u32], place: usize) -> usize {
+        self.pools.items.list(number_at(cells, place)).len()
     }
 
     /// Tries the site: one demand or none has a witness if its pool isn't empty, and for more of them
     /// one is searched for.
-    fn try_site(&mut self, question: &mut Question, site: Site) -> Result<(), Ended> {
-        let demands = self.demands(question.env, site)?;
-        if let Some(first) = demands.first() {
-            if first.items == 0 {
-                return Ok(());
-            }
+    fn try_site(&mut self, question: &mut Question, site: Site) {
+        let cells = self.demands(question.env, site);
+        if cells.len() > 0 && self.count_of(cells.as_slice(), 0) == 0 {
+            return;
         }
-        if demands.len() < 2 {
+        if cells.len() < 2 {
             set(&mut question.reached, site.end);
-            return Ok(());
+            return;
         }
-        question.hunt = Some(begin_hunt(self.alloc, site.end, demands.as_slice())?);
-        Ok(())
+        question.end = site.end;
+        question.cells = cells;
+        begin(&mut question.levels, EMPTY, &mut self.refused);
     }
 
     /// Goes on to the next site that may lead further.
-    fn next_site(&mut self, question: &mut Question) -> Result<Step, Ended> {
-        if holds(
-            question.reached.as_slice(),
-            params_of(self.problem, question.rule),
-        ) {
-            return Ok(Step::Settled(Status::Backed));
+    fn next_site(&mut self, question: &mut Question) -> Step {
+        let last = params_of(self.problem, question.rule);
+        if holds(question.reached.as_slice(), last) {
+            return Step::Settled(Status::Backed);
         }
         for number in question.next..self.sites.list(question.rule).len() {
-            let site = *at(self.sites.list(question.rule), number)?;
-            if leads_on(question, number, site) {
-                question.next = number + 1;
-                self.try_site(question, site)?;
-                return Ok(Step::Again);
+            if let Some(site) = self.sites.list(question.rule).get(number).copied() {
+                if leads_on(question, number, site) {
+                    question.next = number.saturating_add(1);
+                    self.try_site(question, site);
+                    return Step::Again;
+                }
             }
         }
-        Ok(Step::Settled(Status::Void))
+        Step::Settled(Status::Void)
     }
 
-    /// Tries the next choice of the hunt.
-    fn next_choice(&mut self, question: &mut Question) -> Result<Step, Ended> {
-        let Some(hunt) = &mut question.hunt else {
+    /// Tries the next choice for the last of the demands.
+    fn next_choice(&mut self, question: &mut Question) -> Step {
+        let Some(level) = question.levels.last().copied() else {
             return self.next_site(question);
         };
-        let Some(level) = hunt.levels.last() else {
-            question.hunt = None;
-            return Ok(Step::Again);
-        };
-        let level = *level;
-        let cell = *at(hunt.cells.as_slice(), hunt.levels.len().saturating_sub(1))?;
-        let Some(item) = self.pools.pool(cell)?.items.get(level.next) else {
-            hunt.levels.pop();
-            skip(&mut hunt.levels);
-            return Ok(Step::Again);
-        };
+        let place = question.levels.len().saturating_sub(1);
+        let cell = number_at(question.cells.as_slice(), place);
+        if level.next >= self.pools.items.list(cell).len() {
+            question.levels.pop();
+            skip(&mut question.levels);
+            return Step::Again;
+        }
         question.unions = question.unions.saturating_add(1);
         if question.unions > MOST_UNIONS {
-            return Ok(Step::Settled(Status::Backed));
+            return Step::Settled(Status::Backed);
         }
-        let env = self.pools.item(*item)?.env;
-        let union = self.envs.union(level.union, env)?;
-        match self.look(union)? {
-            Status::Open => Ok(Step::Ask(union)),
-            Status::Backed => {
-                take(question, union)?;
-                Ok(Step::Again)
-            }
-            _ => {
-                skip(&mut hunt.levels);
-                Ok(Step::Again)
-            }
+        let item = number_at(self.pools.items.list(cell), level.next);
+        let union = self.envs.union(level.union, self.pools.item(item).env);
+        match self.look(union) {
+            Status::Open => return Step::Ask(union),
+            Status::Backed => self.take(question, union),
+            _ => skip(&mut question.levels),
         }
+        Step::Again
     }
 
-    fn settle(&mut self, env: u32, status: Status) -> Result<(), Ended> {
-        self.envs.set_status(env, status)?;
+    /// Takes the choice, whose union is backed: the next demand is to be met, or the site has a witness.
+    fn take(&mut self, question: &mut Question, union: u32) {
+        if question.levels.len() < question.cells.len() {
+            begin(&mut question.levels, union, &mut self.refused);
+            return;
+        }
+        set(&mut question.reached, question.end);
+        question.levels.clear();
+    }
+
+    fn settle(&mut self, env: u32, status: Status) {
+        self.envs.set_status(env, status);
         if status == Status::Void {
-            self.void.push(self.envs.rule(env)?, env)?;
+            self.void.push(self.envs.rule(env), env);
         }
-        Ok(())
     }
 
-    /// Does one step of the last question.
-    fn step(&mut self, stack: &mut Vec<Question>) -> Result<(), Ended> {
+    /// Does one step of the last question, and tells whether there was one.
+    fn step(&mut self, stack: &mut Vec<Question>) -> bool {
         let Some(question) = stack.last_mut() else {
-            return Ok(());
+            return false;
         };
-        match self.next_choice(question)? {
-            Step::Again => Ok(()),
+        match self.next_choice(question) {
+            Step::Again => (),
             Step::Ask(env) => self.open(env, stack),
             Step::Settled(status) => {
-                self.settle(question.env, status)?;
+                self.settle(question.env, status);
                 stack.pop();
-                Ok(())
             }
         }
+        true
     }
 
-    /// Answers all questions.
-    fn answer(&mut self, stack: &mut Vec<Question>) -> Result<(), Ended> {
+    /// Answers all questions, unless the search ends before.
+    fn answer(&mut self, stack: &mut Vec<Question>) {
         for _ in 0..u64::MAX {
-            if stack.is_empty() {
-                return Ok(());
+            self.envs.count(1);
+            if self.ended().is_some() || !self.step(stack) {
+                return;
             }
-            self.envs.step()?;
-            self.step(stack)?;
         }
-        Err(Ended::GivenUp)
     }
 
     /// Whether the environment is backed, as far as entries are known.
-    pub(crate) fn is_backed(&mut self, env: u32) -> Result<bool, Ended> {
-        if self.look(env)? == Status::Open {
+    pub(crate) fn is_backed(&mut self, env: u32) -> bool {
+        if self.look(env) == Status::Open {
             let mut stack = Vec::new(self.alloc);
-            self.open(env, &mut stack)?;
-            self.answer(&mut stack)?;
+            self.open(env, &mut stack);
+            self.answer(&mut stack);
+            drop(stack);
         }
-        Ok(self.envs.status(env)? == Status::Backed)
+        self.envs.status(env) == Status::Backed
     }
 }
 
-/// Begins the search for a witness of the demands.
-fn begin_hunt(alloc: Global, end: u32, demands: &[Sized]) -> Result<Hunt, Ended> {
-    let mut cells = Vec::new(alloc);
-    for demand in demands {
-        cells.push(demand.pool)?;
-    }
-    let mut levels = Vec::new(alloc);
-    levels.push(Level {
-        next: 0,
-        union: EMPTY,
-    })?;
-    Ok(Hunt { end, cells, levels })
+/// Begins with the choices for the next demand, where those for the ones before ask this.
+fn begin(levels: &mut Vec<Level>, union: u32, refused: &mut bool) {
+    put(levels, Level { next: 0, union }, refused);
 }
 
 /// Whether the site is left, begins where sites with witnesses lead, and ends where none does yet, but
@@ -269,18 +268,4 @@ fn skip(levels: &mut Vec<Level>) {
     if let Some(level) = levels.last_mut() {
         level.next = level.next.saturating_add(1);
     }
-}
-
-/// Takes the choice, whose union is backed: the next demand is to be met, or the site has a witness.
-fn take(question: &mut Question, union: u32) -> Result<(), Ended> {
-    let Some(hunt) = &mut question.hunt else {
-        return Ok(());
-    };
-    if hunt.levels.len() < hunt.cells.len() {
-        hunt.levels.push(Level { next: 0, union })?;
-        return Ok(());
-    }
-    set(&mut question.reached, hunt.end);
-    question.hunt = None;
-    Ok(())
 }

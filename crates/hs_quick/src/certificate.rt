@@ -1,145 +1,153 @@
 //! What was found, as entries and environments of types.
 
-use crate::ended::Ended;
+use crate::ended::{number_at, put};
 use crate::envs::Status;
-use crate::look::{params_of, rule_of};
+use crate::look::{at_point, params_of};
 use crate::search::Search;
-use crate::types::{Shape, Types};
-use hs_table::{Entry, Ty, TypeSet};
+use crate::types::{MOST_DEPTH, Shape, Types};
+use hs_table::{Entry, Shape as TreeShape, Ty, TypeSet};
+use hs_weak::Void;
 use std::alloc::Global;
-use std::cmp::Ordering;
 
-/// Types are nested at most so deep.
-const MOST_DEPTH: u32 = 4_000;
+/// So many types are made at most, those in other ones counted with them.
+const MOST_TREES: u64 = 6_000_000;
 
-/// An environment for the parameters of a rule that no calls of the rule's nonterminal give.
-#[derive(Debug, Drop)]
-pub struct Void {
-    /// The rule, counted from 0.
-    pub rule: u32,
-    /// One set for each parameter of the rule.
-    pub env: Vec<TypeSet>,
+/// What is left to make types.
+#[derive(Clone, Copy)]
+pub(crate) struct Making {
+    /// So many types may still be made.
+    pub(crate) left: u64,
+    /// Whether memory was refused.
+    pub(crate) refused: bool,
 }
 
-impl Void {
-    /// The order of void environments: by rule, then by environment, set by set. Takes no memory.
-    pub fn compare(&self, other: &Void) -> Ordering {
-        let by_rule = self.rule.cmp(&other.rule);
-        if by_rule != Ordering::Equal {
-            return by_rule;
+impl Making {
+    /// Nothing is made yet.
+    pub(crate) fn new() -> Making {
+        Making {
+            left: MOST_TREES,
+            refused: false,
         }
-        for (place, set) in self.env.iter().enumerate() {
-            let Some(others) = other.env.get(place) else {
-                return Ordering::Greater;
-            };
-            let by_set = set.compare(others);
-            if by_set != Ordering::Equal {
-                return by_set;
+    }
+}
+
+/// The type of this number, as far as types are nested so deep.
+#[cycle(trees)]
+fn tree(types: &Types, alloc: Global, depth: u32, ty: u32, making: &mut Making) -> Ty {
+    making.left = making.left.saturating_sub(1);
+    match types.shape(ty) {
+        Shape::Arrow(set, rest) if depth > 0 && making.left > 0 => {
+            let own = trees(types, alloc, depth - 1, types.members(set), making);
+            match Box::new(alloc, tree(types, alloc, depth - 1, rest, making)) {
+                Ok(rest) => Ty {
+                    shape: TreeShape::Arrow(own, rest),
+                },
+                Err(_) => {
+                    making.refused = true;
+                    Ty::state(0)
+                }
             }
         }
-        self.env.len().cmp(&other.env.len())
+        _ => Ty::state(types.last_state(ty)),
     }
 }
 
-/// The type of this number.
+/// The types of these numbers, ascending.
 #[cycle(trees)]
-fn tree(types: &Types, alloc: Global, depth: u32, ty: u32) -> Result<Ty, Ended> {
-    let Some(less) = depth.checked_sub(1) else {
-        return Err(Ended::GivenUp);
+fn trees(types: &Types, alloc: Global, depth: u32, list: &[u32], making: &mut Making) -> Vec<Ty> {
+    let Ok(mut all) = Vec::with_capacity(alloc, list.len()) else {
+        making.refused = true;
+        return Vec::new(alloc);
     };
-    match types.shape(ty)? {
-        Shape::State(state) => Ok(Ty::state(state)),
-        Shape::Arrow(set, rest) => {
-            let own = trees(types, alloc, less, types.members(set)?)?;
-            let rest = tree(types, alloc, less, rest)?;
-            Ok(Ty::arrows(alloc, &[own], rest)?)
+    if depth > 0 {
+        for ty in list {
+            let member = tree(types, alloc, depth - 1, *ty, making);
+            put(&mut all, member, &mut making.refused);
         }
     }
-}
-
-/// The types of these numbers, in their order.
-#[cycle(trees)]
-fn trees(types: &Types, alloc: Global, depth: u32, list: &[u32]) -> Result<TypeSet, Ended> {
-    let Some(less) = depth.checked_sub(1) else {
-        return Err(Ended::GivenUp);
-    };
-    let mut all = Vec::new(alloc);
-    for ty in list {
-        all.push(tree(types, alloc, less, *ty)?)?;
+    if all.len() > 1 && all.sort_by(|a: &Ty, b: &Ty| a.compare(b)).is_err() {
+        making.refused = true;
     }
-    all.sort_by(|a: &Ty, b: &Ty| a.compare(b))?;
-    Ok(TypeSet { types: all })
+    all
 }
 
 impl<'a> Search<'a> {
     /// The set of the environment at the parameter.
-    fn set_at(&self, env: u32, param: usize) -> Result<TypeSet, Ended> {
+    fn types_at(&self, making: &mut Making, env: u32, param: u32) -> TypeSet {
         let mut list = Vec::new(self.alloc);
-        for number in self.envs.atoms(env)? {
-            let atom = self.envs.atom(*number)?;
-            if atom.param as usize == param {
-                list.push(atom.ty)?;
+        for number in self.envs.atoms(env) {
+            let atom = self.envs.atom(*number);
+            if atom.param == param {
+                put(&mut list, atom.ty, &mut making.refused);
             }
         }
-        trees(&self.envs.types, self.alloc, MOST_DEPTH, list.as_slice())
+        TypeSet {
+            types: trees(
+                &self.envs.types,
+                self.alloc,
+                MOST_DEPTH,
+                list.as_slice(),
+                making,
+            ),
+        }
     }
 
     /// The environment, one set for each parameter of the rule.
-    fn env_tree(&self, rule: u32, env: u32) -> Result<Vec<TypeSet>, Ended> {
+    fn env_tree(&self, making: &mut Making, rule: u32, env: u32) -> Vec<TypeSet> {
         let mut sets = Vec::new(self.alloc);
-        for param in 0..params_of(self.problem, rule) as usize {
-            sets.push(self.set_at(env, param)?)?;
+        for param in 0..params_of(self.problem, rule) {
+            let set = self.types_at(making, env, param);
+            put(&mut sets, set, &mut making.refused);
         }
-        Ok(sets)
+        sets
     }
 
-    fn entry(&self, place: u32) -> Result<Entry, Ended> {
-        let row = self.row(place)?;
-        let rule = rule_of(self.problem, row.point)?;
-        Ok(Entry {
+    fn entry(&self, making: &mut Making, place: u32) -> Entry {
+        let row = self.table.row(place);
+        let rule = at_point(self.problem, row.point).rule;
+        let env = self.env_tree(making, rule, row.env);
+        let types = &self.envs.types;
+        Entry {
             point: row.point,
-            env: self.env_tree(rule, row.env)?,
-            ty: tree(&self.envs.types, self.alloc, MOST_DEPTH, row.ty)?,
-        })
+            env,
+            ty: tree(types, self.alloc, MOST_DEPTH, row.ty, making),
+        }
     }
 
-    fn add_kind(&self, rows: &[u32], table: &mut Vec<Entry>) -> Result<(), Ended> {
-        for place in rows {
-            table.push(self.entry(*place)?)?;
+    /// Adds the entries of a kind.
+    fn add_kind(&self, making: &mut Making, rows: u32, table: &mut Vec<Entry>) {
+        for number in 0..self.table.rows.list(rows).len() {
+            let place = number_at(self.table.rows.list(rows), number);
+            let entry = self.entry(making, place);
+            put(table, entry, &mut making.refused);
         }
-        Ok(())
-    }
-
-    fn add_point(&self, point: u32, table: &mut Vec<Entry>) -> Result<(), Ended> {
-        for kind in self.table.kinds(point) {
-            self.add_kind(kind.rows.as_slice(), table)?;
-        }
-        Ok(())
     }
 
     /// The entries that none covers, in ascending order.
-    pub(crate) fn entries(&self) -> Result<Vec<Entry>, Ended> {
+    pub(crate) fn entries(&self, making: &mut Making) -> Vec<Entry> {
         let mut table = Vec::new(self.alloc);
-        let problem = self.problem;
-        for point in 0..problem.points.count() {
-            self.add_point(point, &mut table)?;
+        for rows in 0..self.table.kind_count() {
+            self.add_kind(making, rows, &mut table);
         }
-        table.sort_by(|a: &Entry, b: &Entry| a.compare(b))?;
-        Ok(table)
+        if table.sort_by(|a: &Entry, b: &Entry| a.compare(b)).is_err() {
+            making.refused = true;
+        }
+        table
     }
 
     /// The environments that are void by way of others, in ascending order.
-    pub(crate) fn void_list(&self) -> Result<Vec<Void>, Ended> {
-        let envs = self.envs.with_status(Status::Void)?;
+    pub(crate) fn void_list(&self, making: &mut Making) -> Vec<Void> {
         let mut void = Vec::new(self.alloc);
-        for env in envs.iter() {
-            let rule = self.envs.rule(*env)?;
-            void.push(Void {
-                rule,
-                env: self.env_tree(rule, *env)?,
-            })?;
+        for env in 0..self.envs.len() {
+            if self.envs.status(env) == Status::Void {
+                let rule = self.envs.rule(env);
+                let env = self.env_tree(making, rule, env);
+                put(&mut void, Void { rule, env }, &mut making.refused);
+            }
         }
-        void.sort_by(|a: &Void, b: &Void| a.compare(b))?;
-        Ok(void)
+        if void.sort_by(|a: &Void, b: &Void| a.compare(b)).is_err() {
+            making.refused = true;
+        }
+        void
     }
 }

@@ -1,58 +1,38 @@
-//! Why the search ends before everything is done, and look-ups that end it.
-
-use hs_scheme::OutOfMemory;
-use std::alloc::{AllocError, AllocFailed};
+//! Why the search ends, and look-ups that can't fail.
+//!
+//! What is made here remembers that memory was refused, or a limit was passed, and answers some number or
+//! list from then on, which nobody takes: the search ends at its next step.
 
 /// Why the search ends.
 #[derive(Clone, Copy)]
 pub(crate) enum Ended {
     /// Memory was refused.
     OutOfMemory,
-    /// A limit is passed. A number that is out of range ends the search in the same way, so that no
-    /// function has to show that its numbers are in range.
+    /// A limit is passed.
     GivenUp,
     /// The start entry was added.
     StartFound,
 }
 
-impl From<AllocError> for Ended {
-    fn from(_refused: AllocError) -> Ended {
-        Ended::OutOfMemory
+/// Puts the item at the end of the list, or notes that memory was refused.
+pub(crate) fn put<T: Drop>(list: &mut Vec<T>, item: T, refused: &mut bool) {
+    if list.push(item).is_err() {
+        *refused = true;
     }
 }
 
-impl<T: Drop> From<AllocFailed<T>> for Ended {
-    fn from(_refused: AllocFailed<T>) -> Ended {
-        Ended::OutOfMemory
-    }
-}
-
-impl From<OutOfMemory> for Ended {
-    fn from(_refused: OutOfMemory) -> Ended {
-        Ended::OutOfMemory
-    }
-}
-
-/// The item at the place.
-pub(crate) fn at<T>(list: &[T], place: usize) -> Result<&T, Ended> {
+/// The number at the place, 0 where there is none.
+pub(crate) fn number_at(list: &[u32], place: usize) -> u32 {
     match list.get(place) {
-        Some(item) => Ok(item),
-        None => Err(Ended::GivenUp),
+        Some(number) => *number,
+        None => 0,
     }
 }
 
-/// The item at the place, for change.
-pub(crate) fn at_mut<T>(list: &mut Vec<T>, place: usize) -> Result<&mut T, Ended> {
-    match list.get_mut(place) {
-        Some(item) => Ok(item),
-        None => Err(Ended::GivenUp),
-    }
-}
-
-/// A place as a number.
-pub(crate) fn numbered(place: usize) -> Result<u32, Ended> {
+/// A place as a number, the greatest one where it is past that.
+pub(crate) fn numbered(place: usize) -> u32 {
     if place > u32::MAX as usize {
-        return Err(Ended::GivenUp);
+        return u32::MAX;
     }
-    Ok(place as u32)
+    place as u32
 }

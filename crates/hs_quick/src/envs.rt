@@ -1,6 +1,6 @@
 //! Environments by number, and their unions.
 
-use crate::ended::{Ended, at, at_mut, numbered};
+use crate::ended::{Ended, numbered, put};
 use crate::types::Types;
 use indexmap::{IndexMap, IndexSet};
 use std::alloc::Global;
@@ -55,63 +55,40 @@ pub(crate) struct Envs {
     unions_left: u64,
     /// So many steps may still be taken.
     steps_left: u64,
-}
-
-/// The number that is one less, or the end of the search at 0.
-pub(crate) fn count_down(left: u64) -> Result<u64, Ended> {
-    match left.checked_sub(1) {
-        Some(less) => Ok(less),
-        None => Err(Ended::GivenUp),
-    }
+    /// Why the search ends, once it does.
+    ended: Option<Ended>,
 }
 
 /// The numbers of the environment's atoms.
-fn listed(envs: &IndexSet<Vec<u32>>, env: u32) -> Result<&[u32], Ended> {
+fn listed(envs: &IndexSet<Vec<u32>>, env: u32) -> &[u32] {
     match envs.get_index(env as usize) {
-        Some(atoms) => Ok(atoms.as_slice()),
-        None => Err(Ended::GivenUp),
+        Some(atoms) => atoms.as_slice(),
+        None => &[],
     }
 }
 
 /// The atom of this number.
-fn atom_of(atoms: &IndexSet<Atom>, number: u32) -> Result<Atom, Ended> {
+fn atom_of(atoms: &IndexSet<Atom>, number: u32) -> Atom {
     match atoms.get_index(number as usize) {
-        Some(atom) => Ok(*atom),
-        None => Err(Ended::GivenUp),
+        Some(atom) => *atom,
+        None => Atom {
+            rule: 0,
+            param: 0,
+            ty: 0,
+        },
     }
 }
 
-/// Whether the atom is of the same parameter as the other, and its type is as strong.
-fn is_as_strong(
-    types: &mut Types,
-    atoms: &IndexSet<Atom>,
-    number: u32,
-    other: u32,
-) -> Result<bool, Ended> {
-    if number == other {
-        return Ok(true);
-    }
-    let atom = atom_of(atoms, number)?;
-    let weaker = atom_of(atoms, other)?;
-    if atom.param != weaker.param {
-        return Ok(false);
-    }
-    types.is_as_strong(atom.ty, weaker.ty)
-}
-
-/// Whether some atom of the list is as strong as the atom.
-fn has_as_strong(
-    types: &mut Types,
-    atoms: &IndexSet<Atom>,
-    list: &[u32],
-    other: u32,
-) -> Result<bool, Ended> {
+/// Whether some atom of the list is of the same parameter as the atom, and its type is as strong.
+fn has_as_strong(types: &mut Types, atoms: &IndexSet<Atom>, list: &[u32], weaker: u32) -> bool {
+    let least = atom_of(atoms, weaker);
     for number in list {
-        if is_as_strong(types, atoms, *number, other)? {
-            return Ok(true);
+        let atom = atom_of(atoms, *number);
+        if *number == weaker || atom.param == least.param && types.is_as_strong(atom.ty, least.ty) {
+            return true;
         }
     }
-    Ok(false)
+    false
 }
 
 /// Adds the atoms of the list than which none of the others is as strong.
@@ -121,13 +98,12 @@ fn add_strongest(
     list: &[u32],
     others: &[u32],
     all: &mut Vec<u32>,
-) -> Result<(), Ended> {
+) {
     for number in list {
-        if !has_as_strong(types, atoms, others, *number)? {
-            all.push(*number)?;
+        if !has_as_strong(types, atoms, others, *number) {
+            put(all, *number, &mut types.refused);
         }
     }
-    Ok(())
 }
 
 impl Envs {
@@ -142,24 +118,36 @@ impl Envs {
             unions: IndexMap::new(alloc),
             unions_left: unions,
             steps_left: steps,
+            ended: None,
         }
     }
 
-    /// Counts a step.
-    pub(crate) fn step(&mut self) -> Result<(), Ended> {
-        self.steps_left = count_down(self.steps_left)?;
-        Ok(())
+    /// Why the search ends, if it does.
+    pub(crate) fn ended(&self) -> Option<Ended> {
+        if self.types.refused {
+            return Some(Ended::OutOfMemory);
+        }
+        self.ended
     }
 
-    /// The environments with this status.
-    pub(crate) fn with_status(&self, status: Status) -> Result<Vec<u32>, Ended> {
-        let mut envs = Vec::new(self.alloc);
-        for (place, note) in self.notes.iter().enumerate() {
-            if note.status == status {
-                envs.push(numbered(place)?)?;
-            }
+    /// Ends the search for this reason, unless it has ended.
+    pub(crate) fn end(&mut self, why: Ended) {
+        if self.ended.is_none() {
+            self.ended = Some(why);
         }
-        Ok(envs)
+    }
+
+    /// Counts so many steps.
+    pub(crate) fn count(&mut self, steps: usize) {
+        match self.steps_left.checked_sub(steps as u64) {
+            Some(less) => self.steps_left = less,
+            None => self.end(Ended::GivenUp),
+        }
+    }
+
+    /// How many environments there are.
+    pub(crate) fn len(&self) -> u32 {
+        numbered(self.notes.len())
     }
 
     /// How many environments have this status.
@@ -174,42 +162,51 @@ impl Envs {
     }
 
     /// The numbers of the environment's atoms.
-    pub(crate) fn atoms(&self, env: u32) -> Result<&[u32], Ended> {
+    pub(crate) fn atoms(&self, env: u32) -> &[u32] {
         listed(&self.envs, env)
     }
 
-    /// How many types the environment asks.
-    pub(crate) fn size(&self, env: u32) -> usize {
-        match self.envs.get_index(env as usize) {
-            Some(atoms) => atoms.len(),
-            None => 0,
-        }
-    }
-
     /// The atom of this number.
-    pub(crate) fn atom(&self, number: u32) -> Result<Atom, Ended> {
+    pub(crate) fn atom(&self, number: u32) -> Atom {
         atom_of(&self.atoms, number)
     }
 
     /// The number of the atom.
-    pub(crate) fn number(&mut self, atom: Atom) -> Result<u32, Ended> {
-        let (place, _) = self.atoms.insert_full(atom)?;
-        numbered(place)
+    pub(crate) fn number(&mut self, atom: Atom) -> u32 {
+        match self.atoms.insert_full(atom) {
+            Ok((place, _)) => numbered(place),
+            Err(_) => {
+                self.end(Ended::OutOfMemory);
+                0
+            }
+        }
+    }
+
+    /// What is kept of the environment.
+    fn note(&self, env: u32) -> Note {
+        match self.notes.get(env as usize) {
+            Some(note) => *note,
+            None => Note {
+                rule: 0,
+                kinds: 0,
+                status: Status::Missed,
+            },
+        }
     }
 
     /// The rule to whose parameters the environment belongs.
-    pub(crate) fn rule(&self, env: u32) -> Result<u32, Ended> {
-        Ok(at(self.notes.as_slice(), env as usize)?.rule)
+    pub(crate) fn rule(&self, env: u32) -> u32 {
+        self.note(env).rule
     }
 
-    pub(crate) fn status(&self, env: u32) -> Result<Status, Ended> {
-        Ok(at(self.notes.as_slice(), env as usize)?.status)
+    pub(crate) fn status(&self, env: u32) -> Status {
+        self.note(env).status
     }
 
-    pub(crate) fn set_status(&mut self, env: u32, status: Status) -> Result<(), Ended> {
-        let note = at_mut(&mut self.notes, env as usize)?;
-        note.status = status;
-        Ok(())
+    pub(crate) fn set_status(&mut self, env: u32, status: Status) {
+        if let Some(note) = self.notes.get_mut(env as usize) {
+            note.status = status;
+        }
     }
 
     /// Forgets which environments are void.
@@ -222,115 +219,143 @@ impl Envs {
     }
 
     /// The bits of these atoms.
-    fn kinds(&self, atoms: &[u32]) -> Result<u64, Ended> {
+    fn kinds(&self, atoms: &[u32]) -> u64 {
         let mut kinds: u64 = 0;
         for number in atoms {
-            let atom = self.atom(*number)?;
-            let last = self.types.last_state(atom.ty)?;
+            let atom = self.atom(*number);
+            let last = self.types.last_state(atom.ty);
             let bit = atom.param.wrapping_mul(31).wrapping_add(last) % 64;
             kinds |= 1 << bit;
         }
-        Ok(kinds)
+        kinds
     }
 
     /// The environment of these atoms of the rule, which ascend, and of which none is as strong as
     /// another.
-    fn add(&mut self, rule: u32, atoms: Vec<u32>) -> Result<u32, Ended> {
-        let kinds = self.kinds(atoms.as_slice())?;
+    fn add(&mut self, rule: u32, atoms: Vec<u32>) -> u32 {
+        let kinds = self.kinds(atoms.as_slice());
         let status = if atoms.len() < 2 {
             Status::Backed
         } else {
             Status::Open
         };
-        let (place, new) = self.envs.insert_full(atoms)?;
-        if new {
-            self.notes.push(Note {
-                rule,
-                kinds,
-                status,
-            })?;
+        match self.envs.insert_full(atoms) {
+            Ok((place, new)) => {
+                let note = Note {
+                    rule,
+                    kinds,
+                    status,
+                };
+                if new && self.notes.push(note).is_err() {
+                    self.end(Ended::OutOfMemory);
+                }
+                numbered(place)
+            }
+            Err(_) => {
+                self.end(Ended::OutOfMemory);
+                EMPTY
+            }
         }
-        numbered(place)
     }
 
     /// Gives the environment that asks nothing its number.
-    pub(crate) fn add_empty(&mut self) -> Result<u32, Ended> {
-        self.add(0, Vec::new(self.alloc))
+    pub(crate) fn add_empty(&mut self) {
+        self.add(0, Vec::new(self.alloc));
     }
 
     /// The environment of one atom.
-    pub(crate) fn single(&mut self, number: u32) -> Result<u32, Ended> {
-        let atom = self.atom(number)?;
+    pub(crate) fn single(&mut self, number: u32) -> u32 {
         let mut atoms = Vec::new(self.alloc);
-        atoms.push(number)?;
-        self.add(atom.rule, atoms)
+        put(&mut atoms, number, &mut self.types.refused);
+        let rule = self.atom(number).rule;
+        self.add(rule, atoms)
+    }
+
+    /// Counts a step for each atom of the one with each of the other.
+    fn count_pairs(&mut self, env: u32, other: u32) {
+        let pairs = self
+            .atoms(env)
+            .len()
+            .saturating_mul(self.atoms(other).len());
+        self.count(pairs);
     }
 
     /// Whether the environment asks at least the other one: for each type of the other one some type of
     /// it, at the same parameter, is as strong.
-    pub(crate) fn asks(&mut self, env: u32, least: u32) -> Result<bool, Ended> {
+    pub(crate) fn asks(&mut self, env: u32, least: u32) -> bool {
         if env == least || least == EMPTY {
-            return Ok(true);
+            return true;
         }
-        let own = at(self.notes.as_slice(), env as usize)?.kinds;
-        let others = at(self.notes.as_slice(), least as usize)?.kinds;
-        self.step()?;
-        if others & !own != 0 {
-            return Ok(false);
+        self.count(1);
+        if self.note(least).kinds & !self.note(env).kinds != 0 {
+            return false;
         }
-        let list = listed(&self.envs, env)?;
-        for other in listed(&self.envs, least)? {
-            if !has_as_strong(&mut self.types, &self.atoms, list, *other)? {
-                return Ok(false);
+        self.count_pairs(env, least);
+        let list = listed(&self.envs, env);
+        for other in listed(&self.envs, least) {
+            if !has_as_strong(&mut self.types, &self.atoms, list, *other) {
+                return false;
             }
         }
-        Ok(true)
+        true
     }
 
     /// Makes the union of two environments, of which neither asks at least the other.
-    fn join(&mut self, first: u32, second: u32) -> Result<u32, Ended> {
-        let rule = self.rule(first)?;
+    fn join(&mut self, first: u32, second: u32) -> u32 {
+        self.count_pairs(first, second);
+        let mut own = Vec::new(self.alloc);
         let mut all = Vec::new(self.alloc);
-        let list = listed(&self.envs, first)?;
-        let others = listed(&self.envs, second)?;
-        add_strongest(&mut self.types, &self.atoms, list, others, &mut all)?;
-        let own = all.to_vec(self.alloc)?;
+        let list = listed(&self.envs, first);
+        let others = listed(&self.envs, second);
+        add_strongest(&mut self.types, &self.atoms, list, others, &mut own);
         add_strongest(
             &mut self.types,
             &self.atoms,
             others,
             own.as_slice(),
             &mut all,
-        )?;
+        );
+        if all.extend_from_slice(own.as_slice()).is_err() {
+            self.end(Ended::OutOfMemory);
+        }
         all.sort_unstable();
+        let rule = self.rule(first);
         self.add(rule, all)
     }
 
     /// The union of the two environments of one rule, without the types than which another one is as
     /// strong.
-    pub(crate) fn union(&mut self, first: u32, second: u32) -> Result<u32, Ended> {
+    pub(crate) fn union(&mut self, first: u32, second: u32) -> u32 {
         if first == second || second == EMPTY {
-            return Ok(first);
+            return first;
         }
         if first == EMPTY {
-            return Ok(second);
+            return second;
         }
         let key = (first.min(second), first.max(second));
         if let Some(union) = self.unions.get(&key) {
-            return Ok(*union);
+            return *union;
         }
-        self.unions_left = count_down(self.unions_left)?;
-        let union = self.make_union(first, second)?;
-        self.unions.insert(key, union)?;
-        Ok(union)
+        match self.unions_left.checked_sub(1) {
+            Some(less) => self.unions_left = less,
+            None => {
+                self.end(Ended::GivenUp);
+                return first;
+            }
+        }
+        let union = self.make_union(first, second);
+        if self.unions.insert(key, union).is_err() {
+            self.end(Ended::OutOfMemory);
+        }
+        union
     }
 
-    fn make_union(&mut self, first: u32, second: u32) -> Result<u32, Ended> {
-        if self.asks(first, second)? {
-            return Ok(first);
+    fn make_union(&mut self, first: u32, second: u32) -> u32 {
+        if self.asks(first, second) {
+            return first;
         }
-        if self.asks(second, first)? {
-            return Ok(second);
+        if self.asks(second, first) {
+            return second;
         }
         self.join(first, second)
     }

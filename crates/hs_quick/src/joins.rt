@@ -1,7 +1,7 @@
 //! Pools of environments, and what waits for their items.
 
-use crate::ended::{Ended, at, at_mut, numbered};
-use crate::envs::Envs;
+use crate::ended::{numbered, put};
+use crate::envs::{EMPTY, Envs};
 use crate::lists::Lists;
 use indexmap::IndexMap;
 use std::alloc::Global;
@@ -39,25 +39,26 @@ pub(crate) struct Cell {
     pub(crate) pool: u32,
 }
 
-/// Environments of which none asks at least another: those of the entries at a point whose types are
-/// as strong as a type, or the unions of two pools.
-#[derive(Drop)]
-pub(crate) struct Pool {
-    pub(crate) items: Vec<u32>,
-    pub(crate) joins: Vec<Join>,
-    /// The instances that each item gives a conclusion.
-    pub(crate) instances: Vec<u32>,
-}
-
-/// All pools. Each demand, and each pair of pools, has one.
+/// All pools. Each demand, and each pair of pools, has one: environments of which none asks at least
+/// another, those of the entries at a point whose types are as strong as a type, or the unions of two
+/// pools.
 #[derive(Drop)]
 pub(crate) struct Pools {
     alloc: Global,
-    pools: Vec<Pool>,
-    items: Vec<Item>,
+    /// The items of each pool.
+    pub(crate) items: Lists<u32>,
+    /// What each pool is joined to.
+    pub(crate) joins: Lists<Join>,
+    /// The instances that each item of a pool gives a conclusion.
+    pub(crate) instances: Lists<u32>,
+    /// The pools of the demands at each point.
+    pub(crate) cells: Lists<Cell>,
+    found: Vec<Item>,
     demands: IndexMap<(u32, u32), u32>,
     pairs: IndexMap<(u32, u32), u32>,
-    cells: Lists<Cell>,
+    /// How many pools there are.
+    count: usize,
+    refused: bool,
 }
 
 impl Pools {
@@ -65,109 +66,103 @@ impl Pools {
     pub(crate) fn new(alloc: Global) -> Pools {
         Pools {
             alloc,
-            pools: Vec::new(alloc),
-            items: Vec::new(alloc),
+            items: Lists::new(alloc),
+            joins: Lists::new(alloc),
+            instances: Lists::new(alloc),
+            cells: Lists::new(alloc),
+            found: Vec::new(alloc),
             demands: IndexMap::new(alloc),
             pairs: IndexMap::new(alloc),
-            cells: Lists::new(alloc),
+            count: 0,
+            refused: false,
         }
     }
 
-    /// Makes room for demands at so many points.
-    pub(crate) fn grow(&mut self, points: usize) -> Result<(), Ended> {
-        self.cells.grow(points)
+    /// Whether memory was refused.
+    pub(crate) fn is_refused(&self) -> bool {
+        self.refused
+            || self.items.refused
+            || self.joins.refused
+            || self.instances.refused
+            || self.cells.refused
     }
 
-    pub(crate) fn pool(&self, pool: u32) -> Result<&Pool, Ended> {
-        at(self.pools.as_slice(), pool as usize)
+    pub(crate) fn item(&self, item: u32) -> Item {
+        match self.found.get(item as usize) {
+            Some(item) => *item,
+            None => Item {
+                env: EMPTY,
+                origin: Origin::Nothing,
+            },
+        }
     }
 
-    pub(crate) fn item(&self, item: u32) -> Result<Item, Ended> {
-        Ok(*at(self.items.as_slice(), item as usize)?)
-    }
-
-    /// The pools of the demands at the point.
-    pub(crate) fn cells(&self, point: u32) -> &[Cell] {
-        self.cells.list(point)
-    }
-
-    fn add_pool(&mut self) -> Result<u32, Ended> {
-        let number = numbered(self.pools.len())?;
-        self.pools.push(Pool {
-            items: Vec::new(self.alloc),
-            joins: Vec::new(self.alloc),
-            instances: Vec::new(self.alloc),
-        })?;
-        Ok(number)
+    fn add_pool(&mut self) -> u32 {
+        let number = numbered(self.count);
+        self.count = self.count.saturating_add(1);
+        self.items.grow(1);
+        self.joins.grow(1);
+        self.instances.grow(1);
+        number
     }
 
     /// The pool of the demand for a type as strong as this one at the point, and whether it is new.
-    pub(crate) fn demand(&mut self, point: u32, ty: u32) -> Result<(u32, bool), Ended> {
+    pub(crate) fn demand(&mut self, point: u32, ty: u32) -> (u32, bool) {
         if let Some(pool) = self.demands.get(&(point, ty)) {
-            return Ok((*pool, false));
+            return (*pool, false);
         }
-        let pool = self.add_pool()?;
-        self.demands.insert((point, ty), pool)?;
-        self.cells.push(point, Cell { ty, pool })?;
-        Ok((pool, true))
-    }
-
-    fn add_join(&mut self, pool: u32, other: u32, join: u32) -> Result<(), Ended> {
-        let pool = at_mut(&mut self.pools, pool as usize)?;
-        pool.joins.push(Join { pool: join, other })?;
-        Ok(())
+        let pool = self.add_pool();
+        if self.demands.insert((point, ty), pool).is_err() {
+            self.refused = true;
+        }
+        self.cells.push(point, Cell { ty, pool });
+        (pool, true)
     }
 
     /// The pool of the unions of the two pools, and whether it is new.
-    pub(crate) fn join(&mut self, first: u32, second: u32) -> Result<(u32, bool), Ended> {
+    pub(crate) fn join(&mut self, first: u32, second: u32) -> (u32, bool) {
         let key = (first.min(second), first.max(second));
         if let Some(pool) = self.pairs.get(&key) {
-            return Ok((*pool, false));
+            return (*pool, false);
         }
-        let pool = self.add_pool()?;
-        self.pairs.insert(key, pool)?;
-        self.add_join(first, second, pool)?;
-        self.add_join(second, first, pool)?;
-        Ok((pool, true))
-    }
-
-    /// Lets the instance wait for the items of the pool.
-    pub(crate) fn add_instance(&mut self, pool: u32, instance: u32) -> Result<(), Ended> {
-        let pool = at_mut(&mut self.pools, pool as usize)?;
-        pool.instances.push(instance)?;
-        Ok(())
+        let pool = self.add_pool();
+        if self.pairs.insert(key, pool).is_err() {
+            self.refused = true;
+        }
+        self.joins.push(
+            first,
+            Join {
+                pool,
+                other: second,
+            },
+        );
+        self.joins.push(second, Join { pool, other: first });
+        (pool, true)
     }
 
     /// Whether the environment asks at least one of the pool.
-    pub(crate) fn covers(&self, envs: &mut Envs, pool: u32, env: u32) -> Result<bool, Ended> {
-        for item in self.pool(pool)?.items.iter() {
-            if envs.asks(env, self.item(*item)?.env)? {
-                return Ok(true);
+    pub(crate) fn covers(&self, envs: &mut Envs, pool: u32, env: u32) -> bool {
+        for item in self.items.list(pool) {
+            if envs.asks(env, self.item(*item).env) {
+                return true;
             }
         }
-        Ok(false)
-    }
-
-    /// The items of the pool that ask less than the environment.
-    fn left(&self, envs: &mut Envs, pool: u32, env: u32) -> Result<Vec<u32>, Ended> {
-        let mut left = Vec::new(self.alloc);
-        for item in self.pool(pool)?.items.iter() {
-            if !envs.asks(self.item(*item)?.env, env)? {
-                left.push(*item)?;
-            }
-        }
-        Ok(left)
+        false
     }
 
     /// Adds an environment that asks at least none of the pool, drops those that ask at least it, and
     /// answers the new item.
-    pub(crate) fn put(&mut self, envs: &mut Envs, pool: u32, item: Item) -> Result<u32, Ended> {
-        let left = self.left(envs, pool, item.env)?;
-        let number = numbered(self.items.len())?;
-        self.items.push(item)?;
-        let pool = at_mut(&mut self.pools, pool as usize)?;
-        pool.items = left;
-        pool.items.push(number)?;
-        Ok(number)
+    pub(crate) fn put(&mut self, envs: &mut Envs, pool: u32, item: Item) -> u32 {
+        let number = numbered(self.found.len());
+        let mut left = Vec::new(self.alloc);
+        for old in self.items.list(pool) {
+            if !envs.asks(self.item(*old).env, item.env) {
+                put(&mut left, *old, &mut envs.types.refused);
+            }
+        }
+        put(&mut left, number, &mut self.refused);
+        put(&mut self.found, item, &mut self.refused);
+        self.items.set(pool, left);
+        number
     }
 }

@@ -43,18 +43,20 @@
 //!
 //! # The search
 //!
-//! 1. The reads are found, and where nonterminals and parameters are used (`reads`, `uses`); the sites of a
-//!    rule once they are asked for.
+//! 1. The reads are given (`hs_reads`). Where nonterminals and parameters are used is found first (`uses`),
+//!    and the sites of a rule once they are asked for (`sites`).
 //! 2. Each type of a point's head makes an *instance* there, with a *demand* for each type that it asks of an
 //!    argument. What an argument may give for a demand is one *pool* of environments, and so are the unions
 //!    of two pools: made once, and grown by what is new. An instance waits for the pool of all that it
-//!    asks, and instances that ask the same share it (`heads`, `search`, `joins`).
+//!    asks, and instances that ask the same share it (`heads`, `search`, `joins`). A terminal without
+//!    transition makes one at once, and one with a transition when the first entry of a child comes.
 //! 3. A new union is put off, to be done after all smaller ones, so that fewer are covered later (`queue`).
 //!    Once it is due, it is dropped where it is covered, and waits where it is void; else it goes on, and
 //!    that of an instance becomes an entry (`running`, `table`).
 //! 4. Whether an environment is void is a question, asked in depth, with a stack of its own. A question that
 //!    is being asked counts as void for those that are asked for its sake; one that takes more than 2,000
-//!    unions counts as backed, which loses entries' worth, and never truth (`backing`, `sites`).
+//!    unions counts as backed, which may add entries that say nothing, but no wrong ones (`backing`,
+//!    `sites`).
 //! 5. When nothing else is left to do, all that wait are asked once more, with all entries known. Works whose
 //!    environments are backed now go on. If there are none, the rest is void for good, and the entries that
 //!    no other one covers, with what is void by way of others, are proposed (`certificate`).
@@ -62,8 +64,12 @@
 //!    initial state, the search ends, and the path is read from the log: the walk that reduction takes,
 //!    where instead of a type that is asked for there may stand a stronger one (`naming`).
 //!
-//! The numbers that the parts exchange aren't shown to be in range: a look-up of one that isn't ends
-//! the search without a proposal (`ended`, `look`).
+//! Types, sets, atoms (types of parameters), environments, pools, items, instances and entries are numbers
+//! (`types`, `envs`), so that what was compared or united once is remembered.
+//!
+//! The numbers that the parts exchange aren't shown to be in range: a look-up of one that isn't answers
+//! anything (`ended`, `look`). Where memory is refused, or a limit is passed, the part that meets it
+//! remembers that and goes on with anything; the search ends before its next work.
 #![tactic(auto)]
 
 mod backing;
@@ -78,7 +84,6 @@ mod look;
 mod naming;
 mod proposing;
 mod queue;
-mod reads;
 mod running;
 mod search;
 mod sites;
@@ -86,6 +91,5 @@ mod table;
 mod types;
 mod uses;
 
-pub use certificate::Void;
 pub use limits::Limits;
 pub use proposing::{Proposal, propose};

@@ -1,6 +1,5 @@
 //! Lists by number.
 
-use crate::ended::{Ended, at_mut};
 use std::alloc::Global;
 
 /// Lists, numbered from 0.
@@ -8,6 +7,8 @@ use std::alloc::Global;
 pub(crate) struct Lists<T> {
     alloc: Global,
     rows: Vec<Vec<T>>,
+    /// Whether memory was refused.
+    pub(crate) refused: bool,
 }
 
 impl<T: Drop> Lists<T> {
@@ -16,15 +17,25 @@ impl<T: Drop> Lists<T> {
         Lists {
             alloc,
             rows: Vec::new(alloc),
+            refused: false,
         }
     }
 
     /// Adds this many empty lists.
-    pub(crate) fn grow(&mut self, count: usize) -> Result<(), Ended> {
+    pub(crate) fn grow(&mut self, count: usize) {
         for _ in 0..count {
-            self.rows.push(Vec::new(self.alloc))?;
+            if self.rows.push(Vec::new(self.alloc)).is_err() {
+                self.refused = true;
+                return;
+            }
         }
-        Ok(())
+    }
+
+    /// Adds empty lists up to the one of this number.
+    pub(crate) fn reach(&mut self, number: u32) {
+        let wanted = (number as usize).saturating_add(1);
+        let missing = wanted.saturating_sub(self.rows.len());
+        self.grow(missing);
     }
 
     /// The list of this number, empty where there is none.
@@ -36,15 +47,24 @@ impl<T: Drop> Lists<T> {
     }
 
     /// The list of this number, for change.
-    pub(crate) fn list_mut(&mut self, number: u32) -> Result<&mut Vec<T>, Ended> {
-        at_mut(&mut self.rows, number as usize)
+    pub(crate) fn list_mut(&mut self, number: u32) -> Option<&mut Vec<T>> {
+        self.rows.get_mut(number as usize)
     }
 
-    /// Adds an item at the end of the list of this number.
-    pub(crate) fn push(&mut self, number: u32, item: T) -> Result<(), Ended> {
-        let row = at_mut(&mut self.rows, number as usize)?;
-        row.push(item)?;
-        Ok(())
+    /// Adds an item at the end of the list of this number, where there is one.
+    pub(crate) fn push(&mut self, number: u32, item: T) {
+        if let Some(row) = self.rows.get_mut(number as usize) {
+            if row.push(item).is_err() {
+                self.refused = true;
+            }
+        }
+    }
+
+    /// Makes this the list of the number, where there is one.
+    pub(crate) fn set(&mut self, number: u32, list: Vec<T>) {
+        if let Some(row) = self.rows.get_mut(number as usize) {
+            *row = list;
+        }
     }
 
     /// Empties each list.

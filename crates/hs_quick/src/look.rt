@@ -1,30 +1,29 @@
-//! Look-ups in a problem by numbers that may be out of range.
+//! Look-ups in a problem by numbers that aren't shown to be in range.
 
-use crate::ended::Ended;
 use hs_scheme::{Argument, Head, Problem};
 
-/// The head of the point.
-pub(crate) fn head_of(problem: &Problem, point: u32) -> Result<Head, Ended> {
-    if point >= problem.points.count() {
-        return Err(Ended::GivenUp);
-    }
-    Ok(problem.points.head_of(point))
+/// What stands at a point.
+#[derive(Clone, Copy)]
+pub(crate) struct At<'a> {
+    pub(crate) rule: u32,
+    pub(crate) head: Head,
+    pub(crate) args: &'a [u32],
 }
 
-/// The points of the arguments of the point, none where there is no such point.
-pub(crate) fn args_of(problem: &Problem, point: u32) -> &[u32] {
+/// What stands at the point; a parameter without arguments where there is no such point.
+pub(crate) fn at_point(problem: &Problem, point: u32) -> At {
     if point >= problem.points.count() {
-        return &[];
+        return At {
+            rule: 0,
+            head: Head::Var(0),
+            args: &[],
+        };
     }
-    problem.points.args_of(point)
-}
-
-/// The rule in which the point stands.
-pub(crate) fn rule_of(problem: &Problem, point: u32) -> Result<u32, Ended> {
-    if point >= problem.points.count() {
-        return Err(Ended::GivenUp);
+    At {
+        rule: problem.points.rule_of(point),
+        head: problem.points.head_of(point),
+        args: problem.points.args_of(point),
     }
-    Ok(problem.points.rule_of(point))
 }
 
 /// Whose argument the point is, if any.
@@ -36,11 +35,11 @@ pub(crate) fn argument_of(problem: &Problem, point: u32) -> Option<Argument> {
 }
 
 /// The point of the rule's body.
-pub(crate) fn body_of(problem: &Problem, rule: u32) -> Result<u32, Ended> {
+pub(crate) fn body_of(problem: &Problem, rule: u32) -> u32 {
     if rule as usize >= problem.points.params().rules() {
-        return Err(Ended::GivenUp);
+        return u32::MAX;
     }
-    Ok(problem.points.body_of(rule))
+    problem.points.body_of(rule)
 }
 
 /// How many parameters the rule has.
@@ -48,18 +47,10 @@ pub(crate) fn params_of(problem: &Problem, rule: u32) -> u32 {
     problem.points.params().count_of(rule)
 }
 
-/// The number of a rule's parameter among all parameters.
-pub(crate) fn number_of(problem: &Problem, rule: u32, param: u32) -> Result<u32, Ended> {
+/// The number of a rule's parameter among all parameters; one behind the last where there is none.
+pub(crate) fn number_of(problem: &Problem, rule: u32, param: u32) -> u32 {
     match problem.points.params().number(rule, param) {
-        Some(number) => Ok(number),
-        None => Err(Ended::GivenUp),
-    }
-}
-
-/// How many arguments the terminal takes.
-pub(crate) fn rank_of(problem: &Problem, terminal: u32) -> Result<usize, Ended> {
-    match problem.sorted.scheme.ranks.get(terminal as usize) {
-        Some(rank) => Ok(*rank as usize),
-        None => Err(Ended::GivenUp),
+        Some(number) => number,
+        None => u32::MAX,
     }
 }

@@ -5,9 +5,9 @@
 //! each parameter a pack of evidences, in which some evidence is as strong as each type that the entry
 //! asks there.
 
-use crate::ended::{Ended, at, numbered};
+use crate::ended::{numbered, put};
 use crate::joins::Origin;
-use crate::look::{args_of, head_of, params_of, rule_of};
+use crate::look::{at_point, params_of};
 use crate::search::{HeadBy, Search};
 use crate::table::Row;
 use hs_scheme::Head;
@@ -34,191 +34,171 @@ struct Pack {
 /// A walk along the premises.
 #[derive(Drop)]
 struct Walk {
+    alloc: Global,
     evidences: Vec<Evidence>,
     /// The packs of the parameters, those of one rule in a row.
     packs: Vec<Pack>,
     /// The packs of the arguments that the front still takes, the first one last.
     stack: Vec<Pack>,
+    /// The child numbers of the path so far.
+    path: Vec<u32>,
+    /// Whether memory was refused.
+    refused: bool,
 }
 
 impl Walk {
     fn new(alloc: Global) -> Walk {
         Walk {
+            alloc,
             evidences: Vec::new(alloc),
             packs: Vec::new(alloc),
             stack: Vec::new(alloc),
+            path: Vec::new(alloc),
+            refused: false,
         }
     }
 
     /// An evidence of the pack whose type is as strong as this one.
-    fn find(&self, search: &mut Search, pack: Pack, ty: u32) -> Result<Evidence, Ended> {
+    fn find(&self, search: &mut Search, pack: Pack, ty: u32) -> Option<Evidence> {
         for number in pack.from..pack.to {
-            let evidence = *at(self.evidences.as_slice(), number)?;
-            let own = search.row(evidence.row)?.ty;
-            if search.envs.types.is_as_strong(own, ty)? {
-                return Ok(evidence);
+            let evidence = self.evidences.get(number).copied()?;
+            let own = search.table.row(evidence.row).ty;
+            if search.envs.types.is_as_strong(own, ty) {
+                return Some(evidence);
             }
         }
-        Err(Ended::GivenUp)
+        None
     }
 
     /// Puts the pack of the argument at the point on the stack: the premises there.
-    fn push_pack(
-        &mut self,
-        search: &Search,
-        premises: &[u32],
-        point: u32,
-        frame: usize,
-    ) -> Result<(), Ended> {
+    fn push_pack(&mut self, search: &Search, premises: &[u32], point: u32, frame: usize) {
         let from = self.evidences.len();
         for row in premises {
-            if search.row(*row)?.point == point {
-                self.evidences.push(Evidence { row: *row, frame })?;
+            if search.table.row(*row).point == point {
+                let evidence = Evidence { row: *row, frame };
+                put(&mut self.evidences, evidence, &mut self.refused);
             }
         }
-        if self.evidences.len() > MOST_EVIDENCES {
-            return Err(Ended::GivenUp);
-        }
         let to = self.evidences.len();
-        self.stack.push(Pack { from, to })?;
-        Ok(())
-    }
-
-    fn push_packs(
-        &mut self,
-        search: &Search,
-        premises: &[u32],
-        args: &[u32],
-        frame: usize,
-    ) -> Result<(), Ended> {
-        for point in args.iter().rev() {
-            self.push_pack(search, premises, *point, frame)?;
-        }
-        Ok(())
+        put(&mut self.stack, Pack { from, to }, &mut self.refused);
     }
 
     /// Makes the first packs of the stack those of a rule's parameters, and answers the first one's number.
-    fn enter(&mut self, params: u32) -> Result<usize, Ended> {
+    fn enter(&mut self, params: u32) -> usize {
         let frame = self.packs.len();
         for _ in 0..params {
-            let Some(pack) = self.stack.pop() else {
-                return Err(Ended::GivenUp);
-            };
-            self.packs.push(pack)?;
+            if let Some(pack) = self.stack.pop() {
+                put(&mut self.packs, pack, &mut self.refused);
+            }
         }
-        Ok(frame)
+        frame
     }
 
     /// Goes from a terminal to its child of this number, counted from 1, which is rejected in the state.
-    fn descend(&mut self, search: &mut Search, child: u32, state: u32) -> Result<Evidence, Ended> {
-        let Some(place) = self.stack.len().checked_sub(child as usize) else {
-            return Err(Ended::GivenUp);
-        };
-        let pack = *at(self.stack.as_slice(), place)?;
-        let ty = search.envs.types.state(state)?;
+    fn descend(&mut self, search: &mut Search, child: u32, state: u32) -> Option<Evidence> {
+        let place = self.stack.len().checked_sub(child as usize)?;
+        let pack = self.stack.get(place).copied()?;
+        let ty = search.envs.types.state(state);
+        put(&mut self.path, child, &mut self.refused);
         self.stack.clear();
         self.find(search, pack, ty)
     }
 
-    /// Goes from one evidence to the next, if there is one. The number of a child is added to the path.
-    fn next(
-        &mut self,
-        search: &mut Search,
-        from: Evidence,
-        path: &mut Vec<u32>,
-    ) -> Result<Option<Evidence>, Ended> {
-        let row = search.row(from.row)?;
-        let premises = premises_of(search, row)?;
-        let args = args_of(search.problem, row.point);
-        self.push_packs(search, premises.as_slice(), args, from.frame)?;
-        match search.instance(row.instance)?.head {
-            HeadBy::Terminal(0) => Ok(None),
+    /// The entries at the arguments by which the entry follows.
+    fn premises_of(&mut self, search: &Search, row: Row) -> Vec<u32> {
+        let mut premises = Vec::new(self.alloc);
+        let mut left = Vec::new(self.alloc);
+        put(&mut left, row.origin, &mut self.refused);
+        take_apart(search, &mut left, &mut premises, &mut self.refused);
+        premises
+    }
+
+    /// Goes from one evidence to the next, if there is one.
+    fn next(&mut self, search: &mut Search, from: Evidence) -> Option<Evidence> {
+        let row = search.table.row(from.row);
+        let premises = self.premises_of(search, row);
+        for point in at_point(search.problem, row.point).args.iter().rev() {
+            self.push_pack(search, premises.as_slice(), *point, from.frame);
+        }
+        match search.instance(row.instance).head {
             HeadBy::Terminal(child) => {
                 let state = state_below(search, row, child)?;
-                path.push(child)?;
-                Ok(Some(self.descend(search, child, state)?))
+                self.descend(search, child, state)
             }
             HeadBy::Rule(place) => {
-                let rule = rule_of(search.problem, search.row(place)?.point)?;
-                let frame = self.enter(params_of(search.problem, rule))?;
-                Ok(Some(Evidence { row: place, frame }))
+                let rule = at_point(search.problem, search.table.row(place).point).rule;
+                let frame = self.enter(params_of(search.problem, rule));
+                Some(Evidence { row: place, frame })
             }
             HeadBy::Parameter(number) => {
-                let atom = search.envs.atom(number)?;
+                let atom = search.envs.atom(number);
                 let place = from.frame.saturating_add(atom.param as usize);
-                let pack = *at(self.packs.as_slice(), place)?;
-                Ok(Some(self.find(search, pack, atom.ty)?))
+                let pack = self.packs.get(place).copied()?;
+                self.find(search, pack, atom.ty)
             }
         }
     }
 
-    fn walk(&mut self, search: &mut Search, steps: u64, path: &mut Vec<u32>) -> Result<(), Ended> {
-        let last = search.table.len().saturating_sub(1);
+    /// Walks at most so many steps, as long as there is memory, and tells whether it came to an end.
+    fn walk(&mut self, search: &mut Search, steps: u64) -> bool {
         let mut front = Evidence {
-            row: numbered(last)?,
+            row: numbered(search.table.len().saturating_sub(1)),
             frame: 0,
         };
         for _ in 0..steps {
-            let Some(next) = self.next(search, front, path)? else {
-                return Ok(());
-            };
-            front = next;
+            match self.next(search, front) {
+                Some(next) => front = next,
+                None => return true,
+            }
+            if self.refused || self.evidences.len() > MOST_EVIDENCES {
+                return false;
+            }
         }
-        Err(Ended::GivenUp)
+        false
     }
 }
 
-/// The state in which the terminal's child is read.
-fn state_below(search: &Search, row: Row, child: u32) -> Result<u32, Ended> {
+/// The state in which the terminal's child is read, none where it has no transition.
+fn state_below(search: &Search, row: Row, child: u32) -> Option<u32> {
     let problem = search.problem;
-    let Head::Tm(terminal) = head_of(problem, row.point)? else {
-        return Err(Ended::GivenUp);
+    let Head::Tm(terminal) = at_point(problem, row.point).head else {
+        return None;
     };
-    let state = search.envs.types.last_state(row.ty)?;
-    let Some(to) = problem.sorted.automaton.next(state, terminal) else {
-        return Err(Ended::GivenUp);
-    };
-    Ok(*at(to, (child as usize).saturating_sub(1))?)
+    let state = search.envs.types.last_state(row.ty);
+    let to = problem.sorted.automaton.next(state, terminal)?;
+    to.get((child as usize).checked_sub(1)?).copied()
 }
 
-/// Takes the origin apart: a premise is added to those that were found, and items to what is left.
+/// Takes the origins apart: premises are added to those that were found.
 fn take_apart(
     search: &Search,
-    origin: Origin,
     left: &mut Vec<Origin>,
     premises: &mut Vec<u32>,
-) -> Result<(), Ended> {
-    match origin {
-        Origin::Nothing => (),
-        Origin::Entry(row) => premises.push(row)?,
-        Origin::One(item) => left.push(search.pools.item(item)?.origin)?,
-        Origin::Both(first, second) => {
-            left.push(search.pools.item(first)?.origin)?;
-            left.push(search.pools.item(second)?.origin)?;
-        }
-    }
-    Ok(())
-}
-
-/// The entries at the arguments by which the entry follows.
-fn premises_of(search: &Search, row: Row) -> Result<Vec<u32>, Ended> {
-    let mut premises = Vec::new(search.alloc);
-    let mut left = Vec::new(search.alloc);
-    left.push(row.origin)?;
+    refused: &mut bool,
+) {
     for _ in 0..u32::MAX {
         let Some(origin) = left.pop() else {
-            return Ok(premises);
+            return;
         };
-        take_apart(search, origin, &mut left, &mut premises)?;
+        match origin {
+            Origin::Nothing => (),
+            Origin::Entry(row) => put(premises, row, refused),
+            Origin::One(item) => put(left, search.pools.item(item).origin, refused),
+            Origin::Both(first, second) => {
+                put(left, search.pools.item(first).origin, refused);
+                put(left, search.pools.item(second).origin, refused);
+            }
+        }
     }
-    Err(Ended::GivenUp)
 }
 
 /// The child numbers of the path along which the start entry, which was added last, is rejected. So
-/// many moves at most are made.
-pub(crate) fn path_of(search: &mut Search, steps: u64) -> Result<Vec<u32>, Ended> {
-    let mut path = Vec::new(search.alloc);
+/// many moves at most are made; there is none where they don't suffice.
+pub(crate) fn path_of(search: &mut Search, moves: u64) -> Option<Vec<u32>> {
     let mut walk = Walk::new(search.alloc);
-    walk.walk(search, steps, &mut path)?;
-    Ok(path)
+    let whole = walk.walk(search, moves);
+    if walk.refused {
+        search.refused = true;
+    }
+    if whole { Some(walk.path) } else { None }
 }

@@ -1,20 +1,21 @@
 //! The proposal.
 
-use crate::certificate::Void;
+use crate::certificate::Making;
 use crate::ended::Ended;
 use crate::limits::Limits;
 use crate::naming::path_of;
-use crate::reads::Reads;
 use crate::search::Search;
+use hs_reads::Reads;
 use hs_scheme::{OutOfMemory, Problem};
 use hs_table::Entry;
+use hs_weak::Void;
 use std::alloc::Global;
 
 /// What a search found.
 #[derive(Debug, Drop)]
 pub enum Proposal {
     /// That the scheme is accepted, by these entries and these void environments, both in ascending
-    /// order.
+    /// order and without repeats.
     Accepted { table: Vec<Entry>, void: Vec<Void> },
     /// That it is rejected along the path with these child numbers, counted from 1.
     Rejected(Vec<u32>),
@@ -23,50 +24,52 @@ pub enum Proposal {
 }
 
 /// Runs the search, and reads the proposal from it.
-fn finish(search: &mut Search, limits: Limits) -> Result<Proposal, Ended> {
+fn find(search: &mut Search, making: &mut Making, limits: Limits) -> Proposal {
     match search.run() {
-        Ok(()) => Ok(Proposal::Accepted {
-            table: search.entries()?,
-            void: search.void_list()?,
-        }),
-        Err(Ended::StartFound) => Ok(Proposal::Rejected(path_of(search, limits.moves)?)),
-        Err(ended) => Err(ended),
+        None => Proposal::Accepted {
+            table: search.entries(making),
+            void: search.void_list(making),
+        },
+        Some(Ended::StartFound) => match path_of(search, limits.moves) {
+            Some(path) => Proposal::Rejected(path),
+            None => Proposal::None,
+        },
+        Some(_) => Proposal::None,
     }
-}
-
-/// Searches where the reads are known.
-fn search_all(
-    alloc: Global,
-    problem: &Problem,
-    reads: &Reads,
-    limits: Limits,
-) -> Result<Proposal, Ended> {
-    let mut search = Search::new(alloc, problem, reads, limits);
-    let proposal = finish(&mut search, limits);
-    drop(search);
-    proposal
-}
-
-/// Finds the reads, and searches.
-fn find(alloc: Global, problem: &Problem, limits: Limits) -> Result<Proposal, Ended> {
-    let reads = Reads::of(alloc, problem)?;
-    let proposal = search_all(alloc, problem, &reads, limits);
-    drop(reads);
-    proposal
 }
 
 /// Searches for evidence that the scheme is accepted or rejected. The problem's flow is to be closed:
 /// with another one the search looks past calls.
 ///
 /// Nothing is promised of what is proposed: whoever takes it checks it. The search ends, since what it
-/// does is counted, and bounded by the limits. `Proposal::None` comes where one of them is passed, or
-/// where more is found than is kept: 4,000,000 pairs of a point and a state in which it is read, as many
-/// sites, or 8,000,000 entries with their arguments along a path. `OutOfMemory` comes where memory is
-/// refused.
-pub fn propose(alloc: Global, problem: &Problem, limits: Limits) -> Result<Proposal, OutOfMemory> {
-    match find(alloc, problem, limits) {
-        Ok(proposal) => Ok(proposal),
-        Err(Ended::OutOfMemory) => Err(OutOfMemory),
-        Err(_) => Ok(Proposal::None),
+/// does is counted, and bounded by the limits; it looks at them between two works, and one work may
+/// take as many steps more as a pool has items. `Proposal::None` comes where a limit is passed, or where
+/// more is found than is kept: 4,000,000 sites, 6,000,000 types in the proposal, those in other types
+/// counted with them, or 8,000,000 entries with their arguments along a path. `OutOfMemory` comes where
+/// memory is refused.
+///
+/// Time is in proportion to the points, the flow, the pairs of a point with a terminal and a state in which
+/// it is read, and the steps that are taken: some 0.1 to 0.5 microseconds each. Memory is in proportion to
+/// the points, the flow, the entries and the unions.
+pub fn propose(
+    alloc: Global,
+    problem: &Problem,
+    reads: &Reads,
+    limits: Limits,
+) -> Result<Proposal, OutOfMemory> {
+    let mut search = Search::new(alloc, problem, reads, limits);
+    let mut making = Making::new();
+    let proposal = find(&mut search, &mut making, limits);
+    let refused = match search.ended() {
+        Some(Ended::OutOfMemory) => true,
+        _ => making.refused,
+    };
+    drop(search);
+    if refused {
+        return Err(OutOfMemory);
     }
+    if making.left == 0 {
+        return Ok(Proposal::None);
+    }
+    Ok(proposal)
 }

@@ -1,6 +1,5 @@
 //! The work that is left, smaller environments first.
 
-use crate::ended::Ended;
 use crate::joins::Origin;
 use std::alloc::Global;
 use std::collections::VecDeque;
@@ -29,6 +28,8 @@ pub(crate) struct Queue {
     by_size: Vec<VecDeque<Work>>,
     /// No work is of a smaller size.
     least: usize,
+    /// Whether memory was refused.
+    pub(crate) refused: bool,
 }
 
 impl Queue {
@@ -38,20 +39,25 @@ impl Queue {
             alloc,
             by_size: Vec::new(alloc),
             least: 0,
+            refused: false,
         }
     }
 
     /// Adds a work whose environment has this size.
-    pub(crate) fn push(&mut self, size: usize, work: Work) -> Result<(), Ended> {
+    pub(crate) fn push(&mut self, size: usize, work: Work) {
         let missing = size.saturating_add(1).saturating_sub(self.by_size.len());
         for _ in 0..missing {
-            self.by_size.push(VecDeque::new(self.alloc))?;
+            if self.by_size.push(VecDeque::new(self.alloc)).is_err() {
+                self.refused = true;
+                return;
+            }
         }
         if let Some(works) = self.by_size.get_mut(size) {
-            works.push_back(work)?;
+            if works.push_back(work).is_err() {
+                self.refused = true;
+            }
         }
         self.least = self.least.min(size);
-        Ok(())
     }
 
     /// The first work of the least size.

@@ -1,17 +1,17 @@
 //! The state of the search, and how conclusions are formed.
 
-use crate::ended::{Ended, at, numbered};
+use crate::ended::{Ended, number_at, numbered, put};
 use crate::envs::{EMPTY, Envs};
 use crate::joins::{Item, Origin, Pools};
 use crate::limits::Limits;
 use crate::lists::Lists;
 use crate::queue::{Goal, Queue, Work};
-use crate::reads::Reads;
 use crate::sites::Sites;
-use crate::table::{Row, Table};
+use crate::table::Table;
 use crate::uses::Uses;
+use hs_reads::Reads;
 use hs_scheme::Problem;
-use indexmap::{IndexMap, IndexSet};
+use indexmap::IndexSet;
 use std::alloc::Global;
 
 /// By what a point's head has its type.
@@ -53,15 +53,17 @@ pub(crate) struct Search<'a> {
     pub(crate) pools: Pools,
     pub(crate) sites: Sites,
     pub(crate) queue: Queue,
-    pub(crate) instances: Vec<Instance>,
+    instances: Vec<Instance>,
     /// The parameters' types that were met, by the numbers of their atoms.
     pub(crate) met: IndexSet<u32>,
     /// The works that wait until their environments aren't void.
-    pub(crate) parked: IndexMap<u32, Vec<Work>>,
+    pub(crate) parked: Vec<Work>,
     /// The void environments of each rule.
     pub(crate) void: Lists<u32>,
     /// So many entries may still be added.
     pub(crate) left: u64,
+    /// Whether memory was refused, as far as no part of the search remembers it.
+    pub(crate) refused: bool,
 }
 
 impl<'a> Search<'a> {
@@ -85,194 +87,192 @@ impl<'a> Search<'a> {
             queue: Queue::new(alloc),
             instances: Vec::new(alloc),
             met: IndexSet::new(alloc),
-            parked: IndexMap::new(alloc),
+            parked: Vec::new(alloc),
             void: Lists::new(alloc),
             left: limits.entries,
+            refused: false,
         }
     }
 
     /// Finds what the problem says without entries, and makes room for these.
-    pub(crate) fn prepare(&mut self) -> Result<(), Ended> {
+    pub(crate) fn prepare(&mut self) {
         let problem = self.problem;
         let points = problem.points.count() as usize;
-        self.uses.fill(problem)?;
-        self.table.grow(points)?;
-        self.pools.grow(points)?;
-        self.sites.grow(problem)?;
-        self.void.grow(problem.points.params().rules())?;
-        self.envs.add_empty()?;
-        Ok(())
+        self.uses.fill(problem);
+        self.table.kinds.grow(points);
+        self.pools.cells.grow(points);
+        self.sites.grow(problem);
+        self.void.grow(problem.points.params().rules());
+        self.envs.add_empty();
     }
 
-    /// The entry at this place of the log.
-    pub(crate) fn row(&self, place: u32) -> Result<Row, Ended> {
-        self.table.row(place)
+    /// Why the search ends, if it does.
+    pub(crate) fn ended(&self) -> Option<Ended> {
+        if self.refused
+            || self.queue.refused
+            || self.void.refused
+            || self.uses.is_refused()
+            || self.table.is_refused()
+            || self.pools.is_refused()
+            || self.sites.is_refused()
+        {
+            return Some(Ended::OutOfMemory);
+        }
+        self.envs.ended()
     }
 
-    pub(crate) fn instance(&self, number: u32) -> Result<Instance, Ended> {
-        Ok(*at(self.instances.as_slice(), number as usize)?)
+    pub(crate) fn instance(&self, number: u32) -> Instance {
+        match self.instances.get(number as usize) {
+            Some(instance) => *instance,
+            None => Instance {
+                point: 0,
+                ty: 0,
+                env: EMPTY,
+                head: HeadBy::Terminal(0),
+            },
+        }
     }
 
     /// Adds the work for later.
-    pub(crate) fn push(&mut self, work: Work) -> Result<(), Ended> {
-        self.envs.step()?;
-        self.queue.push(self.envs.size(work.env), work)
+    pub(crate) fn push(&mut self, work: Work) {
+        self.envs.count(1);
+        self.queue.push(self.envs.atoms(work.env).len(), work);
     }
 
-    /// Forms the conclusion of the instance whose arguments ask what the item asks.
-    fn conclude(&mut self, number: u32, env: u32, origin: Origin) -> Result<(), Ended> {
-        let instance = self.instance(number)?;
-        let env = self.envs.union(env, instance.env)?;
-        if self
+    /// Forms the conclusion of the instance whose arguments ask this.
+    fn conclude(&mut self, number: u32, env: u32, origin: Origin) {
+        let instance = self.instance(number);
+        let env = self.envs.union(env, instance.env);
+        if !self
             .table
-            .covers(&mut self.envs, instance.point, env, instance.ty)?
+            .covers(&mut self.envs, instance.point, env, instance.ty)
         {
-            return Ok(());
+            self.push(Work {
+                goal: Goal::Instance(number),
+                env,
+                origin,
+            });
         }
-        self.push(Work {
-            goal: Goal::Instance(number),
-            env,
-            origin,
-        })
-    }
-
-    fn conclude_item(&mut self, number: u32, item: u32) -> Result<(), Ended> {
-        let env = self.pools.item(item)?.env;
-        self.conclude(number, env, Origin::One(item))
-    }
-
-    /// Forms the union of the two items for the pool.
-    fn unite(&mut self, pool: u32, first: u32, second: u32) -> Result<(), Ended> {
-        let env = self
-            .envs
-            .union(self.pools.item(first)?.env, self.pools.item(second)?.env)?;
-        if self.pools.covers(&mut self.envs, pool, env)? {
-            return Ok(());
-        }
-        self.push(Work {
-            goal: Goal::Pool(pool),
-            env,
-            origin: Origin::Both(first, second),
-        })
     }
 
     /// Forms the unions of the item and all of the other pool.
-    fn unite_all(&mut self, pool: u32, item: u32, other: u32) -> Result<(), Ended> {
-        for place in 0..self.pools.pool(other)?.items.len() {
-            let second = *at(self.pools.pool(other)?.items.as_slice(), place)?;
-            self.unite(pool, item, second)?;
+    fn unite_all(&mut self, pool: u32, item: u32, other: u32) {
+        let own = self.pools.item(item).env;
+        for place in 0..self.pools.items.list(other).len() {
+            let second = number_at(self.pools.items.list(other), place);
+            let env = self.envs.union(own, self.pools.item(second).env);
+            if !self.pools.covers(&mut self.envs, pool, env) {
+                self.push(Work {
+                    goal: Goal::Pool(pool),
+                    env,
+                    origin: Origin::Both(item, second),
+                });
+            }
         }
-        Ok(())
     }
 
     /// Forms what the instances that wait for the pool conclude from its new item.
-    fn conclude_all(&mut self, pool: u32, item: u32) -> Result<(), Ended> {
-        for place in 0..self.pools.pool(pool)?.instances.len() {
-            let number = *at(self.pools.pool(pool)?.instances.as_slice(), place)?;
-            self.conclude_item(number, item)?;
+    fn conclude_all(&mut self, pool: u32, item: u32) {
+        let env = self.pools.item(item).env;
+        for place in 0..self.pools.instances.list(pool).len() {
+            let number = number_at(self.pools.instances.list(pool), place);
+            self.conclude(number, env, Origin::One(item));
         }
-        Ok(())
     }
 
     /// Puts an environment into the pool, of which it asks at least none, and forms what comes of it.
-    pub(crate) fn admit(&mut self, pool: u32, env: u32, origin: Origin) -> Result<(), Ended> {
-        let item = self.pools.put(&mut self.envs, pool, Item { env, origin })?;
-        self.conclude_all(pool, item)?;
-        for place in 0..self.pools.pool(pool)?.joins.len() {
-            let join = *at(self.pools.pool(pool)?.joins.as_slice(), place)?;
-            self.unite_all(join.pool, item, join.other)?;
+    pub(crate) fn admit(&mut self, pool: u32, env: u32, origin: Origin) {
+        let item = self.pools.put(&mut self.envs, pool, Item { env, origin });
+        self.conclude_all(pool, item);
+        for place in 0..self.pools.joins.list(pool).len() {
+            if let Some(join) = self.pools.joins.list(pool).get(place).copied() {
+                self.unite_all(join.pool, item, join.other);
+            }
         }
-        Ok(())
     }
 
     /// Puts the environment of the entry into the pool, unless it asks at least one there.
-    pub(crate) fn offer(&mut self, pool: u32, place: u32) -> Result<(), Ended> {
-        let env = self.row(place)?.env;
-        if self.pools.covers(&mut self.envs, pool, env)? {
-            return Ok(());
+    pub(crate) fn offer(&mut self, pool: u32, place: u32) {
+        let env = self.table.row(place).env;
+        if !self.pools.covers(&mut self.envs, pool, env) {
+            self.admit(pool, env, Origin::Entry(place));
         }
-        self.admit(pool, env, Origin::Entry(place))
     }
 
-    /// Puts the environments of the entries of one kind at the point into the pool.
-    fn offer_kind(&mut self, pool: u32, point: u32, kind: usize) -> Result<(), Ended> {
-        for place in 0..at(self.table.kinds(point), kind)?.rows.len() {
-            let rows = at(self.table.kinds(point), kind)?.rows.as_slice();
-            let row = *at(rows, place)?;
-            self.offer(pool, row)?;
+    /// Puts the environments of these entries into the pool.
+    fn offer_rows(&mut self, pool: u32, rows: u32) {
+        for place in 0..self.table.rows.list(rows).len() {
+            let row = number_at(self.table.rows.list(rows), place);
+            self.offer(pool, row);
         }
-        Ok(())
     }
 
     /// The pool from which the demand is met.
-    pub(crate) fn cell(&mut self, demand: Demand) -> Result<u32, Ended> {
-        let (pool, new) = self.pools.demand(demand.point, demand.ty)?;
+    pub(crate) fn cell(&mut self, demand: Demand) -> u32 {
+        let (pool, new) = self.pools.demand(demand.point, demand.ty);
         if !new {
-            return Ok(pool);
+            return pool;
         }
-        for kind in 0..self.table.kinds(demand.point).len() {
-            let ty = at(self.table.kinds(demand.point), kind)?.ty;
-            if self.envs.types.is_as_strong(ty, demand.ty)? {
-                self.offer_kind(pool, demand.point, kind)?;
+        for place in 0..self.table.kinds.list(demand.point).len() {
+            if let Some(kind) = self.table.kinds.list(demand.point).get(place).copied() {
+                if self.envs.types.is_as_strong(kind.ty, demand.ty) {
+                    self.offer_rows(pool, kind.rows);
+                }
             }
         }
-        Ok(pool)
+        pool
     }
 
     /// The pool of the unions of the two pools.
-    fn join(&mut self, first: u32, second: u32) -> Result<u32, Ended> {
-        let (pool, new) = self.pools.join(first, second)?;
+    fn join(&mut self, first: u32, second: u32) -> u32 {
+        let (pool, new) = self.pools.join(first, second);
         if !new {
-            return Ok(pool);
+            return pool;
         }
-        for place in 0..self.pools.pool(first)?.items.len() {
-            let item = *at(self.pools.pool(first)?.items.as_slice(), place)?;
-            self.unite_all(pool, item, second)?;
+        for place in 0..self.pools.items.list(first).len() {
+            let item = number_at(self.pools.items.list(first), place);
+            self.unite_all(pool, item, second);
         }
-        Ok(pool)
-    }
-
-    /// The pools of the demands, each once, ascending.
-    fn cells(&mut self, demands: &[Demand]) -> Result<Vec<u32>, Ended> {
-        let mut cells = Vec::new(self.alloc);
-        for demand in demands {
-            cells.push(self.cell(*demand)?)?;
-        }
-        cells.sort_unstable();
-        cells.dedup();
-        Ok(cells)
+        pool
     }
 
     /// The pool of the unions of all these pools, or none where there are none.
-    fn join_all(&mut self, cells: &[u32]) -> Result<Option<u32>, Ended> {
+    fn join_all(&mut self, cells: &[u32]) -> Option<u32> {
         let mut all = None;
         for cell in cells {
             all = match all {
-                Some(pool) => Some(self.join(pool, *cell)?),
+                Some(pool) => Some(self.join(pool, *cell)),
                 None => Some(*cell),
             };
         }
-        Ok(all)
+        all
+    }
+
+    /// The pool of what all demands ask together, or none where there are no demands.
+    fn pool_of(&mut self, demands: &[Demand]) -> Option<u32> {
+        let mut cells = Vec::new(self.alloc);
+        for demand in demands {
+            let pool = self.cell(*demand);
+            put(&mut cells, pool, &mut self.refused);
+        }
+        cells.sort_unstable();
+        cells.dedup();
+        self.join_all(cells.as_slice())
     }
 
     /// Adds the instance with its demands, and forms what it concludes from what is there.
-    pub(crate) fn add_instance(
-        &mut self,
-        instance: Instance,
-        demands: &[Demand],
-    ) -> Result<(), Ended> {
-        self.envs.step()?;
-        let number = numbered(self.instances.len())?;
-        self.instances.push(instance)?;
-        let cells = self.cells(demands)?;
-        let Some(pool) = self.join_all(cells.as_slice())? else {
+    pub(crate) fn add_instance(&mut self, instance: Instance, demands: &[Demand]) {
+        self.envs.count(1);
+        let number = numbered(self.instances.len());
+        put(&mut self.instances, instance, &mut self.refused);
+        let Some(pool) = self.pool_of(demands) else {
             return self.conclude(number, EMPTY, Origin::Nothing);
         };
-        self.pools.add_instance(pool, number)?;
-        for place in 0..self.pools.pool(pool)?.items.len() {
-            let item = *at(self.pools.pool(pool)?.items.as_slice(), place)?;
-            self.conclude_item(number, item)?;
+        self.pools.instances.push(pool, number);
+        for place in 0..self.pools.items.list(pool).len() {
+            let item = number_at(self.pools.items.list(pool), place);
+            let env = self.pools.item(item).env;
+            self.conclude(number, env, Origin::One(item));
         }
-        Ok(())
     }
 }

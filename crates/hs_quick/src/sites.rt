@@ -1,14 +1,14 @@
 //! The calls that may give a nonterminal its parameters.
 
-use crate::ended::{Ended, at, numbered};
-use crate::envs::{Atom, Envs};
+use crate::ended::{Ended, number_at, numbered};
+use crate::envs::Envs;
 use crate::lists::Lists;
-use crate::look::{args_of, number_of, params_of};
+use crate::look::{at_point, number_of, params_of};
 use crate::table::Table;
 use crate::uses::Uses;
-use hs_scheme::Problem;
-use indexmap::{IndexMap, IndexSet};
-use std::alloc::Global;
+use hs_scheme::{HeadPair, Problem};
+use indexmap::IndexSet;
+use std::alloc::{AllocError, Global};
 
 /// So many sites are found at most.
 const MOST_SITES: usize = 4_000_000;
@@ -26,8 +26,10 @@ impl Site {
     /// The point of the argument that the site gives to the parameter, if it gives it one.
     pub(crate) fn argument(self, problem: &Problem, param: u32) -> Option<u32> {
         let place = param.checked_sub(self.given)?;
-        let argument = args_of(problem, self.point).get(place as usize)?;
-        Some(*argument)
+        at_point(problem, self.point)
+            .args
+            .get(place as usize)
+            .copied()
     }
 }
 
@@ -57,7 +59,8 @@ pub(crate) struct Sites {
     found: IndexSet<u32>,
     count: usize,
     giving: Lists<Giving>,
-    masks: IndexMap<u32, Vec<u64>>,
+    /// The masks by the numbers of the atoms, empty where none was made.
+    masks: Lists<u64>,
     /// The atoms with masks, by the numbers of their parameters.
     masked: Lists<u32>,
 }
@@ -100,17 +103,22 @@ impl Sites {
             found: IndexSet::new(alloc),
             count: 0,
             giving: Lists::new(alloc),
-            masks: IndexMap::new(alloc),
+            masks: Lists::new(alloc),
             masked: Lists::new(alloc),
         }
     }
 
+    /// Whether memory was refused.
+    pub(crate) fn is_refused(&self) -> bool {
+        self.of_rule.refused || self.giving.refused || self.masks.refused || self.masked.refused
+    }
+
     /// Makes room for the sites of the problem's rules.
-    pub(crate) fn grow(&mut self, problem: &Problem) -> Result<(), Ended> {
+    pub(crate) fn grow(&mut self, problem: &Problem) {
         let params = problem.points.params();
-        self.of_rule.grow(params.rules())?;
-        self.masked.grow(params.count() as usize)?;
-        self.giving.grow(problem.points.count() as usize)
+        self.of_rule.grow(params.rules());
+        self.masked.grow(params.count() as usize);
+        self.giving.grow(problem.points.count() as usize);
     }
 
     /// The sites of the rule, as far as they were found, those with fewer arguments given first.
@@ -122,151 +130,132 @@ impl Sites {
     fn add_points(
         &mut self,
         problem: &Problem,
+        envs: &mut Envs,
         rule: u32,
         given: u32,
         points: &[u32],
-    ) -> Result<(), Ended> {
+    ) {
         let most = params_of(problem, rule);
         for point in points {
-            let count = numbered(args_of(problem, *point).len())?;
-            if count > 0 {
-                self.count = self.count.saturating_add(1);
-                if self.count > MOST_SITES {
-                    return Err(Ended::GivenUp);
-                }
-                self.of_rule.push(
-                    rule,
-                    Site {
-                        given,
-                        point: *point,
-                        end: given.saturating_add(count).min(most),
-                    },
-                )?;
+            let count = numbered(at_point(problem, *point).args.len());
+            if count > 0 && self.count < MOST_SITES {
+                self.count += 1;
+                let end = given.saturating_add(count).min(most);
+                let point = *point;
+                self.of_rule.push(rule, Site { given, point, end });
             }
         }
-        Ok(())
+        if self.count == MOST_SITES {
+            envs.end(Ended::GivenUp);
+        }
     }
 
     /// Adds the sites whose heads are parameters for which the point may stand, which may become the
     /// rule's nonterminal.
-    fn add_uses(
-        &mut self,
-        problem: &Problem,
-        uses: &Uses,
-        rule: u32,
-        given: u32,
-        point: u32,
-    ) -> Result<(), Ended> {
-        for parameter in uses.flows.list(point) {
-            let number = number_of(problem, parameter.rule, parameter.param)?;
-            self.add_points(problem, rule, given, uses.of_param.list(number))?;
+    fn add_uses(&mut self, problem: &Problem, envs: &mut Envs, uses: &Uses, pair: HeadPair) {
+        for parameter in uses.flows.list(pair.point) {
+            let points = uses
+                .of_param
+                .list(number_of(problem, parameter.rule, parameter.param));
+            self.add_points(problem, envs, pair.rule, pair.given, points);
         }
-        Ok(())
     }
 
     /// Notes at the points of the site's arguments which parameters they are for.
-    fn note(
-        &mut self,
-        problem: &Problem,
-        rule: u32,
-        number: usize,
-        site: Site,
-    ) -> Result<(), Ended> {
-        for param in site.given..site.end {
-            if let Some(point) = site.argument(problem, param) {
-                let giving = Giving {
-                    rule,
-                    site: numbered(number)?,
-                    param,
-                };
-                self.giving.push(point, giving)?;
+    fn note(&mut self, problem: &Problem, rule: u32, site: u32, of: Site) {
+        for param in of.given..of.end {
+            if let Some(point) = of.argument(problem, param) {
+                self.giving.push(point, Giving { rule, site, param });
             }
         }
-        Ok(())
-    }
-
-    fn note_all(&mut self, problem: &Problem, rule: u32) -> Result<(), Ended> {
-        for number in 0..self.list(rule).len() {
-            let site = *at(self.list(rule), number)?;
-            self.note(problem, rule, number, site)?;
-        }
-        Ok(())
     }
 
     /// Finds the sites of the rule, where this wasn't done.
-    pub(crate) fn find(&mut self, problem: &Problem, uses: &Uses, rule: u32) -> Result<(), Ended> {
-        if !self.found.insert(rule)? {
-            return Ok(());
+    pub(crate) fn find(&mut self, problem: &Problem, envs: &mut Envs, uses: &Uses, rule: u32) {
+        match self.found.insert(rule) {
+            Ok(true) => (),
+            Ok(false) => return,
+            Err(_) => return envs.end(Ended::OutOfMemory),
         }
-        self.add_points(problem, rule, 0, uses.of_rule.list(rule))?;
+        self.add_points(problem, envs, rule, 0, uses.of_rule.list(rule));
         for pair in uses.becoming.list(rule) {
-            self.add_uses(problem, uses, rule, pair.given, pair.point)?;
+            self.add_uses(problem, envs, uses, *pair);
         }
-        let sites = self.of_rule.list_mut(rule)?;
-        sites.sort_unstable();
-        sites.dedup();
-        self.note_all(problem, rule)
-    }
-
-    /// Makes the mask of the atom.
-    fn make_mask(
-        &self,
-        problem: &Problem,
-        envs: &mut Envs,
-        table: &Table,
-        atom: Atom,
-    ) -> Result<Vec<u64>, Ended> {
-        let sites = self.list(atom.rule);
-        let mut mask = Vec::from_elem(self.alloc, 0, sites.len() / 64 + 1)?;
-        for (number, site) in sites.iter().enumerate() {
-            let allows = match site.argument(problem, atom.param) {
-                Some(point) => table.has_type(envs, point, atom.ty)?,
-                None => true,
-            };
-            if allows {
-                set_bit(&mut mask, number);
+        if let Some(sites) = self.of_rule.list_mut(rule) {
+            sites.sort_unstable();
+            sites.dedup();
+        }
+        for number in 0..self.list(rule).len() {
+            if let Some(site) = self.list(rule).get(number).copied() {
+                self.note(problem, rule, numbered(number), site);
             }
         }
-        Ok(mask)
     }
 
     /// Makes the mask of the atom of this number, where it has none. The sites of its rule were found.
-    fn mask(
+    fn mask(&mut self, problem: &Problem, envs: &mut Envs, table: &Table, number: u32) {
+        if !self.masks.list(number).is_empty() {
+            return;
+        }
+        let atom = envs.atom(number);
+        let sites = self.of_rule.list(atom.rule);
+        let Ok(mut mask) = Vec::from_elem(self.alloc, 0, sites.len() / 64 + 1) else {
+            return envs.end(Ended::OutOfMemory);
+        };
+        for (place, site) in sites.iter().enumerate() {
+            let allows = match site.argument(problem, atom.param) {
+                Some(point) => table.has_type(envs, point, atom.ty),
+                None => true,
+            };
+            if allows {
+                set_bit(&mut mask, place);
+            }
+        }
+        self.masks.reach(number);
+        self.masks.set(number, mask);
+        self.masked
+            .push(number_of(problem, atom.rule, atom.param), number);
+    }
+
+    /// Sets the site's bit in the masks of those atoms than whose types this one is as strong.
+    fn mark_site(&mut self, envs: &mut Envs, param: u32, site: u32, ty: u32) {
+        for number in self.masked.list(param) {
+            let atom = envs.atom(*number);
+            if envs.types.is_as_strong(ty, atom.ty) {
+                if let Some(mask) = self.masks.list_mut(*number) {
+                    set_bit(mask, site as usize);
+                }
+            }
+        }
+    }
+
+    /// Notes in the masks that the point has an entry of this type.
+    pub(crate) fn mark(&mut self, problem: &Problem, envs: &mut Envs, point: u32, ty: u32) {
+        for place in 0..self.giving.list(point).len() {
+            if let Some(giving) = self.giving.list(point).get(place).copied() {
+                let param = number_of(problem, giving.rule, giving.param);
+                self.mark_site(envs, param, giving.site, ty);
+            }
+        }
+    }
+
+    /// Leaves those of the sites that the atoms of the environment leave, and tells whether there is one.
+    fn narrow(
         &mut self,
         problem: &Problem,
         envs: &mut Envs,
         table: &Table,
-        number: u32,
-    ) -> Result<(), Ended> {
-        if self.masks.contains_key(&number) {
-            return Ok(());
+        env: u32,
+        sites: &mut Vec<u64>,
+    ) -> bool {
+        for place in 0..envs.atoms(env).len() {
+            let number = number_at(envs.atoms(env), place);
+            self.mask(problem, envs, table, number);
+            if !intersect(sites, self.masks.list(number)) {
+                return false;
+            }
         }
-        let atom = envs.atom(number)?;
-        let mask = self.make_mask(problem, envs, table, atom)?;
-        self.masks.insert(number, mask)?;
-        let param = number_of(problem, atom.rule, atom.param)?;
-        self.masked.push(param, number)
-    }
-
-    /// Notes in the masks that the point has an entry of this type.
-    pub(crate) fn mark(
-        &mut self,
-        problem: &Problem,
-        envs: &mut Envs,
-        point: u32,
-        ty: u32,
-    ) -> Result<(), Ended> {
-        for giving in self.giving.list(point) {
-            let param = number_of(problem, giving.rule, giving.param)?;
-            mark_site(
-                &mut self.masks,
-                envs,
-                self.masked.list(param),
-                giving.site,
-                ty,
-            )?;
-        }
-        Ok(())
+        true
     }
 
     /// The sites that all types of the environment leave. None where no chain of them gives all.
@@ -276,30 +265,19 @@ impl Sites {
         envs: &mut Envs,
         table: &Table,
         env: u32,
-    ) -> Result<Option<Allowed>, Ended> {
-        let rule = envs.rule(env)?;
+    ) -> Result<Option<Allowed>, AllocError> {
+        let rule = envs.rule(env);
+        let params = params_of(problem, rule) as usize;
         let mut sites = Vec::from_elem(self.alloc, u64::MAX, self.list(rule).len() / 64 + 1)?;
-        for place in 0..envs.size(env) {
-            let number = *at(envs.atoms(env)?, place)?;
-            self.mask(problem, envs, table, number)?;
-            if !self.narrow(&mut sites, number) {
-                return Ok(None);
-            }
+        if !self.narrow(problem, envs, table, env, &mut sites) {
+            return Ok(None);
         }
-        let mut useful = Vec::from_elem(self.alloc, false, params_of(problem, rule) as usize + 1)?;
+        let mut useful = Vec::from_elem(self.alloc, false, params + 1)?;
         find_useful(self.list(rule), sites.as_slice(), &mut useful);
         if !holds(useful.as_slice(), 0) {
             return Ok(None);
         }
         Ok(Some(Allowed { sites, useful }))
-    }
-
-    /// Leaves the sites that the atom leaves, and tells whether there is one.
-    fn narrow(&self, sites: &mut Vec<u64>, atom: u32) -> bool {
-        match self.masks.get(&atom) {
-            Some(mask) => intersect(sites, mask.as_slice()),
-            None => false,
-        }
     }
 }
 
@@ -331,23 +309,4 @@ fn find_useful(list: &[Site], sites: &[u64], useful: &mut Vec<bool>) {
             }
         }
     }
-}
-
-/// Sets the site's bit in the masks of those atoms than whose types this one is as strong.
-fn mark_site(
-    masks: &mut IndexMap<u32, Vec<u64>>,
-    envs: &mut Envs,
-    atoms: &[u32],
-    site: u32,
-    ty: u32,
-) -> Result<(), Ended> {
-    for number in atoms {
-        let atom = envs.atom(*number)?;
-        if envs.types.is_as_strong(ty, atom.ty)? {
-            if let Some(mask) = masks.get_mut(number) {
-                set_bit(mask, site as usize);
-            }
-        }
-    }
-    Ok(())
 }

@@ -1,7 +1,7 @@
 //! The entries, and those that no other one covers.
 
-use crate::ended::{Ended, at, at_mut, numbered};
-use crate::envs::Envs;
+use crate::ended::{numbered, put};
+use crate::envs::{EMPTY, Envs};
 use crate::joins::Origin;
 use crate::lists::Lists;
 use std::alloc::Global;
@@ -17,12 +17,12 @@ pub(crate) struct Row {
     pub(crate) origin: Origin,
 }
 
-/// The entries of one type at a point.
-#[derive(Drop)]
+/// The entries of one type at a point that no other one covers.
+#[derive(Clone, Copy)]
 pub(crate) struct Kind {
     pub(crate) ty: u32,
-    /// Those that none covers, by their places in the log.
-    pub(crate) rows: Vec<u32>,
+    /// The number of the list of their places in the log.
+    pub(crate) rows: u32,
 }
 
 /// All entries that were added, and for each point those that no other one covers, by type.
@@ -30,7 +30,13 @@ pub(crate) struct Kind {
 pub(crate) struct Table {
     alloc: Global,
     log: Vec<Row>,
-    kinds: Lists<Kind>,
+    /// The kinds of each point.
+    pub(crate) kinds: Lists<Kind>,
+    /// The places of each kind.
+    pub(crate) rows: Lists<u32>,
+    /// How many kinds there are.
+    count: usize,
+    refused: bool,
 }
 
 impl Table {
@@ -40,12 +46,15 @@ impl Table {
             alloc,
             log: Vec::new(alloc),
             kinds: Lists::new(alloc),
+            rows: Lists::new(alloc),
+            count: 0,
+            refused: false,
         }
     }
 
-    /// Makes room for entries at so many points.
-    pub(crate) fn grow(&mut self, points: usize) -> Result<(), Ended> {
-        self.kinds.grow(points)
+    /// Whether memory was refused.
+    pub(crate) fn is_refused(&self) -> bool {
+        self.refused || self.kinds.refused || self.rows.refused
     }
 
     /// How many entries were added.
@@ -53,120 +62,102 @@ impl Table {
         self.log.len()
     }
 
-    /// The entry at the place.
-    pub(crate) fn row(&self, place: u32) -> Result<Row, Ended> {
-        Ok(*at(self.log.as_slice(), place as usize)?)
+    /// How many lists of places there are.
+    pub(crate) fn kind_count(&self) -> u32 {
+        numbered(self.count)
     }
 
-    /// The entries at the point that no other one covers, by type.
-    pub(crate) fn kinds(&self, point: u32) -> &[Kind] {
-        self.kinds.list(point)
+    /// The entry at the place.
+    pub(crate) fn row(&self, place: u32) -> Row {
+        match self.log.get(place as usize) {
+            Some(row) => *row,
+            None => Row {
+                point: 0,
+                env: EMPTY,
+                ty: 0,
+                instance: 0,
+                origin: Origin::Nothing,
+            },
+        }
     }
 
     /// Whether some entry at the point has a type as strong as this one.
-    pub(crate) fn has_type(&self, envs: &mut Envs, point: u32, ty: u32) -> Result<bool, Ended> {
-        for kind in self.kinds(point) {
-            if envs.types.is_as_strong(kind.ty, ty)? {
-                return Ok(true);
+    pub(crate) fn has_type(&self, envs: &mut Envs, point: u32, ty: u32) -> bool {
+        for kind in self.kinds.list(point) {
+            if envs.types.is_as_strong(kind.ty, ty) {
+                return true;
             }
         }
-        Ok(false)
+        false
     }
 
     /// Whether the environment asks at least that of one of these entries.
-    fn asks_one(&self, envs: &mut Envs, env: u32, rows: &[u32]) -> Result<bool, Ended> {
+    fn asks_one(&self, envs: &mut Envs, env: u32, rows: &[u32]) -> bool {
         for place in rows {
-            if envs.asks(env, self.row(*place)?.env)? {
-                return Ok(true);
+            if envs.asks(env, self.row(*place).env) {
+                return true;
             }
         }
-        Ok(false)
+        false
     }
 
     /// Whether an entry covers the one with this point, environment and type: its type is as strong, and
     /// it asks no more.
-    pub(crate) fn covers(
-        &self,
-        envs: &mut Envs,
-        point: u32,
-        env: u32,
-        ty: u32,
-    ) -> Result<bool, Ended> {
-        for kind in self.kinds(point) {
-            if envs.types.is_as_strong(kind.ty, ty)?
-                && self.asks_one(envs, env, kind.rows.as_slice())?
+    pub(crate) fn covers(&self, envs: &mut Envs, point: u32, env: u32, ty: u32) -> bool {
+        for kind in self.kinds.list(point) {
+            if envs.types.is_as_strong(kind.ty, ty)
+                && self.asks_one(envs, env, self.rows.list(kind.rows))
             {
-                return Ok(true);
+                return true;
             }
         }
-        Ok(false)
+        false
     }
 
-    /// Those of the entries that ask less than the environment.
-    fn left(&self, envs: &mut Envs, env: u32, rows: &[u32]) -> Result<Vec<u32>, Ended> {
+    /// Drops those of the entries of a kind that ask at least what the environment asks.
+    fn narrow(&mut self, envs: &mut Envs, rows: u32, env: u32) {
         let mut left = Vec::new(self.alloc);
-        for place in rows {
-            if !envs.asks(self.row(*place)?.env, env)? {
-                left.push(*place)?;
+        for place in self.rows.list(rows) {
+            if !envs.asks(self.row(*place).env, env) {
+                put(&mut left, *place, &mut envs.types.refused);
             }
         }
-        Ok(left)
+        self.rows.set(rows, left);
     }
 
     /// Drops the entries that an entry with this point, environment and type covers.
-    fn drop_covered(
-        &mut self,
-        envs: &mut Envs,
-        point: u32,
-        env: u32,
-        ty: u32,
-    ) -> Result<(), Ended> {
-        for place in 0..self.kinds(point).len() {
-            let kind = at(self.kinds(point), place)?;
-            if envs.types.is_as_strong(ty, kind.ty)? {
-                let left = self.left(envs, env, kind.rows.as_slice())?;
-                let kinds = self.kinds.list_mut(point)?;
-                at_mut(kinds, place)?.rows = left;
+    fn drop_covered(&mut self, envs: &mut Envs, point: u32, env: u32, ty: u32) {
+        for place in 0..self.kinds.list(point).len() {
+            if let Some(kind) = self.kinds.list(point).get(place).copied() {
+                if envs.types.is_as_strong(ty, kind.ty) {
+                    self.narrow(envs, kind.rows, env);
+                }
             }
         }
-        Ok(())
     }
 
-    /// The place of the type among those of the point.
-    fn place_of(&self, point: u32, ty: u32) -> Option<usize> {
-        for (place, kind) in self.kinds(point).iter().enumerate() {
+    /// The number of the list of the type's entries at the point, and whether the point had none.
+    fn rows_of(&mut self, point: u32, ty: u32) -> (u32, bool) {
+        for kind in self.kinds.list(point) {
             if kind.ty == ty {
-                return Some(place);
+                return (kind.rows, false);
             }
         }
-        None
-    }
-
-    /// Puts the place in the log under its type, and tells whether the point had no entry of this type.
-    fn file(&mut self, point: u32, ty: u32, row: u32) -> Result<bool, Ended> {
-        let found = self.place_of(point, ty);
-        let kinds = self.kinds.list_mut(point)?;
-        match found {
-            Some(place) => {
-                at_mut(kinds, place)?.rows.push(row)?;
-                Ok(false)
-            }
-            None => {
-                let mut rows = Vec::new(self.alloc);
-                rows.push(row)?;
-                kinds.push(Kind { ty, rows })?;
-                Ok(true)
-            }
-        }
+        let rows = numbered(self.count);
+        self.count = self.count.saturating_add(1);
+        self.rows.grow(1);
+        self.kinds.push(point, Kind { ty, rows });
+        (rows, true)
     }
 
     /// Adds an entry that none covers, and drops those that it covers. Answers its place, and whether it
     /// is the first of its type at the point.
-    pub(crate) fn add(&mut self, envs: &mut Envs, row: Row) -> Result<(u32, bool), Ended> {
-        self.drop_covered(envs, row.point, row.env, row.ty)?;
-        let place = numbered(self.log.len())?;
-        self.log.push(row)?;
-        let first = self.file(row.point, row.ty, place)?;
-        Ok((place, first))
+    pub(crate) fn add(&mut self, envs: &mut Envs, row: Row) -> (u32, bool) {
+        self.drop_covered(envs, row.point, row.env, row.ty);
+        let place = numbered(self.log.len());
+        put(&mut self.log, row, &mut self.refused);
+        let (rows, first) = self.rows_of(row.point, row.ty);
+        self.rows.push(rows, place);
+        (place, first)
     }
 }

@@ -1,11 +1,11 @@
 //! Types by number, and which of them are as strong as others.
 
-use crate::ended::{Ended, at, numbered};
+use crate::ended::{number_at, numbered, put};
 use indexmap::{IndexMap, IndexSet};
 use std::alloc::Global;
 
 /// Types are nested at most so deep: no sort has more than 1,000 levels.
-const MOST_DEPTH: u32 = 4_000;
+pub(crate) const MOST_DEPTH: u32 = 4_000;
 
 /// What a type is: a state, or a set of types with a result. Sets and results are named by number.
 #[derive(Clone, Copy, PartialEq, Eq, Hash)]
@@ -24,6 +24,8 @@ pub(crate) struct Types {
     last: Vec<u32>,
     sets: IndexSet<Vec<u32>>,
     strengths: IndexMap<(u32, u32), bool>,
+    /// Whether memory was refused.
+    pub(crate) refused: bool,
 }
 
 impl Types {
@@ -34,123 +36,135 @@ impl Types {
             last: Vec::new(alloc),
             sets: IndexSet::new(alloc),
             strengths: IndexMap::new(alloc),
+            refused: false,
         }
     }
 
     /// What the type is.
-    pub(crate) fn shape(&self, ty: u32) -> Result<Shape, Ended> {
+    pub(crate) fn shape(&self, ty: u32) -> Shape {
         match self.shapes.get_index(ty as usize) {
-            Some(shape) => Ok(*shape),
-            None => Err(Ended::GivenUp),
+            Some(shape) => *shape,
+            None => Shape::State(0),
         }
     }
 
     /// The types of the set.
-    pub(crate) fn members(&self, set: u32) -> Result<&[u32], Ended> {
+    pub(crate) fn members(&self, set: u32) -> &[u32] {
         match self.sets.get_index(set as usize) {
-            Some(members) => Ok(members.as_slice()),
-            None => Err(Ended::GivenUp),
+            Some(members) => members.as_slice(),
+            None => &[],
         }
     }
 
     /// The state at the end of the type.
-    pub(crate) fn last_state(&self, ty: u32) -> Result<u32, Ended> {
-        Ok(*at(self.last.as_slice(), ty as usize)?)
+    pub(crate) fn last_state(&self, ty: u32) -> u32 {
+        number_at(self.last.as_slice(), ty as usize)
     }
 
-    fn add(&mut self, shape: Shape, last: u32) -> Result<u32, Ended> {
-        let (place, new) = self.shapes.insert_full(shape)?;
-        if new {
-            self.last.push(last)?;
+    fn add(&mut self, shape: Shape, last: u32) -> u32 {
+        match self.shapes.insert_full(shape) {
+            Ok((place, new)) => {
+                if new {
+                    put(&mut self.last, last, &mut self.refused);
+                }
+                numbered(place)
+            }
+            Err(_) => {
+                self.refused = true;
+                0
+            }
         }
-        numbered(place)
     }
 
     /// The state, as a type.
-    pub(crate) fn state(&mut self, state: u32) -> Result<u32, Ended> {
+    pub(crate) fn state(&mut self, state: u32) -> u32 {
         self.add(Shape::State(state), state)
     }
 
     /// The type with this set and this result.
-    pub(crate) fn arrow(&mut self, set: u32, rest: u32) -> Result<u32, Ended> {
-        let last = self.last_state(rest)?;
+    pub(crate) fn arrow(&mut self, set: u32, rest: u32) -> u32 {
+        let last = self.last_state(rest);
         self.add(Shape::Arrow(set, rest), last)
     }
 
     /// The set of these types, which ascend.
-    pub(crate) fn set(&mut self, members: Vec<u32>) -> Result<u32, Ended> {
-        let (place, _) = self.sets.insert_full(members)?;
-        numbered(place)
+    pub(crate) fn set(&mut self, members: Vec<u32>) -> u32 {
+        match self.sets.insert_full(members) {
+            Ok((place, _)) => numbered(place),
+            Err(_) => {
+                self.refused = true;
+                0
+            }
+        }
     }
 
     /// Whether the type is as strong as the other one: they are one state; or two arrows, whose
     /// results are so, and for each type of the first set some type of the second is as strong as it.
-    pub(crate) fn is_as_strong(&mut self, ty: u32, other: u32) -> Result<bool, Ended> {
-        if ty == other {
-            return Ok(true);
-        }
+    pub(crate) fn is_as_strong(&mut self, ty: u32, other: u32) -> bool {
         self.compare(MOST_DEPTH, ty, other)
     }
 
     /// What is known of the strength of the two types at a look.
-    fn known_strength(&self, ty: u32, other: u32) -> Result<Option<bool>, Ended> {
+    fn known_strength(&self, ty: u32, other: u32) -> Option<bool> {
         if ty == other {
-            return Ok(Some(true));
+            return Some(true);
         }
-        if self.last_state(ty)? != self.last_state(other)? {
-            return Ok(Some(false));
+        if self.last_state(ty) != self.last_state(other) {
+            return Some(false);
         }
         match self.strengths.get(&(ty, other)) {
-            Some(known) => Ok(Some(*known)),
-            None => Ok(None),
+            Some(known) => Some(*known),
+            None => None,
         }
     }
 
     #[cycle(strength)]
-    fn compare(&mut self, depth: u32, ty: u32, other: u32) -> Result<bool, Ended> {
-        let Some(less) = depth.checked_sub(1) else {
-            return Err(Ended::GivenUp);
-        };
-        if let Some(known) = self.known_strength(ty, other)? {
-            return Ok(known);
+    fn compare(&mut self, depth: u32, ty: u32, other: u32) -> bool {
+        if let Some(known) = self.known_strength(ty, other) {
+            return known;
         }
-        let strong = match (self.shape(ty)?, self.shape(other)?) {
+        if depth == 0 {
+            return false;
+        }
+        let strong = match (self.shape(ty), self.shape(other)) {
             (Shape::Arrow(set, rest), Shape::Arrow(others, other_rest)) => {
-                self.compare(less, rest, other_rest)? && self.has_all(less, others, set)?
+                self.compare(depth - 1, rest, other_rest) && self.has_all(depth - 1, others, set)
             }
             _ => false,
         };
-        self.strengths.insert((ty, other), strong)?;
-        Ok(strong)
+        if self.strengths.insert((ty, other), strong).is_err() {
+            self.refused = true;
+        }
+        strong
     }
 
     /// Whether for each type of the second set some type of the first is as strong as it.
     #[cycle(strength)]
-    fn has_all(&mut self, depth: u32, set: u32, others: u32) -> Result<bool, Ended> {
-        let Some(less) = depth.checked_sub(1) else {
-            return Err(Ended::GivenUp);
-        };
-        for place in 0..self.members(others)?.len() {
-            let other = *at(self.members(others)?, place)?;
-            if !self.has_one(less, set, other)? {
-                return Ok(false);
+    fn has_all(&mut self, depth: u32, set: u32, others: u32) -> bool {
+        if depth == 0 {
+            return false;
+        }
+        for place in 0..self.members(others).len() {
+            let other = number_at(self.members(others), place);
+            if !self.has_one(depth - 1, set, other) {
+                return false;
             }
         }
-        Ok(true)
+        true
     }
 
     /// Whether some type of the set is as strong as the type.
     #[cycle(strength)]
-    fn has_one(&mut self, depth: u32, set: u32, other: u32) -> Result<bool, Ended> {
-        let Some(less) = depth.checked_sub(1) else {
-            return Err(Ended::GivenUp);
-        };
-        for place in 0..self.members(set)?.len() {
-            let ty = *at(self.members(set)?, place)?;
-            if self.compare(less, ty, other)? {
-                return Ok(true);
+    fn has_one(&mut self, depth: u32, set: u32, other: u32) -> bool {
+        if depth == 0 {
+            return false;
+        }
+        for place in 0..self.members(set).len() {
+            let ty = number_at(self.members(set), place);
+            if self.compare(depth - 1, ty, other) {
+                return true;
             }
         }
-        Ok(false)
+        false
     }
 }

@@ -1,13 +1,12 @@
 //! Where the nonterminals and parameters of a problem are used.
 
-use crate::ended::Ended;
 use crate::lists::Lists;
 use crate::look::number_of;
 use hs_scheme::{Head, HeadPair, Problem};
 use std::alloc::Global;
 
 /// A parameter of a rule, both counted from 0.
-#[derive(Clone, Copy, PartialEq, Eq)]
+#[derive(Clone, Copy)]
 pub(crate) struct Parameter {
     pub(crate) rule: u32,
     pub(crate) param: u32,
@@ -34,43 +33,45 @@ impl Uses {
         }
     }
 
-    /// Finds the uses in the problem, in time in proportion to its points and its pairs.
-    pub(crate) fn fill(&mut self, problem: &Problem) -> Result<(), Ended> {
-        let rules = problem.points.params().rules();
-        self.of_rule.grow(rules)?;
-        self.becoming.grow(rules)?;
-        self.of_param
-            .grow(problem.points.params().count() as usize)?;
-        self.flows.grow(problem.points.count() as usize)?;
-        self.add_heads(problem)?;
-        self.add_pairs(problem)
+    /// Whether memory was refused.
+    pub(crate) fn is_refused(&self) -> bool {
+        self.of_rule.refused || self.of_param.refused || self.flows.refused || self.becoming.refused
     }
 
-    fn add_heads(&mut self, problem: &Problem) -> Result<(), Ended> {
+    /// Finds the uses in the problem, in time in proportion to its points and its pairs.
+    pub(crate) fn fill(&mut self, problem: &Problem) {
+        let rules = problem.points.params().rules();
+        self.of_rule.grow(rules);
+        self.becoming.grow(rules);
+        self.of_param.grow(problem.points.params().count() as usize);
+        self.flows.grow(problem.points.count() as usize);
+        self.add_heads(problem);
+        self.add_pairs(problem);
+    }
+
+    fn add_heads(&mut self, problem: &Problem) {
         for point in 0..problem.points.count() {
             match problem.points.head_of(point) {
-                Head::Nt(rule) => self.of_rule.push(rule, point)?,
+                Head::Nt(rule) => self.of_rule.push(rule, point),
                 Head::Var(param) => {
                     let rule = problem.points.rule_of(point);
-                    self.of_param.push(number_of(problem, rule, param)?, point)?;
+                    self.of_param.push(number_of(problem, rule, param), point);
                 }
                 Head::Tm(_) => (),
             }
         }
-        Ok(())
     }
 
-    fn add_pairs(&mut self, problem: &Problem) -> Result<(), Ended> {
+    fn add_pairs(&mut self, problem: &Problem) {
         for pair in problem.flow.pairs.iter() {
             let parameter = Parameter {
                 rule: pair.rule,
                 param: pair.param,
             };
-            self.flows.push(pair.point, parameter)?;
+            self.flows.push(pair.point, parameter);
         }
         for pair in problem.flow.heads.iter() {
-            self.becoming.push(pair.rule, *pair)?;
+            self.becoming.push(pair.rule, *pair);
         }
-        Ok(())
     }
 }

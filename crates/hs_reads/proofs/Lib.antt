@@ -8,3 +8,4 @@ mod PushLemmas
 mod ListingLemmas
 mod HeadLemmas
 mod HoldsLemmas
+mod ByPointLemmas

@@ -2,3 +2,4 @@ pub mod Lists
 pub mod Growing
 pub mod Becomings
 pub mod Pairs
+pub mod ByPoint

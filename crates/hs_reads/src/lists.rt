@@ -44,6 +44,17 @@ impl<T: Drop> Lists<T> {
         }
     }
 
+    /// Puts empty lists behind the others, up to this number.
+    pub(crate) fn reach(&mut self, alloc: Global, number: usize) -> Result<(), OutOfMemory>
+        ensures len { OnOk result (number < length self.new) }
+        ensures same { OnOk result ((k : ℕ) → list_of self.new k ≡ list_of self.old k) }
+    {
+        while self.rows.len() <= number {
+            self.rows.push(Vec::new(alloc))?;
+        }
+        Ok(())
+    }
+
     /// Adds an item at the end of the list of this number.
     pub(crate) fn push(&mut self, number: usize, item: T) -> Result<(), OutOfMemory>
         requires { number < length self.old }

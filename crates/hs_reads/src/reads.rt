@@ -1,9 +1,11 @@
 //! The pairs of a point and a state in which the point may be read.
 
-ghost use Rattle.std.specs.Prelude.{◌≡◌, ◌↔◌, ◌+◌, ◌≤◌, ℕ, Contains, IfOk, OnOk, IsTrue, length, slice_get};
+ghost use Rattle.std.specs.Prelude.{◌≡◌, ◌↔◌, ◌⊎◌, ◌+◌, ◌<◌, ◌≤◌, ℕ, Contains, IfOk, OnOk, IsTrue, length, slice_get};
 ghost use Rattle.hs_weak.specs.Reads.{IsClosedReads};
 ghost use Rattle.hs_reads.specs.Becomings.{HasTerminals};
 ghost use Rattle.hs_reads.specs.Pairs.{HasStart};
+ghost use Rattle.hs_reads.specs.Lists.{list_of};
+ghost use Rattle.hs_reads.specs.ByPoint.{AreStatesOf};
 
 use crate::becoming::{Becoming, terminals};
 use crate::lists::Lists;
@@ -21,8 +23,12 @@ use std::marker::Model;
 #[derive(Drop)]
 pub struct Reads {
     listed: Option<Pairs>,
+    /// The states of the listed pairs, in the list of their point's number.
+    by_point: Lists<u32>,
     points: u32,
     states: u32,
+    /// All states, where no pairs are listed.
+    every: Vec<u32>,
 }
 
 impl Model for Reads {
@@ -30,12 +36,16 @@ impl Model for Reads {
     ghost use Rattle.std.specs.Option.{option_map};
     ghost use Rattle.std.specs.Coded.{coded_list, coded×, coded_ℕ};
     ghost use Rattle.hs_reads.specs.Pairs.{pairs_in};
+    ghost use Rattle.hs_reads.specs.ByPoint.{AreByPoint};
 
     ghost Value = { List (ℕ × ℕ) };
 
     ghost coded = { coded_list (coded× coded_ℕ coded_ℕ) };
 
     ghost view = { λ a. pairs_in (option_map (λ s. s.keys) a.listed) a.points a.states };
+
+    ghost invariant = { λ a. AreByPoint (option_map (λ s. s.keys) a.listed) a.by_point a.states
+        a.every.items };
 }
 
 /// The pair at this place, where there is one.
@@ -77,16 +87,72 @@ fn states_of(sorted: &Sorted) -> u32
     sorted.automaton.states()
 }
 
+/// The numbers below this one.
+fn all_below(alloc: Global, states: u32) -> Result<Vec<u32>, OutOfMemory>
+    ensures { IfOk result (λ every. (q : ℕ) → Contains every.items q ↔ q < states) }
+{
+    let mut every = Vec::new(alloc);
+    for q in 0..states {
+        every.push(q)?;
+    }
+    Ok(every)
+}
+
 /// All pairs of a point and a state of the problem.
-fn all(problem: &Problem) -> Reads
-    ensures { IsClosedReads problem.now result }
+fn all(alloc: Global, problem: &Problem) -> Result<Reads, OutOfMemory>
+    ensures { IfOk result (IsClosedReads problem.now) }
 {
     is_sorted_problem(problem);
-    Reads {
+    let states = states_of(&problem.sorted);
+    let by_point = Lists::empty(alloc, 0)?;
+    let every = all_below(alloc, states)?;
+    Ok(Reads {
         listed: None,
+        by_point,
         points: problem.points.count(),
-        states: states_of(&problem.sorted),
+        states,
+        every,
+    })
+}
+
+/// Adds the pair's state to the list of its point.
+fn add_state(
+    alloc: Global,
+    lists: &mut Lists<u32>,
+    point: u32,
+    state: u32,
+) -> Result<(), OutOfMemory>
+    ensures { OnOk result ((p q : ℕ) → Contains (list_of lists.new p) q
+        ↔ (Contains (list_of lists.old p) q ⊎ ((p ≡ point) × (q ≡ state)))) }
+{
+    lists.reach(alloc, point as usize)?;
+    lists.push(point as usize, state)
+}
+
+/// The states of the pairs, in the list of their point's number.
+fn by_point(alloc: Global, pairs: &[(u32, u32)]) -> Result<Lists<u32>, OutOfMemory>
+    ensures { IfOk result (AreStatesOf pairs.now) }
+{
+    let mut lists = Lists::empty(alloc, 0)?;
+    for (point, state) in pairs {
+        add_state(alloc, &mut lists, *point, *state)?;
     }
+    Ok(lists)
+}
+
+/// The pairs, which are closed.
+fn listed(alloc: Global, problem: &Problem, pairs: Pairs) -> Result<Reads, OutOfMemory>
+    requires { IsClosedReads problem.now pairs.keys }
+    ensures { IfOk result (IsClosedReads problem.now) }
+{
+    let by_point = by_point(alloc, pairs.as_slice())?;
+    Ok(Reads {
+        listed: Some(pairs),
+        by_point,
+        points: 0,
+        states: 0,
+        every: Vec::new(alloc),
+    })
 }
 
 impl Reads {
@@ -97,21 +163,17 @@ impl Reads {
     /// The pairs are closed: none is left out that they demand. That there are no more than needed isn't
     /// claimed.
     ///
-    /// Memory is in proportion to the points, the flow and the pairs. Time is in proportion to these and, for
-    /// each pair whose point has a parameter at its head, to the flow of that parameter, and to the terminals
-    /// that it may become times the point's arguments; for each of those terminals one transition is looked
-    /// up, on average in constant time.
+    /// Memory is in proportion to the points, the states, the flow and the pairs. Time is in proportion to
+    /// these and, for each pair whose point has a parameter at its head, to the flow of that parameter, and
+    /// to the terminals that it may become times the point's arguments; for each of those terminals one
+    /// transition is looked up, on average in constant time.
     pub fn of(alloc: Global, problem: &Problem) -> Result<Reads, OutOfMemory>
         ensures { IfOk result (IsClosedReads problem.now) }
     {
         let mut pairs = IndexSet::new(alloc);
         match find(alloc, problem, &mut pairs) {
-            Ok(()) => Ok(Reads {
-                listed: Some(pairs),
-                points: 0,
-                states: 0,
-            }),
-            Err(Stop::Limit) => Ok(all(problem)),
+            Ok(()) => listed(alloc, problem, pairs),
+            Err(Stop::Limit) => all(alloc, problem),
             Err(Stop::OutOfMemory) => Err(OutOfMemory),
         }
     }
@@ -124,6 +186,23 @@ impl Reads {
         match &self.listed {
             Some(listed) => listed.contains(&(point, state)),
             None => point < self.points && state < self.states,
+        }
+    }
+
+    /// The states in which the point, counted from 0, may be read, in any order. Takes no memory, and
+    /// constant time.
+    pub fn states_at(&self, point: u32) -> &[u32]
+        ensures { (q : ℕ) → Contains result.now q ↔ Contains self.now (point, q) }
+    {
+        match &self.listed {
+            Some(_listed) => self.by_point.list(point as usize),
+            None => {
+                if point < self.points {
+                    self.every.as_slice()
+                } else {
+                    &[]
+                }
+            }
         }
     }
 }

@@ -9,5 +9,5 @@ pub returns : goal.returns
 returns c =
     let p = c.args.problem.now in
     let points = c.count.ensures.points ∙ ap (λ (x : ProblemData). length x.points.points) c.problem.view_is in
-    let states = c.states_of.ensures ∙ ap (λ (x : ProblemData). x.sorted.automaton.states) c.problem.view_is in
-    subst (λ (n : ℕ). IsClosedReads p (all_pairs n c.states_of.result)) (sym points) (subst (λ (n : ℕ). IsClosedReads p (all_pairs (length p.points.points) n)) (sym states) (all_closed p c.is_sorted_problem.ensures))
+    let states = c.states_of-states.ensures ∙ ap (λ (x : ProblemData). x.sorted.automaton.states) c.problem.view_is in
+    subst (λ (n : ℕ). IsClosedReads p (all_pairs n c.states_of-states.result)) (sym points) (subst (λ (n : ℕ). IsClosedReads p (all_pairs (length p.points.points) n)) (sym states) (all_closed p c.is_sorted_problem.ensures))
