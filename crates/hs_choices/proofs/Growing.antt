@@ -29,9 +29,6 @@ module _ (E F : InternerData) (g : Grows E F) where
   pub envs_stay : (ks : List ℕ) → AreInUse E ks → envs_of F ks ≡ envs_of E ks
   envs_stay ks h = items_at-begun E.envs F.envs [] ks g.envs h
 
-  pub in_grows : (ks : List ℕ) → AreInUse E ks → AreInUse F ks
-  in_grows ks h = All-weaker (λ k. k < length E.envs) (λ k. k < length F.envs) env_within ks h
-
   pub of_grows : (n : ℕ) (ks : List ℕ) → AreOfLength n E ks → AreOfLength n F ks
   of_grows n ks h = All-weaker (λ k. (k < length E.envs) × (length (env_of_id E k) ≡ n)) (λ k. (k < length F.envs) × (length (env_of_id F k) ≡ n)) (λ k q. (env_within k q.0, ap length (env_stays k q.0) ∙ q.1)) ks h
 
@@ -114,21 +111,18 @@ pub lost_all : (I : InternerData) (kept : List ℕ) (env i : ℕ) → length kep
     → ((k : ℕ) → Contains (take i kept) k → Contains rest k ⊎ AsksAtLeast AsStrongAs (env_of_id I k) (env_of_id I env)) → (k : ℕ) → Contains kept k → Contains rest k ⊎ AsksAtLeast AsStrongAs (env_of_id I k) (env_of_id I env)
 lost_all I kept env i past rest lost k m = lost k (subst (λ (ks : List ℕ). Contains ks k) (sym (take_all i kept past)) m)
 
--- an environment is added, or isn't
-module _ (I : InternerData) (void kept : List ℕ) (env : ℕ) where
+-- an environment is added, or isn't; P says what is left out
+module _ (P : Env → Type 0) (I : InternerData) (kept : List ℕ) (env : ℕ) where
   abbrev Asks : Env → Type 0
   Asks U = AsksOneOf (envs_of I kept) U ⊎ AsksAtLeast AsStrongAs U (env_of_id I env)
 
-  some_through : (ks : List ℕ) (U : Env) → AsksAtLeast AsStrongAs U (env_of_id I env) → AsksOneOf (envs_of I ks) (env_of_id I env) → AsksOneOf (envs_of I ks) U
-  some_through ks U asks s = (s.0, (s.1.0, env_trans U (env_of_id I env) s.0 asks s.1.1))
+  pub left_out : ((U : Env) → AsksAtLeast AsStrongAs U (env_of_id I env) → P U) → (U : Env) → Asks U → AsksOneOf (envs_of I kept) U ⊎ P U
+  left_out more U (inl s) = inl s
+  left_out more U (inr a) = inr (more U a)
 
-  pub void_dropped : AsksOneOf (envs_of I void) (env_of_id I env) → (U : Env) → Asks U → AsksOneOf (envs_of I kept) U ⊎ AsksOneOf (envs_of I void) U
-  void_dropped v U (inl s) = inl s
-  void_dropped v U (inr a) = inr (some_through void U a v)
-
-  pub known_dropped : AsksOneOf (envs_of I kept) (env_of_id I env) → (U : Env) → Asks U → AsksOneOf (envs_of I kept) U ⊎ AsksOneOf (envs_of I void) U
+  pub known_dropped : AsksOneOf (envs_of I kept) (env_of_id I env) → (U : Env) → Asks U → AsksOneOf (envs_of I kept) U ⊎ P U
   known_dropped s U (inl r) = inl r
-  known_dropped s U (inr a) = inl (some_through kept U a s)
+  known_dropped s U (inr a) = inl (s.0, (s.1.0, env_trans U (env_of_id I env) s.0 a s.1.1))
 
   module _ (rest after : List ℕ) (after_is : after ≡ rest ++ env ∷ []) where
     into : (k : ℕ) → Contains rest k ⊎ (k ≡ env) → Contains after k
@@ -141,7 +135,7 @@ module _ (I : InternerData) (void kept : List ℕ) (env : ℕ) where
       | inr same ↦ inr same
     ]
 
-    pub least_added : ((k : ℕ) → Contains kept k → Contains rest k ⊎ AsksAtLeast AsStrongAs (env_of_id I k) (env_of_id I env)) → (U : Env) → Asks U → AsksOneOf (envs_of I after) U ⊎ AsksOneOf (envs_of I void) U
+    pub least_added : ((k : ℕ) → Contains kept k → Contains rest k ⊎ AsksAtLeast AsStrongAs (env_of_id I k) (env_of_id I env)) → (U : Env) → Asks U → AsksOneOf (envs_of I after) U ⊎ P U
     least_added lost U (inr a) = inl (env_of_id I env, (into_map (env_of_id I) after env (into env (inr refl)), a))
     least_added lost U (inl s) =
         let p = from_map (env_of_id I) kept s.0 s.1.0 in

@@ -4,3 +4,4 @@ pub mod Growing
 pub mod Adding
 pub mod Choosing
 pub mod Ordered
+pub mod Staying

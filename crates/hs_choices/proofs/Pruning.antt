@@ -1,5 +1,5 @@
 -- Least unions decide what all unions do.
-use Rattle.std.proofs.Common.{◌≡◌, refl, sym, ◌∙◌, ap, subst, ℕ, suc, ◌<◌, List, [], ◌∷◌, length, slice_get, Some, replicate, arith, Contains, ◌⊎◌, inl, inr, ◌↔◌}
+use Rattle.std.proofs.Common.{◌≡◌, sym, ◌∙◌, ap, subst, ℕ, suc, ◌<◌, List, [], ◌∷◌, length, slice_get, Some, replicate, arith, Contains, ◌⊎◌, inl, inr, ◌↔◌}
 use Rattle.std.proofs.lemmas.Option.{same_Some}
 use Rattle.hs_scheme.specs.declared.term.Head.{Head}
 use Rattle.hs_scheme.specs.declared.term.Head.TheVariants.{Var, Nt, Tm}
@@ -20,7 +20,7 @@ use Rattle.hs_weak.specs.Sites.{SiteData}
 use Rattle.hs_weak.specs.Void.{VoidData, IsVoid, sets_for, IsUnionOf, IsBlocked}
 use Rattle.hs_weak.proofs.Strength.{strong_refl, env_trans}
 use Rattle.hs_choices.specs.Unions.{SomeHas, Picks, AsksOneOf, AreLeastUnions}
-use Rattle.hs_choices.specs.Slots.{AreSlots, no_argument, behind_argument, one_type, IsHeadEnv, AreVoidOf, AscendAll, IsSettled}
+use Rattle.hs_choices.specs.Slots.{AreSlots, no_argument, behind_argument, one_type, IsHeadEnv, AscendAll, IsSettled}
 use Rattle.hs_choices.proofs.Asking.{void_more}
 
 any_has : (es : List EntryData) (e : EntryData) (j : ℕ) (a : TypeTree) → Contains es e → Has e.env j a → AnyHas es j a
@@ -118,12 +118,9 @@ module _ (p : ProblemData) (given : IsSortedProblem p) (C : List EntryData) (V :
   abbrev Decides : (Env → Type 0) → List Env → Type 0
   Decides P kept = (K : Env) → Contains kept K → P K
 
-  void_of_list : (void : List Env) (U : Env) → AreVoidOf V of.rule void → AsksOneOf void U → IsVoid p C V of.rule U
-  void_of_list void U own s = inl (record { rule = of.rule; env = s.0 }, (own s.0 s.1.0, refl, s.1.1))
-
-  pub blocked : (first : SiteData) (B : Env) → first.point ≡ point → (slots : List (List Env)) → AreSlots p C of.args (sets_for B first.given of.args) slots → (void : List Env) → AreVoidOf V of.rule void → (kept : List Env)
-      → AscendAll kept → AreLeastUnions n void (replicate n []) slots kept → IsBlocked p C V first B ↔ Decides (IsVoid p C V of.rule) kept
-  blocked s B is slots are void own kept ascend least = (to, back)
+  pub blocked : (first : SiteData) (B : Env) → first.point ≡ point → (slots : List (List Env)) → AreSlots p C of.args (sets_for B first.given of.args) slots → (kept : List Env)
+      → AscendAll kept → AreLeastUnions n (IsVoid p C V of.rule) (replicate n []) slots kept → IsBlocked p C V first B ↔ Decides (IsVoid p C V of.rule) kept
+  blocked s B is slots are kept ascend least = (to, back)
     where
       at_site : slice_get p.points.points s.point ≡ Some of
       at_site = ap (λ k. slice_get p.points.points k) is ∙ at
@@ -148,7 +145,7 @@ module _ (p : ProblemData) (given : IsSortedProblem p) (C : List EntryData) (V :
           let each = union_asks p given C point of at chosen U (λ j a lt k. (union.union j a lt).1 k) in
           elim (least.least U (λ j a k. absurd (empties_has n j a k)) (asks_of_each p C are chosen U each)) [
             | inl k ↦ void_more p C V of.rule U k.0 k.1.1 (all k.0 k.1.0)
-            | inr v ↦ void_of_list void U own v
+            | inr v ↦ v
           ]
 
       back : Decides (IsVoid p C V of.rule) kept → IsBlocked p C V s B
@@ -176,8 +173,8 @@ module _ (p : ProblemData) (given : IsSortedProblem p) (C : List EntryData) (V :
   Settled ty U = IsSettled p C V point of.rule ty U
 
   pub follow : (sets : Env) (ty : TypeTree) (by : HeadBy) → IsHeadType p C of.rule of.head by (arrows sets ty) → (first : Env) → IsHeadEnv n of.head (arrows sets ty) first → (slots : List (List Env)) → AreSlots p C of.args sets slots
-      → (void kept : List Env) → AscendAll kept → AreLeastUnions n void first slots kept → (K : Env) → Contains kept K → WeaklyFollows AsStrongAs p C (entry K ty)
-  follow sets ty by head first is slots are void kept ascend least K m =
+      → (kept : List Env) → AscendAll kept → AreLeastUnions n (IsVoid p C V of.rule) first slots kept → (K : Env) → Contains kept K → WeaklyFollows AsStrongAs p C (entry K ty)
+  follow sets ty by head first is slots are kept ascend least K m =
       let u = least.unions K m in
       let r = picked_stand p C 0 u.chosen are u.picked in (
         record { head = by; args = r.places },
@@ -203,9 +200,9 @@ module _ (p : ProblemData) (given : IsSortedProblem p) (C : List EntryData) (V :
       )
 
   pub settled : (sets : Env) (ty : TypeTree) (by : HeadBy) → IsHeadType p C of.rule of.head by (arrows sets ty) → (first : Env) → IsHeadEnv n of.head (arrows sets ty) first → (slots : List (List Env)) → AreSlots p C of.args sets slots
-      → (void : List Env) → AreVoidOf V of.rule void → (kept : List Env) → AreLeastUnions n void first slots kept → Decides (Settled ty) kept
+      → (kept : List Env) → AreLeastUnions n (IsVoid p C V of.rule) first slots kept → Decides (Settled ty) kept
       → (places : List (ℕ × ℕ)) (es : List EntryData) → WeaklyChosen AsStrongAs p C 0 of.args sets places es → (U : Env) → IsEnv n U → IsUnionAsked (arrows sets ty) es U → Settled ty U
-  settled sets ty by head first is slots are void own kept least all places es chosen U env union =
+  settled sets ty by head first is slots are kept least all places es chosen U env union =
       let each = union_asks p given C point of at chosen U (λ j a lt k. (union j a (omega (arith, lt, env.long))).1 (inr k)) in
       let own_asked : AsksAtLeast AsStrongAs U first =
       λ j a k.
@@ -217,5 +214,5 @@ module _ (p : ProblemData) (given : IsSortedProblem p) (C : List EntryData) (V :
           | inl c ↦ inl (covered_more ty U k.0 k.1.1 c)
           | inr v ↦ inr (void_more p C V of.rule U k.0 k.1.1 v)
         ]
-        | inr v ↦ inr (void_of_list void U own v)
+        | inr v ↦ inr v
       ]

@@ -9,13 +9,18 @@
 --     AreRowsAt, AreTableRows       the rows of the table's entries at a point; of all
 --     AreAtPoint                    the rows at a point, of some
 --     AreOfArguments                slots for the types of the sets of arguments
+--     VoidRowData, void_of          a row stands for a pair of a nonterminal and an environment
+--     AreNumbered                   rows of the entries that count, by point, and of the void pairs
 use Rattle.std.specs.Prelude.{◌≡◌, ℕ, ◌<◌, List, [], ◌∷◌, ◌++◌, length, map, Contains, All, ◌⊎◌, ◌↔◌}
+use Rattle.std.specs.List.Sorted.{IsNonDecreasingBy}
 use Rattle.hs_scheme.specs.Problem.{ProblemData}
 use Rattle.hs_table.specs.Types.{TypeTree}
 use Rattle.hs_table.specs.Entries.{Env, EntryData}
 use Rattle.hs_table.specs.Follows.{IsAt}
 use Rattle.hs_weak.specs.Strength.{AsStrongAs, AsksAtLeast}
-use Rattle.hs_types.specs.Interned.{InternerData, type_of_id, env_of_id, RowData, entry_of, IsUnionEnv}
+use Rattle.hs_weak.specs.Void.{VoidData}
+use Rattle.hs_types.specs.Interned.{InternerData, type_of_id, env_of_id, RowData, IsRow, entry_of, IsUnionEnv}
+use Rattle.hs_choices.specs.declared.void_rows.VoidRow.{VoidRow}
 use Rattle.hs_choices.specs.Unions.{AsksOneOf}
 
 abbrev pub envs_of : InternerData → List ℕ → List Env
@@ -38,17 +43,17 @@ pub record IsUnionWith (E : Env) (slot : List Env) (K : Env) : Type 0 where
   pub there : Contains slot other
   pub union : IsUnionEnv E other K
 
--- the numbers are read in old, but those in `after` in new
-pub record IsAdded (old new : InternerData) (void before : List ℕ) (env : ℕ) (slot after : List ℕ) : Type 0 where
+-- the numbers are read in old, but those in `after` in new; D says what is left out
+pub record IsAdded (D : Env → Type 0) (old new : InternerData) (before : List ℕ) (env : ℕ) (slot after : List ℕ) : Type 0 where
   pub range : AreOfLength (length (env_of_id old env)) new after
   pub come : (K : Env) → Contains (envs_of new after) K → Contains (envs_of old before) K ⊎ IsUnionWith (env_of_id old env) (envs_of old slot) K
-  pub keeps : (U : Env) → AsksOneOf (envs_of old before) U → AsksOneOf (envs_of new after) U ⊎ AsksOneOf (envs_of old void) U
-  pub least : (U : Env) → AsksAtLeast AsStrongAs U (env_of_id old env) → AsksOneOf (envs_of old slot) U → AsksOneOf (envs_of new after) U ⊎ AsksOneOf (envs_of old void) U
+  pub keeps : (U : Env) → AsksOneOf (envs_of old before) U → AsksOneOf (envs_of new after) U ⊎ D U
+  pub least : (U : Env) → AsksAtLeast AsStrongAs U (env_of_id old env) → AsksOneOf (envs_of old slot) U → AsksOneOf (envs_of new after) U ⊎ D U
 
-pub record AreAllUnions (n : ℕ) (old new : InternerData) (void kept slot unions : List ℕ) : Type 0 where
+pub record AreAllUnions (D : Env → Type 0) (n : ℕ) (old new : InternerData) (kept slot unions : List ℕ) : Type 0 where
   pub range : AreOfLength n new unions
   pub come : (K : Env) → Contains (envs_of new unions) K → (E : Env) × (Contains (envs_of old kept) E × IsUnionWith E (envs_of old slot) K)
-  pub least : (U : Env) → AsksOneOf (envs_of old kept) U → AsksOneOf (envs_of old slot) U → AsksOneOf (envs_of new unions) U ⊎ AsksOneOf (envs_of old void) U
+  pub least : (U : Env) → AsksOneOf (envs_of old kept) U → AsksOneOf (envs_of old slot) U → AsksOneOf (envs_of new unions) U ⊎ D U
 
 -- by rows: the environments of those with a type as strong as this one
 pub record AreOfStrong (I : InternerData) (rows : List RowData) (ty : TypeTree) (ks : List ℕ) : Type 0 where
@@ -85,3 +90,18 @@ pub data AreOfArguments (I : InternerData) (table : List RowData) : List ℕ →
   no_arguments : AreOfArguments I table [] [] []
   one_argument : {u : ℕ} {us : List ℕ} {s : List TypeTree} {ss : Env} {rows : List RowData} {first slots : List (List ℕ)}
       → AreAtPoint table u rows → AreOfEach I rows s first → AreOfArguments I table us ss slots → AreOfArguments I table (u ∷ us) (s ∷ ss) (first ++ slots)
+
+-- what contracts see of a void row: its two numbers
+abbrev pub VoidRowData : Type 0
+VoidRowData = VoidRow
+
+abbrev pub void_of : InternerData → VoidRowData → VoidData
+void_of I row = record { rule = row.rule; env = env_of_id I row.env }
+
+-- The rows stand for the entries of C that count, in the order of points, and the void rows for the pairs of V, in their order.
+pub record AreNumbered (p : ProblemData) (C : List EntryData) (V : List VoidData) (I : InternerData) (table : List RowData) (void : List VoidRowData) : Type 0 where
+  pub rows : AreTableRows p C I table
+  pub in_use : All (IsRow I) table
+  pub order : IsNonDecreasingBy (λ (r : RowData). r.point) table
+  pub pairs : map (void_of I) void ≡ V
+  pub envs : All (λ (v : VoidRowData). v.env < length I.envs) void

@@ -3,7 +3,6 @@
 --     IsSlotFor      for a type at a point: environments of entries there with a type as strong, one at least for each such entry that it asks at least
 --     AreSlots       a list of them for each type of each set, by argument and then in the set's order
 --     IsHeadEnv      the environment that asks what the head asks
---     AreVoidOf      environments of the void list's pairs with a nonterminal
 --     AscendAll      sets in these environments are in order
 --     IsSettled      the entry with the environment is covered, or the environment is void
 use Rattle.std.specs.Prelude.{◌≡◌, ℕ, List, [], ◌∷◌, length, Contains, ◌⊎◌, ◌↔◌}
@@ -37,9 +36,6 @@ pub data AreSlots (p : ProblemData) (C : List EntryData) : List ℕ → Env → 
 pub record IsHeadEnv (n : ℕ) (head : Head) (ty : TypeTree) (E : Env) : Type 0 where
   pub long : length E ≡ n
   pub exact : (j : ℕ) (a : TypeTree) → Has E j a ↔ HeadHas head ty j a
-
-abbrev pub AreVoidOf : List VoidData → ℕ → List Env → Type 0
-AreVoidOf V G void = (E : Env) → Contains void E → Contains V (record { rule = G; env = E })
 
 abbrev pub AscendAll : List Env → Type 0
 AscendAll Es = (E : Env) → Contains Es E → (j : ℕ) → IsSet (set_at E j)

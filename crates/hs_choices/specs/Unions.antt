@@ -3,8 +3,8 @@
 --     IsUnionOfEnvs n Es K    K has a set for each of n parameters, and just the types that the environments have
 --     Picks slots Es          one environment of each list
 --     AsksOneOf Ks U          U asks at least what one of Ks asks
---     AreLeastUnions          of the unions of an environment with one of each list, as many as it takes that each other asks at least one of
---                             these, or a void one
+--     AreLeastUnions n D      of the unions of an environment with one of each list, as many as it takes that each other asks at least one of
+--                             these, or is left out by D
 use Rattle.std.specs.Prelude.{◌≡◌, ℕ, List, [], ◌∷◌, length, Contains, ◌⊎◌, ◌↔◌}
 use Rattle.hs_table.specs.Types.{TypeTree}
 use Rattle.hs_table.specs.Entries.{Env, Has}
@@ -33,7 +33,7 @@ pub record IsUnionOfChoice (n : ℕ) (first : Env) (slots : List (List Env)) (K 
   pub union : IsUnionOfEnvs n (first ∷ chosen) K
 
 -- So an environment that asks at least what the first asks, and of each list what one asks, as the union of a choice does, is looked at by
--- way of these.
-pub record AreLeastUnions (n : ℕ) (void : List Env) (first : Env) (slots : List (List Env)) (kept : List Env) : Type 0 where
+-- way of these, where it isn't left out.
+pub record AreLeastUnions (n : ℕ) (D : Env → Type 0) (first : Env) (slots : List (List Env)) (kept : List Env) : Type 0 where
   pub unions : (K : Env) → Contains kept K → IsUnionOfChoice n first slots K
-  pub least : (U : Env) → AsksAtLeast AsStrongAs U first → ((slot : List Env) → Contains slots slot → AsksOneOf slot U) → AsksOneOf kept U ⊎ AsksOneOf void U
+  pub least : (U : Env) → AsksAtLeast AsStrongAs U first → ((slot : List Env) → Contains slots slot → AsksOneOf slot U) → AsksOneOf kept U ⊎ D U

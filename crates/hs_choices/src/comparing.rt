@@ -1,6 +1,8 @@
 //! What types and environments by number can do.
 
-ghost use Rattle.std.specs.Prelude.{◌≡◌, ◌↔◌, ◌<◌, Some, length, slice_get, IfOk, IsTrue};
+ghost use Rattle.std.specs.Prelude.{◌≡◌, ◌↔◌, ◌<◌, ℕ, Some, length, slice_get, IfOk, IsTrue};
+ghost use Rattle.hs_table.specs.Types.{IsSet};
+ghost use Rattle.hs_table.specs.Entries.{set_at};
 ghost use Rattle.hs_weak.specs.Strength.{AsStrongAs, AsksAtLeast};
 ghost use Rattle.hs_types.specs.Interned.{InternerData, type_of_id, set_of_id, env_of_id, Grows};
 ghost use Rattle.hs_choices.specs.Numbered.{IsUnionMade};
@@ -13,6 +15,10 @@ use hs_types::{EnvId, SetId, TyId};
 pub trait Comparing {
     /// What the numbers stand for.
     ghost known: { Self → InternerData };
+
+    /// The sets of environments are in order. A law; does nothing.
+    fn sets_ascend(&self)
+        ensures { (e j : ℕ) → IsSet (set_at (env_of_id (known self.now) e) j) };
 
     /// How many types the set has. Takes no memory.
     fn count(&self, set: SetId) -> usize

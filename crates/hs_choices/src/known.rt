@@ -1,6 +1,8 @@
 //! Types and environments by number, with what was compared of them.
 
-ghost use Rattle.std.specs.Prelude.{◌≡◌};
+ghost use Rattle.std.specs.Prelude.{◌≡◌, ◌<◌, ◌∷◌, [], All, IfOk, Some, length, map, replicate, slice_get, slice_set};
+ghost use Rattle.hs_table.specs.Types.{state, arrow};
+ghost use Rattle.hs_types.specs.Interned.{type_of_id, set_of_id, Grows, IsSetOf};
 
 use crate::comparing::Comparing;
 use hs_scheme::OutOfMemory;
@@ -40,10 +42,86 @@ impl Known {
             strengths: Strengths::new(alloc),
         }
     }
+
+    /// The interner, to read what the numbers stand for.
+    pub fn interner(&self) -> &Interner
+        ensures { result.now ≡ self.now }
+    {
+        &self.types
+    }
+
+    /// The type that is this state, counted from 0, as `Interner::base` answers.
+    pub fn base(&mut self, q: u32) -> Result<TyId, OutOfMemory>
+        ensures ok { IfOk result (λ id. slice_get self.new.types id ≡ Some (state q)) }
+        ensures grows { Grows self.old self.new }
+    {
+        what_is_remembered_stays();
+        self.types.base(q)
+    }
+
+    /// The type with this set and this result, as `Interner::arrow` answers.
+    pub fn arrow(&mut self, set: SetId, rest: TyId) -> Result<TyId, OutOfMemory>
+        requires set { set < length self.old.sets }
+        requires rest { rest < length self.old.types }
+        ensures ok { IfOk result (λ id. slice_get self.new.types id
+            ≡ Some (arrow (set_of_id self.old set) (type_of_id self.old rest))) }
+        ensures grows { Grows self.old self.new }
+    {
+        what_is_remembered_stays();
+        self.types.arrow(set, rest)
+    }
+
+    /// The set of these types, in any order and with repeats, as `Interner::set` answers.
+    pub fn set(&mut self, ids: &[TyId]) -> Result<SetId, OutOfMemory>
+        requires { All (λ t. t < length self.old.types) ids.now }
+        ensures ok { IfOk result (λ id. (id < length self.new.sets)
+            × IsSetOf (map (type_of_id self.old) ids.now) (set_of_id self.new id)) }
+        ensures grows { Grows self.old self.new }
+    {
+        what_is_remembered_stays();
+        self.types.set(ids)
+    }
+
+    /// The environment with these sets, as `Interner::env` answers.
+    pub fn env(&mut self, sets: &[SetId]) -> Result<EnvId, OutOfMemory>
+        requires { All (λ s. s < length self.old.sets) sets.now }
+        ensures ok { IfOk result (λ id. slice_get self.new.envs id ≡ Some
+            (map (set_of_id self.old) sets.now)) }
+        ensures grows { Grows self.old self.new }
+    {
+        what_is_remembered_stays();
+        self.types.env(sets)
+    }
+
+    /// The environment of n empty sets, as `Interner::empty_env` answers.
+    pub fn empty_env(&mut self, n: usize) -> Result<EnvId, OutOfMemory>
+        ensures ok { IfOk result (λ id. slice_get self.new.envs id ≡ Some (replicate n [])) }
+        ensures grows { Grows self.old self.new }
+    {
+        what_is_remembered_stays();
+        self.types.empty_env(n)
+    }
+
+    /// The environment of n sets, of which the one at x, counted from 0, has this type alone, as
+    /// `Interner::single_env` answers.
+    pub fn single_env(&mut self, n: usize, x: u32, ty: TyId) -> Result<EnvId, OutOfMemory>
+        requires x { x < n }
+        requires ty { ty < length self.old.types }
+        ensures ok { IfOk result (λ id. slice_get self.new.envs id
+            ≡ Some (slice_set (replicate n []) x (type_of_id self.old ty ∷ []))) }
+        ensures grows { Grows self.old self.new }
+    {
+        what_is_remembered_stays();
+        self.types.single_env(n, x, ty)
+    }
 }
 
 impl Comparing for Known {
     ghost known = { λ a. a };
+
+    fn sets_ascend(&self) {
+        self.types.numbers_are_exact();
+    }
 
     fn count(&self, set: SetId) -> usize {
         self.types.members(set).len()

@@ -13,10 +13,11 @@ ghost use Rattle.hs_weak.specs.Strength.{AsStrongAs, AsksAtLeast};
 ghost use Rattle.hs_weak.specs.Weak.{WeaklyChosen, WeaklyFollows};
 ghost use Rattle.hs_weak.specs.Sites.{SiteData};
 ghost use Rattle.hs_weak.specs.Void.{VoidData, IsVoid, sets_for, IsBlocked};
-ghost use Rattle.hs_types.specs.Interned.{InternerData, RowData, IsRow};
+ghost use Rattle.hs_types.specs.Interned.{InternerData, RowData, IsRow, Grows};
 ghost use Rattle.hs_choices.specs.Unions.{AreLeastUnions};
-ghost use Rattle.hs_choices.specs.Slots.{AreSlots, IsHeadEnv, AreVoidOf, AscendAll, IsSettled};
+ghost use Rattle.hs_choices.specs.Slots.{AreSlots, IsHeadEnv, AscendAll, IsSettled};
 ghost use Rattle.hs_choices.specs.Numbered.{slot_envs, AreOfLength, AreTableRows, AreOfArguments};
+ghost use Rattle.hs_choices.specs.Numbered.{VoidRowData, AreNumbered};
 
 /// An environment that asks at least what a void one asks is void. Does nothing.
 pub fn what_asks_more_is_void()
@@ -30,21 +31,21 @@ pub fn least_unions_decide_blocked()
     ensures { (p : ProblemData) (C : List EntryData) (V : List VoidData) → IsSortedProblem p
         → (s : SiteData) (of : PointData) → slice_get p.points.points s.point ≡ Some of
         → (B : Env) (slots : List (List Env)) → AreSlots p C of.args (sets_for B s.given of.args) slots
-        → (void kept : List Env) → AreVoidOf V of.rule void → AscendAll kept
-        → AreLeastUnions (params_of p of.rule) void (replicate (params_of p of.rule) []) slots kept
+        → (kept : List Env) → AscendAll kept → AreLeastUnions (params_of p of.rule) (IsVoid p C V of.rule)
+        (replicate (params_of p of.rule) []) slots kept
         → IsBlocked p C V s B ↔ ((K : Env) → Contains kept K → IsVoid p C V of.rule K) }
 {}
 
 /// For a type of the head of a point, the entries with the least unions of what may be chosen follow
 /// weakly. Where each of them is covered or void, so is each that follows weakly by this type. Does nothing.
 pub fn least_unions_decide_missing()
-    ensures follow { (p : ProblemData) (C : List EntryData) → IsSortedProblem p
+    ensures follow { (p : ProblemData) (C : List EntryData) (V : List VoidData) → IsSortedProblem p
         → (point : ℕ) (of : PointData) → slice_get p.points.points point ≡ Some of
         → (sets : Env) (ty : TypeTree) (by : HeadBy) → IsHeadType p C of.rule of.head by (arrows sets ty)
         → (first : Env) → IsHeadEnv (params_of p of.rule) of.head (arrows sets ty) first
         → (slots : List (List Env)) → AreSlots p C of.args sets slots
-        → (void kept : List Env) → AscendAll kept
-        → AreLeastUnions (params_of p of.rule) void first slots kept
+        → (kept : List Env) → AscendAll kept
+        → AreLeastUnions (params_of p of.rule) (IsVoid p C V of.rule) first slots kept
         → (K : Env) → Contains kept K
         → WeaklyFollows AsStrongAs p C (record { point = point; env = K; ty = ty }) }
     ensures settled { (p : ProblemData) (C : List EntryData) (V : List VoidData) → IsSortedProblem p
@@ -52,8 +53,8 @@ pub fn least_unions_decide_missing()
         → (sets : Env) (ty : TypeTree) (by : HeadBy) → IsHeadType p C of.rule of.head by (arrows sets ty)
         → (first : Env) → IsHeadEnv (params_of p of.rule) of.head (arrows sets ty) first
         → (slots : List (List Env)) → AreSlots p C of.args sets slots
-        → (void : List Env) → AreVoidOf V of.rule void
-        → (kept : List Env) → AreLeastUnions (params_of p of.rule) void first slots kept
+        → (kept : List Env)
+        → AreLeastUnions (params_of p of.rule) (IsVoid p C V of.rule) first slots kept
         → ((K : Env) → Contains kept K → IsSettled p C V point of.rule ty K)
         → (places : List (ℕ × ℕ)) (es : List EntryData) → WeaklyChosen AsStrongAs p C 0 of.args sets places es
         → (U : Env) → IsEnv (params_of p of.rule) U
@@ -79,4 +80,11 @@ pub fn rows_of_arguments_are_of_one_rule()
         → (point : ℕ) (of : PointData) → slice_get p.points.points point ≡ Some of
         → (ss : Env) (slots : List (List ℕ)) → AreOfArguments I table of.args ss slots
         → All (AreOfLength (params_of p of.rule) I) slots }
+{}
+
+/// Rows stand for the same once there are more numbers. Does nothing.
+pub fn what_is_numbered_stays()
+    ensures { (p : ProblemData) (C : List EntryData) (V : List VoidData) (I J : InternerData)
+        (table : List RowData) (void : List VoidRowData) → Grows I J → AreNumbered p C V I table void
+        → AreNumbered p C V J table void }
 {}

@@ -6,18 +6,22 @@
 #![tactic(auto)]
 
 mod comparing;
+mod dropping;
 mod known;
 mod laws;
 mod rows;
 mod slots;
 mod unions;
+mod void_rows;
 
 pub use comparing::Comparing;
+pub use dropping::Dropping;
 pub use known::Known;
 pub use laws::{
     least_unions_decide_blocked, least_unions_decide_missing, rows_may_be_chosen,
-    rows_of_arguments_are_of_one_rule, what_asks_more_is_void,
+    rows_of_arguments_are_of_one_rule, what_asks_more_is_void, what_is_numbered_stays,
 };
 pub use rows::rows_at;
 pub use slots::{Slot, slots_for};
 pub use unions::least_unions;
+pub use void_rows::VoidRow;

@@ -1,0 +1,3 @@
+pub mod HeadTypes
+pub mod Sources
+pub mod Splits

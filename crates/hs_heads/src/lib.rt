@@ -1,0 +1,16 @@
+//! The types of the head of a point that matter for a certificate of acceptance, by numbers.
+//!
+//! `head_types` finds them, split at the point's arguments; `specs/HeadTypes` says which they are. `Sources`
+//! and `Splits` are cited by private contracts.
+#![tactic(auto)]
+
+mod arrows;
+mod heads;
+mod laws;
+mod rows;
+mod splits;
+mod terminals;
+
+pub use heads::head_types;
+pub use laws::head_types_stay;
+pub use splits::HeadType;

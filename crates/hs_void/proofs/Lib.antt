@@ -1,0 +1,9 @@
+pub mod ByRows
+pub mod Marked
+pub mod Remembering
+pub mod Chosen
+pub mod AtArguments
+pub mod Asked
+pub mod Ordered
+pub mod Listed
+pub mod Firsts

@@ -1,0 +1,12 @@
+use Rattle.std.proofs.Common.{leb, rules}
+use Rattle.std.proofs.lemmas.List.Sorted.{IsPartitionPoint-from_clause, IsPartitionedBy-leb}
+use Rattle.hs_choices.specs.Numbered.{VoidRowData}
+use Rattle.hs_void.proofs.Ordered.{start_behind}
+use Rattle.hs_void.proofs.basis.end_of.Goals as goal
+
+pub returns : goal.returns
+returns c =
+    let rows = c.args.rows.now in
+    let parted = IsPartitionedBy-leb (λ (v : VoidRowData). v.rule) rows c.args.rule c.requires in
+    start_behind rows c.args.rule c.partition_point.result c.partition_point.ensures.bound
+    (IsPartitionPoint-from_clause (λ (v : VoidRowData). leb v.rule c.args.rule) _ _ c.partition_point.ensures.partitioned parted (λ a r q k. search rules))
