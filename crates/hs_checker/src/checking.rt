@@ -52,8 +52,8 @@ fn is_start(entry: &Entry, body: u32) -> bool
     }
 }
 
-/// Whether the table has the start entry.
-fn has_start(problem: &Problem, table: &[Entry]) -> bool
+/// Whether the table has the start entry. Time is in the number of entries.
+pub fn has_start(problem: &Problem, table: &[Entry]) -> bool
     ensures { IsTrue result ↔ HasStart problem.now table.now }
 {
     if problem.points.params().rules() == 0 {

@@ -20,6 +20,7 @@ mod shape;
 mod terminals;
 mod unions;
 
-pub use checking::check;
+pub use checking::{check, has_start};
 pub use fault::CheckFault;
 pub use laws::closed_tables_have_no_fault;
+pub use shape::{is_env_of, is_in_shape};

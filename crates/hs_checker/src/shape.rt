@@ -2,7 +2,7 @@
 
 ghost use Rattle.std.specs.Prelude.{◌≡◌, ◌↔◌, ℕ, IsTrue};
 ghost use Rattle.hs_table.specs.Types.{TypeTree, IsSet, IsType};
-ghost use Rattle.hs_table.specs.Entries.{Has, IsEnv, InShape};
+ghost use Rattle.hs_table.specs.Entries.{Has, IsEnv, InShape, params_of};
 ghost use Rattle.hs_checker.specs.Shape.{AreAllTypes};
 
 use crate::index::compare_arrows;
@@ -77,8 +77,17 @@ pub(crate) fn states(problem: &Problem) -> u32
     problem.sorted.automaton.states()
 }
 
-/// Whether the entry is in shape.
-pub(crate) fn is_in_shape(problem: &Problem, entry: &Entry) -> bool
+/// Whether the environment is one for the parameters of the rule, counted from 0: a set for each of
+/// them, whose types are in shape. Calls recurse as deep as the types.
+pub fn is_env_of(problem: &Problem, rule: u32, env: &[TypeSet]) -> bool
+    ensures { IsTrue result ↔ (IsEnv (params_of problem.now rule) env.now
+        × ((j : ℕ) (a : TypeTree) → Has env.now j a → IsType problem.now.sorted.automaton.states a)) }
+{
+    is_env(env, parameters(problem, rule), states(problem))
+}
+
+/// Whether the entry is in shape. Calls recurse as deep as its types.
+pub fn is_in_shape(problem: &Problem, entry: &Entry) -> bool
     ensures { IsTrue result ↔ InShape problem.now entry.now }
 {
     if entry.point >= problem.points.count() {

@@ -1,0 +1,11 @@
+use Rattle.std.proofs.Common.{ℕ, IsTrue, subst, ◌↔◌}
+use Rattle.hs_table.specs.Types.{TypeTree, IsType}
+use Rattle.hs_table.specs.Entries.{Has, IsEnv}
+use Rattle.hs_checker.proofs.shape.is_env_of.Goals as goal
+
+pub returns : goal.returns
+returns c =
+    let E = c.args.env.now in
+    let p = c.args.problem.now in
+    subst (λ n. IsTrue c.is_env.result ↔ (IsEnv n E × ((j : ℕ) (a : TypeTree) → Has E j a → IsType p.sorted.automaton.states a))) c.parameters.ensures
+    (subst (λ m. IsTrue c.is_env.result ↔ (IsEnv c.parameters.result E × ((j : ℕ) (a : TypeTree) → Has E j a → IsType m a))) c.states.ensures c.is_env.ensures)
