@@ -7,13 +7,13 @@ use Rattle.hs_scheme.specs.Tree.{forest, height, heights}
 use Rattle.hs_scheme.specs.Points.{PointData, point_at}
 use Rattle.hs_scheme.specs.Problem.{ProblemData}
 use Rattle.hs_scheme.proofs.Lists.{some_at, read-slice_get, uncons, none_in, here, later}
-use Rattle.hs_table.specs.Types.{TypeTree, IsType, AreTypes}
-use Rattle.hs_table.specs.Entries.{Env, EntryData, set_at, params_of}
+use Rattle.hs_table.specs.Types.{TypeTree, IsSet, IsType, AreTypes}
+use Rattle.hs_table.specs.Entries.{Env, EntryData, Has, set_at, params_of}
 use Rattle.hs_table_laws.proofs.Shapes.{are_types}
 use Rattle.hs_table_laws.proofs.Sets.{no_set}
 use Rattle.hs_text.specs.Canonical.{name_at, params_at}
 use Rattle.hs_text.specs.Report.{type_text}
-use Rattle.hs_cert.specs.Certificate.{AreStateNames, IsEntry, line_text}
+use Rattle.hs_cert.specs.Certificate.{AreNames, AreNested, IsEntry, line_text}
 use Rattle.hs_cert.specs.Front.{IsOfProblem, type_then, sets_then, IsTypeFront, IsLowSet, IsSetsFront, IsPlaceFront}
 use Rattle.hs_cert.proofs.Unique.{type_unique}
 use Rattle.hs_cert.proofs.Sets.{type_spelled, entry_spelled}
@@ -44,6 +44,13 @@ low_sets n [] h j = record { shape = tt; low = omega arith; set = no_set }
 low_sets n (s ∷ env) h zero = h 0 [] (omega arith)
 low_sets n (s ∷ env) h (suc j) = low_sets n env (all_behind (IsLowSet n 1000) s env h) j
 
+module _ (names : List (List ℕ)) (env : Env) (sets : All (IsLowSet (length names) 1000) env) where
+  pub sets_env : (j : ℕ) → IsSet (set_at env j)
+  sets_env j = (low_sets (length names) env sets j).set
+
+  pub nested_env : AreNested env
+  nested_env j a c = let low = (low_sets (length names) env sets j).low in omega (arith, low, low_member (set_at env j) a c)
+
 module _ (p : ProblemData) (names : List (List ℕ)) (of_problem : IsOfProblem p names) where
   count : length names ≡ p.sorted.automaton.states
   count = ap length of_problem.is ∙ of_problem.each
@@ -70,6 +77,24 @@ module _ (p : ProblemData) (names : List (List ℕ)) (of_problem : IsOfProblem p
       let x = some_at p.points.points point lt in
       x.1 ∙ ap (λ o. Some o) (sym (get_or_from_slice_get p.points.points point x.0 _ x.1))
 
+  -- the sets of an environment in shape are low
+  pub low_env : (env : Env) → ((j : ℕ) → IsSet (set_at env j)) → ((j : ℕ) (a : TypeTree) → Has env j a → IsType p.sorted.automaton.states a) → AreNested env → All (IsLowSet (length names) 1000) env
+  low_env env sets types nested j d lt =
+      subst (IsLowSet (length names) 1000) (sym (get_same env j d [] lt))
+      (record {
+        shape = are_types (length names) (set_at env j) (λ a c. subst (λ n. IsType n a) (sym count) (types j a c));
+        low = low_members 1000 (set_at env j) (λ a c. nested j a c);
+        set = sets j;
+      })
+    where
+      get_same : {A : Type 0} (xs : List A) (j : ℕ) (d f : A) → j < length xs → get_or xs j d ≡ get_or xs j f
+      get_same [] j d f lt = absurd (omega (arith, lt))
+      get_same (x ∷ xs) zero d f lt = refl
+      get_same (x ∷ xs) (suc j) d f lt = get_same xs j d f (omega (arith, lt))
+
+  pub typed_env : (env : Env) → All (IsLowSet (length names) 1000) env → (j : ℕ) (a : TypeTree) → Has env j a → IsType p.sorted.automaton.states a
+  typed_env env sets j a c = subst (λ n. IsType n a) count (types_member (length names) (set_at env j) a (low_sets (length names) env sets j).shape c)
+
   -- an entry in its parts
   pub record Parts (line : List ℕ) (e : EntryData) : Type 0 where
     pub place : IsPlaceFront p line e.point (sets_then names (params e.point) 0 e.env (behind_env e.ty))
@@ -86,23 +111,10 @@ module _ (p : ProblemData) (names : List (List ℕ)) (of_problem : IsOfProblem p
         sets = record {
           spelled = refl;
           long = h.shape.env.long ∙ ap (λ (d : PointData). params_of p d.rule) of_is;
-          sets = λ j d lt.
-              let s = get_or e.env j d in
-              let is : get_or e.env j d ≡ set_at e.env j = get_same e.env j d [] lt in
-              subst (IsLowSet (length names) 1000) (sym is)
-              (record {
-                shape = are_types (length names) (set_at e.env j) (λ a c. states a (h.shape.types j a c));
-                low = low_members 1000 (set_at e.env j) (λ a c. h.nested.sets j a c);
-                set = h.shape.env.sets j;
-              });
+          sets = low_env e.env h.shape.env.sets h.shape.types h.nested.sets;
         };
         ty = record { spelled = refl; ends = refl; shape = states e.ty h.shape.ty; low = omega (arith, h.nested.ty) };
       }
-    where
-      get_same : {A : Type 0} (xs : List A) (j : ℕ) (d f : A) → j < length xs → get_or xs j d ≡ get_or xs j f
-      get_same [] j d f lt = absurd (omega (arith, lt))
-      get_same (x ∷ xs) zero d f lt = refl
-      get_same (x ∷ xs) (suc j) d f lt = get_same xs j d f (omega (arith, lt))
 
   pub whole : (line one two three : List ℕ) (point : ℕ) (env : Env) (ty : TypeTree) → IsPlaceFront p line point one
       → IsSetsFront names (params point) (params_of p (rule_at point)) one env two → two ≡ codes " " ++ three → IsTypeFront names 1000 three ty []
@@ -117,19 +129,19 @@ module _ (p : ProblemData) (names : List (List ℕ)) (of_problem : IsOfProblem p
         shape = record {
           of = point_at p.points point;
           at = point_there point place.within;
-          env = record { long = sets.long; sets = λ j. (low_sets (length names) env sets.sets j).set };
-          types = λ j a c. states a (types_member (length names) (set_at env j) a (low_sets (length names) env sets.sets j).shape c);
+          env = record { long = sets.long; sets = sets_env names env sets.sets };
+          types = typed_env env sets.sets;
           ty = states ty t.shape;
         };
         nested = record {
-          sets = λ j a c. let low = (low_sets (length names) env sets.sets j).low in omega (arith, low, low_member (set_at env j) a c);
+          sets = nested_env names env sets.sets;
           ty = omega (arith, t.low);
         };
       }
 
   -- ---- what stands against every entry
 
-  module _ (are : AreStateNames names) (few : length p.points.points ≤ 500000) (line : List ℕ) where
+  module _ (are : AreNames names) (few : length p.points.points ≤ 500000) (line : List ℕ) where
     pub no_place : ((point : ℕ) (rest : List ℕ) → IsPlaceFront p line point rest → ⊥) → (e : EntryData) → IsEntry p line e → ⊥
     no_place nothing e h = nothing e.point _ (parts line e h).place
 
@@ -171,7 +183,7 @@ module _ (p : ProblemData) (names : List (List ℕ)) (of_problem : IsOfProblem p
             some (type_unique names are ty e.ty four [] t.shape u.shape t.ends u.ends (sym t.spelled ∙ u.spelled)).1
 
   -- the text of an entry determines it
-  pub same_entry : AreStateNames names → length p.points.points ≤ 500000 → (line : List ℕ) (a b : EntryData) → IsEntry p line a → IsEntry p line b → a ≡ b
+  pub same_entry : AreNames names → length p.points.points ≤ 500000 → (line : List ℕ) (a b : EntryData) → IsEntry p line a → IsEntry p line b → a ≡ b
   same_entry are few line a b f g =
       let r = parts line a f in
       let s = sets_of are few line _ a.point r.place b g in

@@ -4,7 +4,7 @@ use Rattle.std.proofs.lemmas.List.{append_cancel_left, append-nil}
 use Rattle.hs_scheme.specs.Tree.{forest}
 use Rattle.hs_table.specs.Types.{TypeTree}
 use Rattle.hs_table.specs.Entries.{Env}
-use Rattle.hs_cert.specs.Certificate.{AreStateNames}
+use Rattle.hs_cert.specs.Certificate.{AreNames}
 use Rattle.hs_cert.specs.Front.{members_then, IsMembersFront, label_text, sets_then, IsLowSet, IsSetsFront}
 use Rattle.hs_cert.proofs.Fronts.{all_behind}
 use Rattle.hs_cert.proofs.Sets.{labelled_then, labelled_more, labelled_all, SetsLeft, sets_left}
@@ -18,6 +18,11 @@ all_push P (y ∷ xs) x h p (suc k) d lt = all_push P xs x (all_behind P y xs h)
 pub all_part : {A : Type 0} (P : A → Type 0) (xs ys : List A) → All P (xs ++ ys) → All P ys
 all_part P [] ys h = h
 all_part P (x ∷ xs) ys h = all_part P xs ys (all_behind P x (xs ++ ys) h)
+
+pub all_front : {A : Type 0} (P : A → Type 0) (xs ys : List A) → All P (xs ++ ys) → All P xs
+all_front P [] ys h k d lt = absurd (omega (arith, lt))
+all_front P (x ∷ xs) ys h zero d lt = h 0 d (omega arith)
+all_front P (x ∷ xs) ys h (suc k) d lt = all_front P xs ys (all_behind P x (xs ++ ys) h) k d (omega (arith, lt))
 
 module _ (names params : List (List ℕ)) where
   -- these sets were read
@@ -43,7 +48,7 @@ module _ (names params : List (List ℕ)) where
         sets = r.sets;
       }
 
-  module _ (are : AreStateNames names) (all bytes : List ℕ) (env : Env) (read : SetsRead all env bytes) (count : ℕ) where
+  module _ (are : AreNames names) (all bytes : List ℕ) (env : Env) (read : SetsRead all env bytes) (count : ℕ) where
     left : (whole : Env) (rest : List ℕ) → length env ≤ count → IsSetsFront names params count all whole rest → SetsLeft names params 0 env whole bytes rest
     left whole rest few h = sets_left names params are 0 env whole bytes rest read.sets h.sets (omega (arith, few, h.long)) (sym read.spelled ∙ h.spelled)
 
@@ -89,7 +94,7 @@ module _ (names params : List (List ℕ)) where
         go (s ∷ others) e spelled = omega (arith, long, h.long, ap length e, length-append env (s ∷ others))
 
   -- one environment stands at a front
-  pub same_sets : AreStateNames names → (count : ℕ) (bytes one other : List ℕ) (a b : Env) → IsSetsFront names params count bytes a one → IsSetsFront names params count bytes b other → (a ≡ b) × (one ≡ other)
+  pub same_sets : AreNames names → (count : ℕ) (bytes one other : List ℕ) (a b : Env) → IsSetsFront names params count bytes a one → IsSetsFront names params count bytes b other → (a ≡ b) × (one ≡ other)
   same_sets are count bytes one other a b f g =
       let read : SetsRead bytes a (codes "]" ++ one) = record { spelled = f.spelled ∙ sym (labelled_all names params 0 a one); sets = f.sets } in
       let l = left are bytes (codes "]" ++ one) a read count b other (omega (arith, f.long)) g in go l.others l.split l.spelled

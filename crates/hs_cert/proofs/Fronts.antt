@@ -7,7 +7,7 @@ use Rattle.hs_scheme.proofs.Lists.{some_at}
 use Rattle.hs_reader.specs.Tokens.{is_name_byte, EndsRun}
 use Rattle.hs_reader.proofs.Runs.{run_whole}
 use Rattle.hs_text.specs.Canonical.{name_at}
-use Rattle.hs_cert.specs.Certificate.{AreStateNames}
+use Rattle.hs_cert.specs.Certificate.{AreNames}
 
 abbrev pub first : List ℕ → ℕ
 first [] = 0
@@ -55,7 +55,7 @@ pub name_read : (names : List (List ℕ)) (q : ℕ) → q < length names → nam
 name_read names q lt =
     let x = some_at names q lt in ap (λ o. unwrap_or o []) x.1 ∙ sym (get_or_from_slice_get names q x.0 [] x.1)
 
-module _ (names : List (List ℕ)) (are : AreStateNames names) where
+module _ (names : List (List ℕ)) (are : AreNames names) where
   pub word_some : (q : ℕ) → q < length names → name_at names q ≢ []
   word_some q lt = subst (λ (w : List ℕ). w ≢ []) (sym (name_read names q lt)) (are.words q [] lt).0
 

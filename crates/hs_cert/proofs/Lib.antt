@@ -6,9 +6,11 @@ pub mod Sets
 pub mod Environments
 pub mod Numbers
 pub mod Entries
+pub mod Pairs
 pub mod LineLemmas
-pub mod Heads
+pub mod Items
 pub mod Right
-pub mod Names
+pub mod Heads
+pub mod NameLemmas
 pub mod OneTable
 pub mod Clear

@@ -1,5 +1,5 @@
 -- Lines of a text.
-use Rattle.std.proofs.Common.{◌≡◌, ◌≢◌, refl, sym, ◌∙◌, ap, subst, ℕ, zero, suc, ◌+◌, ◌-◌, ◌<◌, ◌≤◌, Bool, true, false, not, ◌==◌, List, [], ◌∷◌, ◌++◌, length, codes, take, drop, cond, All, append_assoc, arith}
+use Rattle.std.proofs.Common.{◌≡◌, ◌≢◌, refl, sym, ◌∙◌, ap, subst, ℕ, suc, ◌+◌, ◌-◌, ◌<◌, ◌≤◌, Bool, true, false, not, ◌==◌, List, [], ◌∷◌, ◌++◌, length, codes, take, drop, cond, All, append_assoc, arith}
 use Rattle.std.specs.List.{list_all, prefix_len}
 use Rattle.std.proofs.lemmas.Bool.{and_parts, eqb-true}
 use Rattle.std.proofs.Math.Seq.{take-length}
@@ -9,7 +9,7 @@ use Rattle.hs_reader.proofs.Runs.{run_passes, run_ends}
 use Rattle.hs_cert.specs.Certificate.{ended, IsInLine, IsLine, IsThere}
 use Rattle.hs_cert.specs.Front.{text_of, Cut}
 use Rattle.hs_cert.proofs.Fronts.{first, behind_first, all_behind}
-use Rattle.hs_cert.proofs.Environments.{all_push}
+use Rattle.hs_cert.proofs.Environments.{all_push, all_front}
 
 abbrev pub is_inner : ℕ → Bool
 is_inner b = not (b == 10)
@@ -33,6 +33,14 @@ cut_push bytes lines rest line behind c inside e =
           c.are ∙ (ap (λ (x : List ℕ). text_of lines ++ x) e ∙ (sym (append_assoc (text_of lines) (ended line) behind)
           ∙ ap (λ (x : List ℕ). x ++ behind) (sym (flat_map-append ended lines (line ∷ []) ∙ ap (λ (x : List ℕ). text_of lines ++ x) (append-nil (ended line))))));
       clear = all_push IsInLine lines line c.clear inside;
+    }
+
+-- lines at the front alone
+pub cut_front : (bytes : List ℕ) (xs ys : List (List ℕ)) (rest : List ℕ) → Cut bytes (xs ++ ys) rest → Cut bytes xs (text_of ys ++ rest)
+cut_front bytes xs ys rest c =
+    record {
+      are = c.are ∙ (ap (λ (x : List ℕ). x ++ rest) (flat_map-append ended xs ys) ∙ append_assoc (text_of xs) (text_of ys) rest);
+      clear = all_front IsInLine xs ys c.clear;
     }
 
 -- a text is cut in one way
@@ -68,15 +76,10 @@ line_at bytes before line behind rest c =
           c.are ∙ (ap (λ (x : List ℕ). x ++ rest) (flat_map-append ended before (line ∷ behind))
           ∙ (append_assoc (text_of before) (ended line ++ text_of behind) rest ∙ ap (λ (x : List ℕ). text_of before ++ x) (append_assoc (ended line) (text_of behind) rest)));
       long = refl;
-      clear = part before (line ∷ behind) c.clear;
+      clear = all_front IsInLine before (line ∷ behind) c.clear;
       inside = own before c.clear;
     }
   where
-    part : (xs ys : List (List ℕ)) → All IsInLine (xs ++ ys) → All IsInLine xs
-    part [] ys h k d lt = absurd (omega (arith, lt))
-    part (x ∷ xs) ys h zero d lt = h 0 d (omega arith)
-    part (x ∷ xs) ys h (suc k) d lt = part xs ys (all_behind IsInLine x (xs ++ ys) h) k d (omega (arith, lt))
-
     own : (xs : List (List ℕ)) → All IsInLine (xs ++ line ∷ behind) → IsInLine line
     own [] h = h 0 [] (omega arith)
     own (x ∷ xs) h = own xs (all_behind IsInLine x (xs ++ line ∷ behind) h)

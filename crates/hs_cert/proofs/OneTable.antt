@@ -1,14 +1,17 @@
 -- A file is a certificate of one table at most.
-use Rattle.std.proofs.Common.{◌≡◌, refl, sym, ◌∙◌, ap, ℕ, suc, ◌+◌, List, [], ◌∷◌, ◌++◌, length, map, decimal, codes, All, inl, inr, arith}
-use Rattle.std.proofs.lemmas.Fmt.{decimal_injective}
-use Rattle.std.proofs.lemmas.List.{append_cancel_left}
+use Rattle.std.proofs.Common.{◌≡◌, refl, sym, ◌∙◌, ap, ℕ, suc, ◌+◌, List, [], ◌∷◌, ◌++◌, length, map, All, inl, inr, arith}
+use Rattle.std.proofs.lemmas.List.{length-map}
 use Rattle.hs_scheme.specs.Problem.{ProblemData}
-use Rattle.hs_table.specs.Entries.{EntryData, InShape}
-use Rattle.hs_cert.specs.Certificate.{HasStateNames, IsNested, line_text, ended, IsInLine, IsFirstFaulty, certificate_lines, IsCertificate}
+use Rattle.hs_table.specs.Entries.{EntryData, entry_cmp}
+use Rattle.hs_weak.specs.Void.{VoidData, void_cmp}
+use Rattle.hs_cert.specs.declared.heading.Form.{Form}
+use Rattle.hs_cert.specs.declared.heading.Heading.{Heading}
+use Rattle.hs_cert.specs.Certificate.{HasOwnNames, line_text, pair_text, ended, IsInLine, Says, IsEntry, IsPair, IsFirstFaulty, certificate_lines, IsCertificateIn}
 use Rattle.hs_cert.specs.Front.{text_of}
 use Rattle.hs_cert.proofs.Fronts.{behind_first, all_behind, order}
 use Rattle.hs_cert.proofs.LineLemmas.{same_line}
-use Rattle.hs_cert.proofs.Right.{one_entry, all_right}
+use Rattle.hs_cert.proofs.Items.{same_items}
+use Rattle.hs_cert.proofs.Right.{one_heading, one_entry, one_pair, begun_of, says, all_right}
 
 no_text : (y r : List ℕ) → [] ≡ ended y ++ r → ⊥
 no_text [] r e = let f : 0 ≡ suc (length r) = ap length e in omega (arith, f)
@@ -23,30 +26,42 @@ same_lines (x ∷ xs) (y ∷ ys) cx cy e =
     let p = same_line x y (text_of xs) (text_of ys) (cx 0 [] (omega arith)) (cy 0 [] (omega arith)) e in
     λ i. p.0 i ∷ same_lines xs ys (all_behind IsInLine x xs cx) (all_behind IsInLine y ys cy) p.1 i
 
-abbrev second : List (List ℕ) → List ℕ
-second [] = []
-second (x ∷ xs) = x
+abbrev first_line : List (List ℕ) → List ℕ
+first_line [] = []
+first_line (x ∷ xs) = x
 
-module _ (p : ProblemData) (has : HasStateNames p) where
-  same_tables : (xs ys : List EntryData) → All (InShape p) xs → All (InShape p) ys → All IsNested xs → All IsNested ys → map (line_text p) xs ≡ map (line_text p) ys → xs ≡ ys
-  same_tables [] [] sx sy nx ny e = refl
-  same_tables [] (y ∷ ys) sx sy nx ny e = absurd (let f : 0 ≡ suc (length (map (line_text p) ys)) = ap length e in omega (arith, f))
-  same_tables (x ∷ xs) [] sx sy nx ny e = absurd (let f : suc (length (map (line_text p) xs)) ≡ 0 = ap length e in omega (arith, f))
-  same_tables (x ∷ xs) (y ∷ ys) sx sy nx ny e =
-      let same = one_entry p has (line_text p x) x y
-      (record { is = refl; shape = sx 0 x (omega arith); nested = nx 0 x (omega arith) })
-      (record { is = ap second e; shape = sy 0 x (omega arith); nested = ny 0 x (omega arith) }) in
-      λ i. same i ∷ same_tables xs ys (all_behind (InShape p) x xs sx) (all_behind (InShape p) y ys sy) (all_behind IsNested x xs nx) (all_behind IsNested y ys ny) (ap behind_first e) i
+same_parts : (xs ys rs ss : List (List ℕ)) → length xs ≡ length ys → xs ++ rs ≡ ys ++ ss → (xs ≡ ys) × (rs ≡ ss)
+same_parts [] [] rs ss l e = (refl, e)
+same_parts [] (y ∷ ys) rs ss l e = absurd (omega (arith, l))
+same_parts (x ∷ xs) [] rs ss l e = absurd (omega (arith, l))
+same_parts (x ∷ xs) (y ∷ ys) rs ss l e =
+    let p = same_parts xs ys rs ss (omega (arith, l)) (ap behind_first e) in (λ i. ap first_line e i ∷ p.0 i, p.1)
 
-  pub one_table : (bytes : List ℕ) (one other : List EntryData) (m n : ℕ) → IsCertificate p bytes one m → IsCertificate p bytes other n → (one ≡ other) × (m ≡ n)
-  one_table bytes one other m n a b =
-      let lines = same_lines (certificate_lines p one m) (certificate_lines p other n) a.clear b.clear (sym a.are ∙ b.are) in (
-        same_tables one other a.shape b.shape a.nested b.nested (ap (λ (ls : List (List ℕ)). behind_first (behind_first (behind_first ls))) lines),
-        decimal_injective m n a.fits b.fits (append_cancel_left (codes "checked ") (decimal m) (decimal n) (ap (λ (ls : List (List ℕ)). second (behind_first (behind_first ls))) lines)),
+module _ (p : ProblemData) (has : HasOwnNames p) where
+  abbrev heading : Form → ℕ → ℕ → Heading
+  heading form n m = record { form = form; entries = n; number = m }
+
+  said : (form : Form) (bytes : List ℕ) (m : ℕ) (table : List EntryData) (void : List VoidData) → IsCertificateIn form p bytes m table void → Says bytes (heading form (length table) m)
+  said form bytes m table void c = says p has bytes (heading form (length table) m) table void [] (begun_of p has form bytes m table void c)
+
+  pub one_table : (bytes : List ℕ) (form kind : Form) (m n : ℕ) (one other : List EntryData) (void pairs : List VoidData) → IsCertificateIn form p bytes m one void → IsCertificateIn kind p bytes n other pairs
+      → (form ≡ kind) × (m ≡ n) × (one ≡ other) × (void ≡ pairs)
+  one_table bytes form kind m n one other void pairs a b =
+      let heads = one_heading bytes (heading form (length one) m) (heading kind (length other) n) (said form bytes m one void a) (said kind bytes n other pairs b) in
+      let lines = same_lines (certificate_lines p form m one void) (certificate_lines p kind n other pairs) a.clear b.clear (sym a.are ∙ b.are) in
+      let rows : map (line_text p) one ++ map (pair_text p) void ≡ map (line_text p) other ++ map (pair_text p) pairs = ap (λ (ls : List (List ℕ)). behind_first (behind_first (behind_first ls))) lines in
+      let parts = same_parts (map (line_text p) one) (map (line_text p) other) (map (pair_text p) void) (map (pair_text p) pairs)
+      (length-map one (line_text p) ∙ (heads.1 ∙ sym (length-map other (line_text p)))) rows in (
+        heads.0,
+        heads.2,
+        same_items (line_text p) (IsEntry p) entry_cmp (one_entry p has) one other (λ k d lt. record { is = refl; shape = a.shape k d lt; nested = a.nested k d lt })
+            (λ k d lt. record { is = refl; shape = b.shape k d lt; nested = b.nested k d lt }) parts.0,
+        same_items (pair_text p) (IsPair p) void_cmp (one_pair p has) void pairs (λ k d lt. record { is = refl; shape = a.void_shape k d lt; nested = a.void_nested k d lt })
+            (λ k d lt. record { is = refl; shape = b.void_shape k d lt; nested = b.void_nested k d lt }) parts.1,
       )
 
-  pub no_fault : (bytes : List ℕ) (table : List EntryData) (m line : ℕ) → IsCertificate p bytes table m → IsFirstFaulty p bytes line → ⊥
-  no_fault bytes table m line c f = f.faulty (all_right p has bytes table m c f.place)
+  pub no_fault : (form : Form) (bytes : List ℕ) (m : ℕ) (table : List EntryData) (void : List VoidData) (line : ℕ) → IsCertificateIn form p bytes m table void → IsFirstFaulty p bytes line → ⊥
+  no_fault form bytes m table void line c f = f.faulty (all_right p has form bytes m table void c f.place)
 
 pub one_first : (p : ProblemData) (bytes : List ℕ) (one other : ℕ) → IsFirstFaulty p bytes one → IsFirstFaulty p bytes other → one ≡ other
 one_first p bytes one other a b = elim (order a.place b.place) [

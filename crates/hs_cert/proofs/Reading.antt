@@ -8,7 +8,7 @@ use Rattle.hs_reader.specs.Tokens.{is_name_byte, EndsRun}
 use Rattle.hs_table.specs.Types.{TypeTree, state, arrow, type_cmp, IsSet, AreTypes}
 use Rattle.hs_table_laws.proofs.Orders.{type_cmp_total}
 use Rattle.hs_text.specs.Canonical.{name_at}
-use Rattle.hs_cert.specs.Certificate.{AreStateNames}
+use Rattle.hs_cert.specs.Certificate.{AreNames}
 use Rattle.hs_cert.specs.Front.{IsAboveLast, type_then, members_then, others_then, IsTypeFront, IsMembersFront}
 use Rattle.hs_cert.proofs.Fronts.{behind_first, run_split, first_of_word, word_some, word_all}
 use Rattle.hs_cert.proofs.Unique.{others_end, type_unique, members_unique, listed_then, listed_more, listed_all, left_of, shape_at, shapes_more, low_at, low_more}
@@ -26,7 +26,7 @@ module _ (names : List (List ℕ)) where
   state_read bytes run rest q whole ends at within =
       record { spelled = whole ∙ ap (λ w. w ++ rest) (sym at); ends = ends; shape = (within, refl); low = omega arith }
 
-  pub unread_state : AreStateNames names → (bytes run rest : List ℕ) → bytes ≡ run ++ rest → IsTrue (list_all is_name_byte run) → EndsRun rest → (Contains names run → ⊥)
+  pub unread_state : AreNames names → (bytes run rest : List ℕ) → bytes ≡ run ++ rest → IsTrue (list_all is_name_byte run) → EndsRun rest → (Contains names run → ⊥)
       → (q : ℕ) (other : List ℕ) → q < length names → EndsRun other → bytes ≡ name_at names q ++ other → ⊥
   unread_state are bytes run rest whole all ends nowhere q other lt end e =
       let p = run_split run (name_at names q) rest other all (word_all names are q lt) ends end (sym whole ∙ e) in
@@ -61,7 +61,7 @@ module _ (names : List (List ℕ)) where
     pub members : IsMembersFront names (limit - 1) behind_brace s (codes " -> " ++ type_then names t rest)
     pub result_type : IsTypeFront names (limit - 1) (type_then names t rest) t rest
 
-  module _ (are : AreStateNames names) where
+  module _ (are : AreNames names) where
     pub opened : (limit : ℕ) (bytes behind_brace : List ℕ) (t : TypeTree) (rest : List ℕ) → bytes ≡ codes "{" ++ behind_brace → IsTypeFront names limit bytes t rest → Opened limit behind_brace rest
     opened limit bytes behind_brace (node (Some q) us) rest brace h =
         let is = first_of_word (name_at names q) rest behind_brace 123 (word_some names are q h.shape.0) (word_all names are q h.shape.0) (sym h.spelled ∙ brace) in
@@ -143,7 +143,7 @@ module _ (names : List (List ℕ)) where
     pub front : IsTypeFront names limit bytes t (others_then names (forest others) rest)
     pub above : IsAboveLast type_cmp ts t
 
-  module _ (are : AreStateNames names) where
+  module _ (are : AreNames names) where
     pub next_of : (limit : ℕ) (all bytes : List ℕ) (ts s : List TypeTree) (rest : List ℕ) → Listed limit all ts bytes → IsMembersFront names limit all s rest → Next limit ts bytes rest
     next_of limit all bytes ts [] rest l m = absurd (l.some rest m.spelled)
     next_of limit all bytes ts (u ∷ s) rest l m =

@@ -10,7 +10,7 @@ use Rattle.hs_text.specs.Canonical.{name_at, params_at}
 use Rattle.hs_text.specs.Report.{braced, type_text, type_texts, set_text, binding_text, env_text, entry_text}
 use Rattle.hs_text.proofs.Types.{type_texts-forest}
 use Rattle.hs_scheme.specs.Names.{NamesData}
-use Rattle.hs_cert.specs.Certificate.{AreStateNames}
+use Rattle.hs_cert.specs.Certificate.{AreNames}
 use Rattle.hs_cert.specs.Front.{type_then, members_then, others_then, label_text, sets_then, IsLowSet}
 use Rattle.hs_cert.proofs.Fronts.{all_behind}
 use Rattle.hs_cert.proofs.Unique.{members_unique}
@@ -117,7 +117,7 @@ module _ (names params : List (List ℕ)) where
     pub split : env ≡ done ++ others
     pub spelled : (m : ℕ) → m ≡ k + length done → bytes ≡ sets_then names params m others rest
 
-module _ (names params : List (List ℕ)) (are : AreStateNames names) where
+module _ (names params : List (List ℕ)) (are : AreNames names) where
   shapes_at : (s : List TypeTree) (env : Env) → All (IsLowSet (length names) 1000) (s ∷ env) → AreTypes (length names) (forest s)
   shapes_at s env h = (h 0 [] (omega arith)).shape
 

@@ -4,7 +4,7 @@ use Rattle.hs_scheme.specs.Tree.{Tree, Trees, node, none, more, forest, height, 
 use Rattle.hs_reader.specs.Tokens.{is_name_byte, EndsRun}
 use Rattle.hs_table.specs.Types.{TypeTree, IsType, AreTypes}
 use Rattle.hs_text.specs.Canonical.{name_at}
-use Rattle.hs_cert.specs.Certificate.{AreStateNames}
+use Rattle.hs_cert.specs.Certificate.{AreNames}
 use Rattle.hs_cert.specs.Front.{type_then, members_then, others_then}
 use Rattle.hs_cert.proofs.Fronts.{first, behind_first, run_split, first_of_word, word_some, word_all, same_number}
 
@@ -44,7 +44,7 @@ module _ (names : List (List ℕ)) where
   shapes_more [] t a b = (b, tt)
   shapes_more (u ∷ ts) t a b = (a.0, shapes_more ts t a.1 b)
 
-module _ (names : List (List ℕ)) (are : AreStateNames names) where
+module _ (names : List (List ℕ)) (are : AreNames names) where
   -- a state doesn't begin with a sign
   state_not : (q c : ℕ) (r x : List ℕ) → q < length names → is_name_byte c ≡ false → name_at names q ++ r ≡ c ∷ x → ⊥
   state_not q c r x lt not e =

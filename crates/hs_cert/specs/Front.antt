@@ -4,8 +4,9 @@
 --                                            behind its bracket, and this rest
 --     IsTypeFront, IsMembersFront            such a type or set stands at the front
 --     IsSetsFront                            such sets stand there, the first of them that of parameter k
---     IsPlaceFront, IsNextEntry              a point with its rule; an entry on a line
---     HasHead, HasBegun                      the first three lines; those and some entries
+--     IsPlaceFront, IsRuleFront              a point with its rule; the rule of a void environment
+--     IsNextItem                             an entry, or a void environment, on a line
+--     HasHead, HasBegun                      the first three lines; those, some entries, and void environments behind all of them
 use Rattle.std.specs.Prelude.{◌≡◌, ℕ, ◌+◌, ◌<◌, ◌≤◌, ◌^◌, ◌==◌, List, [], ◌∷◌, ◌++◌, length, map, codes, decimal, Option, Some, None, All, if◌then◌else◌}
 use Rattle.std.specs.List.{flat_map}
 use Rattle.std.specs.declared.cmp.Ordering.{Ordering}
@@ -18,15 +19,17 @@ use Rattle.hs_reader.specs.Tokens.{EndsRun}
 use Rattle.hs_table.specs.Types.{TypeTree, IsSet, IsType, AreTypes}
 use Rattle.hs_table.specs.Entries.{Env, EntryData, InShape, entry_cmp}
 use Rattle.hs_text.specs.Canonical.{name_at}
-use Rattle.hs_cert.specs.Certificate.{AreStateNames, ended, IsInLine, IsNested, IsEntry, verdict_line, entries_line, checked_line, line_text}
+use Rattle.hs_weak.specs.Void.{VoidData, void_cmp, IsVoidShape}
+use Rattle.hs_cert.specs.declared.heading.Heading.{Heading}
+use Rattle.hs_cert.specs.Certificate.{AreNames, ended, IsInLine, AreNested, IsNested, verdict_line, count_line, number_line, IsWithin, pairs_of, line_text, pair_text}
 
 -- the element is greater than the last of the list, where it has one
 abbrev pub IsAboveLast : {X : Type 0} → (X → X → Ordering) → List X → X → Type 0
 IsAboveLast {X} cmp xs x = (front : List X) (last : X) → xs ≡ front ++ last ∷ [] → cmp last x ≡ Less
 
 -- names with numbers below 2 ^ 32
-pub record AreStates (names : List (List ℕ)) : Type 0 where
-  pub are : AreStateNames names
+pub record AreIndexed (names : List (List ℕ)) : Type 0 where
+  pub are : AreNames names
   pub few : length names < 2 ^ 32
 
 -- these are the names of the problem's states, one for each, and it has no more points than a problem may have
@@ -34,6 +37,11 @@ pub record IsOfProblem (p : ProblemData) (names : List (List ℕ)) : Type 0 wher
   pub is : names ≡ p.sorted.names.states
   pub each : length p.sorted.names.states ≡ p.sorted.automaton.states
   pub few : length p.points.points ≤ 500000
+
+-- these are the names of the problem's rules, one for each
+pub record AreOfRules (p : ProblemData) (names : List (List ℕ)) : Type 0 where
+  pub is : names ≡ p.sorted.names.rules
+  pub each : length p.sorted.names.rules ≡ length p.sorted.scheme.rules
 
 abbrev mutual
   pub type_then : List (List ℕ) → Tree (Option ℕ) → List ℕ → List ℕ
@@ -85,8 +93,8 @@ pub record IsSetsFront (names params : List (List ℕ)) (count : ℕ) (bytes : L
   pub long : length env ≡ count
   pub sets : All (IsLowSet (length names) 1000) env
 
-abbrev pub head_lines : ℕ → ℕ → List (List ℕ)
-head_lines n m = verdict_line ∷ (entries_line n ∷ (checked_line m ∷ []))
+abbrev pub head_lines : Heading → List (List ℕ)
+head_lines h = verdict_line ∷ (count_line h.form h.entries ∷ (number_line h.form h.number ∷ []))
 
 abbrev pub text_of : List (List ℕ) → List ℕ
 text_of lines = flat_map ended lines
@@ -96,30 +104,40 @@ pub record Cut (bytes : List ℕ) (lines : List (List ℕ)) (rest : List ℕ) : 
   pub are : bytes ≡ text_of lines ++ rest
   pub clear : All IsInLine lines
 
-pub record HasHead (bytes : List ℕ) (n m : ℕ) (rest : List ℕ) : Type 0 where
-  pub cut : Cut bytes (head_lines n m) rest
-  pub few : n ≤ 1000000
-  pub fits : m < 2 ^ 64
+pub record HasHead (bytes : List ℕ) (h : Heading) (rest : List ℕ) : Type 0 where
+  pub cut : Cut bytes (head_lines h) rest
+  pub few : h.entries ≤ 1000000
+  pub fits : IsWithin h.form h.number
 
--- the first lines are right: a head with these numbers, and these entries
-pub record HasBegun (p : ProblemData) (bytes : List ℕ) (n m : ℕ) (table : List EntryData) (rest : List ℕ) : Type 0 where
-  pub cut : Cut bytes (head_lines n m ++ map (line_text p) table) rest
-  pub few : n ≤ 1000000
-  pub fits : m < 2 ^ 64
-  pub within : length table ≤ n
+-- The first lines are right: a head, these entries, and these void environments, which stand behind all entries.
+pub record HasBegun (p : ProblemData) (bytes : List ℕ) (h : Heading) (table : List EntryData) (void : List VoidData) (rest : List ℕ) : Type 0 where
+  pub cut : Cut bytes ((head_lines h ++ map (line_text p) table) ++ map (pair_text p) void) rest
+  pub few : h.entries ≤ 1000000
+  pub fits : IsWithin h.form h.number
+  pub within : length table ≤ h.entries
+  pub pairs : length void ≤ pairs_of h.form h.number
+  pub behind : 0 < length void → length table ≡ h.entries
   pub shape : All (InShape p) table
   pub nested : All IsNested table
   pub ascending : IsAscending entry_cmp table
+  pub void_shape : All (IsVoidShape p) void
+  pub void_nested : All (λ v. AreNested v.env) void
+  pub void_ascending : IsAscending void_cmp void
 
 -- the number of a point of the problem with the name of its rule, and the bracket
 pub record IsPlaceFront (p : ProblemData) (bytes : List ℕ) (point : ℕ) (rest : List ℕ) : Type 0 where
   pub spelled : bytes ≡ decimal point ++ (codes " " ++ (name_at p.sorted.names.rules (point_at p.points point).rule ++ (codes " [" ++ rest)))
   pub within : point < length p.points.points
 
--- the entry stands on the line at the front, and is greater than the last of these
-pub record IsNextEntry (p : ProblemData) (before : List EntryData) (bytes : List ℕ) (e : EntryData) (rest : List ℕ) : Type 0 where
+-- the name of a rule, with the word before it and the bracket
+pub record IsRuleFront (names : List (List ℕ)) (bytes : List ℕ) (rule : ℕ) (rest : List ℕ) : Type 0 where
+  pub spelled : bytes ≡ codes "void " ++ (name_at names rule ++ (codes " [" ++ rest))
+  pub within : rule < length names
+
+-- the item stands on the line at the front, and is greater than the last of these
+pub record IsNextItem {X : Type 0} (Is : List ℕ → X → Type 0) (cmp : X → X → Ordering) (before : List X) (bytes : List ℕ) (x : X) (rest : List ℕ) : Type 0 where
   pub text : List ℕ
   pub spelled : bytes ≡ ended text ++ rest
   pub inside : IsInLine text
-  pub entry : IsEntry p text e
-  pub above : IsAboveLast entry_cmp before e
+  pub item : Is text x
+  pub above : IsAboveLast cmp before x

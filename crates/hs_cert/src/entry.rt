@@ -7,12 +7,12 @@ ghost use Rattle.hs_table.specs.Entries.{Env, EntryData};
 ghost use Rattle.hs_text.specs.Canonical.{name_at, params_at};
 ghost use Rattle.hs_cert.specs.declared.fault.Misread.TheVariants.{Faulty};
 ghost use Rattle.hs_cert.specs.Certificate.{IsEntry};
-ghost use Rattle.hs_cert.specs.Front.{AreStates, IsOfProblem, IsSetsFront, IsPlaceFront, label_text};
+ghost use Rattle.hs_cert.specs.Front.{AreIndexed, IsOfProblem, IsSetsFront, IsPlaceFront, label_text};
 
 use crate::ahead::Ahead;
 use crate::fault::Misread;
+use crate::names::NameTable;
 use crate::number::number_of;
-use crate::states::StateNames;
 use crate::types::{read_members, read_type};
 use hs_scheme::{Name, Problem};
 use hs_table::{Entry, TypeSet, parameters};
@@ -52,14 +52,14 @@ fn expect_label(params: &[Name], number: usize, ahead: &mut Ahead<'_>) -> Result
 
 /// The environment at the front, behind its bracket, with so many sets, where these are the names of
 /// the parameters.
-fn read_env(
+pub(crate) fn read_env(
     alloc: Global,
-    states: &StateNames,
+    states: &NameTable,
     params: &[Name],
     count: u32,
     ahead: &mut Ahead<'_>,
 ) -> Result<Vec<TypeSet>, Misread>
-    requires { AreStates states.now }
+    requires { AreIndexed states.now }
     ensures read { IfOk result (λ env. IsSetsFront states.now params.now count ahead.old.bytes.now
         env.items ahead.new.bytes.now) }
     ensures faulty { IsErrOf result Faulty → (env : Env) (rest : List ℕ)
@@ -142,10 +142,10 @@ fn read_place(problem: &Problem, ahead: &mut Ahead<'_>) -> Result<u32, Misread>
 pub(crate) fn read_entry(
     alloc: Global,
     problem: &Problem,
-    states: &StateNames,
+    states: &NameTable,
     line: &[u8],
 ) -> Result<Entry, Misread>
-    requires states { AreStates states.now }
+    requires states { AreIndexed states.now }
     requires same { IsOfProblem problem.now states.now }
     ensures read { IfOk result (λ e. IsEntry problem.now line.now e) }
     ensures faulty { IsErrOf result Faulty → (e : EntryData) → IsEntry problem.now line.now e → ⊥ }

@@ -1,9 +1,10 @@
 //! Evidence of acceptance in a file, read back.
 //!
-//! What `horsat --table` writes of an accepted scheme is read here from bytes that nobody vouches
-//! for: `read_table` answers the entries exactly where each line keeps the rules, and the first
-//! faulty line otherwise. The rules are the definition `Certificate` in `specs/`, which takes the
-//! text of an entry from the writer's definition, so that it stands once.
+//! What `horsat --table` writes of an accepted scheme, with `--quick` or without it, is read here from
+//! bytes that nobody vouches for: `read_table` answers the entries, and the void environments of a
+//! certificate of acceptance, exactly where each line keeps the rules, and the first faulty line
+//! otherwise. The rules are the definition `Certificate` in `specs/`, which takes the
+//! texts of an entry and of a void environment from the writer's definitions, so that they stand once.
 //!
 //! A line is read from left to right, and each function says in both directions what stands at the
 //! front: a value where it answers one, none where it answers a fault. That the text of an entry
@@ -16,13 +17,16 @@
 mod ahead;
 mod entry;
 mod fault;
+mod heading;
 mod laws;
 mod lines;
+mod names;
 mod number;
-mod states;
+mod pair;
+mod rows;
 mod table;
 mod types;
 
 pub use fault::TableFault;
-pub use laws::{certificate_is_unique, report_is_certificate};
+pub use laws::{certificate_is_unique, certificate_report_is_certificate, report_is_certificate};
 pub use table::{Cert, read_table};

@@ -6,18 +6,18 @@ ghost use Rattle.hs_table.specs.Types as types;
 ghost use Rattle.hs_table.specs.Types.{TypeTree};
 ghost use Rattle.hs_text.specs.Canonical.{name_at};
 ghost use Rattle.hs_cert.specs.declared.fault.Misread.TheVariants.{Faulty};
-ghost use Rattle.hs_cert.specs.Front.{AreStates, IsTypeFront, IsMembersFront, IsAboveLast};
+ghost use Rattle.hs_cert.specs.Front.{AreIndexed, IsTypeFront, IsMembersFront, IsAboveLast};
 
 use crate::ahead::Ahead;
 use crate::fault::Misread;
-use crate::states::StateNames;
+use crate::names::NameTable;
 use hs_table::{Shape, Ty};
 use std::alloc::Global;
 use std::cmp::Ordering;
 
 /// The state whose name stands at the front.
-fn read_state(states: &StateNames, ahead: &mut Ahead<'_>) -> Result<Ty, Misread>
-    requires { AreStates states.now }
+fn read_state(states: &NameTable, ahead: &mut Ahead<'_>) -> Result<Ty, Misread>
+    requires { AreIndexed states.now }
     ensures read { IfOk result (λ t. IsTypeFront states.now 1 ahead.old.bytes.now t ahead.new.bytes.now) }
     ensures faulty { IsErrOf result Faulty → (q : ℕ) (rest : List ℕ) → q < length states.now
         → EndsRun rest → ahead.old.bytes.now ≢ name_at states.now q ++ rest }
@@ -42,11 +42,11 @@ fn is_above(set: &[Ty], ty: &Ty) -> bool
 #[cycle(types)]
 pub(crate) fn read_type(
     alloc: Global,
-    states: &StateNames,
+    states: &NameTable,
     limit: u32,
     ahead: &mut Ahead<'_>,
 ) -> Result<Ty, Misread>
-    requires { AreStates states.now }
+    requires { AreIndexed states.now }
     ensures read { IfOk result (λ t.
         IsTypeFront states.now limit ahead.old.bytes.now t ahead.new.bytes.now) }
     ensures faulty { IsErrOf result Faulty → (t : TypeTree) (rest : List ℕ)
@@ -72,12 +72,12 @@ pub(crate) fn read_type(
 #[cycle(types)]
 pub(crate) fn read_members(
     alloc: Global,
-    states: &StateNames,
+    states: &NameTable,
     limit: u32,
     set: &mut Vec<Ty>,
     ahead: &mut Ahead<'_>,
 ) -> Result<(), Misread>
-    requires states { AreStates states.now }
+    requires states { AreIndexed states.now }
     requires set { set.old.items ≡ [] }
     ensures read { OnOk result (IsMembersFront states.now limit ahead.old.bytes.now set.new.items
         ahead.new.bytes.now) }

@@ -12,56 +12,58 @@ use Rattle.hs_front.proofs.ReadLemmas.{whole_bytes, part_bytes}
 use Rattle.hs_front.proofs.Statuses.{past}
 use Rattle.hs_front.proofs.Yielding.{one_yield}
 use Rattle.hs_check.specs.declared.fault.Fault.{Fault}
-use Rattle.hs_check.specs.declared.fault.Fault.TheVariants.{Front, TableTooLong, TableLine, Missing, HasStart, Instances}
+use Rattle.hs_check.specs.declared.fault.Fault.TheVariants.{Front, TableTooLong, TableLine, Missing, HasStart, NotVoid, Instances}
+use Rattle.hs_check.specs.declared.verified.Shown.{Shown}
+use Rattle.hs_check.specs.declared.verified.Shown.TheVariants.{Full}
 use Rattle.hs_check.specs.declared.top.Ending.{Ending}
 use Rattle.hs_check.specs.declared.top.Ending.TheVariants.{Verified, CutOff, Failed}
 use Rattle.hs_check.specs.Words.{FilePair}
 use Rattle.hs_check.specs.Fault.{status_of, no_memory}
-use Rattle.hs_check.specs.Evidence.{max_table, FileShows, ComesTo}
+use Rattle.hs_check.specs.Evidence.{max_table, SomeReads, EachReads, FileShows, ComesTo}
 use Rattle.hs_check.specs.Outcome.{OfBothFiles, IsVerified, IsAnswerOfRun, Ends, status_at, status_due, IsDue, Complies, Rows}
 use Rattle.hs_check.proofs.OneAnswer.{one_answer}
 
 -- ---- what was handed out says of a file what it says itself
 
-record Shown (name : List ℕ) (run : SourceRun) (file : List ℕ → Option (List ℕ)) : Type 1 where
+record SaysOf (name : List ℕ) (run : SourceRun) (file : List ℕ → Option (List ℕ)) : Type 1 where
   whole : (P : List ℕ → Type 0) → P run.after.given → IsReadFromFront run true name → IfSome (file name) P
   part : (limit : ℕ) → limit < length run.after.given → IsReadFromFront run false name → IfSome (file name) (λ bytes. limit < length bytes)
 
-shown_told : (name : List ℕ) (run : SourceRun) → Shown name run run.file
+shown_told : (name : List ℕ) (run : SourceRun) → SaysOf name run run.file
 shown_told name run = record {
   whole = λ P h read. whole_bytes P run.after.given (run.file name) run.left_after read.told (read.all refl) h;
   part = λ limit h read. part_bytes limit run.after.given (run.file name) run.left_after read.told h;
 }
 
-shown_handed : (name : List ℕ) (run : SourceRun) → Shown name run (λ _. Some run.after.given)
+shown_handed : (name : List ℕ) (run : SourceRun) → SaysOf name run (λ _. Some run.after.given)
 shown_handed name run = record { whole = λ P h read. h; part = λ limit h read. h }
 
 -- ---- what is due, and what is answered
 
 -- a failure, which nothing of the words and the bytes brings
-abbrev IsFailure : Result ℕ Fault → Type 0
+abbrev IsFailure : Result Shown Fault → Type 0
 IsFailure b = (b ≡ Err (Front Source)) ⊎ (b ≡ Err no_memory)
 
 -- why something is answered, and why it is due, by the bytes of the files
-abbrev Why : Option (List ℕ) → Option (List ℕ) → Result ℕ Fault → Type 0
+abbrev Why : Option (List ℕ) → Option (List ℕ) → Result Shown Fault → Type 0
 Why s t b =
     IsFailure b
     ⊎ (((r : Refusal) × ((b ≡ Err (Front r)) × IfSome s (λ bytes. Yields bytes (Err r))))
-    ⊎ ((p : ProblemData) × (IfSome s (λ bytes. Yields bytes (Ok p)) × IfSome t (λ bytes. FileShows p bytes b))))
+    ⊎ ((p : ProblemData) × (IfSome s (λ bytes. Yields bytes (Ok p)) × IfSome t (λ bytes. FileShows SomeReads p bytes b))))
 
-abbrev Due : Option (List ℕ) → Option (List ℕ) → Result ℕ Fault → Type 0
+abbrev Due : Option (List ℕ) → Option (List ℕ) → Result Shown Fault → Type 0
 Due s t d =
     ((r : Refusal) × ((d ≡ Err (Front r)) × IsSomeAnd s (λ bytes. Yields bytes (Err r))))
-    ⊎ IsSomeAnd s (λ bytes. IsSomeAnd t (λ table. ComesTo bytes table d))
+    ⊎ IsSomeAnd s (λ bytes. IsSomeAnd t (λ table. ComesTo EachReads bytes table d))
 
-abbrev of_front : Result ProblemData Refusal → Result ℕ Fault
-of_front (Ok p) = Ok 0
+abbrev of_front : Result ProblemData Refusal → Result Shown Fault
+of_front (Ok p) = Ok (Full 0)
 of_front (Err r) = Err (Front r)
 
-abbrev Meet : Result ℕ Fault → Result ℕ Fault → Type 0
+abbrev Meet : Result Shown Fault → Result Shown Fault → Type 0
 Meet d b = IsFailure b ⊎ (status_due d ≡ status_due b)
 
-module _ (d b : Result ℕ Fault) (bytes : List ℕ) where
+module _ (d b : Result Shown Fault) (bytes : List ℕ) where
   same_refusal : (r s : Refusal) → d ≡ Err (Front r) → b ≡ Err (Front s) → Yields bytes (Err r) → Yields bytes (Err s) → status_due d ≡ status_due b
   same_refusal r s e f h k =
       ap status_due e ∙ (ap (λ (x : Result ProblemData Refusal). status_due (of_front x)) (one_yield bytes (Err r) (Err s) h k) ∙ sym (ap status_due f))
@@ -69,7 +71,7 @@ module _ (d b : Result ℕ Fault) (bytes : List ℕ) where
   no_problem : (r : Refusal) (p : ProblemData) → Yields bytes (Err r) → Yields bytes (Ok p) → ⊥
   no_problem r p h k = let e = one_yield bytes (Err r) (Ok p) h k in (cc)
 
-  meet_table : (table : Option (List ℕ)) → IsSomeAnd table (λ t. ComesTo bytes t d) → Why (Some bytes) table b → Meet d b
+  meet_table : (table : Option (List ℕ)) → IsSomeAnd table (λ t. ComesTo EachReads bytes t d) → Why (Some bytes) table b → Meet d b
   meet_table None h w = absurd h
   meet_table (Some t) h (inl fails) = inl fails
   meet_table (Some t) h (inr (inl (r, (e, k)))) = absurd (no_problem r h.problem k h.yields)
@@ -81,7 +83,7 @@ module _ (d b : Result ℕ Fault) (bytes : List ℕ) where
   meet_some table (inl (r, (e, h))) (inr (inr (p, (y, a)))) = absurd (no_problem r p h y)
   meet_some table (inr h) w = meet_table table h w
 
-meet : (s t : Option (List ℕ)) (d b : Result ℕ Fault) → Due s t d → Why s t b → Meet d b
+meet : (s t : Option (List ℕ)) (d b : Result Shown Fault) → Due s t d → Why s t b → Meet d b
 meet None t d b (inl (r, (e, h))) w = absurd h
 meet None t d b (inr h) w = absurd h
 meet (Some bytes) t d b due w = meet_some d b bytes t due w
@@ -93,32 +95,33 @@ faulty TableTooLong = omega arith
 faulty (TableLine line) = omega arith
 faulty (Missing entry) = omega arith
 faulty HasStart = omega arith
+faulty (NotVoid pair) = omega arith
 faulty (Instances count) = omega arith
 
-verified_only : (d : Result ℕ Fault) → status_due d ≡ 0 → (count : ℕ) × (d ≡ Ok count)
-verified_only (Ok count) e = (count, refl)
+verified_only : (d : Result Shown Fault) → status_due d ≡ 0 → (shown : Shown) × (d ≡ Ok shown)
+verified_only (Ok shown) e = (shown, refl)
 verified_only (Err fault) e = let h : 1 ≤ status_of fault = faulty fault in absurd (omega (arith, e, h))
 
-abbrev IsDueStatus : ℕ → Result ℕ Fault → Type 0
-IsDueStatus status d = (status ≡ status_due d) ⊎ ((status ≡ 8) ⊎ (((status ≡ 9) × (count : ℕ) × (d ≡ Ok count)) ⊎ (status ≡ 10)))
+abbrev IsDueStatus : ℕ → Result Shown Fault → Type 0
+IsDueStatus status d = (status ≡ status_due d) ⊎ ((status ≡ 8) ⊎ (((status ≡ 9) × (shown : Shown) × (d ≡ Ok shown)) ⊎ (status ≡ 10)))
 
-module _ (f : FilePair) (scheme table : SourceRun) (schemes tables : List ℕ → Option (List ℕ)) (ss : Shown f.scheme scheme schemes) (st : Shown f.table table tables) where
-  abbrev Is : Result ℕ Fault → Type 0
+module _ (f : FilePair) (scheme table : SourceRun) (schemes tables : List ℕ → Option (List ℕ)) (ss : SaysOf f.scheme scheme schemes) (st : SaysOf f.table table tables) where
+  abbrev Is : Result Shown Fault → Type 0
   Is b = IsAnswerOfRun (Some f) scheme table b
 
-  abbrev WhyHere : Result ℕ Fault → Type 0
+  abbrev WhyHere : Result Shown Fault → Type 0
   WhyHere b = Why (schemes f.scheme) (tables f.table) b
 
-  by_bytes : (b : Result ℕ Fault) → OfBothFiles (Some f) scheme table (λ s t. ComesTo s t b) → WhyHere b
+  by_bytes : (b : Result Shown Fault) → OfBothFiles (Some f) scheme table (λ s t. ComesTo SomeReads s t b) → WhyHere b
   by_bytes b h =
       let p = h.0.problem in
-      inr (inr (p, (ss.whole (λ s. Yields s (Ok p)) h.0.yields h.1.0, st.whole (λ t. FileShows p t b) h.0.answers h.1.1)))
+      inr (inr (p, (ss.whole (λ s. Yields s (Ok p)) h.0.yields h.1.0, st.whole (λ t. FileShows SomeReads p t b) h.0.answers h.1.1)))
 
   by_scheme : (r : Refusal) → Yields scheme.after.given (Err r) → IsReadFromFront scheme true f.scheme → WhyHere (Err (Front r))
   by_scheme r h read = inr (inl (r, (refl, ss.whole (λ s. Yields s (Err r)) h read)))
 
-  why : (b : Result ℕ Fault) → Is b → WhyHere b
-  why (Ok count) h = by_bytes (Ok count) h
+  why : (b : Result Shown Fault) → Is b → WhyHere b
+  why (Ok shown) h = by_bytes (Ok shown) h
   why (Err (Front Usage)) h = let e = h.0 in absurd (cc)
   why (Err (Front Source)) h = inl (inl refl)
   why (Err (Front FileTooLong)) h = inr (inl (FileTooLong, (refl, ss.part max_bytes h.0.0 h.0.1)))
@@ -139,13 +142,14 @@ module _ (f : FilePair) (scheme table : SourceRun) (schemes tables : List ℕ �
   why (Err (TableLine line)) h = by_bytes (Err (TableLine line)) h
   why (Err (Missing entry)) h = by_bytes (Err (Missing entry)) h
   why (Err HasStart) h = by_bytes (Err HasStart) h
+  why (Err (NotVoid pair)) h = by_bytes (Err (NotVoid pair)) h
   why (Err (Instances count)) h = by_bytes (Err (Instances count)) h
 
-  abbrev Ordered : Result ℕ Fault → Type 0
+  abbrev Ordered : Result Shown Fault → Type 0
   Ordered d = IsDue (Some f) schemes tables d
 
-  due : (d : Result ℕ Fault) → Ordered d → Due (schemes f.scheme) (tables f.table) d
-  due (Ok count) h = inr h
+  due : (d : Result Shown Fault) → Ordered d → Due (schemes f.scheme) (tables f.table) d
+  due (Ok shown) h = inr h
   due (Err (Front Usage)) h = absurd (cc)
   due (Err (Front (Syntax line))) h = inl ((Syntax line), (refl, h))
   due (Err (Front (Limit which))) h = inl ((Limit which), (refl, h))
@@ -165,13 +169,14 @@ module _ (f : FilePair) (scheme table : SourceRun) (schemes tables : List ℕ �
   due (Err (TableLine line)) h = inr h
   due (Err (Missing entry)) h = inr h
   due (Err HasStart) h = inr h
+  due (Err (NotVoid pair)) h = inr h
   due (Err (Instances count)) h = inr h
 
-  meets : (d b : Result ℕ Fault) → Ordered d → Is b → Meet d b
+  meets : (d b : Result Shown Fault) → Ordered d → Is b → Meet d b
   meets d b h is = meet (schemes f.scheme) (tables f.table) d b (due d h) (why b is)
 
   -- from the answer to its status
-  follows : (d b : Result ℕ Fault) → Ordered d → Is b → IsDueStatus (status_due b) d
+  follows : (d b : Result Shown Fault) → Ordered d → Is b → IsDueStatus (status_due b) d
   follows d b h is =
       elim (meets d b h is) [
         | inl (inl e) ↦ inr (inl (ap status_due e))
@@ -179,9 +184,9 @@ module _ (f : FilePair) (scheme table : SourceRun) (schemes tables : List ℕ �
         | inr same ↦ inl (sym same)
       ]
 
-  cut_off : (d : Result ℕ Fault) (count : ℕ) → Ordered d → Is (Ok count) → IsDueStatus 9 d
-  cut_off d count h is =
-      elim (meets d (Ok count) h is) [
+  cut_off : (d : Result Shown Fault) (shown : Shown) → Ordered d → Is (Ok shown) → IsDueStatus 9 d
+  cut_off d shown h is =
+      elim (meets d (Ok shown) h is) [
         | inl (inl e) ↦ absurd (cc)
         | inl (inr e) ↦ absurd (cc)
         | inr same ↦ let v = verified_only d same in inr (inr (inl (refl, v.0, v.1)))
@@ -189,15 +194,15 @@ module _ (f : FilePair) (scheme table : SourceRun) (schemes tables : List ℕ �
 
   module _ (out err : SinkRun) where
     complies : (e : Ending) → Ends (Some f) scheme table out err e → Complies (Some f) schemes tables (status_at e)
-    complies (Verified count) h = λ d ordered. follows d (Ok count) ordered h.answer
-    complies (CutOff count) h = λ d ordered. cut_off d count ordered h.answer
+    complies (Verified shown) h = λ d ordered. follows d (Ok shown) ordered h.answer
+    complies (CutOff shown) h = λ d ordered. cut_off d shown ordered h.answer
     complies (Failed fault) h = λ d ordered. follows d (Err fault) ordered h.cause
 
 -- ---- words of another form
 
 module _ (scheme table : SourceRun) where
-  usage_cause : (b : Result ℕ Fault) → IsAnswerOfRun None scheme table b → status_due b ≡ 4
-  usage_cause (Ok count) h = absurd h
+  usage_cause : (b : Result Shown Fault) → IsAnswerOfRun None scheme table b → status_due b ≡ 4
+  usage_cause (Ok shown) h = absurd h
   usage_cause (Err (Front Usage)) h = refl
   usage_cause (Err (Front (Syntax line))) h = absurd h
   usage_cause (Err (Front (Limit which))) h = absurd h
@@ -217,10 +222,11 @@ module _ (scheme table : SourceRun) where
   usage_cause (Err (TableLine line)) h = absurd h
   usage_cause (Err (Missing entry)) h = absurd h
   usage_cause (Err HasStart) h = absurd h
+  usage_cause (Err (NotVoid pair)) h = absurd h
   usage_cause (Err (Instances count)) h = absurd h
 
-  usage_due : (schemes tables : List ℕ → Option (List ℕ)) (d : Result ℕ Fault) → IsDue None schemes tables d → status_due d ≡ 4
-  usage_due schemes tables (Ok count) h = absurd h
+  usage_due : (schemes tables : List ℕ → Option (List ℕ)) (d : Result Shown Fault) → IsDue None schemes tables d → status_due d ≡ 4
+  usage_due schemes tables (Ok shown) h = absurd h
   usage_due schemes tables (Err (Front Usage)) h = refl
   usage_due schemes tables (Err (Front (Syntax line))) h = absurd h
   usage_due schemes tables (Err (Front (Limit which))) h = absurd h
@@ -240,12 +246,13 @@ module _ (scheme table : SourceRun) where
   usage_due schemes tables (Err (TableLine line)) h = absurd h
   usage_due schemes tables (Err (Missing entry)) h = absurd h
   usage_due schemes tables (Err HasStart) h = absurd h
+  usage_due schemes tables (Err (NotVoid pair)) h = absurd h
   usage_due schemes tables (Err (Instances count)) h = absurd h
 
   module _ (out err : SinkRun) where
     usage_ends : (e : Ending) → Ends None scheme table out err e → status_at e ≡ 4
-    usage_ends (Verified count) h = absurd h.answer
-    usage_ends (CutOff count) h = absurd h.answer
+    usage_ends (Verified shown) h = absurd h.answer
+    usage_ends (CutOff shown) h = absurd h.answer
     usage_ends (Failed fault) h = usage_cause (Err fault) h.cause
 
     usage_complies : (schemes tables : List ℕ → Option (List ℕ)) (e : Ending) → Ends None scheme table out err e → Complies None schemes tables (status_at e)
@@ -282,12 +289,12 @@ rows files scheme table out err e status h calm is =
 -- ---- status 0
 
 module _ (scheme table : SourceRun) (out err : SinkRun) where
-  verified_at : (files : Option FilePair) (e : Ending) → Ends files scheme table out err e → ((count : ℕ) → e ≡ Verified count → IsAccepted scheme.after.given) → status_at e ≡ 0 → OfBothFiles files scheme table IsVerified
-  verified_at None (Verified count) h accepted zero = absurd h.answer
-  verified_at (Some f) (Verified count) h accepted zero = (record { count = count; evidence = h.answer.0; accepted = accepted count refl }, h.answer.1)
-  verified_at files (CutOff count) h accepted zero = absurd (omega (arith, zero))
+  verified_at : (files : Option FilePair) (e : Ending) → Ends files scheme table out err e → ((shown : Shown) → e ≡ Verified shown → IsAccepted scheme.after.given) → status_at e ≡ 0 → OfBothFiles files scheme table IsVerified
+  verified_at None (Verified shown) h accepted zero = absurd h.answer
+  verified_at (Some f) (Verified shown) h accepted zero = (record { shown = shown; evidence = h.answer.0; accepted = accepted shown refl }, h.answer.1)
+  verified_at files (CutOff shown) h accepted zero = absurd (omega (arith, zero))
   verified_at files (Failed fault) h accepted zero = let k : 1 ≤ status_of fault = faulty fault in absurd (omega (arith, zero, k))
 
-  pub verified : (files : Option FilePair) (e : Ending) (status : ℕ) → Ends files scheme table out err e → ((count : ℕ) → e ≡ Verified count → IsAccepted scheme.after.given) → status ≡ status_at e → status ≡ 0
+  pub verified : (files : Option FilePair) (e : Ending) (status : ℕ) → Ends files scheme table out err e → ((shown : Shown) → e ≡ Verified shown → IsAccepted scheme.after.given) → status ≡ status_at e → status ≡ 0
       → OfBothFiles files scheme table IsVerified
   verified files e status h accepted is zero = verified_at files e h accepted (sym is ∙ zero)

@@ -1,7 +1,6 @@
-pub mod StateNames
+pub mod OwnNames
 pub mod Accepting
 pub mod OneAnswer
-pub mod OneLine
 pub mod Running
 pub mod Complying
 pub mod Reported

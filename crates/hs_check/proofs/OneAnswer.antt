@@ -1,20 +1,26 @@
 -- The bytes of two files come to one status.
-use Rattle.std.proofs.Common.{◌≡◌, refl, sym, ◌∙◌, ap, subst, ℕ, ◌-◌, ◌<◌, ◌≤◌, List, length, Result, Ok, Err, ◌⊎◌, inl, inr, arith}
+use Rattle.std.proofs.Common.{◌≡◌, refl, sym, ◌∙◌, ap, subst, ℕ, ◌-◌, ◌<◌, ◌≤◌, List, [], length, Result, Ok, Err, ◌⊎◌, inl, inr, arith}
 use Rattle.std.specs.Prelude.{◌^◌, min}
 use Rattle.hs_scheme.specs.Problem.{ProblemData}
+use Rattle.hs_scheme.proofs.Lists.{Contains-at}
 use Rattle.hs_table.specs.Entries.{EntryData}
 use Rattle.hs_table.specs.Tables.{IsClosedTable, HasStart as HasStartEntry, IsInstanceCount}
 use Rattle.hs_table_laws.proofs.Places.{fewer}
 use Rattle.hs_checker.specs.Checked.{IsCount}
-use Rattle.hs_cert.specs.Certificate.{HasStateNames, IsFirstFaulty, IsCertificate}
+use Rattle.hs_weak.specs.Void.{VoidData, IsVoidList}
+use Rattle.hs_weak.specs.Certificate.{IsAcceptanceCertificate}
+use Rattle.hs_certificate_checker.specs.Faults.{IsFirstNotVoid}
+use Rattle.hs_cert.specs.Certificate.{HasOwnNames, IsFirstFaulty, IsCertificate, IsCompactCertificate}
 use Rattle.hs_cert.proofs.OneTable.{one_table, no_fault}
 use Rattle.hs_front.specs.Yields.{Yields}
 use Rattle.hs_front.proofs.Yielding.{one_yield}
 use Rattle.hs_check.specs.declared.fault.Fault.{Fault}
-use Rattle.hs_check.specs.declared.fault.Fault.TheVariants.{Front, TableTooLong, TableLine, Missing, HasStart, Instances}
-use Rattle.hs_check.specs.Evidence.{max_table, FileShows, ComesTo}
+use Rattle.hs_check.specs.declared.fault.Fault.TheVariants.{Front, TableTooLong, TableLine, Missing, HasStart, NotVoid, Instances}
+use Rattle.hs_check.specs.declared.verified.Shown.{Shown}
+use Rattle.hs_check.specs.declared.verified.Shown.TheVariants.{Full, Compact}
+use Rattle.hs_check.specs.Evidence.{max_table, TableShows, CompactShows, SomeReads, EachReads, OfCertificate, OfCompact, FileShows, ComesTo}
 use Rattle.hs_check.specs.Outcome.{status_due}
-use Rattle.hs_check.proofs.StateNames.{has_names}
+use Rattle.hs_check.proofs.OwnNames.{has_names}
 
 -- ---- a table has one number of instances
 
@@ -29,98 +35,149 @@ one_count p T m n a b = a.is ∙ (ap (λ (k : ℕ). min k (2 ^ 64 - 1)) (one_tot
 
 -- ---- the bytes of a table have one status
 
+-- a status by what decides it
+abbrev Judged : ℕ → Type 0 → Type 0
+Judged status Good = ((status ≡ 0) × Good) ⊎ ((status ≡ 1) × (Good → ⊥))
+
+same_judged : (m n : ℕ) (Good : Type 0) → Judged m Good → Judged n Good → m ≡ n
+same_judged m n Good (inl (e, g)) (inl (f, h)) = e ∙ sym f
+same_judged m n Good (inl (e, g)) (inr (f, none)) = absurd (none g)
+same_judged m n Good (inr (e, none)) (inl (f, h)) = absurd (none h)
+same_judged m n Good (inr (e, none)) (inr (f, also)) = e ∙ sym f
+
+-- no list with a pair that isn't void is a void list
+not_void_list : (p : ProblemData) (table : List EntryData) (void : List VoidData) (place : ℕ) → IsFirstNotVoid p table void place → IsVoidList p table void → ⊥
+not_void_list p table void place (inl f) all = f.not (all f.item (Contains-at void place f.item f.at)).0
+not_void_list p table void place (inr h) all = h.1.not (all h.1.item (Contains-at void place h.1.item h.1.at))
+
 module _ (p : ProblemData) (bytes : List ℕ) where
   record Good (table : List EntryData) (checked : ℕ) : Type 0 where
     closed : IsClosedTable p table
     lacks : HasStartEntry p table → ⊥
     counts : IsCount p table checked
 
-  -- by a certificate the status is 0 where its table is good, and else 1
-  record OfTable (status : ℕ) : Type 0 where
+  full_judged : (table : List EntryData) (checked : ℕ) (a : Result Shown Fault) → TableShows p table checked a → Judged (status_due a) (Good table checked)
+  full_judged table checked (Ok (Full count)) h =
+      inl (refl, record { closed = h.1.closed; lacks = h.1.lacks; counts = subst (λ (k : ℕ). IsCount p table k) h.0 h.1.counts })
+  full_judged table checked (Ok (Compact entries void)) h = absurd h
+  full_judged table checked (Err (Front refusal)) h = absurd h
+  full_judged table checked (Err TableTooLong) h = absurd h
+  full_judged table checked (Err (TableLine line)) h = absurd h
+  full_judged table checked (Err (Missing entry)) h = inr (refl, (λ good. h.1.0.1 (good.closed h.0 h.1.0.0)))
+  full_judged table checked (Err HasStart) h = inr (refl, (λ good. good.lacks h.1))
+  full_judged table checked (Err (NotVoid pair)) h = absurd h
+  full_judged table checked (Err (Instances count)) h = inr (refl, (λ good. h.differs (one_count p table count checked h.shown.counts good.counts)))
+
+  compact_judged : (table : List EntryData) (void : List VoidData) (reads : List (ℕ × ℕ)) (a : Result Shown Fault) → CompactShows p table void reads a → Judged (status_due a) (IsAcceptanceCertificate p table void reads)
+  compact_judged table void reads (Ok (Full count)) h = absurd h
+  compact_judged table void reads (Ok (Compact entries pairs)) h = inl (refl, h.2)
+  compact_judged table void reads (Err (Front refusal)) h = absurd h
+  compact_judged table void reads (Err TableTooLong) h = absurd h
+  compact_judged table void reads (Err (TableLine line)) h = absurd h
+  compact_judged table void reads (Err (Missing entry)) h =
+      inr (
+        refl,
+        (λ good. elim (good.covered h.2 h.3.0.follows h.3.0.matters) [
+          | inl covered ↦ h.3.0.not_covered covered
+          | inr void ↦ h.3.0.not_void void
+        ]),
+      )
+  compact_judged table void reads (Err HasStart) h = inr (refl, (λ good. good.no_start h))
+  compact_judged table void reads (Err (NotVoid pair)) h = inr (refl, (λ good. not_void_list p table void h.1 h.2 good.void))
+  compact_judged table void reads (Err (Instances count)) h = absurd h
+
+  -- ---- the kinds of answers
+
+  record OfFull (status : ℕ) : Type 0 where
     table : List EntryData
     checked : ℕ
     certificate : IsCertificate p bytes table checked
-    judged : ((status ≡ 0) × Good table checked) ⊎ ((status ≡ 1) × (Good table checked → ⊥))
+    judged : Judged status (Good table checked)
 
-  abbrev Kind : ℕ → Type 0
-  Kind status =
-      ((status ≡ 7) × (max_table < length bytes))
-      ⊎ ((length bytes ≤ max_table) × (((status ≡ 12) × ((line : ℕ) × IsFirstFaulty p bytes line)) ⊎ OfTable status))
+  module _ (Reads : ProblemData → (List (ℕ × ℕ) → Type 0) → Type 0) (along : (P Q : List (ℕ × ℕ) → Type 0) → ((reads : List (ℕ × ℕ)) → P reads → Q reads) → Reads p P → Reads p Q) where
+    record OfEntries (status : ℕ) : Type 0 where
+      table : List EntryData
+      void : List VoidData
+      certificate : IsCompactCertificate p bytes table void
+      judged : Reads p (λ reads. Judged status (IsAcceptanceCertificate p table void reads))
 
-  kind : (a : Result ℕ Fault) → FileShows p bytes a → Kind (status_due a)
-  kind (Ok n) h =
-      let c = h.1 in
-      let s = c.shows.1 in
-      inr (
-        h.0,
+    abbrev Kind : ℕ → Type 0
+    Kind status =
+        ((status ≡ 7) × (max_table < length bytes))
+        ⊎ ((length bytes ≤ max_table) × (((status ≡ 12) × ((line : ℕ) × IsFirstFaulty p bytes line)) ⊎ (OfFull status ⊎ OfEntries status)))
+
+    of_text : (a : Result Shown Fault) → OfCertificate p bytes a ⊎ OfCompact Reads p bytes a → OfFull (status_due a) ⊎ OfEntries (status_due a)
+    of_text a (inl c) = inl (record { table = c.table; checked = c.checked; certificate = c.certificate; judged = full_judged c.table c.checked a c.shows })
+    of_text a (inr c) =
         inr (record {
           table = c.table;
-          checked = c.checked;
+          void = c.void;
           certificate = c.certificate;
-          judged = inl (refl, record { closed = s.closed; lacks = s.lacks; counts = subst (λ (k : ℕ). IsCount p c.table k) c.shows.0 s.counts });
-        }),
-      )
-  kind (Err (Front refusal)) h = absurd h.1.shows
-  kind (Err TableTooLong) h = inl (refl, h)
-  kind (Err (TableLine line)) h = inr (h.0, inl (refl, (line, h.1)))
-  kind (Err (Missing entry)) h =
-      let c = h.1 in
-      inr (
-        h.0,
-        inr (record {
-          table = c.table;
-          checked = c.checked;
-          certificate = c.certificate;
-          judged = inr (refl, (λ good. c.shows.1.0.1 (good.closed c.shows.0 c.shows.1.0.0)));
-        }),
-      )
-  kind (Err HasStart) h =
-      let c = h.1 in
-      inr (h.0, inr (record { table = c.table; checked = c.checked; certificate = c.certificate; judged = inr (refl, (λ good. good.lacks c.shows.1)) }))
-  kind (Err (Instances count)) h =
-      let c = h.1 in
-      inr (
-        h.0,
-        inr (record {
-          table = c.table;
-          checked = c.checked;
-          certificate = c.certificate;
-          judged = inr (refl, (λ good. c.shows.differs (one_count p c.table count c.checked c.shows.shown.counts good.counts)));
-        }),
-      )
+          judged = along (λ reads. CompactShows p c.table c.void reads a) (λ reads. Judged (status_due a) (IsAcceptanceCertificate p c.table c.void reads)) (λ reads. compact_judged c.table c.void reads a) c.shows;
+        })
 
-  module _ (has : HasStateNames p) (m n : ℕ) where
-    table_status : OfTable m → OfTable n → m ≡ n
-    table_status a b =
-        let one = one_table p has bytes a.table b.table a.checked b.checked a.certificate b.certificate in
-        let good : Good a.table a.checked → Good b.table b.checked =
-        λ g. subst (λ (k : ℕ). Good b.table k) one.1 (subst (λ (t : List EntryData). Good t a.checked) one.0 g) in
-        let back : Good b.table b.checked → Good a.table a.checked =
-        λ g. subst (λ (k : ℕ). Good a.table k) (sym one.1) (subst (λ (t : List EntryData). Good t b.checked) (sym one.0) g) in
-        elim a.judged [
-          | inl (e, g) ↦ elim b.judged [
-            | inl (f, h) ↦ e ∙ sym f
-            | inr (f, none) ↦ absurd (none (good g))
-          ]
-          | inr (e, none) ↦ elim b.judged [
-            | inl (f, h) ↦ absurd (none (back h))
-            | inr (f, also) ↦ e ∙ sym f
-          ]
-        ]
+    kind : (a : Result Shown Fault) → FileShows Reads p bytes a → Kind (status_due a)
+    kind (Ok shown) h = inr (h.0, inr (of_text (Ok shown) h.1))
+    kind (Err (Front refusal)) h = inr (h.0, inr (of_text (Err (Front refusal)) h.1))
+    kind (Err TableTooLong) h = inl (refl, h)
+    kind (Err (TableLine line)) h = inr (h.0, inl (refl, (line, h.1)))
+    kind (Err (Missing entry)) h = inr (h.0, inr (of_text (Err (Missing entry)) h.1))
+    kind (Err HasStart) h = inr (h.0, inr (of_text (Err HasStart) h.1))
+    kind (Err (NotVoid pair)) h = inr (h.0, inr (of_text (Err (NotVoid pair)) h.1))
+    kind (Err (Instances count)) h = inr (h.0, inr (of_text (Err (Instances count)) h.1))
 
-    one_kind : Kind m → Kind n → m ≡ n
-    one_kind (inl (e, long)) (inl (f, also)) = e ∙ sym f
-    one_kind (inl (e, long)) (inr (short, b)) = absurd (omega (arith, long, short))
-    one_kind (inr (short, a)) (inl (f, long)) = absurd (omega (arith, long, short))
-    one_kind (inr (short, inl (e, (line, faulty)))) (inr (also, inl (f, (other, wrong)))) = e ∙ sym f
-    one_kind (inr (short, inl (e, (line, faulty)))) (inr (also, inr b)) = absurd (no_fault p has bytes b.table b.checked line b.certificate faulty)
-    one_kind (inr (short, inr a)) (inr (also, inl (f, (line, faulty)))) = absurd (no_fault p has bytes a.table a.checked line a.certificate faulty)
-    one_kind (inr (short, inr a)) (inr (also, inr b)) = table_status a b
+some_along : (p : ProblemData) (P Q : List (ℕ × ℕ) → Type 0) → ((reads : List (ℕ × ℕ)) → P reads → Q reads) → SomeReads p P → SomeReads p Q
+some_along p P Q f h = (h.0, (h.1.0, f h.0 h.1.1))
+
+each_along : (p : ProblemData) (P Q : List (ℕ × ℕ) → Type 0) → ((reads : List (ℕ × ℕ)) → P reads → Q reads) → EachReads p P → EachReads p Q
+each_along p P Q f h = λ reads closed. f reads (h reads closed)
+
+module _ (p : ProblemData) (bytes : List ℕ) (has : HasOwnNames p) (m n : ℕ) where
+  abbrev Due : Type 0
+  Due = OfFull p bytes m ⊎ OfEntries p bytes EachReads (each_along p) m
+
+  abbrev Answered : Type 0
+  Answered = OfFull p bytes n ⊎ OfEntries p bytes SomeReads (some_along p) n
+
+  two_forms : (table other : List EntryData) (checked : ℕ) (void : List VoidData) → IsCertificate p bytes table checked → IsCompactCertificate p bytes other void → ⊥
+  two_forms table other checked void a b =
+      let one = one_table p has bytes _ _ checked (length void) table other [] void a b in let e = one.0 in (cc)
+
+  table_status : Due → Answered → m ≡ n
+  table_status (inl a) (inl b) =
+      let one = one_table p has bytes _ _ a.checked b.checked a.table b.table [] [] a.certificate b.certificate in
+      same_judged m n (Good p bytes b.table b.checked) (subst (λ (t : List EntryData). Judged m (Good p bytes t b.checked)) one.2 (subst (λ (k : ℕ). Judged m (Good p bytes a.table k)) one.1 a.judged)) b.judged
+  table_status (inl a) (inr b) = absurd (two_forms a.table b.table a.checked b.void a.certificate b.certificate)
+  table_status (inr a) (inl b) = absurd (two_forms b.table a.table b.checked a.void b.certificate a.certificate)
+  table_status (inr a) (inr b) =
+      let one = one_table p has bytes _ _ (length a.void) (length b.void) a.table b.table a.void b.void a.certificate b.certificate in
+      let reads = b.judged.0 in
+      let due = a.judged reads b.judged.1.0 in
+      same_judged m n (IsAcceptanceCertificate p b.table b.void reads)
+      (subst (λ (v : List VoidData). Judged m (IsAcceptanceCertificate p b.table v reads)) one.3 (subst (λ (t : List EntryData). Judged m (IsAcceptanceCertificate p t a.void reads)) one.2 due)) b.judged.1.1
+
+  due_faultless : (line : ℕ) → IsFirstFaulty p bytes line → Due → ⊥
+  due_faultless line faulty (inl a) = no_fault p has _ bytes a.checked a.table [] line a.certificate faulty
+  due_faultless line faulty (inr a) = no_fault p has _ bytes (length a.void) a.table a.void line a.certificate faulty
+
+  faultless : (line : ℕ) → IsFirstFaulty p bytes line → Answered → ⊥
+  faultless line faulty (inl a) = no_fault p has _ bytes a.checked a.table [] line a.certificate faulty
+  faultless line faulty (inr a) = no_fault p has _ bytes (length a.void) a.table a.void line a.certificate faulty
+
+  one_kind : Kind p bytes EachReads (each_along p) m → Kind p bytes SomeReads (some_along p) n → m ≡ n
+  one_kind (inl (e, long)) (inl (f, also)) = e ∙ sym f
+  one_kind (inl (e, long)) (inr (short, b)) = absurd (omega (arith, long, short))
+  one_kind (inr (short, a)) (inl (f, long)) = absurd (omega (arith, long, short))
+  one_kind (inr (short, inl (e, (line, faulty)))) (inr (also, inl (f, (other, wrong)))) = e ∙ sym f
+  one_kind (inr (short, inl (e, (line, faulty)))) (inr (also, inr b)) = absurd (faultless line faulty b)
+  one_kind (inr (short, inr a)) (inr (also, inl (f, (line, faulty)))) = absurd (due_faultless line faulty a)
+  one_kind (inr (short, inr a)) (inr (also, inr b)) = table_status a b
 
 one_problem_of : (s : List ℕ) (p q : ProblemData) → Yields s (Ok p) → Yields s (Ok q) → p ≡ q
 one_problem_of s p q h k = let e = one_yield s (Ok p) (Ok q) h k in (cc)
 
-pub one_answer : (s t : List ℕ) (a b : Result ℕ Fault) → ComesTo s t a → ComesTo s t b → status_due a ≡ status_due b
+-- what is due of the bytes of two files, and what is answered
+pub one_answer : (s t : List ℕ) (a b : Result Shown Fault) → ComesTo EachReads s t a → ComesTo SomeReads s t b → status_due a ≡ status_due b
 one_answer s t a b h k =
-    one_kind h.problem t (has_names s h.problem h.yields) (status_due a) (status_due b) (kind h.problem t a h.answers)
-    (kind h.problem t b (subst (λ (p : ProblemData). FileShows p t b) (one_problem_of s k.problem h.problem k.yields h.yields) k.answers))
+    one_kind h.problem t (has_names s h.problem h.yields) (status_due a) (status_due b) (kind h.problem t EachReads (each_along h.problem) a h.answers)
+    (kind h.problem t SomeReads (some_along h.problem) b (subst (λ (p : ProblemData). FileShows SomeReads p t b) (one_problem_of s k.problem h.problem k.yields h.yields) k.answers))

@@ -1,5 +1,5 @@
 -- What is reported of an accepted scheme with its table shows that it is accepted.
-use Rattle.std.proofs.Common.{refl, ℕ, ◌<◌, ◌≤◌, List, length, take, get_or, All, Contains, Some, None, Ok}
+use Rattle.std.proofs.Common.{refl, ℕ, ◌<◌, ◌≤◌, List, length, take, get_or, All, Contains, Some, None, Ok, inl}
 use Rattle.std.specs.Prelude.{◌^◌, ◌↔◌}
 use Rattle.std.proofs.lemmas.List.Elements.{Contains-get_or}
 use Rattle.hs_scheme.specs.Automaton.{IsAutomaton}
@@ -15,8 +15,9 @@ use Rattle.hs_checker.proofs.CountLemmas.{closed_whole, count_whole}
 use Rattle.hs_cert.specs.Certificate.{HasNamesInLines, IsNested}
 use Rattle.hs_cert.proofs.Clear.{report_certificate}
 use Rattle.hs_front.specs.Yields.{Yields}
-use Rattle.hs_check.specs.Evidence.{max_table, ComesTo}
-use Rattle.hs_check.proofs.StateNames.{has_names}
+use Rattle.hs_check.specs.declared.verified.Shown.TheVariants.{Full}
+use Rattle.hs_check.specs.Evidence.{max_table, EachReads, ComesTo}
+use Rattle.hs_check.proofs.OwnNames.{has_names}
 
 module _ (p : ProblemData) (table : List EntryData) (automaton : IsAutomaton p.sorted.automaton) (least : IsLeastTable p table) where
   member_shape : (e : EntryData) → Contains table e → InShape p e
@@ -30,7 +31,7 @@ module _ (p : ProblemData) (table : List EntryData) (automaton : IsAutomaton p.s
 
 pub reported_answers : (bytes : List ℕ) (p : ProblemData) (table : List EntryData) (checked : ℕ) (text : List ℕ) → Yields bytes (Ok p) → IsAutomaton p.sorted.automaton → HasNamesInLines p
     → IsLeastTable p table → (HasStart p table → ⊥) → IsCount p table checked → length table ≤ 1000000 → checked < 2 ^ 64 → All IsNested table
-    → IsReport p (Accepted (length table) checked) (Some table) None text → length text ≤ max_table → ComesTo bytes text (Ok checked)
+    → IsReport p (Accepted (length table) checked) (Some table) None text → length text ≤ max_table → ComesTo EachReads bytes text (Ok (Full checked))
 reported_answers bytes p table checked text yields automaton names least lacks counts few fits nested report short =
     let shape = shapes p table automaton least in
     let c = report_certificate p table (length table) checked text (has_names bytes p yields) names report least.supported.distinct refl few fits shape nested in
@@ -41,7 +42,7 @@ reported_answers bytes p table checked text yields automaton names least lacks c
       yields = yields;
       answers = (
         short,
-        record {
+        inl (record {
           table = sorted;
           checked = checked;
           certificate = c.2;
@@ -53,6 +54,6 @@ reported_answers bytes p table checked text yields automaton names least lacks c
               counts = count_whole p table sorted same checked counts;
             },
           );
-        },
+        }),
       );
     }

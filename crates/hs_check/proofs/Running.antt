@@ -1,11 +1,17 @@
 -- From the calls to what a run comes to.
-use Rattle.std.proofs.Common.{◌≡◌, sym, ap, subst, ℕ, ◌≤◌, true, List, length, Option, Some, None, Result, Ok, Err, ◌⊎◌, inl, inr, arith}
+use Rattle.std.proofs.Common.{◌≡◌, sym, ap, subst, ℕ, ◌<◌, ◌≤◌, true, List, length, Option, Some, None, Result, Ok, Err, ◌⊎◌, inl, inr, Vec, arith}
 use Rattle.std.specs.Prelude.{MatchResult, OnOk}
 use Rattle.std.specs.Option.{IsSomeAnd}
+use Rattle.std.proofs.lemmas.Option.{slice_get_within}
+use Rattle.std.specs.declared.alloc.Global.{Global}
 use Rattle.hs_scheme.specs.Problem.{ProblemData}
 use Rattle.hs_table.specs.Entries.{EntryData}
-use Rattle.hs_checker.specs.Checked.{IsMissing}
-use Rattle.hs_cert.specs.Certificate.{IsCertificate}
+use Rattle.hs_weak.specs.Void.{VoidData}
+use Rattle.hs_certificate_checker.specs.Faults.{IsFirstNotVoid}
+use Rattle.hs_text.specs.Report.{entry_line, void_line}
+use Rattle.hs_cert.specs.declared.table.Cert.{Cert}
+use Rattle.hs_cert.specs.declared.table.Cert.TheVariants as cert
+use Rattle.hs_cert.specs.Certificate.{IsCertificate, IsCompactCertificate, IsCert}
 use Rattle.hs_front.specs.declared.refusal.Refusal.{Refusal}
 use Rattle.hs_front.specs.declared.refusal.Refusal.TheVariants.{Usage, Source, FileTooLong, Syntax, Limit, Names, IllSorted, NotFirstOrder, SortTooLarge, RuleTooLong, PointLimit, FlowLimit, EntryLimit, Sink, OutOfMemory}
 use Rattle.hs_front.specs.Files.{max_bytes}
@@ -13,10 +19,12 @@ use Rattle.hs_front.specs.Yields.{Yields}
 use Rattle.hs_front.specs.Outside.{SourceRun, SinkRun, IsUntouched, IsReadFromFront, HasTakenOrFailed, HasTakenNothing}
 use Rattle.hs_front.specs.Telling.{IsReadWhole, IsReadFault}
 use Rattle.hs_check.specs.declared.fault.Fault.{Fault}
-use Rattle.hs_check.specs.declared.fault.Fault.TheVariants.{Front, TableTooLong, TableLine, Missing, HasStart, Instances}
+use Rattle.hs_check.specs.declared.fault.Fault.TheVariants.{Front, TableTooLong, TableLine, Missing, HasStart, NotVoid, Instances}
+use Rattle.hs_check.specs.declared.verified.Shown.{Shown}
+use Rattle.hs_check.specs.declared.verified.Shown.TheVariants.{Full, Compact}
 use Rattle.hs_check.specs.Words.{FilePair}
 use Rattle.hs_check.specs.Fault.{no_memory, table_fault, line_of, HasFixedLine}
-use Rattle.hs_check.specs.Evidence.{max_table, TellsMissing, TableShows, OfCertificate, TextShows, ComesTo}
+use Rattle.hs_check.specs.Evidence.{max_table, TellsMissing, TellsNotVoid, TableShows, CompactShows, CertShows, SomeReads, OfCertificate, OfCompact, TextShows, ComesTo}
 use Rattle.hs_check.specs.Outcome.{OfBothFiles, HasCause, IsAnswerOfRun, TellsFault, IsUnverified}
 
 -- ---- the file of the scheme
@@ -84,8 +92,17 @@ scheme_answered name scheme slice bytes e whole (Err x) h = scheme_refused name 
 
 -- ---- the file of the table
 
+-- no certificate shows these
+front_shows : {p : ProblemData} {bytes : List ℕ} {r : Refusal} → OfCertificate p bytes (Err (Front r)) ⊎ OfCompact SomeReads p bytes (Err (Front r)) → ⊥
+front_shows (inl h) = h.shows
+front_shows (inr h) = h.shows.1.1
+
+long_shows : {p : ProblemData} {bytes : List ℕ} → OfCertificate p bytes (Err TableTooLong) ⊎ OfCompact SomeReads p bytes (Err TableTooLong) → ⊥
+long_shows (inl h) = h.shows
+long_shows (inr h) = h.shows.1.1
+
 module _ (p : ProblemData) (other name : List ℕ) (scheme table : SourceRun) (yields : Yields scheme.after.given (Ok p)) (before : IsReadFromFront scheme true other) where
-  abbrev Comes : Result ℕ Fault → Type 0
+  abbrev Comes : Result Shown Fault → Type 0
   Comes a = IsAnswerOfRun (Some (record { scheme = other; table = name })) scheme table a
 
   pub table_unread : (r : Refusal) → IsReadFault max_table name table r → Comes (Err (table_fault r))
@@ -106,23 +123,24 @@ module _ (p : ProblemData) (other name : List ℕ) (scheme table : SourceRun) (y
   table_unread EntryLimit h = absurd h
 
   module _ (read : IsReadFromFront table true name) (short : length table.after.given ≤ max_table) where
-    answered : (a : Result ℕ Fault) → TextShows p table.after.given a → Comes a
-    answered (Ok count) h = (record { problem = p; yields = yields; answers = (short, h) }, (before, read))
-    answered (Err (Front refusal)) h = absurd h.shows
-    answered (Err TableTooLong) h = absurd h.shows
+    answered : (a : Result Shown Fault) → TextShows SomeReads p table.after.given a → Comes a
+    answered (Ok shown) h = (record { problem = p; yields = yields; answers = (short, h) }, (before, read))
+    answered (Err (Front refusal)) h = absurd (front_shows h)
+    answered (Err TableTooLong) h = absurd (long_shows h)
     answered (Err (TableLine line)) h = (record { problem = p; yields = yields; answers = (short, h) }, (before, read))
     answered (Err (Missing entry)) h = (record { problem = p; yields = yields; answers = (short, h) }, (before, read))
     answered (Err HasStart) h = (record { problem = p; yields = yields; answers = (short, h) }, (before, read))
+    answered (Err (NotVoid pair)) h = (record { problem = p; yields = yields; answers = (short, h) }, (before, read))
     answered (Err (Instances count)) h = (record { problem = p; yields = yields; answers = (short, h) }, (before, read))
 
-    of_answer : (a : Result ℕ Fault) → (a ≡ Err no_memory) ⊎ TextShows p table.after.given a → Comes a
+    of_answer : (a : Result Shown Fault) → (a ≡ Err no_memory) ⊎ TextShows SomeReads p table.after.given a → Comes a
     of_answer a (inl e) = subst Comes (sym e) (inr (inr (((p, yields), before), read)))
     of_answer a (inr h) = answered a h
 
-given_answers : (p : ProblemData) (table : SourceRun) (slice bytes : List ℕ) (a : Result ℕ Fault) → slice ≡ bytes → bytes ≡ table.after.given → (a ≡ Err no_memory) ⊎ TextShows p slice a → (a ≡ Err no_memory) ⊎ TextShows p table.after.given a
-given_answers p table slice bytes a e f h = subst (λ (b : List ℕ). (a ≡ Err no_memory) ⊎ TextShows p b a) f (subst (λ (b : List ℕ). (a ≡ Err no_memory) ⊎ TextShows p b a) e h)
+given_answers : (p : ProblemData) (table : SourceRun) (slice bytes : List ℕ) (a : Result Shown Fault) → slice ≡ bytes → bytes ≡ table.after.given → (a ≡ Err no_memory) ⊎ TextShows SomeReads p slice a → (a ≡ Err no_memory) ⊎ TextShows SomeReads p table.after.given a
+given_answers p table slice bytes a e f h = subst (λ (b : List ℕ). (a ≡ Err no_memory) ⊎ TextShows SomeReads p b a) f (subst (λ (b : List ℕ). (a ≡ Err no_memory) ⊎ TextShows SomeReads p b a) e h)
 
-pub table_answered : (p : ProblemData) (name : List ℕ) (table : SourceRun) (slice bytes : List ℕ) → slice ≡ bytes → IsReadWhole max_table name table bytes → (a : Result ℕ Fault) → (a ≡ Err no_memory) ⊎ TextShows p slice a
+pub table_answered : (p : ProblemData) (name : List ℕ) (table : SourceRun) (slice bytes : List ℕ) → slice ≡ bytes → IsReadWhole max_table name table bytes → (a : Result Shown Fault) → (a ≡ Err no_memory) ⊎ TextShows SomeReads p slice a
     → (other : List ℕ) (scheme : SourceRun) → Yields scheme.after.given (Ok p) → IsReadFromFront scheme true other → IsAnswerOfRun (Some (record { scheme = other; table = name })) scheme table a
 table_answered p name table slice bytes e whole a h other scheme yields before =
     of_answer p other name scheme table yields before whole.read (subst (λ (b : List ℕ). length b ≤ max_table) whole.given whole.within) a
@@ -130,48 +148,76 @@ table_answered p name table slice bytes e whole a h other scheme yields before =
 
 -- ---- what a table shows
 
-abbrev failing : Fault → Result ℕ Fault
+abbrev failing : Fault → Result Shown Fault
 failing f = Err f
 
-pub missing_shows : (p : ProblemData) (table : List EntryData) (checked : ℕ) (e : EntryData) → IsMissing p table e → (f : Fault) → (f ≡ no_memory) ⊎ TellsMissing p e f
-    → (failing f ≡ failing no_memory) ⊎ TableShows p table checked (failing f)
-missing_shows p table checked e missing f (inl is) = inl (ap failing is)
-missing_shows p table checked e missing (Missing entry) (inr h) = inr (e, (missing, h))
-missing_shows p table checked e missing (Front refusal) (inr h) = absurd h
-missing_shows p table checked e missing TableTooLong (inr h) = absurd h
-missing_shows p table checked e missing (TableLine line) (inr h) = absurd h
-missing_shows p table checked e missing HasStart (inr h) = absurd h
-missing_shows p table checked e missing (Instances count) (inr h) = absurd h
+-- from an entry that is missing, and a pair that isn't void, to what is told
+pub told_missing : (p : ProblemData) (e : EntryData) (P : Result Shown Fault → Type 0) → ((entry : Vec ℕ Global) → entry.items ≡ entry_line p e → P (failing (Missing entry))) → (f : Fault) → (f ≡ no_memory) ⊎ TellsMissing p e f
+    → (failing f ≡ failing no_memory) ⊎ P (failing f)
+told_missing p e P shows f (inl is) = inl (ap failing is)
+told_missing p e P shows (Missing entry) (inr h) = inr (shows entry h)
+told_missing p e P shows (Front refusal) (inr h) = absurd h
+told_missing p e P shows TableTooLong (inr h) = absurd h
+told_missing p e P shows (TableLine line) (inr h) = absurd h
+told_missing p e P shows HasStart (inr h) = absurd h
+told_missing p e P shows (NotVoid pair) (inr h) = absurd h
+told_missing p e P shows (Instances count) (inr h) = absurd h
 
-module _ (p : ProblemData) (bytes : List ℕ) (table : List EntryData) (checked : ℕ) (certificate : IsCertificate p bytes table checked) where
-  of_certificate : (a : Result ℕ Fault) → TableShows p table checked a → OfCertificate p bytes a
-  of_certificate a h = record { table = table; checked = checked; certificate = certificate; shows = h }
+pub told_not_void : (p : ProblemData) (v : VoidData) (P : Result Shown Fault → Type 0) → ((pair : Vec ℕ Global) → pair.items ≡ void_line p v → P (failing (NotVoid pair))) → (f : Fault) → (f ≡ no_memory) ⊎ TellsNotVoid p v f
+    → (failing f ≡ failing no_memory) ⊎ P (failing f)
+told_not_void p v P shows f (inl is) = inl (ap failing is)
+told_not_void p v P shows (NotVoid pair) (inr h) = inr (shows pair h)
+told_not_void p v P shows (Front refusal) (inr h) = absurd h
+told_not_void p v P shows TableTooLong (inr h) = absurd h
+told_not_void p v P shows (TableLine line) (inr h) = absurd h
+told_not_void p v P shows (Missing entry) (inr h) = absurd h
+told_not_void p v P shows HasStart (inr h) = absurd h
+told_not_void p v P shows (Instances count) (inr h) = absurd h
 
-  certified : (a : Result ℕ Fault) → TableShows p table checked a → TextShows p bytes a
-  certified (Ok count) h = of_certificate (Ok count) h
-  certified (Err (Front refusal)) h = absurd h
-  certified (Err TableTooLong) h = absurd h
-  certified (Err (TableLine line)) h = absurd h
-  certified (Err (Missing entry)) h = of_certificate (Err (Missing entry)) h
-  certified (Err HasStart) h = of_certificate (Err HasStart) h
-  certified (Err (Instances count)) h = of_certificate (Err (Instances count)) h
+-- the first pair that isn't void stands in the list
+pub first_within : (p : ProblemData) (table : List EntryData) (void : List VoidData) (place : ℕ) → IsFirstNotVoid p table void place → place < length void
+first_within p table void place (inl f) = slice_get_within void place f.item f.at
+first_within p table void place (inr h) = slice_get_within void place h.1.item h.1.at
 
-pub certificate_answers : (p : ProblemData) (bytes : List ℕ) (slice table : List EntryData) (checked : ℕ) → slice ≡ table → IsCertificate p bytes table checked → (a : Result ℕ Fault)
-    → (a ≡ Err no_memory) ⊎ TableShows p slice checked a → (a ≡ Err no_memory) ⊎ TextShows p bytes a
-certificate_answers p bytes slice table checked e certificate a (inl is) = inl is
-certificate_answers p bytes slice table checked e certificate a (inr h) =
-    inr (certified p bytes table checked certificate a (subst (λ (t : List EntryData). TableShows p t checked a) e h))
+-- ---- what a certificate shows
+
+module _ (p : ProblemData) (bytes : List ℕ) where
+  full : (table : List EntryData) (checked : ℕ) → IsCertificate p bytes table checked → (a : Result Shown Fault) → TableShows p table checked a → TextShows SomeReads p bytes a
+  full table checked certificate (Ok shown) h = inl (record { table = table; checked = checked; certificate = certificate; shows = h })
+  full table checked certificate (Err (Front refusal)) h = absurd h
+  full table checked certificate (Err TableTooLong) h = absurd h
+  full table checked certificate (Err (TableLine line)) h = absurd h
+  full table checked certificate (Err (Missing entry)) h = inl (record { table = table; checked = checked; certificate = certificate; shows = h })
+  full table checked certificate (Err HasStart) h = inl (record { table = table; checked = checked; certificate = certificate; shows = h })
+  full table checked certificate (Err (NotVoid pair)) h = absurd h
+  full table checked certificate (Err (Instances count)) h = inl (record { table = table; checked = checked; certificate = certificate; shows = h })
+
+  compact : (table : List EntryData) (void : List VoidData) → IsCompactCertificate p bytes table void → (a : Result Shown Fault) → SomeReads p (λ reads. CompactShows p table void reads a) → TextShows SomeReads p bytes a
+  compact table void certificate (Ok shown) h = inr (record { table = table; void = void; certificate = certificate; shows = h })
+  compact table void certificate (Err (Front refusal)) h = absurd h.1.1
+  compact table void certificate (Err TableTooLong) h = absurd h.1.1
+  compact table void certificate (Err (TableLine line)) h = absurd h.1.1
+  compact table void certificate (Err (Missing entry)) h = inr (record { table = table; void = void; certificate = certificate; shows = h })
+  compact table void certificate (Err HasStart) h = inr (record { table = table; void = void; certificate = certificate; shows = h })
+  compact table void certificate (Err (NotVoid pair)) h = inr (record { table = table; void = void; certificate = certificate; shows = h })
+  compact table void certificate (Err (Instances count)) h = inr (record { table = table; void = void; certificate = certificate; shows = h })
+
+  pub certificate_answers : (c : Cert) → IsCert p bytes c → (a : Result Shown Fault) → CertShows p c a → (a ≡ Err no_memory) ⊎ TextShows SomeReads p bytes a
+  certificate_answers (cert.Full table checked) certificate a (inl is) = inl is
+  certificate_answers (cert.Full table checked) certificate a (inr h) = inr (full table.items checked certificate a h)
+  certificate_answers (cert.Compact table void) certificate a (inl is) = inl is
+  certificate_answers (cert.Compact table void) certificate a (inr h) = inr (compact table.items void.items certificate a h)
 
 -- ---- memory that is refused for the report
 
-memory_cause : (files : Option FilePair) (scheme table : SourceRun) (a : Result ℕ Fault) → OfBothFiles files scheme table (λ s t. ComesTo s t a) → HasCause files scheme table no_memory
+memory_cause : (files : Option FilePair) (scheme table : SourceRun) (a : Result Shown Fault) → OfBothFiles files scheme table (λ s t. ComesTo SomeReads s t a) → HasCause files scheme table no_memory
 memory_cause None scheme table a h = absurd h
 memory_cause (Some f) scheme table a h = inr (inr (((h.0.problem, h.0.yields), h.1.0), h.1.1))
 
-pub without_report : (files : Option FilePair) (scheme table : SourceRun) (out err : SinkRun) (count : ℕ) (told : Fault) → told ≡ no_memory → HasTakenNothing out
-    → HasTakenOrFailed err (line_of no_memory) → IsAnswerOfRun files scheme table (Ok count) → IsUnverified files scheme table out err told
-without_report files scheme table out err count told is silent line h =
-    subst (λ (f : Fault). IsUnverified files scheme table out err f) (sym is) (record { cause = memory_cause files scheme table (Ok count) h; silent = silent; told = line })
+pub without_report : (files : Option FilePair) (scheme table : SourceRun) (out err : SinkRun) (shown : Shown) (told : Fault) → told ≡ no_memory → HasTakenNothing out
+    → HasTakenOrFailed err (line_of no_memory) → IsAnswerOfRun files scheme table (Ok shown) → IsUnverified files scheme table out err told
+without_report files scheme table out err shown told is silent line h =
+    subst (λ (f : Fault). IsUnverified files scheme table out err f) (sym is) (record { cause = memory_cause files scheme table (Ok shown) h; silent = silent; told = line })
 
 -- ---- memory that is refused for the line of a fault
 
@@ -200,6 +246,7 @@ lineless files scheme table TableTooLong h none = absurd (none tt)
 lineless files scheme table (TableLine line) h none = memory_cause files scheme table (Err (TableLine line)) h
 lineless files scheme table (Missing entry) h none = memory_cause files scheme table (Err (Missing entry)) h
 lineless files scheme table HasStart h none = absurd (none tt)
+lineless files scheme table (NotVoid pair) h none = memory_cause files scheme table (Err (NotVoid pair)) h
 lineless files scheme table (Instances count) h none = memory_cause files scheme table (Err (Instances count)) h
 
 pub unverified : (files : Option FilePair) (scheme table : SourceRun) (out err : SinkRun) (fault told : Fault) → HasCause files scheme table fault → HasTakenNothing out → TellsFault fault err told

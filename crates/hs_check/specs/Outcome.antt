@@ -20,15 +20,17 @@ use Rattle.hs_check.specs.declared.top.Ending.{Ending}
 use Rattle.hs_check.specs.declared.top.Ending.TheVariants.{Verified, CutOff, Failed}
 use Rattle.hs_check.specs.Words.{FilePair}
 use Rattle.hs_check.specs.Fault.{status_of, line_of, HasFixedLine, no_memory, verified_text}
-use Rattle.hs_check.specs.Evidence.{max_table, ComesTo}
+use Rattle.hs_check.specs.declared.verified.Shown.{Shown}
+use Rattle.hs_check.specs.Evidence.{max_table, SomeReads, EachReads, ComesTo}
 
 -- ---- what status 0 means
 
 -- The bytes of the one file are that of a scheme within the limits, with sorts; those of the other are a certificate of a table of its
--- problem, which is closed and lacks the start entry, with the number of its instances. And the tree of the scheme is accepted.
+-- problem, which is closed and lacks the start entry, with the number of its instances; or one of entries and void environments, which are a
+-- certificate of acceptance. And the tree of the scheme is accepted.
 pub record IsVerified (scheme table : List ℕ) : Type 0 where
-  pub count : ℕ
-  pub evidence : ComesTo scheme table (Ok count)
+  pub shown : Shown
+  pub evidence : ComesTo SomeReads scheme table (Ok shown)
   pub accepted : IsAccepted scheme
 
 module _ (files : Option FilePair) (scheme table : SourceRun) where
@@ -60,10 +62,10 @@ module _ (files : Option FilePair) (scheme table : SourceRun) where
   HasCause (Front refusal) =
       IsSomeAnd files (λ f. Yields scheme.after.given (Err refusal) × (IsReadFromFront scheme true f.scheme × IsUntouched table))
   HasCause TableTooLong = IsSomeAnd files (λ f. IsProblemRead f × IsReadFault max_table f.table table FileTooLong)
-  HasCause fault = OfBothFiles (λ s t. ComesTo s t (Err fault))
+  HasCause fault = OfBothFiles (λ s t. ComesTo SomeReads s t (Err fault))
 
-  abbrev pub IsAnswerOfRun : Result ℕ Fault → Type 0
-  IsAnswerOfRun (Ok count) = OfBothFiles (λ s t. ComesTo s t (Ok count))
+  abbrev pub IsAnswerOfRun : Result Shown Fault → Type 0
+  IsAnswerOfRun (Ok shown) = OfBothFiles (λ s t. ComesTo SomeReads s t (Ok shown))
   IsAnswerOfRun (Err fault) = HasCause fault
 
 -- the fault is told, or want of memory in its place where its line isn't a fixed one
@@ -76,16 +78,16 @@ TellsFault fault err told =
 
 module _ (files : Option FilePair) (scheme table : SourceRun) (out err : SinkRun) where
   -- that was reported whole
-  pub record IsReported (count : ℕ) : Type 0 where
-    pub answer : IsAnswerOfRun files scheme table (Ok count)
-    pub taken : out.taken_after ≡ out.taken ++ verified_text count
+  pub record IsReported (shown : Shown) : Type 0 where
+    pub answer : IsAnswerOfRun files scheme table (Ok shown)
+    pub taken : out.taken_after ≡ out.taken ++ verified_text shown
     pub same_faults : out.faults_after ≡ out.faults
     pub silent : HasTakenNothing err
 
   -- the report met a fault
-  pub record IsCutOff (count : ℕ) : Type 0 where
-    pub answer : IsAnswerOfRun files scheme table (Ok count)
-    pub part : AddsPart out.taken out.taken_after (verified_text count)
+  pub record IsCutOff (shown : Shown) : Type 0 where
+    pub answer : IsAnswerOfRun files scheme table (Ok shown)
+    pub part : AddsPart out.taken out.taken_after (verified_text shown)
     pub cause : Rose out.faults out.faults_after
     pub told : HasTakenOrFailed err (line_of (Front Sink))
 
@@ -96,35 +98,36 @@ module _ (files : Option FilePair) (scheme table : SourceRun) (out err : SinkRun
     pub told : HasTakenOrFailed err (line_of fault)
 
   abbrev pub Ends : Ending → Type 0
-  Ends (Verified count) = IsReported count
-  Ends (CutOff count) = IsCutOff count
+  Ends (Verified shown) = IsReported shown
+  Ends (CutOff shown) = IsCutOff shown
   Ends (Failed fault) = IsUnverified fault
 
 -- the exit status of an ending
 abbrev pub status_at : Ending → ℕ
-status_at (Verified count) = 0
-status_at (CutOff count) = status_of (Front Sink)
+status_at (Verified shown) = 0
+status_at (CutOff shown) = status_of (Front Sink)
 status_at (Failed fault) = status_of fault
 
 -- ---- what has to be answered
 
 -- the exit status of an answer
-abbrev pub status_due : Result ℕ Fault → ℕ
-status_due (Ok count) = 0
+abbrev pub status_due : Result Shown Fault → ℕ
+status_due (Ok shown) = 0
 status_due (Err fault) = status_of fault
 
--- what the words and the bytes of the files come to, memory and faults of reading and writing aside
+-- What the words and the bytes of the files come to, memory and faults of reading and writing aside: in the compact form whatever the closed
+-- list of read pairs is.
 module _ (files : Option FilePair) (schemes tables : List ℕ → Option (List ℕ)) where
-  abbrev pub IsDue : Result ℕ Fault → Type 0
+  abbrev pub IsDue : Result Shown Fault → Type 0
   IsDue (Err (Front Usage)) = files ≡ None
   IsDue (Err (Front refusal)) = IsSomeAnd files (λ f. IsSomeAnd (schemes f.scheme) (λ bytes. Yields bytes (Err refusal)))
-  IsDue answer = IsSomeAnd files (λ f. IsSomeAnd (schemes f.scheme) (λ s. IsSomeAnd (tables f.table) (λ t. ComesTo s t answer)))
+  IsDue answer = IsSomeAnd files (λ f. IsSomeAnd (schemes f.scheme) (λ s. IsSomeAnd (tables f.table) (λ t. ComesTo EachReads s t answer)))
 
   -- what is due is answered, unless reading, writing or memory fails
   abbrev pub Complies : ℕ → Type 0
   Complies status =
-      (answer : Result ℕ Fault) → IsDue answer
-      → (status ≡ status_due answer) ⊎ ((status ≡ 8) ⊎ (((status ≡ 9) × (count : ℕ) × (answer ≡ Ok count)) ⊎ (status ≡ 10)))
+      (answer : Result Shown Fault) → IsDue answer
+      → (status ≡ status_due answer) ⊎ ((status ≡ 8) ⊎ (((status ≡ 9) × (shown : Shown) × (answer ≡ Ok shown)) ⊎ (status ≡ 10)))
 
 -- ---- the run
 

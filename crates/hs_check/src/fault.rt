@@ -1,6 +1,6 @@
 //! Why a table isn't verified.
 
-ghost use Rattle.std.specs.Prelude.{◌≡◌, ◌++◌, codes, IfOk, IsOk};
+ghost use Rattle.std.specs.Prelude.{◌≡◌, ◌++◌, IfOk, IsOk};
 ghost use Rattle.hs_front.specs.Line.{bytes_of};
 ghost use Rattle.hs_check.specs.Fault as defined;
 
@@ -26,6 +26,8 @@ pub(crate) enum Fault {
     Missing { entry: Vec<u8> },
     /// It has the start entry.
     HasStart,
+    /// One of its void environments isn't void; this is the line, with the LF at its end.
+    NotVoid { pair: Vec<u8> },
     /// It has so many instances, and says another number.
     Instances { count: u64 },
 }
@@ -59,17 +61,18 @@ pub(crate) fn status(fault: &Fault) -> u8
         Fault::TableLine { line: _ } => 12,
         Fault::Missing { entry: _ } => 1,
         Fault::HasStart => 1,
+        Fault::NotVoid { pair: _ } => 1,
         Fault::Instances { count: _ } => 1,
     }
 }
 
-/// The line of an entry that is missing.
-fn missing_line(alloc: Global, entry: &[u8]) -> Result<Line, OutOfMemory>
-    ensures { IfOk result (λ line. bytes_of line ≡ codes "missing: " ++ entry.now) }
+/// These words, and behind them a line.
+pub(crate) fn line_behind(alloc: Global, words: &[u8], line: &[u8]) -> Result<Line, OutOfMemory>
+    ensures { IfOk result (λ made. bytes_of made ≡ words.now ++ line.now) }
 {
     let mut text = Vec::new(alloc);
-    text.extend_from_slice(b"missing: ")?;
-    text.extend_from_slice(entry)?;
+    text.extend_from_slice(words)?;
+    text.extend_from_slice(line)?;
     Ok(Line::Made(text))
 }
 
@@ -84,8 +87,9 @@ pub(crate) fn line(alloc: Global, fault: &Fault) -> Result<Line, OutOfMemory>
         Fault::TableLine { line } => {
             line_with_number(alloc, b"table line ", u64::from(*line), b"")
         }
-        Fault::Missing { entry } => missing_line(alloc, entry.as_slice()),
+        Fault::Missing { entry } => line_behind(alloc, b"missing: ", entry.as_slice()),
         Fault::HasStart => Ok(Line::Fixed(b"has start\n")),
+        Fault::NotVoid { pair } => line_behind(alloc, b"not void: ", pair.as_slice()),
         Fault::Instances { count } => line_with_number(alloc, b"instances ", *count, b""),
     }
 }

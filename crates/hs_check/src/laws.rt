@@ -10,7 +10,8 @@ ghost use Rattle.hs_text.specs.declared.verdict.Verdict.TheVariants.{Accepted};
 ghost use Rattle.hs_checker.specs.Checked.{IsCount};
 ghost use Rattle.hs_cert.specs.Certificate.{HasNamesInLines, IsNested};
 ghost use Rattle.hs_front.specs.Yields.{Yields};
-ghost use Rattle.hs_check.specs.Evidence.{max_table, ComesTo};
+ghost use Rattle.hs_check.specs.declared.verified.Shown.TheVariants.{Full};
+ghost use Rattle.hs_check.specs.Evidence.{max_table, EachReads, ComesTo};
 
 /// What `horsat --table` reports of an accepted scheme is verified: the report of its least table that
 /// lacks the start entry, with the number of its instances, within the limits, where its types are
@@ -21,5 +22,5 @@ pub fn reported_tables_are_verified()
         IsLeastTable p table → (HasStart p table → ⊥) → IsCount p table checked →
         length table ≤ 1000000 → checked < 2 ^ 64 → All IsNested table →
         IsReport p (Accepted (length table) checked) (Some table) None text → length text ≤ max_table →
-        ComesTo bytes text (Ok checked) }
+        ComesTo EachReads bytes text (Ok (Full checked)) }
 {}

@@ -7,14 +7,15 @@ ghost use Rattle.hs_front.specs.Outside.{SourceRun, source_run, sink_run, IsUnto
 ghost use Rattle.hs_front.specs.Files.{IsAccepted};
 ghost use Rattle.hs_front.specs.Yields.{Yields};
 ghost use Rattle.hs_verdict.specs.Premises.{HasClosedFlow};
-ghost use Rattle.hs_cert.specs.Certificate.{AreStateNames};
+ghost use Rattle.hs_cert.specs.Certificate.{AreNames};
 ghost use Rattle.hs_check.specs.Words.{FilePair, files_in, named};
+ghost use Rattle.hs_check.specs.declared.verified.Shown.TheVariants.{Compact};
 ghost use Rattle.hs_check.specs.Fault.{verified_text};
 ghost use Rattle.hs_check.specs.Outcome as outcome;
 
-use crate::fault::{Fault, USAGE, line, no_memory, status, table_fault};
+use crate::fault::{Fault, USAGE, line, line_behind, no_memory, status, table_fault};
 use crate::files::{Files, files_in};
-use crate::verified::verified;
+use crate::verified::{Shown, verified};
 use hs_edge::{Sink, Source, write_all};
 use hs_front::{
     Line, OUT_OF_MEMORY, Refusal, line_with_number, problem_of_file, read, refuse as refuse_front,
@@ -52,8 +53,9 @@ fn shown_in<T: Source>(
     problem: &Problem,
     name: &str,
     table: &mut T,
-) -> Result<u64, Fault>
-    requires names { AreStateNames problem.now.sorted.names.states }
+) -> Result<Shown, Fault>
+    requires states { AreNames problem.now.sorted.names.states }
+    requires rules { AreNames problem.now.sorted.names.rules }
     requires flow { HasClosedFlow problem.now }
     ensures answer { (other : List ℕ) (scheme : SourceRun) → Yields scheme.after.given (Ok problem.now)
         → IsReadFromFront scheme true other
@@ -71,13 +73,13 @@ fn shown_in<T: Source>(
     }
 }
 
-/// What the two files come to: the number of instances of a table that is verified, or why it isn't.
+/// What the two files come to: what a table shows that is verified, or why it isn't.
 fn answer_of<S: Source, T: Source>(
     alloc: Global,
     files: Files<'_>,
     scheme: &mut S,
     table: &mut T,
-) -> Result<u64, Fault>
+) -> Result<Shown, Fault>
     ensures answer { outcome.IsAnswerOfRun (Some (named files.entry))
         (source_run S.file S.left S.reading S.faults scheme.old scheme.new)
         (source_run T.file T.left T.reading T.faults table.old table.new) result }
@@ -105,7 +107,7 @@ fn answer<S: Source, T: Source>(
     words: &[&str],
     scheme: &mut S,
     table: &mut T,
-) -> Result<u64, Fault>
+) -> Result<Shown, Fault>
     ensures answer { outcome.IsAnswerOfRun (files_in (map (λ word. word.now) words.now))
         (source_run S.file S.left S.reading S.faults scheme.old scheme.new)
         (source_run T.file T.left T.reading T.faults table.old table.new) result }
@@ -147,36 +149,48 @@ fn refuse<E: Sink>(alloc: Global, err: &mut E, fault: Fault) -> Fault
 /// How a run ends.
 #[derive(Drop)]
 pub(crate) enum Ending {
-    /// The table is verified, which was reported; it has so many instances.
-    Verified { count: u64 },
+    /// The table is verified, which was reported; it shows this.
+    Verified { shown: Shown },
     /// It is, and the report met a fault.
-    CutOff { count: u64 },
+    CutOff { shown: Shown },
     /// It isn't verified.
     Failed { fault: Fault },
 }
 
-/// What is written of a table that is verified.
-fn verified_line(alloc: Global, count: u64) -> Result<Line, OutOfMemory>
-    ensures { IfOk result (λ line. bytes_of line ≡ verified_text count) }
+/// What is written of a certificate of acceptance that is verified.
+fn certificate_lines(alloc: Global, entries: u64, void: u64) -> Result<Line, OutOfMemory>
+    ensures { IfOk result (λ line. bytes_of line ≡ verified_text (Compact entries void)) }
 {
-    line_with_number(alloc, b"verified\ninstances ", count, b"")
+    let first = line_with_number(alloc, b"verified\ncompact ", entries, b"")?;
+    let second = line_with_number(alloc, b"void ", void, b"")?;
+    line_behind(alloc, first.bytes(), second.bytes())
+}
+
+/// What is written of a table that is verified.
+fn verified_lines(alloc: Global, shown: Shown) -> Result<Line, OutOfMemory>
+    ensures { IfOk result (λ line. bytes_of line ≡ verified_text shown) }
+{
+    match shown {
+        Shown::Full { count } => line_with_number(alloc, b"verified\ninstances ", count, b""),
+        Shown::Compact { entries, void } => certificate_lines(alloc, entries, void),
+    }
 }
 
 /// Reports that a table is verified.
-fn reported<O: Sink, E: Sink>(alloc: Global, count: u64, out: &mut O, err: &mut E) -> Ending
+fn reported<O: Sink, E: Sink>(alloc: Global, shown: Shown, out: &mut O, err: &mut E) -> Ending
     ensures ends { (files : Option FilePair) (scheme table : SourceRun)
-        → outcome.IsAnswerOfRun files scheme table (Ok count)
+        → outcome.IsAnswerOfRun files scheme table (Ok shown)
         → outcome.Ends files scheme table (sink_run O.writing O.faults out.old out.new)
         (sink_run E.writing E.faults err.old err.new) result }
     ensures of_out { O.faults out.old ≤ O.faults out.new }
     ensures of_err { E.faults err.old ≤ E.faults err.new }
 {
-    match verified_line(alloc, count) {
-        Ok(line) => match write_all(out, line.bytes()) {
-            Ok(()) => Ending::Verified { count },
+    match verified_lines(alloc, shown) {
+        Ok(lines) => match write_all(out, lines.bytes()) {
+            Ok(()) => Ending::Verified { shown },
             Err(_) => {
                 let _ = refuse_front(alloc, err, USAGE, Refusal::Sink);
-                Ending::CutOff { count }
+                Ending::CutOff { shown }
             }
         },
         Err(_) => {
@@ -199,7 +213,7 @@ fn end<S: Source, T: Source, O: Sink, E: Sink>(
         (source_run S.file S.left S.reading S.faults scheme.old scheme.new)
         (source_run T.file T.left T.reading T.faults table.old table.new)
         (sink_run O.writing O.faults out.old out.new) (sink_run E.writing E.faults err.old err.new) result }
-    ensures accepted { (count : ℕ) → result ≡ Ending.Verified count
+    ensures accepted { (shown : Shown) → result ≡ Ending.Verified shown
         → IsAccepted (S.reading scheme.new).given }
     ensures calm { result ≢ Ending.Failed (Fault.Front Refusal.Source)
         → IsCalm (source_run S.file S.left S.reading S.faults scheme.old scheme.new)
@@ -211,7 +225,7 @@ fn end<S: Source, T: Source, O: Sink, E: Sink>(
         → (scheme.new ≡ scheme.old) × (table.new ≡ table.old) }
 {
     match answer(alloc, words, scheme, table) {
-        Ok(count) => reported(alloc, count, out, err),
+        Ok(shown) => reported(alloc, shown, out, err),
         Err(fault) => Ending::Failed {
             fault: refuse(alloc, err, fault),
         },
@@ -223,15 +237,15 @@ fn exit_status(ending: &Ending) -> u8
     ensures { result ≡ outcome.status_at ending.now }
 {
     match ending {
-        Ending::Verified { count: _ } => 0,
-        Ending::CutOff { count: _ } => status_of_refusal(&Refusal::Sink),
+        Ending::Verified { shown: _ } => 0,
+        Ending::CutOff { shown: _ } => status_of_refusal(&Refusal::Sink),
         Ending::Failed { fault } => status(fault),
     }
 }
 
 /// Runs the program: reads the file of a scheme and a file with a table of it, and writes to `out`
-/// that the table is verified, with the number of its instances, or a line to `err` that says why it
-/// isn't, and answers the exit status.
+/// that the table is verified, with the number of its instances, or of its entries and void
+/// environments, or a line to `err` that says why it isn't, and answers the exit status.
 ///
 /// `words` has the program's name first, which isn't looked at, and behind it the names of the two
 /// files, of which none begins with `-`; with other words nothing is started. Each source is started
@@ -240,7 +254,8 @@ fn exit_status(ending: &Ending) -> u8
 /// of `err` changes no status.
 ///
 /// The two files are read in time and memory in proportion to them and to the points and pairs of the
-/// flow, on average; the check takes what `hs_checker::check` says.
+/// flow, on average; the check takes what `hs_checker::check`
+/// or `hs_certificate_checker::check_certificate` says.
 pub fn check_run<S: Source, T: Source, O: Sink, E: Sink>(
     alloc: Global,
     words: &[&str],

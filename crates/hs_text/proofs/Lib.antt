@@ -3,3 +3,4 @@ pub mod Joins
 pub mod Types
 pub mod Ascending
 pub mod Puts
+pub mod VoidOrder

@@ -6,7 +6,13 @@
 --     summary         the verdict with the number of entries and what it rests on, and the weight that was removed
 --     IsTableText     the lines of a table's entries, ascending
 --     IsReport        the summary, and behind it the table where it is asked for
-use Rattle.std.specs.Prelude.{◌≡◌, ℕ, List, [], ◌∷◌, ◌++◌, codes, decimal, map, Option, Some, None, Contains, ◌↔◌}
+-- The reports of what was found without a table.
+--     void_line            a nonterminal and an environment that is void for it, on a line
+--     certificate_summary  of a certificate of acceptance: how many entries it has, and how many void environments
+--     IsVoidText           the lines of void environments, ascending
+--     IsCertificateReport  the summary, and behind it the entries and the void environments where they are asked for
+--     path_summary         of a path to a failure
+use Rattle.std.specs.Prelude.{◌≡◌, ℕ, Bool, true, false, List, [], ◌∷◌, ◌++◌, length, codes, decimal, map, Option, Some, None, Contains, ◌↔◌}
 use Rattle.std.specs.List.{flat_map, enumerate_from, join_by}
 use Rattle.std.specs.Option.{option_map_or}
 use Rattle.hs_scheme.specs.Tree.{Tree, Trees, node, none, more}
@@ -17,6 +23,7 @@ use Rattle.hs_scheme.specs.Problem.{ProblemData}
 use Rattle.hs_table.specs.Types.{TypeTree}
 use Rattle.hs_table.specs.Entries.{Env, EntryData, entry_cmp}
 use Rattle.hs_scheme.specs.FailingPath.{FailingPathData}
+use Rattle.hs_weak.specs.Void.{VoidData, void_cmp}
 use Rattle.hs_text.specs.Canonical.{name_at, params_at}
 use Rattle.hs_text.specs.declared.verdict.Verdict.{Verdict}
 use Rattle.hs_text.specs.declared.verdict.Verdict.TheVariants.{Accepted, Rejected, Long}
@@ -98,3 +105,31 @@ pub record IsTableText (p : ProblemData) (table : List EntryData) (text : List �
 abbrev pub IsReport : ProblemData → Verdict → Option (List EntryData) → Option ℕ → List ℕ → Type 0
 IsReport p verdict None removed text = text ≡ summary p verdict removed
 IsReport p verdict (Some table) removed text = (lines : List ℕ) × (IsTableText p table lines × (text ≡ summary p verdict removed ++ lines))
+
+-- ---- what was found without a table
+
+abbrev pub void_text : NamesData → VoidData → List ℕ
+void_text names v = codes "void " ++ (name_at names.rules v.rule ++ (codes " " ++ env_text names.states (params_at names.params v.rule) v.env))
+
+abbrev pub void_line : ProblemData → VoidData → List ℕ
+void_line p v = void_text p.sorted.names v ++ codes "\n"
+
+abbrev pub certificate_summary : ℕ → ℕ → Option ℕ → List ℕ
+certificate_summary entries void removed =
+    codes "accepted\n" ++ (number_line (codes "compact ") entries ++ (number_line (codes "void ") void ++ number_line_if (codes "simplified ") removed))
+
+abbrev pub path_summary : ProblemData → FailingPathData → Option ℕ → List ℕ
+path_summary p path removed = codes "rejected\n" ++ (path_lines p.sorted.names path ++ number_line_if (codes "simplified ") removed)
+
+-- The ascending list with these pairs, each on its line. There is just one such list.
+pub record IsVoidText (p : ProblemData) (void : List VoidData) (text : List ℕ) : Type 0 where
+  pub pairs : List VoidData
+  pub ascending : IsAscending void_cmp pairs
+  pub same : (v : VoidData) → Contains pairs v ↔ Contains void v
+  pub is : text ≡ flat_map (void_line p) pairs
+
+-- where `listed`, with the entries and the void environments
+abbrev pub IsCertificateReport : ProblemData → List EntryData → List VoidData → Bool → Option ℕ → List ℕ → Type 0
+IsCertificateReport p table void false removed text = text ≡ certificate_summary (length table) (length void) removed
+IsCertificateReport p table void true removed text =
+    (lines pairs : List ℕ) × (IsTableText p table lines × (IsVoidText p void pairs × (text ≡ certificate_summary (length table) (length void) removed ++ (lines ++ pairs))))

@@ -2,7 +2,7 @@
 --     rejected     the summary with the path `a/1 a/1 c`, which leads to the state q2
 --     accepted     the summary of a table that is accepted
 --     entry        the line of the entry at point 5
-use Rattle.std.specs.Prelude.{◌≡◌, refl, List, [], ◌∷◌, codes, Some, None}
+use Rattle.std.specs.Prelude.{◌≡◌, refl, [], ◌∷◌, codes, Some, None}
 use Rattle.std.specs.Fmt.{digits}
 use Rattle.hs_scheme.specs.Points.{points_of}
 use Rattle.hs_scheme.specs.Sorting.{o, arrow}

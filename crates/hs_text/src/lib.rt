@@ -1,8 +1,9 @@
-//! The texts that are written: the report of a run with its table, and the canonical file of a
-//! scheme.
+//! The texts that are written: the report of a run with its table, that of a certificate of acceptance
+//! or of a path that was found without one, and the canonical file of a scheme.
 #![tactic(auto)]
 
 mod canonical;
+mod evidence;
 mod laws;
 mod pieces;
 mod summary;
@@ -10,7 +11,8 @@ mod table;
 mod verdict;
 
 pub use canonical::scheme_text;
+pub use evidence::{certificate_report, path_report, void_line};
 pub use laws::report_is_unique;
 pub use summary::report;
-pub use table::table_text;
+pub use table::{entry_line, table_text};
 pub use verdict::Verdict;

@@ -16,7 +16,7 @@ use hs_table::Entry;
 use std::alloc::Global;
 
 /// Puts a line of these words and a number at the end.
-fn push_line(words: &[u8], number: u64, text: &mut Text)
+pub(crate) fn push_line(words: &[u8], number: u64, text: &mut Text)
     ensures { Puts text.old text.new (lines.number_line words.now number) }
 {
     text.push(words);
@@ -25,7 +25,7 @@ fn push_line(words: &[u8], number: u64, text: &mut Text)
 }
 
 /// Puts such a line at the end where there is a number.
-fn push_line_if(words: &[u8], number: Option<u64>, text: &mut Text)
+pub(crate) fn push_line_if(words: &[u8], number: Option<u64>, text: &mut Text)
     ensures { Puts text.old text.new (lines.number_line_if words.now number) }
 {
     if let Some(number) = number {
@@ -46,7 +46,7 @@ fn push_steps(names: &Names, steps: &[(u32, u32)], text: &mut Text)
 }
 
 /// Puts the lines of a path at the end.
-fn push_path(names: &Names, path: &FailingPath, text: &mut Text)
+pub(crate) fn push_path(names: &Names, path: &FailingPath, text: &mut Text)
     ensures { Puts text.old text.new (lines.path_lines names.now path.now) }
 {
     text.push(b"path ");

@@ -51,7 +51,7 @@ fn push_binding(states: &[Name], params: &[Name], number: usize, set: &TypeSet, 
 }
 
 /// Puts an environment at the end, where these are the names of the parameters.
-fn push_env(states: &[Name], params: &[Name], env: &[TypeSet], text: &mut Text)
+pub(crate) fn push_env(states: &[Name], params: &[Name], env: &[TypeSet], text: &mut Text)
     ensures { Puts text.old text.new (lines.env_text states.now params.now env.now) }
 {
     text.push(b"[");
@@ -139,5 +139,15 @@ pub fn table_text(alloc: Global, problem: &Problem, table: &[Entry]) -> Result<V
 {
     let mut text = Text::new(alloc);
     push_table(alloc, problem, table, &mut text);
+    text.finish()
+}
+
+/// The line of an entry, with the LF at its end. Recurses as deep as its types.
+pub fn entry_line(alloc: Global, problem: &Problem, entry: &Entry) -> Result<Vec<u8>, OutOfMemory>
+    requires { entry.now.point < length problem.now.points.points }
+    ensures { IfOk result (λ text. text.items ≡ lines.entry_line problem.now entry.now) }
+{
+    let mut text = Text::new(alloc);
+    push_entry_line(problem, entry, &mut text);
     text.finish()
 }

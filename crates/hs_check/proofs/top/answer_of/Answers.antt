@@ -1,12 +1,15 @@
 use Rattle.std.proofs.Common.{refl}
 use Rattle.hs_front.specs.Outside.{source_run}
-use Rattle.hs_check.proofs.StateNames.{names_of, closed_flow}
+use Rattle.hs_check.proofs.OwnNames.{states_of, rules_of, closed_flow}
 use Rattle.hs_check.proofs.Accepting.{accepted_file}
 use Rattle.hs_check.proofs.Running.{on_ok}
 use Rattle.hs_check.proofs.top.answer_of.Goals as goal
 
-pub shown_in-shown-requires-clause-names : goal.shown_in-shown-requires-clause-names
-shown_in-shown-requires-clause-names g c = names_of _ _ c.in-Ok.ensures.answer.0
+pub shown_in-shown-requires-clause-states : goal.shown_in-shown-requires-clause-states
+shown_in-shown-requires-clause-states g c = states_of _ _ c.in-Ok.ensures.answer.0
+
+pub shown_in-shown-requires-clause-rules : goal.shown_in-shown-requires-clause-rules
+shown_in-shown-requires-clause-rules g c = rules_of _ _ c.in-Ok.ensures.answer.0
 
 pub shown_in-shown-requires-clause-flow : goal.shown_in-shown-requires-clause-flow
 shown_in-shown-requires-clause-flow g c = closed_flow _ _ c.in-Ok.ensures.answer.0
