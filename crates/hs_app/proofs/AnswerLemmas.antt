@@ -70,18 +70,25 @@ matching : (c d : Result Verdict Refusal) (a b : Result Decided Refusal) → d �
 matching c d a b e f h = subst (λ (x : Result Verdict Refusal). Matches x a) (sym e) (subst (λ (y : Result Decided Refusal). Matches c y) (sym f) h)
 
 module _ (asked : Asked) (u : UnsortedData) where
-  -- a tree that isn't accepted; where the first start entry isn't asked for, within the budget
+  -- a tree that is accepted; where no other evidence is sought, within the budget
+  record IsWon : Type 0 where
+    accepts : Accepts u.rules u.automaton.transitions
+    problem : ProblemData
+    of : HasProblem asked u problem
+    budget : (asked.settings.quick ≡ true) ⊎ (Exceeds problem asked.settings.entries → ⊥)
+
+  -- a tree that isn't accepted; where the first start entry isn't asked for either, within the budget
   record IsLost : Type 0 where
     rejects : Accepts u.rules u.automaton.transitions → ⊥
     problem : ProblemData
     of : HasProblem asked u problem
-    budget : (asked.settings.first ≡ true) ⊎ (Exceeds problem asked.settings.entries → ⊥)
+    budget : (asked.settings.quick ≡ true) ⊎ ((asked.settings.first ≡ true) ⊎ (Exceeds problem asked.settings.entries → ⊥))
 
   -- what an answer says of the scheme
   abbrev Told : Result Decided Refusal → Type 0
   Told a =
       Wants a
-      ⊎ (((d : Decided) × ((a ≡ Ok d) × ((d.verdict ≡ Accepted) × (Accepts u.rules u.automaton.transitions × IsWithinBudget asked u))))
+      ⊎ (((d : Decided) × ((a ≡ Ok d) × ((d.verdict ≡ Accepted) × IsWon)))
       ⊎ (((d : Decided) × ((a ≡ Ok d) × (((d.verdict ≡ Rejected) ⊎ (d.verdict ≡ Long)) × IsLost)))
       ⊎ (((a ≡ Err PointLimit) × OfForm asked u HasManyPoints)
       ⊎ (((a ≡ Err FlowLimit) × OfForm asked u HasMuchFlow)
@@ -95,16 +102,31 @@ module _ (asked : Asked) (u : UnsortedData) where
   reported_within true p T h within = inl refl
   reported_within false p T h within = inr (least_within p T h.0 within)
 
+  won : (text : List ℕ) → Reports asked u Accepted text → IsWon
+  won text h =
+      elim h.reports [
+        | inl r ↦ record { accepts = r.accepts; problem = h.problem; of = h.of; budget = inr (least_within h.problem r.table r.least r.within) }
+        | inr (quick, s) ↦ record { accepts = s.accepts; problem = h.problem; of = h.of; budget = inl quick }
+      ]
+
+  lost_along : (text : List ℕ) → Reports asked u Rejected text → IsLost
+  lost_along text h =
+      elim h.reports [
+        | inl r ↦ record { rejects = r.rejects; problem = h.problem; of = h.of; budget = inr (reported_within asked.settings.first h.problem r.table r.reported r.within) }
+        | inr (quick, s) ↦ record { rejects = s.rejects; problem = h.problem; of = h.of; budget = inl quick }
+      ]
+
+  lost_long : (text : List ℕ) → Reports asked u Long text → IsLost
+  lost_long text h =
+      elim h.reports [
+        | inl r ↦ record { rejects = r.rejects; problem = h.problem; of = h.of; budget = inr (reported_within asked.settings.first h.problem r.table r.reported r.within) }
+        | inr (quick, s) ↦ absurd s
+      ]
+
   told_verdict : (d : Decided) (v : Verdict) → d.verdict ≡ v → Reports asked u v d.report.items → Told (Ok d)
-  told_verdict d Accepted e h =
-      let r = h.reports in
-      inr (inl (d, (refl, (e, (r.accepts, record { problem = h.problem; of = h.of; few = least_within h.problem r.table r.least r.within })))))
-  told_verdict d Rejected e h =
-      let r = h.reports in
-      inr (inr (inl (d, (refl, (inl e, record { rejects = r.rejects; problem = h.problem; of = h.of; budget = reported_within asked.settings.first h.problem r.table r.reported r.within })))))
-  told_verdict d Long e h =
-      let r = h.reports in
-      inr (inr (inl (d, (refl, (inr e, record { rejects = r.rejects; problem = h.problem; of = h.of; budget = reported_within asked.settings.first h.problem r.table r.reported r.within })))))
+  told_verdict d Accepted e h = inr (inl (d, (refl, (e, won d.report.items h))))
+  told_verdict d Rejected e h = inr (inr (inl (d, (refl, (inl e, lost_along d.report.items h)))))
+  told_verdict d Long e h = inr (inr (inl (d, (refl, (inr e, lost_long d.report.items h)))))
 
   told : (a : Result Decided Refusal) → IsAnswerOn asked u a → Told a
   told (Ok d) h = told_verdict d d.verdict refl h
@@ -159,32 +181,37 @@ module _ (asked : Asked) (u : UnsortedData) where
   not_over : IsWithinBudget asked u → IsOverBudget asked u → ⊥
   not_over w o = w.few (exceeds_too o.0 w.problem o.1.0 w.of o.1.1.exceeds)
 
-  not_bound : IsWithinBudget asked u → IsBoundToExceed asked u → ⊥
-  not_bound w b = w.few (exceeds_too b.problem w.problem b.of w.of b.exceeds)
+  not_both : (b : Bool) → b ≡ true → b ≡ false → ⊥
+  not_both b e f = let g : true ≡ false = sym e ∙ f in (cc)
 
-  not_first : asked.settings.first ≡ true → asked.settings.first ≡ false → ⊥
-  not_first e f = let g : true ≡ false = sym e ∙ f in (cc)
+  not_won : IsWon → IsBoundToExceed asked u → ⊥
+  not_won w b =
+      elim w.budget [
+        | inl quick ↦ not_both asked.settings.quick quick b.plain
+        | inr few ↦ few (exceeds_too b.problem w.problem b.of w.of b.exceeds)
+      ]
 
   not_lost : IsLost → IsBoundToExceed asked u → ⊥
   not_lost l b =
       elim l.budget [
-        | inr few ↦ few (exceeds_too b.problem l.problem b.of l.of b.exceeds)
-        | inl first ↦ elim b.tells [
-          | inl all ↦ not_first first all
+        | inl quick ↦ not_both asked.settings.quick quick b.plain
+        | inr (inr few) ↦ few (exceeds_too b.problem l.problem b.of l.of b.exceeds)
+        | inr (inl first) ↦ elim b.tells [
+          | inl all ↦ not_both asked.settings.first first all
           | inr accepts ↦ l.rejects accepts
         ]
       ]
 
   -- an answer beside a scheme that has a problem
   beside_problem : (d : Result Verdict Refusal) (a : Result Decided Refusal) (p : ProblemData) → HasProblem asked u p → Told a
-      → ((x : Decided) → a ≡ Ok x → x.verdict ≡ Accepted → Accepts u.rules u.automaton.transitions → IsWithinBudget asked u → Matches d a)
+      → ((x : Decided) → a ≡ Ok x → x.verdict ≡ Accepted → IsWon → Matches d a)
       → ((x : Decided) → a ≡ Ok x → (x.verdict ≡ Rejected) ⊎ (x.verdict ≡ Long) → IsLost → Matches d a)
       → (a ≡ Err EntryLimit → IsOverBudget asked u → Matches d a)
       → Right d a
   beside_problem d a p is h accepted rejected over =
       elim h [
         | inl wants ↦ inl wants
-        | inr (inl (x, (e, (v, (accepts, within))))) ↦ inr (accepted x e v accepts within)
+        | inr (inl (x, (e, (v, win)))) ↦ inr (accepted x e v win)
         | inr (inr (inl (x, (e, (v, lost))))) ↦ inr (rejected x e v lost)
         | inr (inr (inr (inl (e, many)))) ↦ absurd (not_many_points asked u p is many)
         | inr (inr (inr (inr (inl (e, much))))) ↦ absurd (not_much_flow asked u p is much)
@@ -200,7 +227,7 @@ module _ (asked : Asked) (u : UnsortedData) where
   beside_limit d a h none many much =
       elim h [
         | inl wants ↦ inl wants
-        | inr (inl (x, (e, (v, (accepts, within))))) ↦ absurd (none within.problem within.of)
+        | inr (inl (x, (e, (v, win)))) ↦ absurd (none win.problem win.of)
         | inr (inr (inl (x, (e, (v, lost))))) ↦ absurd (none lost.problem lost.of)
         | inr (inr (inr (inl (e, m)))) ↦ inr (many e m)
         | inr (inr (inr (inr (inl (e, m))))) ↦ inr (much e m)
@@ -212,12 +239,12 @@ module _ (asked : Asked) (u : UnsortedData) where
       elim (warranted d w) [
         | inl (is, (accepts, within)) ↦
             beside_problem d a within.problem within.of (told a h)
-            (λ x e v accepts' within'. matching (Ok Accepted) d a (Ok x) is e v)
+            (λ x e v win. matching (Ok Accepted) d a (Ok x) is e v)
             (λ x e v lost. absurd (lost.rejects accepts))
             (λ e o. absurd (not_over within o))
         | inr (inl (is, (rejects, within))) ↦
             beside_problem d a within.problem within.of (told a h)
-            (λ x e v accepts' within'. absurd (rejects accepts'))
+            (λ x e v win. absurd (rejects win.accepts))
             (λ x e v lost. matching (Ok Rejected) d a (Ok x) is e v)
             (λ e o. absurd (not_over within o))
         | inr (inr (inl (is, many))) ↦
@@ -230,7 +257,7 @@ module _ (asked : Asked) (u : UnsortedData) where
             (λ e m. matching (Err FlowLimit) d a (Err FlowLimit) is e refl)
         | inr (inr (inr (inr (is, bound)))) ↦
             beside_problem d a bound.problem bound.of (told a h)
-            (λ x e v accepts' within'. absurd (not_bound within' bound))
+            (λ x e v win. absurd (not_won win bound))
             (λ x e v lost. absurd (not_lost lost bound))
             (λ e o. matching (Err EntryLimit) d a (Err EntryLimit) is e refl)
       ]

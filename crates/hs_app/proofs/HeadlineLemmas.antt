@@ -27,14 +27,26 @@ use Rattle.hs_app.proofs.AnswerLemmas.{decided_comes}
 -- ---- what a verdict says of the tree
 
 accepts_of : (asked : Asked) (u : UnsortedData) (v : Verdict) (text : List ℕ) → status_of_verdict v ≡ 0 → Reports asked u v text → Accepts u.rules u.automaton.transitions
-accepts_of asked u Accepted text e h = h.reports.accepts
+accepts_of asked u Accepted text e h =
+    elim h.reports [
+      | inl r ↦ r.accepts
+      | inr (quick, s) ↦ s.accepts
+    ]
 accepts_of asked u Rejected text e h = absurd (omega (arith, e))
 accepts_of asked u Long text e h = absurd (omega (arith, e))
 
 rejects_of : (asked : Asked) (u : UnsortedData) (v : Verdict) (text : List ℕ) → 1 ≤ status_of_verdict v → Reports asked u v text → Accepts u.rules u.automaton.transitions → ⊥
 rejects_of asked u Accepted text e h = absurd (omega (arith, e))
-rejects_of asked u Rejected text e h = h.reports.rejects
-rejects_of asked u Long text e h = h.reports.rejects
+rejects_of asked u Rejected text e h =
+    elim h.reports [
+      | inl r ↦ r.rejects
+      | inr (quick, s) ↦ s.rejects
+    ]
+rejects_of asked u Long text e h =
+    elim h.reports [
+      | inl r ↦ r.rejects
+      | inr (quick, s) ↦ absurd s
+    ]
 
 module _ (asked : Asked) (bytes : List ℕ) (d : Decided) (h : HasDecision asked bytes (Ok d)) where
   is_accepted : status_of_verdict d.verdict ≡ 0 → IsAccepted bytes

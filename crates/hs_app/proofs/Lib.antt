@@ -1,6 +1,7 @@
 pub mod OneProblem
 pub mod ReportedTables
 pub mod DecidingLemmas
+pub mod EvidenceLemmas
 pub mod AnswerLemmas
 pub mod OutcomeLemmas
 pub mod HeadlineLemmas

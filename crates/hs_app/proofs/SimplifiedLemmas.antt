@@ -12,7 +12,7 @@ use Rattle.hs_app.specs.declared.verdict.Decided.{Decided}
 use Rattle.hs_app.specs.Problems.{Asked, asked_of, form_asked, IsRemoved}
 use Rattle.hs_app.specs.Verdict.{DecidesForm, DecidesSimplified, DecidesSorted}
 
-no_choice : (b : Bool) → b ≡ true → b ≡ false → ⊥
+pub no_choice : (b : Bool) → b ≡ true → b ≡ false → ⊥
 no_choice b e f = let g : true ≡ false = sym e ∙ f in (cc)
 
 into_sorted : (asked : Asked) (sorted : SortedData) (r : Result Decided Refusal) → DecidesSimplified asked sorted r → DecidesSorted asked sorted r
@@ -40,7 +40,7 @@ module _ (settings : Settings) (images : List Image) (s : SortedData) (is_sorted
   -- where it is asked for, what the passes made is decided
   pub of_simplified : (t : SortedData) (r : Result Decided Refusal) → settings.simplify ≡ true → t ≡ composed images s → KeepsRest s t
       → HaveSameTree s.scheme.ranks s.scheme.rules t.scheme.rules → weight t ≤ weight s
-      → DecidesForm settings t (Some (weight s - weight t)) r → DecidesSorted (asked_of settings images) s r
+      → DecidesForm settings s t (Some (weight s - weight t)) r → DecidesSorted (asked_of settings images) s r
   of_simplified t r e made rest tree lighter h =
       into_sorted (asked_of settings images) s r (record {
         is_sorted = is_sorted;
@@ -52,7 +52,7 @@ module _ (settings : Settings) (images : List Image) (s : SortedData) (is_sorted
       })
 
   -- and else the scheme itself
-  pub of_plain : (r : Result Decided Refusal) → settings.simplify ≡ false → DecidesForm settings s None r → DecidesSorted (asked_of settings images) s r
+  pub of_plain : (r : Result Decided Refusal) → settings.simplify ≡ false → DecidesForm settings s s None r → DecidesSorted (asked_of settings images) s r
   of_plain r e h =
       into_sorted (asked_of settings images) s r (record {
         is_sorted = is_sorted;

@@ -1,5 +1,5 @@
 -- From what is answered on a sorted scheme to what is answered on the bytes of its file.
-use Rattle.std.proofs.Common.{◌≡◌, refl, sym, ◌∙◌, subst, ap, List, length, ℕ, Bool, true, false, Option, None, Result, Ok, Err}
+use Rattle.std.proofs.Common.{◌≡◌, refl, sym, ◌∙◌, subst, ap, List, length, ℕ, Bool, true, false, Option, None, Result, Ok, Err, inl, inr}
 use Rattle.std.specs.Prelude.{if◌then◌else◌}
 use Rattle.hs_scheme.specs.declared.term.Rule.{Rule}
 use Rattle.hs_scheme.specs.Transition.{TransitionData}
@@ -39,7 +39,7 @@ use Rattle.hs_app.specs.Problems.{Asked, IsSimplified, IsRemoved, OfForm, HasPro
 use Rattle.hs_front.specs.Files.{IsSchemeOf}
 use Rattle.hs_front.proofs.OneScheme.{scheme_is}
 use Rattle.hs_front.specs.Faults.{IsSortable, IsFileFault}
-use Rattle.hs_app.specs.Verdict.{FailsAlong, ReportsBy, DecidesProblem, DecidesForm, DecidesSimplified, DecidesSorted, Refused, IsAnsweredWith}
+use Rattle.hs_app.specs.Verdict.{FailsAlong, ReportsBy, ShowsBy, ShowsOf, Decides, DecidesForm, DecidesSimplified, DecidesSorted, Refused, IsAnsweredWith}
 
 -- a path to a terminal without transition fails
 ends_fail : (rules : List Rule) (ts : List TransitionData) (path : FailingPathData) → IsFailingPath rules ts path → Fails rules ts path.used 0 start path.steps
@@ -180,25 +180,46 @@ module _ (u : UnsortedData) (form : SortedData) (unsorted : IsUnsorted u) (is_so
       tells = r.tells;
     }
 
+    -- what evidence shows of the rules that were saturated, and of those before, it shows of the file's
+    shown : (v : Verdict) (text : List ℕ) → ShowsOf settings form p removed v text → ShowsBy settings u.rules u.automaton.transitions p removed v text
+    shown Accepted text r = record {
+      accepts = accepts_back r.accepts;
+      table = r.table;
+      void = r.void;
+      reads = r.reads;
+      certificate = r.certificate;
+      listed = r.listed;
+      tells = r.tells;
+    }
+    shown Rejected text r =
+        let fails = fails_too r.path r.fails in record {
+          rejects = λ accepts. no_failure_accepted u.rules u.automaton.transitions accepts r.path.used r.path.steps (ends_fail u.rules u.automaton.transitions r.path fails);
+          path = r.path;
+          fails = fails;
+          few = r.few;
+          tells = r.tells;
+        }
+    shown Long text r = absurd r
+
 -- what is decided on a problem is decided on its scheme
-pub of_problem : (settings : Settings) (form : SortedData) (p : ProblemData) (removed : Option ℕ) (r : Result Decided Refusal) → IsProblemOf form p → AreRules form.scheme.rules (length form.scheme.ranks)
-    → DecidesProblem settings p removed r → DecidesForm settings form removed r
-of_problem settings form p removed (Ok d) w are h = (are, (p, (w, h)))
-of_problem settings form p removed (Err EntryLimit) w are h = (p, (w, h))
-of_problem settings form p removed (Err OutOfMemory) w are h = tt
-of_problem settings form p removed (Err PointLimit) w are h = absurd h
-of_problem settings form p removed (Err FlowLimit) w are h = absurd h
-of_problem settings form p removed (Err Usage) w are h = absurd h
-of_problem settings form p removed (Err Source) w are h = absurd h
-of_problem settings form p removed (Err FileTooLong) w are h = absurd h
-of_problem settings form p removed (Err (Syntax line)) w are h = absurd h
-of_problem settings form p removed (Err (Limit which)) w are h = absurd h
-of_problem settings form p removed (Err (Names fault)) w are h = absurd h
-of_problem settings form p removed (Err (IllSorted rule)) w are h = absurd h
-of_problem settings form p removed (Err (NotFirstOrder terminal)) w are h = absurd h
-of_problem settings form p removed (Err (SortTooLarge rule)) w are h = absurd h
-of_problem settings form p removed (Err (RuleTooLong rule)) w are h = absurd h
-of_problem settings form p removed (Err Sink) w are h = absurd h
+pub of_problem : (settings : Settings) (before form : SortedData) (p : ProblemData) (removed : Option ℕ) (r : Result Decided Refusal) → IsProblemOf form p
+    → AreRules form.scheme.rules (length form.scheme.ranks) → Decides settings before p removed r → DecidesForm settings before form removed r
+of_problem settings before form p removed (Ok d) w are h = (are, (p, (w, h)))
+of_problem settings before form p removed (Err EntryLimit) w are h = (p, (w, h))
+of_problem settings before form p removed (Err OutOfMemory) w are h = tt
+of_problem settings before form p removed (Err PointLimit) w are h = absurd h
+of_problem settings before form p removed (Err FlowLimit) w are h = absurd h
+of_problem settings before form p removed (Err Usage) w are h = absurd h
+of_problem settings before form p removed (Err Source) w are h = absurd h
+of_problem settings before form p removed (Err FileTooLong) w are h = absurd h
+of_problem settings before form p removed (Err (Syntax line)) w are h = absurd h
+of_problem settings before form p removed (Err (Limit which)) w are h = absurd h
+of_problem settings before form p removed (Err (Names fault)) w are h = absurd h
+of_problem settings before form p removed (Err (IllSorted rule)) w are h = absurd h
+of_problem settings before form p removed (Err (NotFirstOrder terminal)) w are h = absurd h
+of_problem settings before form p removed (Err (SortTooLarge rule)) w are h = absurd h
+of_problem settings before form p removed (Err (RuleTooLong rule)) w are h = absurd h
+of_problem settings before form p removed (Err Sink) w are h = absurd h
 
 -- a refusal by the front end
 pub refused : (asked : Asked) (bytes : List ℕ) (r : Refusal) → IsFileFault bytes r → Refused asked bytes r
@@ -239,7 +260,7 @@ module _ (asked : Asked) (bytes : List ℕ) (file : File) (reads : IsFileWithin 
       much_flow : HasMuchFlow form → OfForm asked (unsorted_of file) HasMuchFlow
       much_flow h = record { form = sorted; of = form_of is_sorted; holds = subst (λ (s : SortedData). HasMuchFlow s) simplified.made h }
 
-      verdict : (d : Decided) (p : ProblemData) → IsProblemOf form p → AreRules form.scheme.rules (length form.scheme.ranks) → DecidesProblem asked.settings p removed (Ok d)
+      verdict : (d : Decided) (p : ProblemData) → IsProblemOf form p → AreRules form.scheme.rules (length form.scheme.ranks) → Decides asked.settings sorted p removed (Ok d)
           → IsAnsweredWith asked bytes (Ok d)
       unfolding problem
       verdict d p w are h = record {
@@ -252,13 +273,16 @@ module _ (asked : Asked) (bytes : List ℕ) (file : File) (reads : IsFileWithin 
           removed = removed;
           lighter = subst (λ (s : SortedData). IsRemoved asked.settings.simplify sorted s removed) (sym w.same) lighter;
           reports =
-              judged (unsorted_of file) sorted unsorted is_sorted inferred asked.settings asked refl p
-              (subst (λ (s : SortedData). IsSimplified asked sorted s) (sym w.same) simplified) removed
-              (subst (λ (s : SortedData). AreRules s.scheme.rules (length s.scheme.ranks)) (sym w.same) are) d.verdict d.report.items h;
+              let made_of = subst (λ (s : SortedData). IsSimplified asked sorted s) (sym w.same) simplified in
+              elim h [
+                | inl r ↦ inl (judged (unsorted_of file) sorted unsorted is_sorted inferred asked.settings asked refl p made_of removed
+                    (subst (λ (s : SortedData). AreRules s.scheme.rules (length s.scheme.ranks)) (sym w.same) are) d.verdict d.report.items r)
+                | inr (quick, r) ↦ inr (quick, shown (unsorted_of file) sorted unsorted is_sorted inferred asked.settings asked refl p made_of removed d.verdict d.report.items r)
+              ];
         };
       }
 
-      of_form_decided : (r : Result Decided Refusal) → DecidesForm asked.settings form removed r → IsAnsweredWith asked bytes r
+      of_form_decided : (r : Result Decided Refusal) → DecidesForm asked.settings sorted form removed r → IsAnsweredWith asked bytes r
       of_form_decided (Ok d) h = verdict d h.1.0 h.1.1.0 h.0 h.1.1.1
       of_form_decided (Err EntryLimit) h = record { scheme = unsorted_of file; sound = sound; decides = (h.0, (problem h.0 h.1.0, h.1.1)) }
       of_form_decided (Err PointLimit) h = record { scheme = unsorted_of file; sound = sound; decides = many_points h }

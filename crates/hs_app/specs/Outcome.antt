@@ -47,7 +47,7 @@ module _ (order : Option Order) (source : SourceRun) where
 
 -- the line where the words are refused
 abbrev pub usage : List ℕ
-usage = ended (codes "usage: horsat [--workers N] [--entries N] [--steps N] [--table] [--first] [--simplify] [--gen K] [FILE]")
+usage = ended (codes "usage: horsat [--workers N] [--entries N] [--steps N] [--table] [--first] [--quick] [--simplify] [--gen K] [FILE]")
 
 module _ (order : Option Order) (source : SourceRun) (out err : SinkRun) where
   -- the verdict was reported whole

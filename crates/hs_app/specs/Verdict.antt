@@ -1,10 +1,10 @@
 -- What the bytes of a file are answered with.
 --     FailsAlong              the path leads, after some number of steps, to a terminal without transition, which it names with its state
---     Reports                 the text is the report of the verdict on a scheme
+--     Reports                 the text is the report of the verdict on a scheme, by its table, or, where that is asked for, by evidence
 --     IsAnsweredWith          the verdict with its report, or the reason why there is none
 --     HasAnswer               the answer of a file that isn't too long
 --     Warrants                the verdict that the bytes come to, or the reason why there is none, whatever is answered
-use Rattle.std.specs.Prelude.{◌≡◌, ◌≤◌, ◌<◌, ◌⊎◌, ℕ, Bool, true, false, List, ◌++◌, length, Option, Some, None, Result, Ok, Err, if◌then◌else◌}
+use Rattle.std.specs.Prelude.{◌≡◌, ◌≤◌, ◌<◌, ◌⊎◌, ℕ, Bool, true, false, List, ◌++◌, length, All, Option, Some, None, Result, Ok, Err, if◌then◌else◌}
 use Rattle.hs_scheme.specs.declared.term.Head.{Head}
 use Rattle.hs_scheme.specs.declared.term.Rule.{Rule}
 use Rattle.hs_scheme.specs.Scheme.{AreRules}
@@ -15,7 +15,8 @@ use Rattle.hs_scheme.specs.Sorted.{SortedData, IsSorted}
 use Rattle.hs_scheme.specs.Problem.{ProblemData}
 use Rattle.hs_scheme.specs.Run.{start, Accepts}
 use Rattle.hs_scheme.specs.Steps.{Path, Reaches, HasNoTransition}
-use Rattle.hs_table.specs.Entries.{EntryData}
+use Rattle.hs_scheme.specs.Flow.{IsAscending}
+use Rattle.hs_table.specs.Entries.{EntryData, InShape, entry_cmp}
 use Rattle.hs_scheme.specs.SameTree.{FailsFromStart}
 use Rattle.hs_table.specs.Follows.{Support}
 use Rattle.hs_table.specs.Tables.{IsSupportedTable, IsLeastTable, HasSupports, HasStart, Exceeds}
@@ -24,7 +25,9 @@ use Rattle.hs_checker.specs.Checked.{IsCount}
 use Rattle.hs_passes.specs.Passing.{KeepsRest}
 use Rattle.hs_scheme.specs.FailingPath.{FailingPathData}
 use Rattle.hs_scheme.specs.Failing.{IsFailingPath}
-use Rattle.hs_text.specs.Report.{IsReport}
+use Rattle.hs_weak.specs.Void.{VoidData, void_cmp}
+use Rattle.hs_weak.specs.Certificate.{IsAcceptanceCertificate}
+use Rattle.hs_text.specs.Report.{IsReport, IsCertificateReport, path_summary}
 use Rattle.hs_text.specs.declared.verdict.Verdict as shown
 use Rattle.hs_text.specs.declared.verdict.Verdict.TheVariants as shown_as
 use Rattle.hs_front.specs.declared.refusal.Refusal.{Refusal}
@@ -111,6 +114,38 @@ ReportsBy settings rules ts p removed Accepted text = ReportsAccepted settings r
 ReportsBy settings rules ts p removed Rejected text = ReportsRejected settings rules ts p removed text
 ReportsBy settings rules ts p removed Long text = ReportsLong settings rules ts p removed text
 
+-- ---- the same by evidence, which is sought with `--quick`, and checked
+
+-- the entries are in shape, and each list ascends, so that nothing stands in it twice
+pub record AreListed (p : ProblemData) (table : List EntryData) (void : List VoidData) : Type 0 where
+  pub shape : All (InShape p) table
+  pub entries : IsAscending entry_cmp table
+  pub pairs : IsAscending void_cmp void
+
+module _ (settings : Settings) (rules : List Rule) (ts : List TransitionData) (p : ProblemData) (removed : Option ℕ) (text : List ℕ) where
+  -- the tree is accepted, and that is seen from a certificate
+  pub record ShowsAccepted : Type 0 where
+    pub accepts : Accepts rules ts
+    pub table : List EntryData
+    pub void : List VoidData
+    pub reads : List (ℕ × ℕ)
+    pub certificate : IsAcceptanceCertificate p table void reads
+    pub listed : AreListed p table void
+    pub tells : IsCertificateReport p table void settings.table removed text
+
+  -- it isn't, and that is seen from a path that leads, in so many steps along these rules, to its last terminal
+  pub record ShowsRejected : Type 0 where
+    pub rejects : Accepts rules ts → ⊥
+    pub path : FailingPathData
+    pub fails : IsFailingPath rules ts path
+    pub few : path.used ≤ settings.steps
+    pub tells : text ≡ path_summary p path removed
+
+abbrev pub ShowsBy : Settings → List Rule → List TransitionData → ProblemData → Option ℕ → Verdict → List ℕ → Type 0
+ShowsBy settings rules ts p removed Accepted text = ShowsAccepted settings rules ts p removed text
+ShowsBy settings rules ts p removed Rejected text = ShowsRejected settings rules ts p removed text
+ShowsBy settings rules ts p removed Long text = ⊥
+
 -- The verdict is on the rules of the file, and by the problem of their scheme, in which the terminals, the states and their names are
 -- those of the file.
 pub record Reports (asked : Asked) (u : UnsortedData) (verdict : Verdict) (text : List ℕ) : Type 0 where
@@ -120,6 +155,7 @@ pub record Reports (asked : Asked) (u : UnsortedData) (verdict : Verdict) (text 
   pub removed : Option ℕ
   pub lighter : IsRemoved asked.settings.simplify of.form problem.sorted removed
   pub reports : ReportsBy asked.settings u.rules u.automaton.transitions problem removed verdict text
+      ⊎ ((asked.settings.quick ≡ true) × ShowsBy asked.settings u.rules u.automaton.transitions problem removed verdict text)
 
 -- the least table has more entries than are allowed; where the first start entry is asked for, some supported list of as many lacks it
 pub record IsOver (settings : Settings) (p : ProblemData) : Type 0 where
@@ -145,12 +181,25 @@ DecidesProblem settings p removed (Err EntryLimit) = IsOver settings p
 DecidesProblem settings p removed (Err OutOfMemory) = Unit {0}
 DecidesProblem settings p removed (Err refusal) = ⊥
 
+-- the same by evidence: a certificate is of the problem, and a path leads along the rules of a scheme that became the problem's
+abbrev pub ShowsOf : Settings → SortedData → ProblemData → Option ℕ → Verdict → List ℕ → Type 0
+ShowsOf settings before p removed Accepted text = ShowsAccepted settings p.sorted.scheme.rules p.sorted.automaton.transitions p removed text
+ShowsOf settings before p removed Rejected text = ShowsRejected settings before.scheme.rules before.automaton.transitions p removed text
+ShowsOf settings before p removed Long text = ⊥
+
+abbrev pub DecidesQuickly : Settings → SortedData → ProblemData → Option ℕ → Decided → Type 0
+DecidesQuickly settings before p removed decided = (settings.quick ≡ true) × ShowsOf settings before p removed decided.verdict decided.report.items
+
+abbrev pub Decides : Settings → SortedData → ProblemData → Option ℕ → Result Decided Refusal → Type 0
+Decides settings before p removed (Ok decided) = DecidesProblem settings p removed (Ok decided) ⊎ DecidesQuickly settings before p removed decided
+Decides settings before p removed (Err refusal) = DecidesProblem settings p removed (Err refusal)
+
 -- the same of a scheme from which so much weight was taken off, and which may pass a limit
-abbrev pub DecidesForm : Settings → SortedData → Option ℕ → Result Decided Refusal → Type 0
-DecidesForm settings form removed (Ok decided) =
-    AreRules form.scheme.rules (length form.scheme.ranks) × ((p : ProblemData) × (IsProblemOf form p × DecidesProblem settings p removed (Ok decided)))
-DecidesForm settings form removed (Err EntryLimit) = (p : ProblemData) × (IsProblemOf form p × DecidesProblem settings p removed (Err EntryLimit))
-DecidesForm settings form removed (Err refusal) = IsPastLimits form refusal
+abbrev pub DecidesForm : Settings → SortedData → SortedData → Option ℕ → Result Decided Refusal → Type 0
+DecidesForm settings before form removed (Ok decided) =
+    AreRules form.scheme.rules (length form.scheme.ranks) × ((p : ProblemData) × (IsProblemOf form p × Decides settings before p removed (Ok decided)))
+DecidesForm settings before form removed (Err EntryLimit) = (p : ProblemData) × (IsProblemOf form p × DecidesProblem settings p removed (Err EntryLimit))
+DecidesForm settings before form removed (Err refusal) = IsPastLimits form refusal
 
 -- the same of a sorted scheme, which may be simplified before
 pub record DecidesSimplified (asked : Asked) (sorted : SortedData) (answer : Result Decided Refusal) : Type 0 where
@@ -159,7 +208,7 @@ pub record DecidesSimplified (asked : Asked) (sorted : SortedData) (answer : Res
   pub simplified : IsSimplified asked sorted form
   pub removed : Option ℕ
   pub lighter : IsRemoved asked.settings.simplify sorted form removed
-  pub decides : DecidesForm asked.settings form removed answer
+  pub decides : DecidesForm asked.settings sorted form removed answer
 
 abbrev pub DecidesSorted : Asked → SortedData → Result Decided Refusal → Type 0
 DecidesSorted asked sorted (Err OutOfMemory) = Unit {0}
@@ -195,11 +244,12 @@ pub record IsWithinBudget (asked : Asked) (u : UnsortedData) : Type 0 where
   pub of : HasProblem asked u problem
   pub few : Exceeds problem asked.settings.entries → ⊥
 
--- it has more, and that is told: the first start entry isn't asked for, or there is none
+-- it has more, and that is told: no other evidence is sought, and the first start entry isn't asked for, or there is none
 pub record IsBoundToExceed (asked : Asked) (u : UnsortedData) : Type 0 where
   pub problem : ProblemData
   pub of : HasProblem asked u problem
   pub exceeds : Exceeds problem asked.settings.entries
+  pub plain : asked.settings.quick ≡ false
   pub tells : (asked.settings.first ≡ false) ⊎ Accepts u.rules u.automaton.transitions
 
 abbrev pub WarrantsOnScheme : Asked → UnsortedData → Result Verdict Refusal → Type 0

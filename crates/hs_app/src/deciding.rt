@@ -1,7 +1,8 @@
 //! The verdict on a problem, with its report.
 
-ghost use Rattle.std.specs.Prelude.{◌≡◌, ◌↔◌, ℕ, Option, IfOk};
+ghost use Rattle.std.specs.Prelude.{◌≡◌, ◌↔◌, ℕ, Option, true, IfOk, IfSome, option_map};
 ghost use Rattle.hs_scheme.specs.Run.{Accepts};
+ghost use Rattle.hs_scheme.specs.Sorted.{SortedData};
 ghost use Rattle.hs_table.specs.Tables.{IsLeastTable, IsClosedTable, HasStart};
 ghost use Rattle.hs_verdict.specs.Premises.{HasClosedFlow, IsSortedProblem};
 ghost use Rattle.hs_core.specs.Core.{log_of};
@@ -11,8 +12,9 @@ ghost use Rattle.hs_workers.specs.Answers.{IsShared, IsSharedDone};
 ghost use Rattle.hs_checker.specs.Checked.{IsCount};
 ghost use Rattle.hs_app.specs.Problems.{IsReportedTable};
 ghost use Rattle.hs_words.specs.Words.{AreSettingsWithin};
-ghost use Rattle.hs_app.specs.Verdict.{IsShown, DecidesProblem};
+ghost use Rattle.hs_app.specs.Verdict.{IsShown, Decides, DecidesProblem};
 
+use crate::evidence::by_evidence;
 use crate::verdict::{Decided, Verdict};
 use hs_checker::{CheckFault, check};
 use hs_core::{Core, Done};
@@ -20,7 +22,7 @@ use hs_flow::Dependents;
 use hs_front::Refusal;
 use hs_naming::namings_end_and_fail;
 use hs_path::{Walk, walk};
-use hs_scheme::{OutOfMemory, Problem};
+use hs_scheme::{OutOfMemory, Problem, Sorted};
 use hs_table::Entry;
 use hs_text::{Verdict as Told, report};
 use hs_verdict::is_sorted_problem;
@@ -270,8 +272,8 @@ fn of_done(
     }
 }
 
-/// The verdict on a problem, or that its least table has more entries than are allowed.
-pub(crate) fn decide_problem<R: Threads + Wait + Sync, G: Gate + Sync>(
+/// The verdict by the least table, or that it has more entries than are allowed.
+fn by_table<R: Threads + Wait + Sync, G: Gate + Sync>(
     rt: &R,
     alloc: Global,
     problem: &Problem,
@@ -299,4 +301,29 @@ pub(crate) fn decide_problem<R: Threads + Wait + Sync, G: Gate + Sync>(
     // A run ends here. To give back a million entries one by one would take longer than the system does.
     forget(done);
     decided
+}
+
+/// The verdict on a problem, or that its least table has more entries than are allowed. Where the scheme
+/// `before` is given, evidence is sought first, with paths along its rules.
+pub(crate) fn decide_problem<R: Threads + Wait + Sync, G: Gate + Sync>(
+    rt: &R,
+    alloc: Global,
+    before: Option<&Sorted>,
+    problem: &Problem,
+    removed: Option<u64>,
+    settings: Settings,
+    gate: &G,
+) -> Result<Decided, Refusal>
+    requires settings { AreSettingsWithin settings }
+    requires flow { HasClosedFlow problem.now }
+    requires quick { IfSome before (λ _. settings.quick ≡ true) }
+    ensures { (source : SortedData) → IfSome (option_map (λ s. s.now) before.entry) (λ s. s ≡ source)
+        → Decides settings source problem.now removed result }
+{
+    if let Some(before) = before {
+        if let Some(decided) = by_evidence(alloc, before, problem, removed, settings) {
+            return Ok(decided);
+        }
+    }
+    by_table(rt, alloc, problem, removed, settings, gate)
 }

@@ -2,6 +2,7 @@
 #![tactic(auto)]
 
 mod deciding;
+mod evidence;
 mod laws;
 mod top;
 mod verdict;

@@ -28,7 +28,8 @@ const STANDARD_INPUT: &str = "-";
 
 /// The line where the words are refused.
 const USAGE: &str =
-    "usage: horsat [--workers N] [--entries N] [--steps N] [--table] [--first] [--simplify] [--gen K] [FILE]\n";
+    "usage: horsat [--workers N] [--entries N] [--steps N] [--table] [--first] [--quick] [--simplify] \
+     [--gen K] [FILE]\n";
 
 /// Reads the file of this name, and gives the verdict on it.
 fn verdict_on<R: Threads + Wait + Sync, S: Source, G: Gate + Sync>(
@@ -191,10 +192,10 @@ fn exit_status(ending: &Ending) -> u8
 /// `words` has the program's name first, which isn't looked at. The others are read as `hs_words`
 /// says: the name of a file, or `--gen K` for the generated file of that number, or neither, and then
 /// the source is started with the name `-`; `--entries N` and `--steps N` bound the table and the
-/// path, `--table` shows the table, and with `--first` the first start entry is enough; `--workers N`
-/// workers fill the table, and `--simplify` makes the scheme smaller before. The source is
-/// started once at most, and nothing is read behind its end. The report is formed before the first
-/// write. A fault of `err` changes no status.
+/// path, `--table` shows the table, and with `--first` the first start entry is enough; with `--quick`
+/// evidence is sought before the table is filled, and checked; `--workers N` workers fill the table, and
+/// `--simplify` makes the scheme smaller before. The source is started once at most, and nothing is read
+/// behind its end. The report is formed before the first write. A fault of `err` changes no status.
 ///
 /// Reading takes time and memory in proportion to the file. What saturation takes isn't bounded by
 /// the file: a table has at most `--entries` entries, and a path is followed for at most `--steps`

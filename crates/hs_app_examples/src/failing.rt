@@ -120,7 +120,7 @@ const FAULTS: [(&str, Calls, &[&str], Ended); 14] = [
 ];
 
 const USAGE: &str =
-    "usage: horsat [--workers N] [--entries N] [--steps N] [--table] [--first] [--simplify] \
+    "usage: horsat [--workers N] [--entries N] [--steps N] [--table] [--first] [--quick] [--simplify] \
      [--gen K] [FILE]\n";
 
 #[test]

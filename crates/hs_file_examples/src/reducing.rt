@@ -2,13 +2,13 @@
 
 use crate::told::{Asked, see_told};
 use hs_fixtures::{BRANCHING, BRANCHING_ACCEPTED, BRANCHING_REJECTED};
-use hs_reduce::{MAX_CUT, MAX_STEPS, bounded, replay};
+use hs_reduce::{MAX_CUT, MAX_STEPS, bounded, failure_along, replay};
 use hs_scheme::Sorted;
 use std::alloc::Global;
 use std::mem::forget;
 use std::test::Fail;
 
-/// Adds the answer of `replay` along the path.
+/// Adds the answers of `replay` and of `failure_along` along the path.
 pub(crate) fn push_replayed(
     out: &mut String,
     alloc: Global,
@@ -20,7 +20,10 @@ pub(crate) fn push_replayed(
         return Err("a longer path")?;
     }
     let answer = replay(alloc, sorted, path, steps)?;
-    Ok(write!(out, "{answer:?}")?)
+    let failing = failure_along(alloc, sorted, path, steps)?;
+    let pushed = write!(out, "{answer:?}, {failing:?}");
+    forget(failing);
+    Ok(pushed?)
 }
 
 /// Adds the answer of `bounded`.
@@ -46,7 +49,8 @@ const FAILING: [u32; 6] = [2, 1, 2, 1, 1, 1];
 fn replays_along_paths_that_fail_and_end(rt: HostRuntime) -> Result<(), Fail> {
     let alloc = rt.alloc();
     let (rules, failing) = (BRANCHING, BRANCHING_REJECTED);
-    let stuck = "Stuck { terminal: 3, state: 1, at: 6, used: 10 }";
+    let stuck = "Stuck { terminal: 3, state: 1, at: 6, used: 10 }, Some(FailingPath { steps: \
+                 [(1, 2), (2, 1), (1, 2), (2, 1), (1, 1), (3, 1)], last: 3, state: 1, used: 10 })";
     see_told(
         &rt,
         alloc,
@@ -61,7 +65,7 @@ fn replays_along_paths_that_fail_and_end(rt: HostRuntime) -> Result<(), Fail> {
         rules,
         failing,
         Asked::Along(&FAILING, 9),
-        "Runs",
+        "Runs, None",
     )?;
     let ending = BRANCHING_ACCEPTED;
     see_told(
@@ -70,7 +74,7 @@ fn replays_along_paths_that_fail_and_end(rt: HostRuntime) -> Result<(), Fail> {
         rules,
         ending,
         Asked::Along(&[], 5),
-        "Ended { used: 2 }",
+        "Ended { used: 2 }, None",
     )?;
     see_told(
         &rt,
@@ -78,7 +82,7 @@ fn replays_along_paths_that_fail_and_end(rt: HostRuntime) -> Result<(), Fail> {
         rules,
         ending,
         Asked::Along(&[3], 5),
-        "NoChild { at: 0 }",
+        "NoChild { at: 0 }, None",
     )
 }
 
@@ -92,11 +96,11 @@ fn replays_that_run_on(rt: HostRuntime) -> Result<(), Fail> {
         "S -> S.",
         "q0 a -> .",
         Asked::Along(&[], 5),
-        "Runs",
+        "Runs, None",
     )?;
     let growing = "S -> F c. F x -> F (a x).";
     let asked = Asked::Along(&[], 400_000);
-    see_told(&rt, alloc, growing, "q0 a -> q0.", asked, "Runs")
+    see_told(&rt, alloc, growing, "q0 a -> q0.", asked, "Runs, None")
 }
 
 /// Rules, transitions, a number of steps, and the first error of the cut after them.

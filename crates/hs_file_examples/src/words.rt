@@ -10,6 +10,7 @@ const DEFAULT: Settings = Settings {
     steps: 1_000_000,
     table: false,
     first: false,
+    quick: false,
     simplify: false,
 };
 
@@ -18,33 +19,55 @@ fn see_words<'w>(rt: &impl Abort, alloc: Global, words: &'w [&'w str], expected:
     assert_eq!(rt; read_words(alloc, words), Ok(expected), "{words:?}");
 }
 
-/// Words, whether the table and the first entry are asked for, and the file.
-const FLAGS: [(&[&str], bool, bool, Option<&str>); 12] = [
-    (&["horsat"], false, false, None),
-    (&["--nosuch"], false, false, None),
-    (&["horsat", "f"], false, false, Some("f")),
-    (&["horsat", "-"], false, false, Some("-")),
-    (&["horsat", ""], false, false, Some("")),
-    (&["horsat", "--table"], true, false, None),
-    (&["horsat", "--first", "f"], false, true, Some("f")),
+/// Words, whether the table, the first entry and evidence are asked for, and the file.
+const FLAGS: [(&[&str], bool, bool, bool, Option<&str>); 14] = [
+    (&["horsat"], false, false, false, None),
+    (&["--nosuch"], false, false, false, None),
+    (&["horsat", "f"], false, false, false, Some("f")),
+    (&["horsat", "-"], false, false, false, Some("-")),
+    (&["horsat", ""], false, false, false, Some("")),
+    (&["horsat", "--table"], true, false, false, None),
+    (&["horsat", "--quick"], false, false, true, None),
+    (&["horsat", "--first", "f"], false, true, false, Some("f")),
     (
         &["horsat", "f", "--table", "--first"],
         true,
         true,
+        false,
         Some("f"),
     ),
-    (&["horsat", "--"], false, false, None),
-    (&["horsat", "--first", "--", "f"], false, true, Some("f")),
-    (&["horsat", "--", "--table"], false, false, Some("--table")),
-    (&["horsat", "--", "-"], false, false, Some("-")),
+    (
+        &["horsat", "--quick", "--table", "f"],
+        true,
+        false,
+        true,
+        Some("f"),
+    ),
+    (&["horsat", "--"], false, false, false, None),
+    (
+        &["horsat", "--first", "--", "f"],
+        false,
+        true,
+        false,
+        Some("f"),
+    ),
+    (
+        &["horsat", "--", "--table"],
+        false,
+        false,
+        false,
+        Some("--table"),
+    ),
+    (&["horsat", "--", "-"], false, false, false, Some("-")),
 ];
 
 #[test]
 fn files_and_flags(rt: HostRuntime) {
-    for (words, table, first, file) in &FLAGS {
+    for (words, table, first, quick, file) in &FLAGS {
         let settings = Settings {
             table: *table,
             first: *first,
+            quick: *quick,
             ..DEFAULT
         };
         let expected = Options {

@@ -24,10 +24,10 @@ use Rattle.hs_steps.proofs.Sorted.{count, as_many, start_sorted, step_sorted}
 use Rattle.hs_steps.proofs.PathLemmas.{one_more}
 use Rattle.hs_reduce.specs.declared.answers.Replay.{Replay}
 use Rattle.hs_reduce.specs.declared.answers.Replay.TheVariants.{Stuck, Ended, NoChild, Runs}
-use Rattle.hs_reduce.specs.Replays.{IsMet, HasTransition, IsNoChild, IsEndOfPath, IsOffPath, MeetsAlong, IsReplayAnswer}
+use Rattle.hs_reduce.specs.Replays.{IsMet, HasTransition, IsNoChild, IsEndOfPath, IsOffPath, MeetsAlong, IsReplayAnswer, IsFailureAlong}
 use Rattle.hs_reduce.specs.declared.replaying.Spot.{Spot}
 use Rattle.hs_reduce.specs.Graph.{term_at, head_of, arguments_of, NamesTerms}
-use Rattle.hs_reduce.specs.Advances.{HasKnownSorts, HasNoStep, IsReachedSpot}
+use Rattle.hs_reduce.specs.Advances.{HasKnownSorts, HasNoStep, IsReachedSpot, EndsTrail}
 use Rattle.hs_reduce.proofs.ReplacementLemmas.{whole}
 use Rattle.hs_reduce.proofs.Walks.{Config, config, goes, after, walked, last, stops_without_transition, stops_without_child, stops_without_step}
 
@@ -226,21 +226,33 @@ module _ (s : SortedData) (sorted : HasKnownSorts s) where
           absurd (omega (arith, m.in_time))
 
     -- one more step along the path
-    pub reaches_on : (used at at' q p : ℕ) (t u : Tree Head) (label : Path) → ReachesByChildren rules ts used 0 start (take at path) q t → StepsTo rules ts q t label p u
-        → take at' path ≡ take at path ++ child_numbers label → ReachesByChildren rules ts (used + 1) 0 start (take at' path) p u
-    reaches_on used at at' q p t u label (labels, numbers, reaches) step e =
-        (labels ++ label, map-append (λ (x : ℕ × ℕ). x.1) labels label ∙ (ap (λ cs. cs ++ child_numbers label) numbers ∙ sym e), one_more rules ts used 0 q p start t u labels label reaches step)
+    numbers_on : (at at' : ℕ) (trail label : Path) → child_numbers trail ≡ take at path → take at' path ≡ take at path ++ child_numbers label → child_numbers (trail ++ label) ≡ take at' path
+    numbers_on at at' trail label numbers e =
+        map-append (λ (x : ℕ × ℕ). x.1) trail label ∙ (ap (λ cs. cs ++ child_numbers label) numbers ∙ sym e)
+
+    pub by_children : (trail : Path) (spot : Spot) (t : Tree Head) → IsReachedSpot s path trail spot t → ReachesByChildren rules ts spot.used 0 start (take spot.at path) spot.state t
+    by_children trail spot t is = (trail, is.numbers, is.reached)
 
     -- what is met at a spot
-    module _ (spot : Spot) (t : Tree Head) (a : ℕ) (is : IsReachedSpot s path spot t) (front : head_of t ≡ Tm a) where
+    module _ (trail : Path) (spot : Spot) (t : Tree Head) (a : ℕ) (is : IsReachedSpot s path trail spot t) (front : head_of t ≡ Tm a) where
       fronted : t ≡ node (Tm a) (forest (arguments_of t))
       fronted = sym (whole t) ∙ ap (λ h. node h (forest (arguments_of t))) front
 
+      reached_front : Reaches rules ts spot.used 0 start trail spot.state (node (Tm a) (forest (arguments_of t)))
+      reached_front = along (λ (u : Tree Head). Reaches rules ts spot.used 0 start trail spot.state u) fronted is.reached
+
       in_front : ReachesByChildren rules ts spot.used 0 start (take spot.at path) spot.state (node (Tm a) (forest (arguments_of t)))
-      in_front = along (λ (u : Tree Head). ReachesByChildren rules ts spot.used 0 start (take spot.at path) spot.state u) fronted is.reached
+      in_front = (trail, is.numbers, reached_front)
+
+      -- without transition the path fails there
+      pub fails_at : next ts spot.state a ≡ None → EndsTrail s path trail (Stuck a spot.state spot.at spot.used)
+      fails_at e = (record { arguments = forest (arguments_of t); reaches = reached_front; stuck = e }, is.numbers)
 
       met_at : (steps : ℕ) → spot.used ≤ steps → IsMet s path steps spot.at spot.used spot.state a
       met_at steps le = record { in_time = le; on_path = is.on_path; arguments = forest (arguments_of t); reached = in_front }
+
+      pub stuck_at : next ts spot.state a ≡ None → (steps : ℕ) → spot.used ≤ steps → MeetsAlong s path steps (Stuck a spot.state spot.at spot.used)
+      stuck_at e steps le = (met_at steps le, e)
 
       pub ends_at : (steps : ℕ) (to : List ℕ) → spot.used ≤ steps → length path ≤ spot.at → next ts spot.state a ≡ Some to → IsEndOfPath s path steps spot.used
       ends_at steps to le over e =
@@ -279,23 +291,38 @@ module _ (s : SortedData) (sorted : HasKnownSorts s) where
             ap (λ us. slice_get us i) (own_arguments ∙ sym named.terms) ∙ (slice_get-map (term_at trees) places i ∙ ap (option_map (term_at trees)) there)
 
         pub goes_down : (i place q : ℕ) → c ≡ i + 1 → slice_get places i ≡ Some place → slice_get to i ≡ Some q
-            → IsReachedSpot s path (record { place = place; state = q; at = spot.at + 1; used = spot.used + 1 }) (term_at trees place)
+            → IsReachedSpot s path (trail ++ (a, c) ∷ []) (record { place = place; state = q; at = spot.at + 1; used = spot.used + 1 }) (term_at trees place)
         goes_down i place q is_number there in_state =
-            let step : StepsTo rules ts spot.state (node (Tm a) (forest (arguments_of t))) ((a, i + 1) ∷ []) q (term_at trees place) =
-            (to, e, record { place = i; labelled = refl; state = in_state; term = child_term i place there }) in
+            let step : StepsTo rules ts spot.state (node (Tm a) (forest (arguments_of t))) ((a, c) ∷ []) q (term_at trees place) =
+            (to, e, record { place = i; labelled = ap (λ k. (a, k) ∷ []) is_number; state = in_state; term = child_term i place there }) in
             let lt : spot.at < length path = slice_get_within path spot.at c at in
-            let numbers : take (spot.at + 1) path ≡ take spot.at path ++ (i + 1) ∷ [] =
-            take_more path spot.at c lt ∙ ap (λ k. take spot.at path ++ k ∷ []) (get_or_from_slice_get path spot.at c c at ∙ is_number) in
+            let numbers : take (spot.at + 1) path ≡ take spot.at path ++ c ∷ [] =
+            take_more path spot.at c lt ∙ ap (λ k. take spot.at path ++ k ∷ []) (get_or_from_slice_get path spot.at c c at) in
             record {
               on_path = omega arith;
-              reached = reaches_on spot.used spot.at (spot.at + 1) spot.state q (node (Tm a) (forest (arguments_of t))) (term_at trees place) ((a, i + 1) ∷ []) in_front step numbers;
+              numbers = numbers_on spot.at (spot.at + 1) trail ((a, c) ∷ []) is.numbers numbers;
+              reached = one_more rules ts spot.used 0 spot.state q start (node (Tm a) (forest (arguments_of t))) (term_at trees place) trail ((a, c) ∷ []) reached_front step;
             }
 
     -- a replacement in front
-    pub replaces : (spot : Spot) (t u : Tree Head) (f place : ℕ) → IsReachedSpot s path spot t → head_of t ≡ Nt f → unfolded rules f (arguments_of t) ≡ Some u
-        → IsReachedSpot s path (record { place = place; state = spot.state; at = spot.at; used = spot.used + 1 }) u
-    replaces spot t u f place is front e =
+    pub replaces : (trail : Path) (spot : Spot) (t u : Tree Head) (f place : ℕ) → IsReachedSpot s path trail spot t → head_of t ≡ Nt f → unfolded rules f (arguments_of t) ≡ Some u
+        → IsReachedSpot s path (trail ++ []) (record { place = place; state = spot.state; at = spot.at; used = spot.used + 1 }) u
+    replaces trail spot t u f place is front e =
         let fronted : node (Nt f) (forest (arguments_of t)) ≡ t = sym (ap (λ h. node h (forest (arguments_of t))) front) ∙ whole t in
         let goes_to : unfolded rules f (children (forest (arguments_of t))) ≡ Some u = ap (unfolded rules f) (children-forest (arguments_of t)) ∙ e in
         let step : StepsTo rules ts spot.state t [] spot.state u = along (λ (v : Tree Head). StepsTo rules ts spot.state v [] spot.state u) fronted (refl, refl, goes_to) in
-        record { on_path = is.on_path; reached = reaches_on spot.used spot.at spot.at spot.state spot.state t u [] is.reached step (sym (append-nil (take spot.at path))) }
+        record {
+          on_path = is.on_path;
+          numbers = numbers_on spot.at spot.at trail [] is.numbers (sym (append-nil (take spot.at path)));
+          reached = one_more rules ts spot.used 0 spot.state spot.state start t u trail [] is.reached step;
+        }
+
+-- the answer with the trail, as a failing path
+pub failing : (s : SortedData) (path : List ℕ) (steps a q at used : ℕ) (trail : Path) → EndsTrail s path trail (Stuck a q at used) → IsReplayAnswer s path steps (Stuck a q at used)
+    → IsFailureAlong s path steps (Some (record { steps = trail; last = a; state = q; used = used }))
+failing s path steps a q at used trail ends is = record { fails = ends.0; few = is.0.in_time; at = at; numbers = ends.1 }
+
+-- where something else is answered, none is met
+pub no_failure : (s : SortedData) (path : List ℕ) (steps : ℕ) (r : Replay) → ((answer : Replay) → (r ≡ answer) ↔ IsReplayAnswer s path steps answer)
+    → ((a q at used : ℕ) → r ≡ Stuck a q at used → ⊥) → IsFailureAlong s path steps None
+no_failure s path steps r exact other = λ a q at used met. other a q at used ((exact (Stuck a q at used)).1 met)

@@ -2,14 +2,17 @@
 --     IsMet              after the first children of the path, in at most so many steps, this terminal is met in this state
 --     MeetsAlong         what is met there
 --     IsReplayAnswer     that, or that nothing is met
-use Rattle.std.specs.Prelude.{◌≡◌, ℕ, ◌<◌, ◌≤◌, ◌⊎◌, List, length, take, slice_get, slice_index, Some, None}
+--     IsFailureAlong     the failing path that the first of these children make up, within so many steps, or that none of them do
+use Rattle.std.specs.Prelude.{◌≡◌, ℕ, ◌<◌, ◌≤◌, ◌⊎◌, List, length, take, slice_get, slice_index, Option, Some, None}
 use Rattle.hs_scheme.specs.declared.term.Head.{Head}
 use Rattle.hs_scheme.specs.declared.term.Head.TheVariants.{Tm}
 use Rattle.hs_scheme.specs.Transition.{TransitionData}
 use Rattle.hs_scheme.specs.Automaton.{next}
 use Rattle.hs_scheme.specs.Tree.{Trees, node}
 use Rattle.hs_scheme.specs.Run.{start}
-use Rattle.hs_scheme.specs.Steps.{ReachesByChildren}
+use Rattle.hs_scheme.specs.Steps.{ReachesByChildren, child_numbers}
+use Rattle.hs_scheme.specs.FailingPath.{FailingPathData}
+use Rattle.hs_scheme.specs.Failing.{IsFailingPath}
 use Rattle.hs_scheme.specs.Sorted.{SortedData}
 use Rattle.hs_reduce.specs.declared.answers.Replay.{Replay}
 use Rattle.hs_reduce.specs.declared.answers.Replay.TheVariants.{Stuck, Ended, NoChild, Runs}
@@ -57,3 +60,13 @@ IsReplayAnswer s path steps (Stuck a q at used) = MeetsAlong s path steps (Stuck
 IsReplayAnswer s path steps (Ended used) = MeetsAlong s path steps (Ended used)
 IsReplayAnswer s path steps (NoChild at) = MeetsAlong s path steps (NoChild at)
 IsReplayAnswer s path steps Runs = (met : Replay) → MeetsAlong s path steps met → ⊥
+
+pub record IsFailureWithin (s : SortedData) (path : List ℕ) (steps : ℕ) (failing : FailingPathData) : Type 0 where
+  pub fails : IsFailingPath s.scheme.rules s.automaton.transitions failing
+  pub few : failing.used ≤ steps
+  pub at : ℕ
+  pub numbers : child_numbers failing.steps ≡ take at path
+
+abbrev pub IsFailureAlong : SortedData → List ℕ → ℕ → Option FailingPathData → Type 0
+IsFailureAlong s path steps None = (a q at used : ℕ) → MeetsAlong s path steps (Stuck a q at used) → ⊥
+IsFailureAlong s path steps (Some failing) = IsFailureWithin s path steps failing

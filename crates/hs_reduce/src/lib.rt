@@ -15,4 +15,4 @@ mod replaying;
 pub use answers::{Bounded, Replay};
 pub use cutting::bounded;
 pub use limits::{MAX_CUT, MAX_STEPS};
-pub use replaying::replay;
+pub use replaying::{failure_along, replay};

@@ -1,17 +1,18 @@
 //! Reduction along a path.
 
-ghost use Rattle.std.specs.Prelude.{◌≡◌, ℕ, ◌<◌, ◌≤◌, ◌+◌, ◌⊎◌, ◌↔◌, length, slice_get, Some, IfOk, MatchOption};
+ghost use Rattle.std.specs.Prelude.{◌≡◌, ℕ, ◌<◌, ◌≤◌, ◌+◌, ◌⊎◌, ◌↔◌, [], length, slice_get, Some, IfOk, MatchOption, option_map};
 ghost use Rattle.hs_scheme.specs.declared.term.Head.TheVariants.{Tm};
 ghost use Rattle.hs_reduce.specs.declared.answers.Replay.{Replay};
+ghost use Rattle.hs_scheme.specs.Steps.{Path};
 ghost use Rattle.hs_reduce.specs.Graph.{term_at, head_of};
-ghost use Rattle.hs_reduce.specs.Replays.{IsReplayAnswer};
-ghost use Rattle.hs_reduce.specs.Advances.{HasKnownSorts, IsReachedSpot, Advances};
+ghost use Rattle.hs_reduce.specs.Replays.{IsReplayAnswer, IsFailureAlong};
+ghost use Rattle.hs_reduce.specs.Advances.{HasKnownSorts, IsReachedSpot, EndsTrail, Advances};
 
 use crate::answers::Replay;
 use crate::graph::Graph;
 use crate::limits::MAX_STEPS;
 use crate::replacement::replace;
-use hs_scheme::{Head, OutOfMemory, Sorted};
+use hs_scheme::{FailingPath, Head, OutOfMemory, Sorted};
 use std::alloc::Global;
 
 /// How far a reduction has come: the place of the term, the state, and how many children were
@@ -24,12 +25,13 @@ pub(crate) struct Spot {
     pub(crate) used: u64,
 }
 
-/// What comes of a spot: what is met there, nothing, or one step.
+/// What comes of a spot: what is met there, nothing, or one step. A descent has the terminal and the
+/// number of its child as its label.
 #[derive(Drop)]
 pub(crate) enum Advance {
     Met(Replay),
     Stays,
-    Moved(Spot),
+    Moved(Option<(u32, u32)>, Spot),
 }
 
 /// The place and the state of the child with this number, counted from 1.
@@ -52,11 +54,12 @@ fn child_at(to: &[u32], args: &[usize], number: u32) -> Option<(usize, u32)>
 fn descend(sorted: &Sorted, graph: &Graph, spot: Spot, path: &[u32], terminal: u32) -> Advance
     requires sorted { HasKnownSorts sorted.now }
     requires place { spot.place < length graph.now }
-    requires at { IsReachedSpot sorted.now path.now spot (term_at graph.now spot.place) }
+    requires on_path { spot.at ≤ length path.now }
     requires few { spot.used ≤ MAX_STEPS }
     requires short { length path.now ≤ MAX_STEPS }
     requires head { head_of (term_at graph.now spot.place) ≡ Tm terminal }
-    ensures { Advances sorted.now path.now spot (term_at graph.now spot.place) graph.now result }
+    ensures { (trail : Path) → IsReachedSpot sorted.now path.now trail spot (term_at graph.now spot.place)
+        → Advances sorted.now path.now trail spot (term_at graph.now spot.place) graph.now result }
 {
     let at = spot.at as u32;
     let Some(to) = sorted.automaton.next(spot.state, terminal) else {
@@ -72,12 +75,15 @@ fn descend(sorted: &Sorted, graph: &Graph, spot: Spot, path: &[u32], terminal: u
     };
     match child_at(to, graph.arguments(spot.place), *number) {
         None => Advance::Met(Replay::NoChild { at }),
-        Some((place, state)) => Advance::Moved(Spot {
-            place,
-            state,
-            at: spot.at + 1,
-            used: spot.used + 1,
-        }),
+        Some((place, state)) => Advance::Moved(
+            Some((terminal, *number)),
+            Spot {
+                place,
+                state,
+                at: spot.at + 1,
+                used: spot.used + 1,
+            },
+        ),
     }
 }
 
@@ -91,24 +97,71 @@ fn next_step(
 ) -> Result<Advance, OutOfMemory>
     requires sorted { HasKnownSorts sorted.now }
     requires place { spot.place < length graph.old }
-    requires at { IsReachedSpot sorted.now path.now spot (term_at graph.old spot.place) }
+    requires on_path { spot.at ≤ length path.now }
     requires few { spot.used ≤ MAX_STEPS }
     requires short { length path.now ≤ MAX_STEPS }
-    ensures { IfOk result (λ advance. Advances sorted.now path.now spot
-        (term_at graph.old spot.place) graph.new advance) }
+    ensures { IfOk result (λ advance. (trail : Path)
+        → IsReachedSpot sorted.now path.now trail spot (term_at graph.old spot.place)
+        → Advances sorted.now path.now trail spot (term_at graph.old spot.place) graph.new advance) }
 {
     match graph.head(spot.place) {
         Head::Var(_) => Ok(Advance::Stays),
         Head::Nt(number) => match replace(alloc, sorted, graph, spot.place, number)? {
             None => Ok(Advance::Stays),
-            Some(place) => Ok(Advance::Moved(Spot {
-                place,
-                state: spot.state,
-                at: spot.at,
-                used: spot.used + 1,
-            })),
+            Some(place) => Ok(Advance::Moved(
+                None,
+                Spot {
+                    place,
+                    state: spot.state,
+                    at: spot.at,
+                    used: spot.used + 1,
+                },
+            )),
         },
         Head::Tm(terminal) => Ok(descend(sorted, graph, spot, path, terminal)),
+    }
+}
+
+/// Reduces the start along these child numbers, and puts each terminal on the way with the number of
+/// its child on the trail, which is empty before.
+fn follow(
+    alloc: Global,
+    sorted: &Sorted,
+    path: &[u32],
+    steps: u64,
+    trail: &mut Vec<(u32, u32)>,
+) -> Result<Replay, OutOfMemory>
+    requires few { steps ≤ 4000000 }
+    requires short { length path.now ≤ 4000000 }
+    requires empty { trail.old.items ≡ [] }
+    ensures answer { IfOk result (λ found. (answer : Replay) → (found ≡ answer)
+        ↔ IsReplayAnswer sorted.now path.now steps answer) }
+    ensures trail { IfOk result (EndsTrail sorted.now path.now trail.new.items) }
+{
+    // What the types of `sorted` and of its scheme keep is known where their fields are read.
+    let scheme = &sorted.scheme;
+    let _rules = &scheme.rules;
+    let mut graph = Graph::new(alloc);
+    let mut spot = Spot {
+        place: graph.add(Head::Nt(0), &[])?,
+        state: 0,
+        at: 0,
+        used: 0,
+    };
+    loop {
+        match next_step(alloc, sorted, &mut graph, spot, path)? {
+            Advance::Met(answer) => return Ok(answer),
+            Advance::Stays => return Ok(Replay::Runs),
+            Advance::Moved(label, further) => {
+                if spot.used == steps {
+                    return Ok(Replay::Runs);
+                }
+                if let Some(label) = label {
+                    trail.push(label)?;
+                }
+                spot = further;
+            }
+        }
     }
 }
 
@@ -128,26 +181,36 @@ pub fn replay(
     ensures { IfOk result (λ found. (answer : Replay) → (found ≡ answer)
         ↔ IsReplayAnswer sorted.now path.now steps answer) }
 {
-    // What the types of `sorted` and of its scheme keep is known where their fields are read.
-    let scheme = &sorted.scheme;
-    let _rules = &scheme.rules;
-    let mut graph = Graph::new(alloc);
-    let mut spot = Spot {
-        place: graph.add(Head::Nt(0), &[])?,
-        state: 0,
-        at: 0,
-        used: 0,
-    };
-    loop {
-        match next_step(alloc, sorted, &mut graph, spot, path)? {
-            Advance::Met(answer) => return Ok(answer),
-            Advance::Stays => return Ok(Replay::Runs),
-            Advance::Moved(further) => {
-                if spot.used == steps {
-                    return Ok(Replay::Runs);
-                }
-                spot = further;
-            }
-        }
+    let mut trail = Vec::new(alloc);
+    follow(alloc, sorted, path, steps, &mut trail)
+}
+
+/// Reduces the start likewise, and where a terminal without transition is met, gives the path to it: the
+/// first of the children, with their terminals. `None` comes exactly where none is met. Time and memory
+/// are those of `replay`.
+pub fn failure_along(
+    alloc: Global,
+    sorted: &Sorted,
+    path: &[u32],
+    steps: u64,
+) -> Result<Option<FailingPath>, OutOfMemory>
+    requires few { steps ≤ 4000000 }
+    requires short { length path.now ≤ 4000000 }
+    ensures { IfOk result (IsFailureAlong sorted.now path.now steps) }
+{
+    let mut trail = Vec::new(alloc);
+    match follow(alloc, sorted, path, steps, &mut trail)? {
+        Replay::Stuck {
+            terminal,
+            state,
+            at: _,
+            used,
+        } => Ok(Some(FailingPath {
+            steps: trail,
+            last: terminal,
+            state,
+            used,
+        })),
+        _ => Ok(None),
     }
 }

@@ -37,7 +37,7 @@ abbrev pub with_bounds : App → App
 with_bounds command = with_rule (with_rule (with_rule command (option (codes "workers"))) (option (codes "entries"))) (option (codes "steps"))
 
 abbrev pub with_flags : App → App
-with_flags command = with_rule (with_rule (with_rule command (flag (codes "table"))) (flag (codes "first"))) (flag (codes "simplify"))
+with_flags command = with_rule (with_rule (with_rule (with_rule command (flag (codes "table"))) (flag (codes "first"))) (flag (codes "quick"))) (flag (codes "simplify"))
 
 -- the first of the words is the program's name, and one that is no option is FILE
 abbrev pub horsat : App
@@ -71,9 +71,9 @@ abbrev pub unless_both : OptionsData → Option OptionsData
 unless_both o = if is_some o.cycle && is_some o.file then None else Some o
 
 -- what the values of the options say of the settings, and of the whole
-abbrev pub settings_by_values : Option (List ℕ) → Option (List ℕ) → Option (List ℕ) → Bool → Bool → Bool → Option Settings
-settings_by_values workers entries steps table first simplify =
-    option_and_then (λ w. option_and_then (λ e. option_and_then (λ s. Some (record { workers = w; entries = e; steps = s; table = table; first = first; simplify = simplify }))
+abbrev pub settings_by_values : Option (List ℕ) → Option (List ℕ) → Option (List ℕ) → Bool → Bool → Bool → Bool → Option Settings
+settings_by_values workers entries steps table first quick simplify =
+    option_and_then (λ w. option_and_then (λ e. option_and_then (λ s. Some (record { workers = w; entries = e; steps = s; table = table; first = first; quick = quick; simplify = simplify }))
     (number_or 1000000 1 4000000 steps)) (number_or 200000 1 1000000 entries)) (number_or 4 1 16 workers)
 
 abbrev pub said_by_values : Option Settings → Option (List ℕ) → Option (List ℕ) → Option OptionsData
@@ -84,7 +84,7 @@ said_by_values settings cycle file =
 abbrev pub settings_in : List Row → Option Settings
 settings_in rows =
     settings_by_values (first_of (codes "workers") rows) (first_of (codes "entries") rows) (first_of (codes "steps") rows)
-    (is_set (first_of (codes "table") rows)) (is_set (first_of (codes "first") rows)) (is_set (first_of (codes "simplify") rows))
+    (is_set (first_of (codes "table") rows)) (is_set (first_of (codes "first") rows)) (is_set (first_of (codes "quick") rows)) (is_set (first_of (codes "simplify") rows))
 
 abbrev pub said : List Row → Option OptionsData
 said rows = said_by_values (settings_in rows) (first_of (codes "gen") rows) (first_of (codes "file") rows)

@@ -1,4 +1,4 @@
-use Rattle.std.proofs.Common.{refl, sym, subst, Option, ℕ, ◌+◌}
+use Rattle.std.proofs.Common.{refl, sym, subst, Option, ℕ, ◌+◌, [], ◌++◌}
 use Rattle.hs_scheme.specs.Tree.{Tree}
 use Rattle.hs_scheme.specs.Cut.{unfolded}
 use Rattle.hs_scheme.specs.declared.term.Head.{Head}
@@ -8,12 +8,12 @@ use Rattle.hs_reduce.proofs.ReplayLemmas.{replaces}
 use Rattle.hs_reduce.proofs.replaying.next_step.Goals as goal
 
 pub returns-in-Some : goal.returns-in-Some
-returns-in-Some c =
+returns-in-Some c = λ trail is.
     let s = c.args.sorted.now in let t = term_at c.args.graph.now c.args.spot.place in let new = c.replace.new.graph in
     let place = c.in-Some.place in
     let found = subst (λ (o : Option ℕ). Unfolds c.args.graph.now new o (unfolded s.scheme.rules c.in-Nt.number (arguments_of t))) c.in-Some.is c.in_ok-replace-in-Nt.ensures in (
       refl,
       found.2.within,
-      subst (λ (u : Tree Head). IsReachedSpot s c.args.path.now (record { place = place; state = c.args.spot.state; at = c.args.spot.at; used = c.args.spot.used + 1 }) u) (sym found.2.term)
-          (replaces s c.requires.sorted c.args.path.now c.args.spot t found.0 c.in-Nt.number place c.requires.at (sym c.in-Nt.ensures) found.1),
+      subst (λ (u : Tree Head). IsReachedSpot s c.args.path.now (trail ++ []) (record { place = place; state = c.args.spot.state; at = c.args.spot.at; used = c.args.spot.used + 1 }) u) (sym found.2.term)
+          (replaces s c.requires.sorted c.args.path.now trail c.args.spot t found.0 c.in-Nt.number place is (sym c.in-Nt.ensures) found.1),
     )

@@ -10,14 +10,16 @@ pub returns-clause-said : goal.returns-clause-said
 returns-clause-said c =
     let rows = rows_of (found_of c.args.matches.now) in
     settings_said (first_of (codes "workers") rows) (first_of (codes "entries") rows) (first_of (codes "steps") rows)
-    (is_set (first_of (codes "table") rows)) (is_set (first_of (codes "first") rows)) (is_set (first_of (codes "simplify") rows))
-    c.in_ok-workers.workers c.in_ok-entries.entries c.from.result c.is_set.result c.is_set-2.result c.is_set-3.result
+    (is_set (first_of (codes "table") rows)) (is_set (first_of (codes "first") rows)) (is_set (first_of (codes "quick") rows))
+    (is_set (first_of (codes "simplify") rows))
+    c.in_ok-workers.workers c.in_ok-entries.entries c.from.result c.is_set.result c.is_set-2.result c.is_set-3.result c.is_set-4.result
     (c.in_ok-workers.ensures.number ∙ ap (number_or 4 1 16) c.value.ensures)
     (c.in_ok-entries.ensures.number ∙ ap (number_or 200000 1 1000000) c.value-2.ensures)
     (ap (λ (n : ℕ). Some n) c.from.ensures ∙ (c.in_ok-steps.ensures.number ∙ ap (number_or 1000000 1 4000000) c.value-3.ensures))
     (c.is_set.ensures ∙ ap is_set c.value-4.ensures)
     (c.is_set-2.ensures ∙ ap is_set c.value-5.ensures)
     (c.is_set-3.ensures ∙ ap is_set c.value-6.ensures)
+    (c.is_set-4.ensures ∙ ap is_set c.value-7.ensures)
 
 pub returns-clause-within : goal.returns-clause-within
 returns-clause-within c = record {

@@ -7,4 +7,5 @@ pub returns : goal.returns
 returns c =
     let one = c.in_ok-arg.ensures.shape c.flag.ensures.local ∙ ap (with_rule _) c.flag.ensures.rule in
     let two = c.in_ok-arg-2.ensures.shape c.flag-2.ensures.local ∙ ap₂ with_rule one c.flag-2.ensures.rule in
-    IfOk-weaker c.arg-3.result _ _ (λ command added. added.shape c.flag-3.ensures.local ∙ ap₂ with_rule two c.flag-3.ensures.rule) c.arg-3.ensures
+    let three = c.in_ok-arg-3.ensures.shape c.flag-3.ensures.local ∙ ap₂ with_rule two c.flag-3.ensures.rule in
+    IfOk-weaker c.arg-4.result _ _ (λ command added. added.shape c.flag-4.ensures.local ∙ ap₂ with_rule three c.flag-4.ensures.rule) c.arg-4.ensures

@@ -1,4 +1,4 @@
-use Rattle.hs_app.proofs.deciding.decide_problem.Goals as goal
+use Rattle.hs_app.proofs.deciding.by_table.Goals as goal
 
 pub of_done-decided-requires-clause-sorted : goal.of_done-decided-requires-clause-sorted
 of_done-decided-requires-clause-sorted g c = c.is_sorted_problem.ensures

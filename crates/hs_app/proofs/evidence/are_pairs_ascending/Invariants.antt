@@ -1,0 +1,9 @@
+-- each so far is less than the next
+use Rattle.std.proofs.Common.{◌≡◌, ◌≤◌}
+use Rattle.std.specs.List.{AllAdjacentBelow}
+use Rattle.std.specs.declared.cmp.Ordering.TheVariants.{Less}
+use Rattle.hs_weak.specs.Void.{void_cmp}
+use Rattle.hs_app.proofs.evidence.are_pairs_ascending.Given as goal
+
+abbrev pub invariant-loop-place : goal.invariant-loop-place
+invariant-loop-place l = (1 ≤ l.place) × AllAdjacentBelow (λ a b. void_cmp a b ≡ Less) l.void l.place
