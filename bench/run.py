@@ -181,6 +181,20 @@ def handles(count):
     return framed(lines, [moves[1]] + [moves[0]] + moves[2:])
 
 
+def iterated(order, steps):
+    """A function of this order is applied 2 to the power of `steps` times, and doubles each time how often one of the next lower
+    order is applied: the family G(n,m) of the literature."""
+    kept = [f"x{i}" for i in range(order - 2, -1, -1)]
+    rules = ["S -> F0 " + " ".join(f"G{i}" for i in range(order - 1, -1, -1)) + ".\n"]
+    rules += [f"F{i} f {' '.join(kept)} -> F{i + 1} (F{i + 1} f) {' '.join(kept)}.\n" for i in range(steps)]
+    rules.append(f"F{steps} f {' '.join(kept)} -> G{order} f {' '.join(kept)}.\n")
+    for k in range(order, 1, -1):
+        own = kept[order - k :]
+        rules.append(f"G{k} f {' '.join(own)} -> f (f {own[0]}) {' '.join(own[1:])}.\n")
+    rules += ["G1 z -> a z.\n", "G0 -> c.\n"]
+    return framed(rules, ["q0 a -> q1.\n", "q1 a -> q0.\n", "q0 c -> .\n"])
+
+
 def cycle(k):
     """The file of --gen K, for any K."""
     lines = []
@@ -227,6 +241,9 @@ FAMILIES = {
     "aliases": (aliases, [2_000, 4_000, 8_000], "rules", "horsat"),
     "gen": (cycle, [100, 200, 300], "states", "horsat"),
     "million": (cycle, [350, 500, 700], "states", "horsat"),
+    "iterated_3": (lambda steps: iterated(3, steps), [64, 128, 256], "steps", "horsat --quick"),
+    "iterated_4": (lambda steps: iterated(4, steps), [64, 128, 256], "steps", "horsat --quick"),
+    "iterated_5": (lambda steps: iterated(5, steps), [64, 128, 256], "steps", "horsat --quick"),
 }
 
 
