@@ -7,3 +7,5 @@ pub mod Turning
 pub mod Flying
 pub mod Passing
 pub mod Tables
+pub mod Waits
+pub mod Selected

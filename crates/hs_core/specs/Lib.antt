@@ -5,3 +5,5 @@ pub mod Tickets
 pub mod Journal
 pub mod Inside
 pub mod Draining
+pub mod Waiting
+pub mod Selecting

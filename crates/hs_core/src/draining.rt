@@ -11,7 +11,9 @@ ghost use Rattle.hs_core.specs.Saturation.{IsDrained, GivesBack, Drains};
 
 use crate::answers::{Drained, Published, Taken};
 use crate::gate::{Gate, Open};
+use crate::selecting::select_alone;
 use crate::state::Core;
+use crate::tally::Tally;
 use hs_flow::Dependents;
 use hs_history::Work;
 use hs_rules::Deduced;
@@ -57,8 +59,8 @@ fn publish_all(
     Ok(true)
 }
 
-/// Publishes what follows by the place, which the worker has taken under the ticket, and adds to
-/// `formed` how many conclusions that is. Answers whether the budget had room for all of it.
+/// Publishes what follows by the place, which the worker has taken under the ticket, and adds to the
+/// tally how many conclusions that is. Answers whether the budget had room for all of it.
 fn conclude_place(
     alloc: Global,
     core: &mut Core,
@@ -66,7 +68,7 @@ fn conclude_place(
     worker: u32,
     place: u32,
     ticket: u32,
-    formed: &mut usize,
+    tally: &mut Tally,
 ) -> Result<bool, OutOfMemory>
     requires holds { Holds (state_of core.old) worker ticket }
     requires place { place < length (log_of core.old) }
@@ -82,7 +84,7 @@ fn conclude_place(
     let point = core.replica().row(place).point;
     for dependent in dependents.list(point) {
         let found = core.at_place(alloc, *dependent, place)?;
-        *formed = formed.saturating_add(found.len());
+        tally.add(found.len());
         if !publish_all(core, worker, ticket, found)? {
             return Ok(false);
         }
@@ -90,8 +92,8 @@ fn conclude_place(
     Ok(true)
 }
 
-/// Publishes what follows by the work, which the worker has taken under the ticket, and adds to
-/// `formed` how many conclusions that is. Answers whether the budget had room for all of it.
+/// Publishes what follows by the work, which the worker has taken under the ticket, and adds to the
+/// tally how many conclusions that is. Answers whether the budget had room for all of it.
 fn conclude(
     alloc: Global,
     core: &mut Core,
@@ -99,7 +101,7 @@ fn conclude(
     worker: u32,
     work: Work,
     ticket: u32,
-    formed: &mut usize,
+    tally: &mut Tally,
 ) -> Result<bool, OutOfMemory>
     requires holds { Holds (state_of core.old) worker ticket }
     requires work { IsWork core.old.base.problem (log_of core.old) work }
@@ -114,18 +116,18 @@ fn conclude(
     match work {
         Work::Seed(point) => {
             let found = core.at_seed(alloc, point)?;
-            *formed = formed.saturating_add(found.len());
+            tally.add(found.len());
             publish_all(core, worker, ticket, found)
         }
         Work::Place(place) => {
-            conclude_place(alloc, core, dependents, worker, place, ticket, formed)
+            conclude_place(alloc, core, dependents, worker, place, ticket, tally)
         }
     }
 }
 
 /// Ends the work under the ticket, which the worker holds: closes it where `all` says that all that
 /// follows by it was published, and else gives it back. Answers `all`.
-fn close(
+pub(crate) fn close(
     core: &mut Core,
     worker: u32,
     ticket: u32,
@@ -184,6 +186,7 @@ fn turn<G: Gate>(
     dependents: &Dependents,
     worker: u32,
     gate: &G,
+    tally: &mut Tally,
 ) -> Result<bool, OutOfMemory>
     requires flight { NothingFlies core.old }
     requires dependents { HasDependents core.old.base.problem.points core.old.base.problem.flow.pairs
@@ -203,13 +206,12 @@ fn turn<G: Gate>(
         return Ok(false);
     };
     gate.before(worker, work);
-    let mut formed = 0;
-    let all = conclude(alloc, core, dependents, worker, work, ticket, &mut formed);
+    let all = conclude(alloc, core, dependents, worker, work, ticket, tally);
     close(core, worker, ticket, all)
 }
 
-/// Does the work under the ticket, which the worker holds: publishes what follows by it, adds to
-/// `formed` how many conclusions that is, known ones too, and closes the work. Where the budget has no
+/// Does the work under the ticket, which the worker holds: publishes what follows by it, adds to the
+/// tally how many conclusions that is, known ones too, and closes the work. Where the budget has no
 /// room for all of it, or memory is refused, the work is given back. Answers whether the budget had
 /// room. The dependents are those of the core's problem.
 pub fn do_work(
@@ -219,7 +221,7 @@ pub fn do_work(
     worker: u32,
     work: Work,
     ticket: u32,
-    formed: &mut usize,
+    tally: &mut Tally,
 ) -> Result<bool, OutOfMemory>
     requires flies { (state_of core.old).flight ticket ≡ Some (record { worker = worker; work = work }) }
     requires dependents { HasDependents core.old.base.problem.points core.old.base.problem.flow.pairs
@@ -230,12 +232,15 @@ pub fn do_work(
         (IsClosedWork core.new.base.problem (log_of core.new) work) (IsSome (state_of core.new).kept)) }
 {
     core.is_core();
-    let all = conclude(alloc, core, dependents, worker, work, ticket, formed);
+    let all = conclude(alloc, core, dependents, worker, work, ticket, tally);
     close(core, worker, ticket, all)
 }
 
 /// Does the works that are pending, as this worker, until nothing is left or `take` gives out none.
-/// The worker passes the gate before each work that it does. Nothing is in flight, and the dependents
+/// What follows is published at once, the first found first, until much follows from little; from then
+/// on it waits, and the most promising is published where no work is pending. So no more is formed than
+/// what the log and those that wait hold together within the budget, and what one work more forms. The
+/// worker passes the gate before each work that it does. Nothing is in flight, and the dependents
 /// are those of the core's problem. After a refusal of memory the story has gone on, and nothing is in
 /// flight.
 pub fn work_alone<G: Gate>(
@@ -252,8 +257,13 @@ pub fn work_alone<G: Gate>(
     ensures flight { NothingFlies core.new }
     ensures ends { OnOk result (EndsAtRest core.new) }
 {
-    while turn(alloc, core, dependents, worker, gate)? {}
-    Ok(())
+    let mut tally = Tally::new();
+    while !tally.is_bursting() {
+        if !turn(alloc, core, dependents, worker, gate, &mut tally)? {
+            return Ok(());
+        }
+    }
+    select_alone(alloc, core, dependents, worker, gate)
 }
 
 /// What has come of it.

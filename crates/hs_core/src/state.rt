@@ -8,6 +8,7 @@ ghost use Rattle.hs_history.specs.CoreStep.{seeds};
 ghost use Rattle.hs_history.specs.History.{IsAtRest, told};
 ghost use Rattle.hs_core.specs.Core.{state_of, log_of, deduction_of, StartsAt, IsCore};
 ghost use Rattle.hs_core.specs.Answers.{IsFound};
+ghost use Rattle.hs_core.specs.Draining.{NothingFlies};
 
 use crate::backing::Backing;
 use crate::journal::Journal;
@@ -183,11 +184,18 @@ impl<'p> Core<'p> {
     }
 
     /// Whether nothing is pending, in flight or kept: then the log is the least table. This and the
-    /// next two take no memory, and constant time.
+    /// next three take no memory, and constant time.
     pub fn quiet(&self) -> bool
         ensures { IsTrue result ↔ IsAtRest (state_of self.now) }
     {
         self.pending.is_empty() && self.tickets.count() == 0 && self.past.is_none()
+    }
+
+    /// Whether no work is in flight.
+    pub fn nothing_flies(&self) -> bool
+        ensures { IsTrue result ↔ NothingFlies self.now }
+    {
+        self.tickets.count() == 0
     }
 
     /// How many works are pending.

@@ -1,3 +1,4 @@
 pub mod Story
 pub mod CoreStep
 pub mod History
+pub mod Following

@@ -12,7 +12,7 @@ use Rattle.hs_table_laws.proofs.Places.{place_of, to_take, within_from}
 use Rattle.hs_table_laws.proofs.Growing.{follows_found, by_take}
 use Rattle.hs_history.proofs.Premises.{greatest, by_none, by_greatest, premise_below}
 use Rattle.hs_rank.specs.Canonical.{IsRound, HasRank, IsBefore, IsByRank}
-use Rattle.hs_rank.specs.Following.{HasSeed, HasPlace}
+use Rattle.hs_history.specs.Following.{HasSeed, HasPlace}
 use Rattle.hs_rank.specs.Ranked.{HoldsRound, IsNextRound, IsAtRound}
 use Rattle.hs_rank.proofs.Rounds.{round_same, round_later, not_both}
 

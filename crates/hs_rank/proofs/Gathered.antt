@@ -15,7 +15,7 @@ use Rattle.hs_types.specs.Interned.{InternerData, RowData, IsRow, entry_of, Grow
 use Rattle.hs_types.proofs.Numbers.{Grows-refl, Grows-trans, row_within, row_stays}
 use Rattle.hs_replica.specs.Replica.{ReplicaData}
 use Rattle.hs_rules.specs.Conclusions.{DeducedData, IsDeduced}
-use Rattle.hs_rank.specs.Following.{HasAt, HasPlace}
+use Rattle.hs_history.specs.Following.{HasAt, HasPlace}
 use Rattle.hs_rank.specs.Gathering.{IsNewRow, AreNewRows, IsKnown, AddsNew, Gathered}
 use Rattle.hs_rank.proofs.Sorted.{all_of}
 

@@ -6,7 +6,7 @@ ghost use Rattle.hs_flow.specs.Dependents.{HasDependents};
 ghost use Rattle.hs_table.specs.Entries.{InShape};
 ghost use Rattle.hs_types.specs.Interned.{IsRow};
 ghost use Rattle.hs_rank.specs.Gathering.{AreNewRows, IsKnown, AddsNew, Gathered};
-ghost use Rattle.hs_rank.specs.Following.{HasSeed, HasAt, HasPlace};
+ghost use Rattle.hs_history.specs.Following.{HasSeed, HasAt, HasPlace};
 
 use hs_flow::Dependents;
 use hs_rules::{Deduced, Replica, conclusions_with, seed_conclusions};

@@ -15,7 +15,7 @@ ghost use Rattle.hs_shared.specs.Holding.{having_left, HasTold, IsHolding};
 
 use crate::held::Held;
 use crate::hold::{copy_log, count, publish_deduction, take_work, tell, tell_all};
-use hs_core::{Deduced, Published, Replica, Taken, Work, do_work};
+use hs_core::{Deduced, Published, Replica, Taken, Tally, Work, do_work};
 use hs_flow::Dependents;
 use hs_scheme::OutOfMemory;
 use hs_turn::{Guard, Seat};
@@ -149,7 +149,7 @@ impl<'a, 'p> Hold<'a, 'p> {
     }
 
     /// Does the work under a ticket, which the seat has, on the core itself: publishes what follows by
-    /// it, adds to `formed` how many conclusions that is, known ones too, and closes the work, as
+    /// it, adds to the tally how many conclusions that is, known ones too, and closes the work, as
     /// `do_work` does. Where the budget has no room for all of it, or memory is refused, the work is given
     /// back. Answers whether the budget had room.
     pub fn work(
@@ -159,7 +159,7 @@ impl<'a, 'p> Hold<'a, 'p> {
         dependents: &Dependents,
         work: Work,
         ticket: u32,
-        formed: &mut usize,
+        tally: &mut Tally,
     ) -> Result<bool, OutOfMemory>
         requires holds { IsHolding seat.old self.old }
         requires flies { (state_of self.old.core).flight ticket ≡ Some
@@ -179,7 +179,7 @@ impl<'a, 'p> Hold<'a, 'p> {
         let worker = seat.number();
         let before = count(&self.guard.state.core);
         let core = &mut self.guard.state.core;
-        let done = do_work(alloc, core, dependents, worker, work, ticket, formed);
+        let done = do_work(alloc, core, dependents, worker, work, ticket, tally);
         tell_all(&mut self.guard, seat, before);
         done
     }

@@ -16,6 +16,6 @@ mod table;
 
 pub use held::{CoreBase, Held, Told};
 pub use holding::Hold;
-pub use hs_core::{Core, Deduced, Published, Replica, Taken, Work};
+pub use hs_core::{Core, Deduced, Published, Replica, Taken, Tally, Work};
 pub use hs_turn::{Rested, Seat};
 pub use table::{RestedSeat, SharedTable};

@@ -1,7 +1,7 @@
 -- What is answered of the core that the workers leave.
-use Rattle.std.proofs.Common.{◌≡◌, ◌↔◌, sym, ◌∙◌, ap, subst, ℕ, List, [], ◌++◌, length, take, drop, All, arith}
+use Rattle.std.proofs.Common.{◌≡◌, ◌↔◌, sym, ◌∙◌, ap, subst, ℕ, List, [], ◌++◌, length, take, drop, All, ◌≤◌, arith}
 use Rattle.std.proofs.lemmas.List.{take_all, drop_all, append-nil}
-use Rattle.std.proofs.lemmas.List.Elements.{All-weaker}
+use Rattle.std.proofs.lemmas.List.Elements.{All-weaker, All-append}
 use Rattle.hs_scheme.specs.Problem.{ProblemData}
 use Rattle.hs_scheme.specs.Run.{Accepts}
 use Rattle.hs_table.specs.Tables.{IsLeastTable, HasStart}
@@ -35,6 +35,11 @@ verdict_of p c same decides (Least d) h =
     (decides (subst (λ q. IsLeastTable q (log_of c)) same h.1.least))
 verdict_of p c same decides (Over d) h = tt
 verdict_of p c same decides (First d) h = tt
+
+-- one worker goes on behind others
+pub by_more : (workers : ℕ) (a b : CoreData) → 1 ≤ workers → All (IsOfWorkers workers) a.story → GoesAlone 1 a b → All (IsOfWorkers workers) b.story
+by_more workers a b some all goes = subst (λ (story : Story). All (IsOfWorkers workers) story) (sym goes.story)
+    (All-append (IsOfWorkers workers) a.story goes.more all (All-weaker (λ (s : CoreStep). s.worker ≡ 1) (IsOfWorkers workers) (λ s is. (omega (arith, is), omega (arith, is, some))) goes.more goes.alone))
 
 -- one worker did everything
 pub by_one : (a b : CoreData) → a.story ≡ [] → GoesAlone 1 a b → All (IsOfWorkers 1) b.story

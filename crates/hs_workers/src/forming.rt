@@ -7,7 +7,7 @@ ghost use Rattle.hs_types.specs.Interned.{IsRow, entry_of, Grows};
 ghost use Rattle.hs_history.specs.History.{IsWork};
 ghost use Rattle.hs_workers.specs.Forming.{KeepsNew, AreAllAt, AreFormed};
 
-use hs_core::Work;
+use hs_core::{Tally, Work};
 use hs_flow::Dependents;
 use hs_rules::{Deduced, Replica, conclusions_with, seed_conclusions};
 use hs_scheme::{OutOfMemory, Problem};
@@ -51,7 +51,7 @@ fn form_at(
     points: &[u32],
     replica: &mut Replica,
     place: u32,
-    tally: &mut usize,
+    tally: &mut Tally,
 ) -> Result<Vec<Deduced>, OutOfMemory>
     requires points { All (λ point. point < length problem.now.points.points) points.now }
     requires place { place < length replica.old.log }
@@ -64,7 +64,7 @@ fn form_at(
     let mut found = Vec::new(alloc);
     for point in points {
         let formed = conclusions_with(alloc, problem, replica, *point, place)?;
-        *tally = tally.saturating_add(formed.len());
+        tally.add(formed.len());
         keep_new(replica, formed, &mut found)?;
     }
     Ok(found)
@@ -76,7 +76,7 @@ fn form_seed(
     problem: &Problem,
     replica: &mut Replica,
     point: u32,
-    tally: &mut usize,
+    tally: &mut Tally,
 ) -> Result<Vec<Deduced>, OutOfMemory>
     requires { point < length problem.now.points.points }
     ensures log { replica.new.log ≡ replica.old.log }
@@ -85,7 +85,7 @@ fn form_seed(
         (Work.Seed point) found.items) }
 {
     let formed = seed_conclusions(alloc, problem, replica, point)?;
-    *tally = tally.saturating_add(formed.len());
+    tally.add(formed.len());
     let mut found = Vec::new(alloc);
     keep_new(replica, formed, &mut found)?;
     Ok(found)
@@ -98,7 +98,7 @@ fn form_place(
     dependents: &Dependents,
     replica: &mut Replica,
     place: u32,
-    tally: &mut usize,
+    tally: &mut Tally,
 ) -> Result<Vec<Deduced>, OutOfMemory>
     requires place { place < length replica.old.log }
     requires shape { All (InShape problem.now) replica.old.log }
@@ -119,7 +119,7 @@ pub(crate) fn form(
     dependents: &Dependents,
     replica: &mut Replica,
     work: Work,
-    tally: &mut usize,
+    tally: &mut Tally,
 ) -> Result<Vec<Deduced>, OutOfMemory>
     requires work { IsWork problem.now replica.old.log work }
     requires shape { All (InShape problem.now) replica.old.log }

@@ -17,8 +17,8 @@ ghost use Rattle.hs_workers.specs.Working.{StepsInHold, IfServes};
 
 use crate::bell::Bell;
 use crate::job::Job;
-use crate::sharing::Sharing;
-use hs_core::{Published, Taken};
+use crate::sharing::{Sharing, goes_on};
+use hs_core::{Published, Taken, Tally};
 use hs_flow::Dependents;
 use hs_rules::{Deduced, Replica};
 use hs_scheme::OutOfMemory;
@@ -174,7 +174,7 @@ fn hand_in<'p>(
 }
 
 /// Does the work on the core itself, where `going` is set; or gives it back. Answers whether it is
-/// closed.
+/// closed, and not much follows from little.
 fn do_one<'p>(
     alloc: Global,
     hold: &mut Hold<'_, 'p>,
@@ -182,7 +182,7 @@ fn do_one<'p>(
     dependents: &Dependents,
     job: &Job,
     going: bool,
-    tally: &mut usize,
+    tally: &mut Tally,
 ) -> bool
     requires holds { IsHolding seat.old hold.old }
     requires flies { (state_of hold.old.core).flight job.now.ticket ≡ Some
@@ -198,10 +198,11 @@ fn do_one<'p>(
         return false;
     }
     let done = hold.work(alloc, seat, dependents, job.work, job.ticket, tally);
-    done.unwrap_or(false)
+    goes_on(done.unwrap_or(false), tally)
 }
 
-/// Does the works on the core itself, as long as there are memory and room; the others it gives back.
+/// Does the works on the core itself, as long as there are memory and room, and until much follows from
+/// little; the others it gives back.
 /// Answers whether all are closed. Adds to `tally` how many conclusions were formed, known ones too.
 fn do_each<'p>(
     alloc: Global,
@@ -209,7 +210,7 @@ fn do_each<'p>(
     seat: &mut Seat<Held<'p>>,
     dependents: &Dependents,
     jobs: Vec<Job>,
-    tally: &mut usize,
+    tally: &mut Tally,
 ) -> bool
     requires holds { IsHolding seat.old hold.old }
     requires carries { Carries seat.old.known.number (state_of hold.old.core).flight (keys jobs.items) }
@@ -367,7 +368,7 @@ fn take_next<'p>(
 }
 
 /// Hands in the works that are done; or, where the worker does all works, does them now, on the core
-/// itself. Answers whether all are closed. `tally` says how many conclusions it has formed since its
+/// itself. Answers whether all are closed, and not much follows from little. `tally` says how many conclusions it has formed since its
 /// last turn, known ones too.
 fn hand_over<'p>(
     alloc: Global,
@@ -377,7 +378,7 @@ fn hand_over<'p>(
     jobs: Vec<Job>,
     dependents: &Dependents,
     sharing: &Sharing,
-    tally: &mut usize,
+    tally: &mut Tally,
 ) -> bool
     requires holds { IsHolding seat.old hold.old }
     requires carries { Carries seat.old.known.number (state_of hold.old.core).flight (keys jobs.items) }
@@ -396,12 +397,12 @@ fn hand_over<'p>(
     };
     let entries = hold.entries();
     let new = entries.saturating_sub(before);
-    sharing.count(worker, replace(tally, 0), new, entries);
-    all
+    sharing.count(worker, replace(tally, Tally::new()), new, entries);
+    sharing.goes_on(all)
 }
 
 /// Hands in the works that are done, and takes further ones. Answers what the worker does next, which
-/// ends where it hasn't closed all works or memory is refused.
+/// ends where it hasn't closed all works, memory is refused, or much follows from little.
 pub(crate) fn turn<'p>(
     alloc: Global,
     hold: &mut Hold<'_, 'p>,
@@ -412,7 +413,7 @@ pub(crate) fn turn<'p>(
     jobs: &mut Vec<Job>,
     dependents: &Dependents,
     bell: &Bell,
-    tally: &mut usize,
+    tally: &mut Tally,
 ) -> Next
     requires holds { IsHolding seat.old hold.old }
     requires carries { Carries seat.old.known.number (state_of hold.old.core).flight (keys jobs.old.items) }

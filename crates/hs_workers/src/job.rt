@@ -8,7 +8,7 @@ ghost use Rattle.hs_history.specs.History.{IsWork};
 ghost use Rattle.hs_workers.specs.Jobs.{IsFormed, IsUnformed, keys};
 
 use crate::forming::form;
-use hs_core::{Gate, Work};
+use hs_core::{Gate, Tally, Work};
 use hs_flow::Dependents;
 use hs_rules::{Deduced, Replica};
 use hs_scheme::Problem;
@@ -24,14 +24,14 @@ pub(crate) struct Job {
     pub found: Option<Vec<Deduced>>,
 }
 
-/// What follows by the work, or `None` where memory is refused.
+/// What follows by the work, or `None` where memory is refused, or much has followed from little.
 fn formed(
     alloc: Global,
     problem: &Problem,
     dependents: &Dependents,
     replica: &mut Replica,
     job: Job,
-    tally: &mut usize,
+    tally: &mut Tally,
 ) -> Job
     requires work { IsWork problem.now replica.old.log job.work }
     requires shape { All (InShape problem.now) replica.old.log }
@@ -45,6 +45,13 @@ fn formed(
     let work = job.work;
     let ticket = job.ticket;
     drop(job);
+    if tally.is_bursting() {
+        return Job {
+            work,
+            ticket,
+            found: None,
+        };
+    }
     match form(alloc, problem, dependents, replica, work, tally) {
         Ok(found) => Job {
             work,
@@ -66,7 +73,8 @@ pub(crate) fn pass_each<G: Gate>(gate: &G, worker: u32, jobs: &[Job]) {
     }
 }
 
-/// Forms what follows by each work, as far as there is memory, and passes the gate before each. Adds to
+/// Forms what follows by each work, as far as there is memory and until much follows from little, and
+/// passes the gate before each. Adds to
 /// `tally` how many conclusions were formed, known ones too.
 pub(crate) fn form_each<G: Gate>(
     alloc: Global,
@@ -76,7 +84,7 @@ pub(crate) fn form_each<G: Gate>(
     worker: u32,
     replica: &mut Replica,
     jobs: &mut Vec<Job>,
-    tally: &mut usize,
+    tally: &mut Tally,
 )
     requires works { All (λ j. IsWork problem.now replica.old.log j.work) jobs.old.items }
     requires unformed { All IsUnformed jobs.old.items }

@@ -4,8 +4,8 @@
 //! replica of the log, and then, under one hold of the table, publishes what its replica lacked,
 //! finishes the works, takes further ones and reads the rows that are new. The rows are added to the
 //! replica after the hold. While nearly all that is formed is new, one worker does all works, on the
-//! core itself and under holds of the table, and the others rest. Where there is only one worker,
-//! nothing is shared at all.
+//! core itself and under holds of the table, and the others rest. Once much follows from little, all
+//! end, and one goes on alone. Where there is only one worker, nothing is shared at all.
 //! The definitions stand in `specs/`: `Forming`, `Jobs`, `Working` and `Answers`.
 #![tactic(auto)]
 

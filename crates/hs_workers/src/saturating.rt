@@ -5,13 +5,14 @@ ghost use Rattle.hs_flow.specs.Dependents.{HasDependents};
 ghost use Rattle.hs_turn.specs.Seats.{RestsIn};
 ghost use Rattle.hs_verdict.specs.Premises.{HasClosedFlow};
 ghost use Rattle.hs_core.specs.Core.{IsCore};
+ghost use Rattle.hs_core.specs.Draining.{GoesAlone};
 ghost use Rattle.hs_core.specs.Saturation.{IsVerdict};
 ghost use Rattle.hs_workers.specs.Working.{IsFirstSeat, HasSeenNothing, IsBased, RestsSeated};
 ghost use Rattle.hs_workers.specs.Answers.{IsOfWorkers, IsSharedDone, IsEnd, IsDoneOf};
 
 use crate::bell::Bell;
 use crate::worker::run_worker;
-use hs_core::{Core, Done, Gate, work_alone};
+use hs_core::{Core, Done, Gate, select_alone, work_alone};
 use hs_flow::Dependents;
 use hs_naming::least_tables_decide;
 use hs_scheme::{OutOfMemory, Problem};
@@ -211,6 +212,26 @@ fn work_by_one<'p, G: Gate>(
     core
 }
 
+/// The core once one worker, whose number is 1, has done what the others have left, in the caller's
+/// thread. They end before all is done where much follows from little.
+fn end_by_one<'p, G: Gate>(
+    alloc: Global,
+    core: Core<'p>,
+    dependents: &Dependents,
+    gate: &G,
+) -> Core<'p>
+    requires { HasDependents core.base.problem.points core.base.problem.flow.pairs dependents.now }
+    ensures { GoesAlone 1 core.entry result }
+{
+    let mut core = core;
+    if !core.nothing_flies() {
+        return core;
+    }
+    // After a refusal of memory works are left in it.
+    let _ended = select_alone(alloc, &mut core, dependents, 1, gate);
+    core
+}
+
 /// The core that so many workers leave, from one in which nothing has happened. Nobody else does
 /// anything.
 fn work<'p, R: Threads + Wait + Sync, G: Gate + Sync>(
@@ -234,7 +255,8 @@ fn work<'p, R: Threads + Wait + Sync, G: Gate + Sync>(
         return Ok(work_by_one(alloc, core, dependents, gate));
     }
     let (table, seat) = share(alloc, core)?;
-    work_together(rt, alloc, problem, dependents, workers, table, seat, gate)
+    let core = work_together(rt, alloc, problem, dependents, workers, table, seat, gate)?;
+    Ok(end_by_one(alloc, core, dependents, gate))
 }
 
 /// The least table of the problem, formed by so many workers, 1 to 16; or, where `first` is set and
@@ -242,13 +264,13 @@ fn work<'p, R: Threads + Wait + Sync, G: Gate + Sync>(
 /// nobody else does anything. The budget is 1 to 1,000,000, and the dependents are those of the
 /// problem.
 ///
-/// A worker for which memory is refused leaves its work to the others. Where works are left because
-/// all of them ended so, the answer is want of memory.
+/// A worker for which memory is refused leaves its work to the others. Where works are left when all
+/// have ended, one goes on alone, and where memory is refused to it, that is the answer.
 ///
 /// One worker works in the caller's thread, on the core itself. Of more workers each has a thread of
 /// its own. While they share the works, each keeps a replica of the log, which takes as much memory as
 /// the log itself. While nearly each conclusion is new, one of them works on the core, and the others
-/// rest.
+/// rest. Once much follows from little, one goes on alone, as `select_alone` does.
 ///
 /// After Broadbent and Kobayashi, "Saturation-based model checking of higher-order recursion schemes"
 /// (CSL 2013).

@@ -8,7 +8,11 @@
 //!
 //! One that rests is called when the lone worker finds that much is known, or ends. Whoever goes to
 //! rest has handed in its works, and rings, since it may leave works pending for one that waits.
+//!
+//! Where much follows from little, what enters the log next matters more than who does it: once the
+//! workers have met two bursts (`Tally` of `hs_core`), all end, and one selects what enters the log.
 
+use hs_core::Tally;
 use std::sync::Wait;
 use std::sync::atomic::AtomicU64;
 use std::sync::atomic::Ordering::SeqCst;
@@ -29,6 +33,12 @@ const TIMES: u64 = 16;
 /// After so many conclusions those before count half.
 const LONG: u64 = 32_768;
 
+/// Whether a worker goes on that has closed all its works, or not: it ends where much follows from
+/// little.
+pub(crate) fn goes_on(closed: bool, tally: &Tally) -> bool {
+    closed && !tally.is_bursting()
+}
+
 /// Who works, and how much of what was formed lately was known already.
 #[derive(Drop)]
 pub(crate) struct Sharing {
@@ -38,6 +48,8 @@ pub(crate) struct Sharing {
     formed: AtomicU64,
     /// How many of them were known.
     known: AtomicU64,
+    /// How many bursts all have met.
+    bursts: AtomicU64,
 }
 
 impl Sharing {
@@ -46,6 +58,7 @@ impl Sharing {
             lone: AtomicU64::new(0),
             formed: AtomicU64::new(0),
             known: AtomicU64::new(0),
+            bursts: AtomicU64::new(0),
         }
     }
 
@@ -58,6 +71,13 @@ impl Sharing {
     pub(crate) fn is_resting(&self, worker: u32) -> bool {
         let lone = self.lone.load(SeqCst);
         lone != 0 && lone != worker as u64
+    }
+
+    /// Whether a worker goes on that has closed all its works, or not. All end where they have met many
+    /// bursts together.
+    pub(crate) fn goes_on(&self, closed: bool) -> bool {
+        let bursts = self.bursts.load(SeqCst) as usize;
+        goes_on(closed, &Tally { formed: 0, bursts })
     }
 
     /// Begins to count anew.
@@ -77,7 +97,9 @@ impl Sharing {
 
     /// A worker has formed so many conclusions, of which so many entries were new, and the log has so
     /// many now. It holds the table, so no other counts at the same time.
-    pub(crate) fn count(&self, worker: u32, formed: usize, new: usize, entries: usize) {
+    pub(crate) fn count(&self, worker: u32, tally: Tally, new: usize, entries: usize) {
+        let formed = tally.formed;
+        self.bursts.fetch_add(tally.bursts as u64, SeqCst);
         let known = self
             .known
             .load(SeqCst)

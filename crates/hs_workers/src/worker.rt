@@ -11,7 +11,7 @@ ghost use Rattle.hs_workers.specs.Working.{IsFree, IsLoaded, RestsSeated, IfServ
 use crate::bell::Bell;
 use crate::handing::{Next, turn};
 use crate::job::{Job, form_each, pass_each};
-use hs_core::Gate;
+use hs_core::{Gate, Tally};
 use hs_flow::Dependents;
 use hs_rules::Replica;
 use hs_scheme::Problem;
@@ -35,7 +35,7 @@ fn exchange<'p, R: Wait>(
     found: &mut ImportedNumbers,
     jobs: &mut Vec<Job>,
     dependents: &Dependents,
-    tally: &mut usize,
+    tally: &mut Tally,
 ) -> Next
     requires dependents { HasDependents problem.now.points problem.now.flow.pairs dependents.now }
     requires loaded { IsLoaded table.now problem.now seat.old replica.old.ids replica.old.log jobs.old.items }
@@ -65,7 +65,7 @@ fn serve<'p, G: Gate>(
     seat: &Seat<Held<'p>>,
     replica: &mut Replica,
     jobs: &mut Vec<Job>,
-    tally: &mut usize,
+    tally: &mut Tally,
 )
     requires dependents { HasDependents problem.now.points problem.now.flow.pairs dependents.now }
     requires loaded { IsLoaded table.now problem.now seat.now replica.old.ids replica.old.log jobs.old.items }
@@ -106,7 +106,7 @@ fn work_on<'p, R: Wait, G: Gate>(
     let mut found = ImportedNumbers::new(alloc);
     let mut jobs = Vec::new(alloc);
     let mut heard = None;
-    let mut tally = 0;
+    let mut tally = Tally::new();
     for _ in rt.forever() {
         match exchange(
             rt,

@@ -11,7 +11,7 @@ use crate::worker::{Worker, held_after};
 use hs_fixtures::know;
 use hs_flow::Dependents;
 use hs_scheme::Problem;
-use hs_shared::{Deduced, Hold, Published, SharedTable, Taken, Work};
+use hs_shared::{Deduced, Hold, Published, SharedTable, Taken, Tally, Work};
 use std::alloc::Global;
 use std::process::Abort;
 
@@ -164,8 +164,8 @@ pub(crate) fn work<'p, R: Abort>(
         panic!(rt; "no work is held");
     };
     worker.held = None;
-    let mut formed = 0;
+    let mut tally = Tally::new();
     let seat = &mut worker.seat;
-    let done = hold.work(alloc, seat, dependents, work, ticket, &mut formed);
+    let done = hold.work(alloc, seat, dependents, work, ticket, &mut tally);
     done.expect(rt, "memory")
 }

@@ -2,11 +2,11 @@
 use Rattle.hs_core.specs.Draining.{weight, GoesAlone, NothingFlies}
 use Rattle.hs_core.proofs.draining.work_alone.Given as goal
 
-abbrev pub invariant-loop : goal.invariant-loop
-invariant-loop g l = record {
+abbrev pub invariant-loop-tally : goal.invariant-loop-tally
+invariant-loop-tally g l = record {
   goes : GoesAlone l.worker l.fn.core l.core;
   flight : NothingFlies l.core;
 }
 
-abbrev pub decreases-loop : goal.decreases-loop
-decreases-loop g l = weight l.core
+abbrev pub decreases-loop-tally : goal.decreases-loop-tally
+decreases-loop-tally g l = weight l.core

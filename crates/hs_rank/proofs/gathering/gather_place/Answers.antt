@@ -3,7 +3,7 @@ use Rattle.std.proofs.lemmas.Bool.{cases_lt}
 use Rattle.std.proofs.lemmas.List.Elements.{Contains-get_or}
 use Rattle.hs_table.specs.Entries.{EntryData, InShape}
 use Rattle.hs_types.specs.Interned.{entry_of}
-use Rattle.hs_rank.specs.Following.{HasAt}
+use Rattle.hs_history.specs.Following.{HasAt}
 use Rattle.hs_rank.specs.Gathering.{IsKnown}
 use Rattle.hs_rank.proofs.Gathered.{gathered_same, gathered_then, place_whole, point_within, dependent_within}
 use Rattle.hs_rank.proofs.gathering.gather_place.Goals as goal

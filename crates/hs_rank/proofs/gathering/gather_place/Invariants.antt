@@ -1,6 +1,6 @@
 -- what follows at the dependents so far was gathered
 use Rattle.std.proofs.Common.{ℕ, ◌<◌, get_or}
-use Rattle.hs_rank.specs.Following.{HasAt}
+use Rattle.hs_history.specs.Following.{HasAt}
 use Rattle.hs_rank.specs.Gathering.{IsKnown, Gathered}
 use Rattle.hs_rank.proofs.gathering.gather_place.Given as goal
 

@@ -1,7 +1,7 @@
 use Rattle.std.proofs.Common.{◌≡◌, sym, ap, subst, List, length, All, arith, inl, inr}
 use Rattle.std.proofs.lemmas.Bool.{cases_lt}
 use Rattle.hs_table.specs.Entries.{EntryData, InShape}
-use Rattle.hs_rank.specs.Following.{HasPlace}
+use Rattle.hs_history.specs.Following.{HasPlace}
 use Rattle.hs_rank.specs.Gathering.{IsKnown}
 use Rattle.hs_rank.proofs.Gathered.{gathered_same, gathered_then}
 use Rattle.hs_rank.proofs.gathering.gather_places.Goals as goal

@@ -1,6 +1,6 @@
 -- what follows by the places so far was gathered
 use Rattle.std.proofs.Common.{ℕ, ◌<◌, ◌≤◌}
-use Rattle.hs_rank.specs.Following.{HasPlace}
+use Rattle.hs_history.specs.Following.{HasPlace}
 use Rattle.hs_rank.specs.Gathering.{IsKnown, Gathered}
 use Rattle.hs_rank.proofs.gathering.gather_places.Given as goal
 

@@ -1,7 +1,7 @@
 use Rattle.std.proofs.Common.{◌≡◌, ap, subst, length, arith, inl, inr}
 use Rattle.std.proofs.lemmas.Bool.{cases_lt}
 use Rattle.hs_scheme.specs.Problem.{ProblemData}
-use Rattle.hs_rank.specs.Following.{HasSeed}
+use Rattle.hs_history.specs.Following.{HasSeed}
 use Rattle.hs_rank.specs.Gathering.{IsKnown}
 use Rattle.hs_rank.proofs.Gathered.{gathered_same, gathered_then}
 use Rattle.hs_rank.proofs.gathering.gather_seeds.Goals as goal

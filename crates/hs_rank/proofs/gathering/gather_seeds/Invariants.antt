@@ -1,6 +1,6 @@
 -- what follows at the points so far was gathered
 use Rattle.std.proofs.Common.{ℕ, ◌<◌}
-use Rattle.hs_rank.specs.Following.{HasSeed}
+use Rattle.hs_history.specs.Following.{HasSeed}
 use Rattle.hs_rank.specs.Gathering.{IsKnown, Gathered}
 use Rattle.hs_rank.proofs.gathering.gather_seeds.Given as goal
 
