@@ -19,7 +19,7 @@ use Rattle.hs_check.specs.declared.top.Ending.{Ending}
 use Rattle.hs_check.specs.declared.top.Ending.TheVariants.{Verified, CutOff, Failed}
 use Rattle.hs_check.specs.Words.{FilePair}
 use Rattle.hs_check.specs.Fault.{status_of, no_memory}
-use Rattle.hs_check.specs.Evidence.{max_table, SomeReads, EachReads, FileShows, ComesTo}
+use Rattle.hs_check.specs.Evidence.{max_table, FileShows, ComesTo}
 use Rattle.hs_check.specs.Outcome.{OfBothFiles, IsVerified, IsAnswerOfRun, Ends, status_at, status_due, IsDue, Complies, Rows}
 use Rattle.hs_check.proofs.OneAnswer.{one_answer}
 
@@ -49,12 +49,12 @@ abbrev Why : Option (List ℕ) → Option (List ℕ) → Result Shown Fault → 
 Why s t b =
     IsFailure b
     ⊎ (((r : Refusal) × ((b ≡ Err (Front r)) × IfSome s (λ bytes. Yields bytes (Err r))))
-    ⊎ ((p : ProblemData) × (IfSome s (λ bytes. Yields bytes (Ok p)) × IfSome t (λ bytes. FileShows SomeReads p bytes b))))
+    ⊎ ((p : ProblemData) × (IfSome s (λ bytes. Yields bytes (Ok p)) × IfSome t (λ bytes. FileShows p bytes b))))
 
 abbrev Due : Option (List ℕ) → Option (List ℕ) → Result Shown Fault → Type 0
 Due s t d =
     ((r : Refusal) × ((d ≡ Err (Front r)) × IsSomeAnd s (λ bytes. Yields bytes (Err r))))
-    ⊎ IsSomeAnd s (λ bytes. IsSomeAnd t (λ table. ComesTo EachReads bytes table d))
+    ⊎ IsSomeAnd s (λ bytes. IsSomeAnd t (λ table. ComesTo bytes table d))
 
 abbrev of_front : Result ProblemData Refusal → Result Shown Fault
 of_front (Ok p) = Ok (Full 0)
@@ -71,7 +71,7 @@ module _ (d b : Result Shown Fault) (bytes : List ℕ) where
   no_problem : (r : Refusal) (p : ProblemData) → Yields bytes (Err r) → Yields bytes (Ok p) → ⊥
   no_problem r p h k = let e = one_yield bytes (Err r) (Ok p) h k in (cc)
 
-  meet_table : (table : Option (List ℕ)) → IsSomeAnd table (λ t. ComesTo EachReads bytes t d) → Why (Some bytes) table b → Meet d b
+  meet_table : (table : Option (List ℕ)) → IsSomeAnd table (λ t. ComesTo bytes t d) → Why (Some bytes) table b → Meet d b
   meet_table None h w = absurd h
   meet_table (Some t) h (inl fails) = inl fails
   meet_table (Some t) h (inr (inl (r, (e, k)))) = absurd (no_problem r h.problem k h.yields)
@@ -112,10 +112,10 @@ module _ (f : FilePair) (scheme table : SourceRun) (schemes tables : List ℕ �
   abbrev WhyHere : Result Shown Fault → Type 0
   WhyHere b = Why (schemes f.scheme) (tables f.table) b
 
-  by_bytes : (b : Result Shown Fault) → OfBothFiles (Some f) scheme table (λ s t. ComesTo SomeReads s t b) → WhyHere b
+  by_bytes : (b : Result Shown Fault) → OfBothFiles (Some f) scheme table (λ s t. ComesTo s t b) → WhyHere b
   by_bytes b h =
       let p = h.0.problem in
-      inr (inr (p, (ss.whole (λ s. Yields s (Ok p)) h.0.yields h.1.0, st.whole (λ t. FileShows SomeReads p t b) h.0.answers h.1.1)))
+      inr (inr (p, (ss.whole (λ s. Yields s (Ok p)) h.0.yields h.1.0, st.whole (λ t. FileShows p t b) h.0.answers h.1.1)))
 
   by_scheme : (r : Refusal) → Yields scheme.after.given (Err r) → IsReadFromFront scheme true f.scheme → WhyHere (Err (Front r))
   by_scheme r h read = inr (inl (r, (refl, ss.whole (λ s. Yields s (Err r)) h read)))

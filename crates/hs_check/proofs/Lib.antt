@@ -4,3 +4,4 @@ pub mod OneAnswer
 pub mod Running
 pub mod Complying
 pub mod Reported
+pub mod SameMembers

@@ -18,8 +18,11 @@ use Rattle.hs_check.specs.declared.fault.Fault.{Fault}
 use Rattle.hs_check.specs.declared.fault.Fault.TheVariants.{Front, TableTooLong, TableLine, Missing, HasStart, NotVoid, Instances}
 use Rattle.hs_check.specs.declared.verified.Shown.{Shown}
 use Rattle.hs_check.specs.declared.verified.Shown.TheVariants.{Full, Compact}
-use Rattle.hs_check.specs.Evidence.{max_table, TableShows, CompactShows, SomeReads, EachReads, OfCertificate, OfCompact, FileShows, ComesTo}
+use Rattle.hs_check.specs.Evidence.{max_table, TableShows, CompactShows, OwnReads, OfCertificate, OfCompact, FileShows, ComesTo}
 use Rattle.hs_check.specs.Outcome.{status_due}
+use Rattle.hs_reads.specs.Own.{AreReadsOf}
+use Rattle.hs_reads.proofs.ReadLemmas.{same_reads}
+use Rattle.hs_check.proofs.SameMembers.{certificate_same}
 use Rattle.hs_check.proofs.OwnNames.{has_names}
 
 -- ---- a table has one number of instances
@@ -94,56 +97,50 @@ module _ (p : ProblemData) (bytes : List ℕ) where
     certificate : IsCertificate p bytes table checked
     judged : Judged status (Good table checked)
 
-  module _ (Reads : ProblemData → (List (ℕ × ℕ) → Type 0) → Type 0) (along : (P Q : List (ℕ × ℕ) → Type 0) → ((reads : List (ℕ × ℕ)) → P reads → Q reads) → Reads p P → Reads p Q) where
-    record OfEntries (status : ℕ) : Type 0 where
-      table : List EntryData
-      void : List VoidData
-      certificate : IsCompactCertificate p bytes table void
-      judged : Reads p (λ reads. Judged status (IsAcceptanceCertificate p table void reads))
+  record OfEntries (status : ℕ) : Type 0 where
+    table : List EntryData
+    void : List VoidData
+    certificate : IsCompactCertificate p bytes table void
+    judged : OwnReads p (λ reads. Judged status (IsAcceptanceCertificate p table void reads))
 
-    abbrev Kind : ℕ → Type 0
-    Kind status =
-        ((status ≡ 7) × (max_table < length bytes))
-        ⊎ ((length bytes ≤ max_table) × (((status ≡ 12) × ((line : ℕ) × IsFirstFaulty p bytes line)) ⊎ (OfFull status ⊎ OfEntries status)))
+  abbrev Kind : ℕ → Type 0
+  Kind status =
+      ((status ≡ 7) × (max_table < length bytes))
+      ⊎ ((length bytes ≤ max_table) × (((status ≡ 12) × ((line : ℕ) × IsFirstFaulty p bytes line)) ⊎ (OfFull status ⊎ OfEntries status)))
 
-    of_text : (a : Result Shown Fault) → OfCertificate p bytes a ⊎ OfCompact Reads p bytes a → OfFull (status_due a) ⊎ OfEntries (status_due a)
-    of_text a (inl c) = inl (record { table = c.table; checked = c.checked; certificate = c.certificate; judged = full_judged c.table c.checked a c.shows })
-    of_text a (inr c) =
-        inr (record {
-          table = c.table;
-          void = c.void;
-          certificate = c.certificate;
-          judged = along (λ reads. CompactShows p c.table c.void reads a) (λ reads. Judged (status_due a) (IsAcceptanceCertificate p c.table c.void reads)) (λ reads. compact_judged c.table c.void reads a) c.shows;
-        })
+  of_text : (a : Result Shown Fault) → OfCertificate p bytes a ⊎ OfCompact p bytes a → OfFull (status_due a) ⊎ OfEntries (status_due a)
+  of_text a (inl c) = inl (record { table = c.table; checked = c.checked; certificate = c.certificate; judged = full_judged c.table c.checked a c.shows })
+  of_text a (inr c) =
+      inr (record { table = c.table; void = c.void; certificate = c.certificate; judged = (c.shows.0, (c.shows.1.0, compact_judged c.table c.void c.shows.0 a c.shows.1.1)) })
 
-    kind : (a : Result Shown Fault) → FileShows Reads p bytes a → Kind (status_due a)
-    kind (Ok shown) h = inr (h.0, inr (of_text (Ok shown) h.1))
-    kind (Err (Front refusal)) h = inr (h.0, inr (of_text (Err (Front refusal)) h.1))
-    kind (Err TableTooLong) h = inl (refl, h)
-    kind (Err (TableLine line)) h = inr (h.0, inl (refl, (line, h.1)))
-    kind (Err (Missing entry)) h = inr (h.0, inr (of_text (Err (Missing entry)) h.1))
-    kind (Err HasStart) h = inr (h.0, inr (of_text (Err HasStart) h.1))
-    kind (Err (NotVoid pair)) h = inr (h.0, inr (of_text (Err (NotVoid pair)) h.1))
-    kind (Err (Instances count)) h = inr (h.0, inr (of_text (Err (Instances count)) h.1))
+  kind : (a : Result Shown Fault) → FileShows p bytes a → Kind (status_due a)
+  kind (Ok shown) h = inr (h.0, inr (of_text (Ok shown) h.1))
+  kind (Err (Front refusal)) h = inr (h.0, inr (of_text (Err (Front refusal)) h.1))
+  kind (Err TableTooLong) h = inl (refl, h)
+  kind (Err (TableLine line)) h = inr (h.0, inl (refl, (line, h.1)))
+  kind (Err (Missing entry)) h = inr (h.0, inr (of_text (Err (Missing entry)) h.1))
+  kind (Err HasStart) h = inr (h.0, inr (of_text (Err HasStart) h.1))
+  kind (Err (NotVoid pair)) h = inr (h.0, inr (of_text (Err (NotVoid pair)) h.1))
+  kind (Err (Instances count)) h = inr (h.0, inr (of_text (Err (Instances count)) h.1))
 
-some_along : (p : ProblemData) (P Q : List (ℕ × ℕ) → Type 0) → ((reads : List (ℕ × ℕ)) → P reads → Q reads) → SomeReads p P → SomeReads p Q
-some_along p P Q f h = (h.0, (h.1.0, f h.0 h.1.1))
+-- the read pairs of a problem decide one thing, in whatever order they come
+along : (p : ProblemData) (C : List EntryData) (V : List VoidData) (R S : List (ℕ × ℕ)) → AreReadsOf p R → AreReadsOf p S → IsAcceptanceCertificate p C V R → IsAcceptanceCertificate p C V S
+along p C V R S r s = certificate_same p C C V V R S (λ e. ((λ m. m), (λ m. m))) (λ v. ((λ m. m), (λ m. m))) (λ x. (same_reads p S R s r x, same_reads p R S r s x))
 
-each_along : (p : ProblemData) (P Q : List (ℕ × ℕ) → Type 0) → ((reads : List (ℕ × ℕ)) → P reads → Q reads) → EachReads p P → EachReads p Q
-each_along p P Q f h = λ reads closed. f reads (h reads closed)
+judged_along : (p : ProblemData) (C : List EntryData) (V : List VoidData) (R S : List (ℕ × ℕ)) (status : ℕ) → AreReadsOf p R → AreReadsOf p S
+    → Judged status (IsAcceptanceCertificate p C V R) → Judged status (IsAcceptanceCertificate p C V S)
+judged_along p C V R S status r s (inl (e, good)) = inl (e, along p C V R S r s good)
+judged_along p C V R S status r s (inr (e, none)) = inr (e, λ good. none (along p C V S R s r good))
 
 module _ (p : ProblemData) (bytes : List ℕ) (has : HasOwnNames p) (m n : ℕ) where
-  abbrev Due : Type 0
-  Due = OfFull p bytes m ⊎ OfEntries p bytes EachReads (each_along p) m
-
-  abbrev Answered : Type 0
-  Answered = OfFull p bytes n ⊎ OfEntries p bytes SomeReads (some_along p) n
+  abbrev Shows : ℕ → Type 0
+  Shows status = OfFull p bytes status ⊎ OfEntries p bytes status
 
   two_forms : (table other : List EntryData) (checked : ℕ) (void : List VoidData) → IsCertificate p bytes table checked → IsCompactCertificate p bytes other void → ⊥
   two_forms table other checked void a b =
       let one = one_table p has bytes _ _ checked (length void) table other [] void a b in let e = one.0 in (cc)
 
-  table_status : Due → Answered → m ≡ n
+  table_status : Shows m → Shows n → m ≡ n
   table_status (inl a) (inl b) =
       let one = one_table p has bytes _ _ a.checked b.checked a.table b.table [] [] a.certificate b.certificate in
       same_judged m n (Good p bytes b.table b.checked) (subst (λ (t : List EntryData). Judged m (Good p bytes t b.checked)) one.2 (subst (λ (k : ℕ). Judged m (Good p bytes a.table k)) one.1 a.judged)) b.judged
@@ -151,33 +148,28 @@ module _ (p : ProblemData) (bytes : List ℕ) (has : HasOwnNames p) (m n : ℕ) 
   table_status (inr a) (inl b) = absurd (two_forms b.table a.table b.checked a.void b.certificate a.certificate)
   table_status (inr a) (inr b) =
       let one = one_table p has bytes _ _ (length a.void) (length b.void) a.table b.table a.void b.void a.certificate b.certificate in
-      let reads = b.judged.0 in
-      let due = a.judged reads b.judged.1.0 in
-      same_judged m n (IsAcceptanceCertificate p b.table b.void reads)
-      (subst (λ (v : List VoidData). Judged m (IsAcceptanceCertificate p b.table v reads)) one.3 (subst (λ (t : List EntryData). Judged m (IsAcceptanceCertificate p t a.void reads)) one.2 due)) b.judged.1.1
+      let due = judged_along p a.table a.void a.judged.0 b.judged.0 m a.judged.1.0 b.judged.1.0 a.judged.1.1 in
+      same_judged m n (IsAcceptanceCertificate p b.table b.void b.judged.0)
+      (subst (λ (v : List VoidData). Judged m (IsAcceptanceCertificate p b.table v b.judged.0)) one.3 (subst (λ (t : List EntryData). Judged m (IsAcceptanceCertificate p t a.void b.judged.0)) one.2 due)) b.judged.1.1
 
-  due_faultless : (line : ℕ) → IsFirstFaulty p bytes line → Due → ⊥
-  due_faultless line faulty (inl a) = no_fault p has _ bytes a.checked a.table [] line a.certificate faulty
-  due_faultless line faulty (inr a) = no_fault p has _ bytes (length a.void) a.table a.void line a.certificate faulty
+  faultless : (status line : ℕ) → IsFirstFaulty p bytes line → Shows status → ⊥
+  faultless status line faulty (inl a) = no_fault p has _ bytes a.checked a.table [] line a.certificate faulty
+  faultless status line faulty (inr a) = no_fault p has _ bytes (length a.void) a.table a.void line a.certificate faulty
 
-  faultless : (line : ℕ) → IsFirstFaulty p bytes line → Answered → ⊥
-  faultless line faulty (inl a) = no_fault p has _ bytes a.checked a.table [] line a.certificate faulty
-  faultless line faulty (inr a) = no_fault p has _ bytes (length a.void) a.table a.void line a.certificate faulty
-
-  one_kind : Kind p bytes EachReads (each_along p) m → Kind p bytes SomeReads (some_along p) n → m ≡ n
+  one_kind : Kind p bytes m → Kind p bytes n → m ≡ n
   one_kind (inl (e, long)) (inl (f, also)) = e ∙ sym f
   one_kind (inl (e, long)) (inr (short, b)) = absurd (omega (arith, long, short))
   one_kind (inr (short, a)) (inl (f, long)) = absurd (omega (arith, long, short))
   one_kind (inr (short, inl (e, (line, faulty)))) (inr (also, inl (f, (other, wrong)))) = e ∙ sym f
-  one_kind (inr (short, inl (e, (line, faulty)))) (inr (also, inr b)) = absurd (faultless line faulty b)
-  one_kind (inr (short, inr a)) (inr (also, inl (f, (line, faulty)))) = absurd (due_faultless line faulty a)
+  one_kind (inr (short, inl (e, (line, faulty)))) (inr (also, inr b)) = absurd (faultless n line faulty b)
+  one_kind (inr (short, inr a)) (inr (also, inl (f, (line, faulty)))) = absurd (faultless m line faulty a)
   one_kind (inr (short, inr a)) (inr (also, inr b)) = table_status a b
 
 one_problem_of : (s : List ℕ) (p q : ProblemData) → Yields s (Ok p) → Yields s (Ok q) → p ≡ q
 one_problem_of s p q h k = let e = one_yield s (Ok p) (Ok q) h k in (cc)
 
 -- what is due of the bytes of two files, and what is answered
-pub one_answer : (s t : List ℕ) (a b : Result Shown Fault) → ComesTo EachReads s t a → ComesTo SomeReads s t b → status_due a ≡ status_due b
+pub one_answer : (s t : List ℕ) (a b : Result Shown Fault) → ComesTo s t a → ComesTo s t b → status_due a ≡ status_due b
 one_answer s t a b h k =
-    one_kind h.problem t (has_names s h.problem h.yields) (status_due a) (status_due b) (kind h.problem t EachReads (each_along h.problem) a h.answers)
-    (kind h.problem t SomeReads (some_along h.problem) b (subst (λ (p : ProblemData). FileShows SomeReads p t b) (one_problem_of s k.problem h.problem k.yields h.yields) k.answers))
+    one_kind h.problem t (has_names s h.problem h.yields) (status_due a) (status_due b) (kind h.problem t a h.answers)
+    (kind h.problem t b (subst (λ (p : ProblemData). FileShows p t b) (one_problem_of s k.problem h.problem k.yields h.yields) k.answers))

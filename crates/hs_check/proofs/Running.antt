@@ -24,7 +24,7 @@ use Rattle.hs_check.specs.declared.verified.Shown.{Shown}
 use Rattle.hs_check.specs.declared.verified.Shown.TheVariants.{Full, Compact}
 use Rattle.hs_check.specs.Words.{FilePair}
 use Rattle.hs_check.specs.Fault.{no_memory, table_fault, line_of, HasFixedLine}
-use Rattle.hs_check.specs.Evidence.{max_table, TellsMissing, TellsNotVoid, TableShows, CompactShows, CertShows, SomeReads, OfCertificate, OfCompact, TextShows, ComesTo}
+use Rattle.hs_check.specs.Evidence.{max_table, TellsMissing, TellsNotVoid, TableShows, CompactShows, CertShows, OwnReads, OfCertificate, OfCompact, TextShows, ComesTo}
 use Rattle.hs_check.specs.Outcome.{OfBothFiles, HasCause, IsAnswerOfRun, TellsFault, IsUnverified}
 
 -- ---- the file of the scheme
@@ -93,11 +93,11 @@ scheme_answered name scheme slice bytes e whole (Err x) h = scheme_refused name 
 -- ---- the file of the table
 
 -- no certificate shows these
-front_shows : {p : ProblemData} {bytes : List ℕ} {r : Refusal} → OfCertificate p bytes (Err (Front r)) ⊎ OfCompact SomeReads p bytes (Err (Front r)) → ⊥
+front_shows : {p : ProblemData} {bytes : List ℕ} {r : Refusal} → OfCertificate p bytes (Err (Front r)) ⊎ OfCompact p bytes (Err (Front r)) → ⊥
 front_shows (inl h) = h.shows
 front_shows (inr h) = h.shows.1.1
 
-long_shows : {p : ProblemData} {bytes : List ℕ} → OfCertificate p bytes (Err TableTooLong) ⊎ OfCompact SomeReads p bytes (Err TableTooLong) → ⊥
+long_shows : {p : ProblemData} {bytes : List ℕ} → OfCertificate p bytes (Err TableTooLong) ⊎ OfCompact p bytes (Err TableTooLong) → ⊥
 long_shows (inl h) = h.shows
 long_shows (inr h) = h.shows.1.1
 
@@ -123,7 +123,7 @@ module _ (p : ProblemData) (other name : List ℕ) (scheme table : SourceRun) (y
   table_unread EntryLimit h = absurd h
 
   module _ (read : IsReadFromFront table true name) (short : length table.after.given ≤ max_table) where
-    answered : (a : Result Shown Fault) → TextShows SomeReads p table.after.given a → Comes a
+    answered : (a : Result Shown Fault) → TextShows p table.after.given a → Comes a
     answered (Ok shown) h = (record { problem = p; yields = yields; answers = (short, h) }, (before, read))
     answered (Err (Front refusal)) h = absurd (front_shows h)
     answered (Err TableTooLong) h = absurd (long_shows h)
@@ -133,14 +133,14 @@ module _ (p : ProblemData) (other name : List ℕ) (scheme table : SourceRun) (y
     answered (Err (NotVoid pair)) h = (record { problem = p; yields = yields; answers = (short, h) }, (before, read))
     answered (Err (Instances count)) h = (record { problem = p; yields = yields; answers = (short, h) }, (before, read))
 
-    of_answer : (a : Result Shown Fault) → (a ≡ Err no_memory) ⊎ TextShows SomeReads p table.after.given a → Comes a
+    of_answer : (a : Result Shown Fault) → (a ≡ Err no_memory) ⊎ TextShows p table.after.given a → Comes a
     of_answer a (inl e) = subst Comes (sym e) (inr (inr (((p, yields), before), read)))
     of_answer a (inr h) = answered a h
 
-given_answers : (p : ProblemData) (table : SourceRun) (slice bytes : List ℕ) (a : Result Shown Fault) → slice ≡ bytes → bytes ≡ table.after.given → (a ≡ Err no_memory) ⊎ TextShows SomeReads p slice a → (a ≡ Err no_memory) ⊎ TextShows SomeReads p table.after.given a
-given_answers p table slice bytes a e f h = subst (λ (b : List ℕ). (a ≡ Err no_memory) ⊎ TextShows SomeReads p b a) f (subst (λ (b : List ℕ). (a ≡ Err no_memory) ⊎ TextShows SomeReads p b a) e h)
+given_answers : (p : ProblemData) (table : SourceRun) (slice bytes : List ℕ) (a : Result Shown Fault) → slice ≡ bytes → bytes ≡ table.after.given → (a ≡ Err no_memory) ⊎ TextShows p slice a → (a ≡ Err no_memory) ⊎ TextShows p table.after.given a
+given_answers p table slice bytes a e f h = subst (λ (b : List ℕ). (a ≡ Err no_memory) ⊎ TextShows p b a) f (subst (λ (b : List ℕ). (a ≡ Err no_memory) ⊎ TextShows p b a) e h)
 
-pub table_answered : (p : ProblemData) (name : List ℕ) (table : SourceRun) (slice bytes : List ℕ) → slice ≡ bytes → IsReadWhole max_table name table bytes → (a : Result Shown Fault) → (a ≡ Err no_memory) ⊎ TextShows SomeReads p slice a
+pub table_answered : (p : ProblemData) (name : List ℕ) (table : SourceRun) (slice bytes : List ℕ) → slice ≡ bytes → IsReadWhole max_table name table bytes → (a : Result Shown Fault) → (a ≡ Err no_memory) ⊎ TextShows p slice a
     → (other : List ℕ) (scheme : SourceRun) → Yields scheme.after.given (Ok p) → IsReadFromFront scheme true other → IsAnswerOfRun (Some (record { scheme = other; table = name })) scheme table a
 table_answered p name table slice bytes e whole a h other scheme yields before =
     of_answer p other name scheme table yields before whole.read (subst (λ (b : List ℕ). length b ≤ max_table) whole.given whole.within) a
@@ -182,7 +182,7 @@ first_within p table void place (inr h) = slice_get_within void place h.1.item h
 -- ---- what a certificate shows
 
 module _ (p : ProblemData) (bytes : List ℕ) where
-  full : (table : List EntryData) (checked : ℕ) → IsCertificate p bytes table checked → (a : Result Shown Fault) → TableShows p table checked a → TextShows SomeReads p bytes a
+  full : (table : List EntryData) (checked : ℕ) → IsCertificate p bytes table checked → (a : Result Shown Fault) → TableShows p table checked a → TextShows p bytes a
   full table checked certificate (Ok shown) h = inl (record { table = table; checked = checked; certificate = certificate; shows = h })
   full table checked certificate (Err (Front refusal)) h = absurd h
   full table checked certificate (Err TableTooLong) h = absurd h
@@ -192,7 +192,7 @@ module _ (p : ProblemData) (bytes : List ℕ) where
   full table checked certificate (Err (NotVoid pair)) h = absurd h
   full table checked certificate (Err (Instances count)) h = inl (record { table = table; checked = checked; certificate = certificate; shows = h })
 
-  compact : (table : List EntryData) (void : List VoidData) → IsCompactCertificate p bytes table void → (a : Result Shown Fault) → SomeReads p (λ reads. CompactShows p table void reads a) → TextShows SomeReads p bytes a
+  compact : (table : List EntryData) (void : List VoidData) → IsCompactCertificate p bytes table void → (a : Result Shown Fault) → OwnReads p (λ reads. CompactShows p table void reads a) → TextShows p bytes a
   compact table void certificate (Ok shown) h = inr (record { table = table; void = void; certificate = certificate; shows = h })
   compact table void certificate (Err (Front refusal)) h = absurd h.1.1
   compact table void certificate (Err TableTooLong) h = absurd h.1.1
@@ -202,7 +202,7 @@ module _ (p : ProblemData) (bytes : List ℕ) where
   compact table void certificate (Err (NotVoid pair)) h = inr (record { table = table; void = void; certificate = certificate; shows = h })
   compact table void certificate (Err (Instances count)) h = inr (record { table = table; void = void; certificate = certificate; shows = h })
 
-  pub certificate_answers : (c : Cert) → IsCert p bytes c → (a : Result Shown Fault) → CertShows p c a → (a ≡ Err no_memory) ⊎ TextShows SomeReads p bytes a
+  pub certificate_answers : (c : Cert) → IsCert p bytes c → (a : Result Shown Fault) → CertShows p c a → (a ≡ Err no_memory) ⊎ TextShows p bytes a
   certificate_answers (cert.Full table checked) certificate a (inl is) = inl is
   certificate_answers (cert.Full table checked) certificate a (inr h) = inr (full table.items checked certificate a h)
   certificate_answers (cert.Compact table void) certificate a (inl is) = inl is
@@ -210,7 +210,7 @@ module _ (p : ProblemData) (bytes : List ℕ) where
 
 -- ---- memory that is refused for the report
 
-memory_cause : (files : Option FilePair) (scheme table : SourceRun) (a : Result Shown Fault) → OfBothFiles files scheme table (λ s t. ComesTo SomeReads s t a) → HasCause files scheme table no_memory
+memory_cause : (files : Option FilePair) (scheme table : SourceRun) (a : Result Shown Fault) → OfBothFiles files scheme table (λ s t. ComesTo s t a) → HasCause files scheme table no_memory
 memory_cause None scheme table a h = absurd h
 memory_cause (Some f) scheme table a h = inr (inr (((h.0.problem, h.0.yields), h.1.0), h.1.1))
 

@@ -2,7 +2,7 @@
 --     IsVerifiedTable    a closed table without the start entry, with so many instances
 --     TableShows         what a table comes to with the number of instances that it says
 --     CompactShows       what entries come to with void environments and read pairs
---     SomeReads, EachReads    some closed list of read pairs has this, and each has it
+--     OwnReads           the read pairs of the problem have this
 --     TextShows          what a text comes to, as a certificate; FileShows with the limit on its length
 --     ComesTo            what the bytes of the two files come to, where the one has a problem
 -- Instances are counted up to 2^64 - 1, as `checked` of a report has them.
@@ -10,9 +10,9 @@ use Rattle.std.specs.Prelude.{◌≡◌, ◌≢◌, ℕ, ◌<◌, ◌≤◌, Lis
 use Rattle.hs_scheme.specs.Problem.{ProblemData}
 use Rattle.hs_table.specs.Entries.{EntryData}
 use Rattle.hs_table.specs.Tables.{IsClosedTable, HasStart as HasStartEntry}
-use Rattle.hs_weak.specs.Reads.{IsClosedReads}
 use Rattle.hs_weak.specs.Void.{VoidData, IsVoidList}
 use Rattle.hs_weak.specs.Certificate.{IsAcceptanceCertificate}
+use Rattle.hs_reads.specs.Own.{AreReadsOf}
 use Rattle.hs_text.specs.Report.{entry_line, void_line}
 use Rattle.hs_checker.specs.Checked.{IsCount, IsMissing}
 use Rattle.hs_certificate_checker.specs.Faults.{IsFirstNotVoid, IsUncovered}
@@ -75,17 +75,14 @@ CompactShows p table void reads (Err (NotVoid pair)) =
     (HasStartEntry p table → ⊥) × (place : ℕ) × IsFirstNotVoid p table void place × (v : VoidData) × ((slice_get void place ≡ Some v) × (pair.items ≡ void_line p v))
 CompactShows p table void reads (Err (Instances count)) = ⊥
 
--- for a property of lists of read pairs
-abbrev pub SomeReads : ProblemData → (List (ℕ × ℕ) → Type 0) → Type 0
-SomeReads p P = (reads : List (ℕ × ℕ)) × (IsClosedReads p reads × P reads)
-
-abbrev pub EachReads : ProblemData → (List (ℕ × ℕ) → Type 0) → Type 0
-EachReads p P = (reads : List (ℕ × ℕ)) → IsClosedReads p reads → P reads
+-- for a property of lists of read pairs that depends on no order
+abbrev pub OwnReads : ProblemData → (List (ℕ × ℕ) → Type 0) → Type 0
+OwnReads p P = (reads : List (ℕ × ℕ)) × (AreReadsOf p reads × P reads)
 
 -- what a certificate shows, or that memory was refused; only private contracts cite it
 abbrev pub CertShows : ProblemData → Cert → Result Shown Fault → Type 0
 CertShows p (cert.Full table checked) answer = (answer ≡ Err no_memory) ⊎ TableShows p table.items checked answer
-CertShows p (cert.Compact table void) answer = (answer ≡ Err no_memory) ⊎ SomeReads p (λ reads. CompactShows p table.items void.items reads answer)
+CertShows p (cert.Compact table void) answer = (answer ≡ Err no_memory) ⊎ OwnReads p (λ reads. CompactShows p table.items void.items reads answer)
 
 -- the text is a certificate of such a table
 pub record OfCertificate (p : ProblemData) (bytes : List ℕ) (answer : Result Shown Fault) : Type 0 where
@@ -94,24 +91,22 @@ pub record OfCertificate (p : ProblemData) (bytes : List ℕ) (answer : Result S
   pub certificate : IsCertificate p bytes table checked
   pub shows : TableShows p table checked answer
 
--- What is said of read pairs in the compact form is said of some, or of each list of them.
-module _ (Reads : ProblemData → (List (ℕ × ℕ) → Type 0) → Type 0) where
-  -- the text is a certificate of such entries and void environments
-  pub record OfCompact (p : ProblemData) (bytes : List ℕ) (answer : Result Shown Fault) : Type 0 where
-    pub table : List EntryData
-    pub void : List VoidData
-    pub certificate : IsCompactCertificate p bytes table void
-    pub shows : Reads p (λ reads. CompactShows p table void reads answer)
+-- the text is a certificate of such entries and void environments
+pub record OfCompact (p : ProblemData) (bytes : List ℕ) (answer : Result Shown Fault) : Type 0 where
+  pub table : List EntryData
+  pub void : List VoidData
+  pub certificate : IsCompactCertificate p bytes table void
+  pub shows : OwnReads p (λ reads. CompactShows p table void reads answer)
 
-  abbrev pub TextShows : ProblemData → List ℕ → Result Shown Fault → Type 0
-  TextShows p bytes (Err (TableLine line)) = IsFirstFaulty p bytes line
-  TextShows p bytes answer = OfCertificate p bytes answer ⊎ OfCompact p bytes answer
+abbrev pub TextShows : ProblemData → List ℕ → Result Shown Fault → Type 0
+TextShows p bytes (Err (TableLine line)) = IsFirstFaulty p bytes line
+TextShows p bytes answer = OfCertificate p bytes answer ⊎ OfCompact p bytes answer
 
-  abbrev pub FileShows : ProblemData → List ℕ → Result Shown Fault → Type 0
-  FileShows p bytes (Err TableTooLong) = max_table < length bytes
-  FileShows p bytes answer = (length bytes ≤ max_table) × TextShows p bytes answer
+abbrev pub FileShows : ProblemData → List ℕ → Result Shown Fault → Type 0
+FileShows p bytes (Err TableTooLong) = max_table < length bytes
+FileShows p bytes answer = (length bytes ≤ max_table) × TextShows p bytes answer
 
-  pub record ComesTo (scheme table : List ℕ) (answer : Result Shown Fault) : Type 0 where
-    pub problem : ProblemData
-    pub yields : Yields scheme (Ok problem)
-    pub answers : FileShows problem table answer
+pub record ComesTo (scheme table : List ℕ) (answer : Result Shown Fault) : Type 0 where
+  pub problem : ProblemData
+  pub yields : Yields scheme (Ok problem)
+  pub answers : FileShows problem table answer

@@ -21,7 +21,7 @@ use Rattle.hs_check.specs.declared.top.Ending.TheVariants.{Verified, CutOff, Fai
 use Rattle.hs_check.specs.Words.{FilePair}
 use Rattle.hs_check.specs.Fault.{status_of, line_of, HasFixedLine, no_memory, verified_text}
 use Rattle.hs_check.specs.declared.verified.Shown.{Shown}
-use Rattle.hs_check.specs.Evidence.{max_table, SomeReads, EachReads, ComesTo}
+use Rattle.hs_check.specs.Evidence.{max_table, ComesTo}
 
 -- ---- what status 0 means
 
@@ -30,7 +30,7 @@ use Rattle.hs_check.specs.Evidence.{max_table, SomeReads, EachReads, ComesTo}
 -- certificate of acceptance. And the tree of the scheme is accepted.
 pub record IsVerified (scheme table : List ℕ) : Type 0 where
   pub shown : Shown
-  pub evidence : ComesTo SomeReads scheme table (Ok shown)
+  pub evidence : ComesTo scheme table (Ok shown)
   pub accepted : IsAccepted scheme
 
 module _ (files : Option FilePair) (scheme table : SourceRun) where
@@ -62,10 +62,10 @@ module _ (files : Option FilePair) (scheme table : SourceRun) where
   HasCause (Front refusal) =
       IsSomeAnd files (λ f. Yields scheme.after.given (Err refusal) × (IsReadFromFront scheme true f.scheme × IsUntouched table))
   HasCause TableTooLong = IsSomeAnd files (λ f. IsProblemRead f × IsReadFault max_table f.table table FileTooLong)
-  HasCause fault = OfBothFiles (λ s t. ComesTo SomeReads s t (Err fault))
+  HasCause fault = OfBothFiles (λ s t. ComesTo s t (Err fault))
 
   abbrev pub IsAnswerOfRun : Result Shown Fault → Type 0
-  IsAnswerOfRun (Ok shown) = OfBothFiles (λ s t. ComesTo SomeReads s t (Ok shown))
+  IsAnswerOfRun (Ok shown) = OfBothFiles (λ s t. ComesTo s t (Ok shown))
   IsAnswerOfRun (Err fault) = HasCause fault
 
 -- the fault is told, or want of memory in its place where its line isn't a fixed one
@@ -115,13 +115,12 @@ abbrev pub status_due : Result Shown Fault → ℕ
 status_due (Ok shown) = 0
 status_due (Err fault) = status_of fault
 
--- What the words and the bytes of the files come to, memory and faults of reading and writing aside: in the compact form whatever the closed
--- list of read pairs is.
+-- What the words and the bytes of the files come to, memory and faults of reading and writing aside.
 module _ (files : Option FilePair) (schemes tables : List ℕ → Option (List ℕ)) where
   abbrev pub IsDue : Result Shown Fault → Type 0
   IsDue (Err (Front Usage)) = files ≡ None
   IsDue (Err (Front refusal)) = IsSomeAnd files (λ f. IsSomeAnd (schemes f.scheme) (λ bytes. Yields bytes (Err refusal)))
-  IsDue answer = IsSomeAnd files (λ f. IsSomeAnd (schemes f.scheme) (λ s. IsSomeAnd (tables f.table) (λ t. ComesTo EachReads s t answer)))
+  IsDue answer = IsSomeAnd files (λ f. IsSomeAnd (schemes f.scheme) (λ s. IsSomeAnd (tables f.table) (λ t. ComesTo s t answer)))
 
   -- what is due is answered, unless reading, writing or memory fails
   abbrev pub Complies : ℕ → Type 0

@@ -12,6 +12,6 @@ mod top;
 mod verified;
 mod words;
 
-pub use laws::reported_tables_are_verified;
+pub use laws::{reported_certificates_are_verified, reported_tables_are_verified};
 pub use top::check_run;
 pub use words::check_run_on;

@@ -6,7 +6,7 @@ ghost use Rattle.hs_verdict.specs.Premises.{HasClosedFlow};
 ghost use Rattle.hs_weak.specs.Reads.{IsClosedReads};
 ghost use Rattle.hs_cert.specs.Certificate.{AreNames};
 ghost use Rattle.hs_check.specs.Fault.{no_memory};
-ghost use Rattle.hs_check.specs.Evidence.{TellsMissing, TellsNotVoid, TableShows, CompactShows, CertShows, SomeReads, TextShows};
+ghost use Rattle.hs_check.specs.Evidence.{TellsMissing, TellsNotVoid, TableShows, CompactShows, CertShows, OwnReads, TextShows};
 
 use crate::fault::{Fault, no_memory};
 use hs_cert::{Cert, TableFault, read_table};
@@ -118,7 +118,7 @@ fn shown_compact(
 ) -> Result<Shown, Fault>
     requires flow { HasClosedFlow problem.now }
     ensures shows { (result ≡ Err no_memory)
-        ⊎ SomeReads problem.now (λ reads. CompactShows problem.now table.now void.now reads result) }
+        ⊎ OwnReads problem.now (λ reads. CompactShows problem.now table.now void.now reads result) }
     ensures accepted { OnOk result
         (Accepts problem.now.sorted.scheme.rules problem.now.sorted.automaton.transitions) }
 {
@@ -152,7 +152,7 @@ pub(crate) fn verified(alloc: Global, problem: &Problem, bytes: &[u8]) -> Result
     requires states { AreNames problem.now.sorted.names.states }
     requires rules { AreNames problem.now.sorted.names.rules }
     requires flow { HasClosedFlow problem.now }
-    ensures answers { (result ≡ Err no_memory) ⊎ TextShows SomeReads problem.now bytes.now result }
+    ensures answers { (result ≡ Err no_memory) ⊎ TextShows problem.now bytes.now result }
     ensures accepted { OnOk result
         (Accepts problem.now.sorted.scheme.rules problem.now.sorted.automaton.transitions) }
 {

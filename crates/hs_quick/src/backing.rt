@@ -7,6 +7,11 @@
 //! give it. Such an environment is *void*, and an entry that asks it says nothing. One that isn't void
 //! is *backed*: along some chain of sites each has a witness, which is one entry for each type that it
 //! has to give, so that the union of what they ask is backed at the rule where the site stands.
+//!
+//! Questions form circles. One that is still being asked is taken for void by those that are asked for its
+//! sake; so their "no" is *provisional*, and relies on it. Where it is backed in the end, they are open again;
+//! where it is void and relies on no earlier one, so are they, for good (the strongly connected components
+//! of Tarjan, "Depth-first search and linear graph algorithms", SIAM Journal on Computing 1972).
 
 use crate::ended::{Ended, number_at, put};
 use crate::envs::{EMPTY, Status};
@@ -43,6 +48,12 @@ struct Question {
     levels: Vec<Level>,
     /// How many unions were formed.
     unions: u32,
+    /// Its number among the questions, in the order in which they began.
+    number: u32,
+    /// The least number of the questions that were taken for void meanwhile, or its own.
+    least: u32,
+    /// How many environments were provisional when it began.
+    from: usize,
 }
 
 /// What comes next of a question.
@@ -86,7 +97,9 @@ impl<'a> Search<'a> {
 
     /// Begins to ask the environment at the sites that are allowed.
     fn ask(&mut self, env: u32, rule: u32, allowed: Allowed, stack: &mut Vec<Question>) {
-        self.envs.set_status(env, Status::Asked);
+        let number = self.questions;
+        self.questions = number.saturating_add(1);
+        self.envs.set_relying(env, Status::Asked, number);
         let mut reached = Vec::new(self.alloc);
         for place in 0..allowed.useful.len() {
             put(&mut reached, place == 0, &mut self.refused);
@@ -101,6 +114,9 @@ impl<'a> Search<'a> {
             cells: Vec::new(self.alloc),
             levels: Vec::new(self.alloc),
             unions: 0,
+            number,
+            least: number,
+            from: self.provisional.len(),
         };
         put(stack, question, &mut self.refused);
     }
@@ -189,6 +205,10 @@ impl<'a> Search<'a> {
         match self.look(union) {
             Status::Open => return Step::Ask(union),
             Status::Backed => self.take(question, union),
+            Status::Asked | Status::Provisional => {
+                question.least = question.least.min(self.envs.question(union));
+                skip(&mut question.levels);
+            }
             _ => skip(&mut question.levels),
         }
         Step::Again
@@ -204,10 +224,30 @@ impl<'a> Search<'a> {
         question.levels.clear();
     }
 
-    fn settle(&mut self, env: u32, status: Status) {
-        self.envs.set_status(env, status);
-        if status == Status::Void {
-            self.void.push(self.envs.rule(env), env);
+    /// Gives the environments that were found to be provisional since then this status.
+    fn settle_since(&mut self, from: usize, status: Status) {
+        for _ in from..self.provisional.len() {
+            if let Some(env) = self.provisional.pop() {
+                self.envs.set_status(env, status);
+                if status == Status::Void {
+                    self.void.push(self.envs.rule(env), env);
+                }
+            }
+        }
+    }
+
+    /// Ends the question with this status: void for good, unless that relies on an earlier question.
+    fn settle(&mut self, question: &Question, status: Status) {
+        if status == Status::Backed {
+            self.envs.set_status(question.env, status);
+            return self.settle_since(question.from, Status::Open);
+        }
+        let least = question.least;
+        self.envs
+            .set_relying(question.env, Status::Provisional, least);
+        put(&mut self.provisional, question.env, &mut self.refused);
+        if least == question.number {
+            self.settle_since(question.from, Status::Void);
         }
     }
 
@@ -220,7 +260,7 @@ impl<'a> Search<'a> {
             Step::Again => (),
             Step::Ask(env) => self.open(env, stack),
             Step::Settled(status) => {
-                self.settle(question.env, status);
+                self.settle(question, status);
                 stack.pop();
             }
         }

@@ -52,6 +52,13 @@ fn tree(types: &Types, alloc: Global, depth: u32, ty: u32, making: &mut Making) 
     }
 }
 
+/// Sorts the types.
+fn sort(all: &mut Vec<Ty>) {
+    if all.len() > 1 {
+        all.sort_unstable_by(|a: &Ty, b: &Ty| a.compare(b));
+    }
+}
+
 /// The types of these numbers, ascending.
 #[cycle(trees)]
 fn trees(types: &Types, alloc: Global, depth: u32, list: &[u32], making: &mut Making) -> Vec<Ty> {
@@ -65,37 +72,52 @@ fn trees(types: &Types, alloc: Global, depth: u32, list: &[u32], making: &mut Ma
             put(&mut all, member, &mut making.refused);
         }
     }
-    if all.len() > 1 && all.sort_by(|a: &Ty, b: &Ty| a.compare(b)).is_err() {
-        making.refused = true;
-    }
+    sort(&mut all);
     all
 }
 
+/// An empty list with room for so many.
+fn room<T: Drop>(alloc: Global, count: usize, making: &mut Making) -> Vec<T> {
+    match Vec::with_capacity(alloc, count) {
+        Ok(list) => list,
+        Err(_) => {
+            making.refused = true;
+            Vec::new(alloc)
+        }
+    }
+}
+
 impl<'a> Search<'a> {
+    /// How many types the environment has at the parameter.
+    fn count_at(&self, env: u32, param: u32) -> usize {
+        let mut count: usize = 0;
+        for number in self.envs.atoms(env) {
+            if self.envs.atom(*number).param == param {
+                count = count.saturating_add(1);
+            }
+        }
+        count
+    }
+
     /// The set of the environment at the parameter.
     fn types_at(&self, making: &mut Making, env: u32, param: u32) -> TypeSet {
-        let mut list = Vec::new(self.alloc);
+        let mut types = room(self.alloc, self.count_at(env, param), making);
         for number in self.envs.atoms(env) {
             let atom = self.envs.atom(*number);
             if atom.param == param {
-                put(&mut list, atom.ty, &mut making.refused);
+                let ty = tree(&self.envs.types, self.alloc, MOST_DEPTH, atom.ty, making);
+                put(&mut types, ty, &mut making.refused);
             }
         }
-        TypeSet {
-            types: trees(
-                &self.envs.types,
-                self.alloc,
-                MOST_DEPTH,
-                list.as_slice(),
-                making,
-            ),
-        }
+        sort(&mut types);
+        TypeSet { types }
     }
 
     /// The environment, one set for each parameter of the rule.
     fn env_tree(&self, making: &mut Making, rule: u32, env: u32) -> Vec<TypeSet> {
-        let mut sets = Vec::new(self.alloc);
-        for param in 0..params_of(self.problem, rule) {
+        let params = params_of(self.problem, rule);
+        let mut sets = room(self.alloc, params as usize, making);
+        for param in 0..params {
             let set = self.types_at(making, env, param);
             put(&mut sets, set, &mut making.refused);
         }
@@ -125,19 +147,21 @@ impl<'a> Search<'a> {
 
     /// The entries that none covers, in ascending order.
     pub(crate) fn entries(&self, making: &mut Making) -> Vec<Entry> {
-        let mut table = Vec::new(self.alloc);
+        let mut count: usize = 0;
+        for rows in 0..self.table.kind_count() {
+            count = count.saturating_add(self.table.rows.list(rows).len());
+        }
+        let mut table = room(self.alloc, count, making);
         for rows in 0..self.table.kind_count() {
             self.add_kind(making, rows, &mut table);
         }
-        if table.sort_by(|a: &Entry, b: &Entry| a.compare(b)).is_err() {
-            making.refused = true;
-        }
+        table.sort_unstable_by(|a: &Entry, b: &Entry| a.compare(b));
         table
     }
 
     /// The environments that are void by way of others, in ascending order.
     pub(crate) fn void_list(&self, making: &mut Making) -> Vec<Void> {
-        let mut void = Vec::new(self.alloc);
+        let mut void = room(self.alloc, self.envs.count_with(Status::Void), making);
         for env in 0..self.envs.len() {
             if self.envs.status(env) == Status::Void {
                 let rule = self.envs.rule(env);
@@ -145,9 +169,7 @@ impl<'a> Search<'a> {
                 put(&mut void, Void { rule, env }, &mut making.refused);
             }
         }
-        if void.sort_by(|a: &Void, b: &Void| a.compare(b)).is_err() {
-            making.refused = true;
-        }
+        void.sort_unstable_by(|a: &Void, b: &Void| a.compare(b));
         void
     }
 }

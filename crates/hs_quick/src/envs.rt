@@ -23,6 +23,8 @@ pub(crate) enum Status {
     Open,
     /// It is being asked.
     Asked,
+    /// No calls give it unless they give one that is still being asked.
+    Provisional,
     /// Some calls may give what it asks.
     Backed,
     /// No calls give it, as far as entries are known.
@@ -39,6 +41,9 @@ struct Note {
     /// A bit for each parameter and last state of its types, of which several may share one.
     kinds: u64,
     status: Status,
+    /// While it is asked, the number of its question. While it is provisional, the least number of those
+    /// questions on which this relies.
+    question: u32,
 }
 
 /// Environments. Each is a list of the numbers of its atoms, ascending, of which none is as strong as
@@ -81,10 +86,13 @@ fn atom_of(atoms: &IndexSet<Atom>, number: u32) -> Atom {
 
 /// Whether some atom of the list is of the same parameter as the atom, and its type is as strong.
 fn has_as_strong(types: &mut Types, atoms: &IndexSet<Atom>, list: &[u32], weaker: u32) -> bool {
+    if list.contains(&weaker) {
+        return true;
+    }
     let least = atom_of(atoms, weaker);
     for number in list {
         let atom = atom_of(atoms, *number);
-        if *number == weaker || atom.param == least.param && types.is_as_strong(atom.ty, least.ty) {
+        if atom.param == least.param && types.is_as_strong(atom.ty, least.ty) {
             return true;
         }
     }
@@ -190,6 +198,7 @@ impl Envs {
                 rule: 0,
                 kinds: 0,
                 status: Status::Missed,
+                question: 0,
             },
         }
     }
@@ -206,6 +215,19 @@ impl Envs {
     pub(crate) fn set_status(&mut self, env: u32, status: Status) {
         if let Some(note) = self.notes.get_mut(env as usize) {
             note.status = status;
+        }
+    }
+
+    /// The number of the question on which the status of the environment relies.
+    pub(crate) fn question(&self, env: u32) -> u32 {
+        self.note(env).question
+    }
+
+    /// Sets the status, which relies on the question of this number.
+    pub(crate) fn set_relying(&mut self, env: u32, status: Status, question: u32) {
+        if let Some(note) = self.notes.get_mut(env as usize) {
+            note.status = status;
+            note.question = question;
         }
     }
 
@@ -245,6 +267,7 @@ impl Envs {
                     rule,
                     kinds,
                     status,
+                    question: 0,
                 };
                 if new && self.notes.push(note).is_err() {
                     self.end(Ended::OutOfMemory);
@@ -271,13 +294,13 @@ impl Envs {
         self.add(rule, atoms)
     }
 
-    /// Counts a step for each atom of the one with each of the other.
+    /// Counts a step for each sixteen pairs of an atom of the one with an atom of the other.
     fn count_pairs(&mut self, env: u32, other: u32) {
         let pairs = self
             .atoms(env)
             .len()
             .saturating_mul(self.atoms(other).len());
-        self.count(pairs);
+        self.count(pairs / 16);
     }
 
     /// Whether the environment asks at least the other one: for each type of the other one some type of

@@ -229,7 +229,7 @@ impl<'a> Search<'a> {
         for number in 0..self.pools.cells.list(row.point).len() {
             if let Some(cell) = self.pools.cells.list(row.point).get(number).copied() {
                 if self.envs.types.is_as_strong(row.ty, cell.ty) {
-                    self.offer(cell.pool, place);
+                    self.offer(cell.goal, place);
                 }
             }
         }

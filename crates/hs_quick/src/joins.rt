@@ -3,6 +3,7 @@
 use crate::ended::{numbered, put};
 use crate::envs::{EMPTY, Envs};
 use crate::lists::Lists;
+use crate::queue::Goal;
 use indexmap::IndexMap;
 use std::alloc::Global;
 
@@ -32,16 +33,17 @@ pub(crate) struct Join {
     pub(crate) other: u32,
 }
 
-/// A pool that a demand at a point is met from.
+/// What waits at a point for entries whose types are as strong as this one: a pool that takes their
+/// environments, or an instance that asks nothing else.
 #[derive(Clone, Copy)]
 pub(crate) struct Cell {
     pub(crate) ty: u32,
-    pub(crate) pool: u32,
+    pub(crate) goal: Goal,
 }
 
-/// All pools. Each demand, and each pair of pools, has one: environments of which none asks at least
-/// another, those of the entries at a point whose types are as strong as a type, or the unions of two
-/// pools.
+/// All pools. Each demand that is joined with others, or asked for by itself, and each pair of pools, has
+/// one: environments of which none asks at least another, those of the entries at a point whose types are
+/// as strong as a type, or the unions of two pools.
 #[derive(Drop)]
 pub(crate) struct Pools {
     alloc: Global,
@@ -51,7 +53,7 @@ pub(crate) struct Pools {
     pub(crate) joins: Lists<Join>,
     /// The instances that each item of a pool gives a conclusion.
     pub(crate) instances: Lists<u32>,
-    /// The pools of the demands at each point.
+    /// What waits for the entries at each point.
     pub(crate) cells: Lists<Cell>,
     found: Vec<Item>,
     demands: IndexMap<(u32, u32), u32>,
@@ -115,7 +117,8 @@ impl Pools {
         if self.demands.insert((point, ty), pool).is_err() {
             self.refused = true;
         }
-        self.cells.push(point, Cell { ty, pool });
+        let goal = Goal::Pool(pool);
+        self.cells.push(point, Cell { ty, goal });
         (pool, true)
     }
 
@@ -150,19 +153,37 @@ impl Pools {
         false
     }
 
+    /// Whether some environment of the pool asks at least this one.
+    fn has_asking(&self, envs: &mut Envs, pool: u32, env: u32) -> bool {
+        for item in self.items.list(pool) {
+            if envs.asks(self.item(*item).env, env) {
+                return true;
+            }
+        }
+        false
+    }
+
+    /// Drops those of the pool that ask at least this environment.
+    fn narrow(&mut self, envs: &mut Envs, pool: u32, env: u32) {
+        if !self.has_asking(envs, pool, env) {
+            return;
+        }
+        let mut left = Vec::new(self.alloc);
+        for item in self.items.list(pool) {
+            if !envs.asks(self.item(*item).env, env) {
+                put(&mut left, *item, &mut envs.types.refused);
+            }
+        }
+        self.items.set(pool, left);
+    }
+
     /// Adds an environment that asks at least none of the pool, drops those that ask at least it, and
     /// answers the new item.
     pub(crate) fn put(&mut self, envs: &mut Envs, pool: u32, item: Item) -> u32 {
         let number = numbered(self.found.len());
-        let mut left = Vec::new(self.alloc);
-        for old in self.items.list(pool) {
-            if !envs.asks(self.item(*old).env, item.env) {
-                put(&mut left, *old, &mut envs.types.refused);
-            }
-        }
-        put(&mut left, number, &mut self.refused);
+        self.narrow(envs, pool, item.env);
         put(&mut self.found, item, &mut self.refused);
-        self.items.set(pool, left);
+        self.items.push(pool, number);
         number
     }
 }

@@ -46,17 +46,18 @@
 //! 1. The reads are given (`hs_reads`). Where nonterminals and parameters are used is found first (`uses`),
 //!    and the sites of a rule once they are asked for (`sites`).
 //! 2. Each type of a point's head makes an *instance* there, with a *demand* for each type that it asks of an
-//!    argument. What an argument may give for a demand is one *pool* of environments, and so are the unions
-//!    of two pools: made once, and grown by what is new. An instance waits for the pool of all that it
-//!    asks, and instances that ask the same share it (`heads`, `search`, `joins`). A terminal without
-//!    transition makes one at once, and one with a transition when the first entry of a child comes.
+//!    argument. An instance with one demand waits for the entries that meet it. For one with several, what an
+//!    argument may give for a demand is one *pool* of environments, and so are the unions of two pools: made
+//!    once, and grown by what is new. It waits for the pool of all that it asks, which instances that ask
+//!    the same share (`heads`, `search`, `joins`). A terminal without transition makes one at once, and one
+//!    with a transition when the first entry of a child comes.
 //! 3. A new union is put off, to be done after all smaller ones, so that fewer are covered later (`queue`).
 //!    Once it is due, it is dropped where it is covered, and waits where it is void; else it goes on, and
 //!    that of an instance becomes an entry (`running`, `table`).
 //! 4. Whether an environment is void is a question, asked in depth, with a stack of its own. A question that
-//!    is being asked counts as void for those that are asked for its sake; one that takes more than 2,000
-//!    unions counts as backed, which may add entries that say nothing, but no wrong ones (`backing`,
-//!    `sites`).
+//!    is being asked counts as void for those that are asked for its sake, and what they find is forgotten
+//!    where it is backed in the end; one that takes more than 2,000 unions counts as backed, which may add
+//!    entries that say nothing, but no wrong ones (`backing`, `sites`).
 //! 5. When nothing else is left to do, all that wait are asked once more, with all entries known. Works whose
 //!    environments are backed now go on. If there are none, the rest is void for good, and the entries that
 //!    no other one covers, with what is void by way of others, are proposed (`certificate`).

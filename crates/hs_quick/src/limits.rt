@@ -7,9 +7,9 @@ pub struct Limits {
     pub entries: u64,
     /// So many different unions of environments may be formed.
     pub unions: u64,
-    /// So many steps may be taken: types of environments compared with one another, environments compared
-    /// at a look, head types put at points, works put off, and questions gone on with, whether an
-    /// environment is void.
+    /// So many steps may be taken: environments compared with one another, with a step more for each sixteen
+    /// pairs of their types, head types put at points, works put off, and questions gone on with, whether
+    /// an environment is void.
     pub steps: u64,
     /// So many moves may be made along a path.
     pub moves: u64,
@@ -20,8 +20,8 @@ impl Limits {
     pub fn usual() -> Limits {
         Limits {
             entries: 200_000,
-            unions: 200_000,
-            steps: 5_000_000,
+            unions: 500_000,
+            steps: 40_000_000,
             moves: 4_000_000,
         }
     }

@@ -23,13 +23,19 @@ pub enum Proposal {
     None,
 }
 
+/// The entries and the void environments that were found.
+fn accepting(search: &mut Search, making: &mut Making) -> Proposal {
+    search.release();
+    Proposal::Accepted {
+        table: search.entries(making),
+        void: search.void_list(making),
+    }
+}
+
 /// Runs the search, and reads the proposal from it.
 fn find(search: &mut Search, making: &mut Making, limits: Limits) -> Proposal {
     match search.run() {
-        None => Proposal::Accepted {
-            table: search.entries(making),
-            void: search.void_list(making),
-        },
+        None => accepting(search, making),
         Some(Ended::StartFound) => match path_of(search, limits.moves) {
             Some(path) => Proposal::Rejected(path),
             None => Proposal::None,

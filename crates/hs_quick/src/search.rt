@@ -2,7 +2,7 @@
 
 use crate::ended::{Ended, number_at, numbered, put};
 use crate::envs::{EMPTY, Envs};
-use crate::joins::{Item, Origin, Pools};
+use crate::joins::{Cell, Item, Origin, Pools};
 use crate::limits::Limits;
 use crate::lists::Lists;
 use crate::queue::{Goal, Queue, Work};
@@ -60,6 +60,10 @@ pub(crate) struct Search<'a> {
     pub(crate) parked: Vec<Work>,
     /// The void environments of each rule.
     pub(crate) void: Lists<u32>,
+    /// How many questions were begun, whether an environment is void.
+    pub(crate) questions: u32,
+    /// The environments that are provisional, in the order in which they were found to be so.
+    pub(crate) provisional: Vec<u32>,
     /// So many entries may still be added.
     pub(crate) left: u64,
     /// Whether memory was refused, as far as no part of the search remembers it.
@@ -89,6 +93,8 @@ impl<'a> Search<'a> {
             met: IndexSet::new(alloc),
             parked: Vec::new(alloc),
             void: Lists::new(alloc),
+            questions: 0,
+            provisional: Vec::new(alloc),
             left: limits.entries,
             refused: false,
         }
@@ -104,6 +110,14 @@ impl<'a> Search<'a> {
         self.sites.grow(problem);
         self.void.grow(problem.points.params().rules());
         self.envs.add_empty();
+    }
+
+    /// Gives back what the entries and the void environments aren't read from.
+    pub(crate) fn release(&mut self) {
+        self.uses = Uses::new(self.alloc);
+        self.pools = Pools::new(self.alloc);
+        self.sites = Sites::new(self.alloc);
+        self.queue = Queue::new(self.alloc);
     }
 
     /// Why the search ends, if it does.
@@ -191,34 +205,44 @@ impl<'a> Search<'a> {
         }
     }
 
-    /// Puts the environment of the entry into the pool, unless it asks at least one there.
-    pub(crate) fn offer(&mut self, pool: u32, place: u32) {
+    /// Gives what waits the environment of the entry: a pool takes it unless it asks at least one there, and
+    /// an instance concludes from it.
+    pub(crate) fn offer(&mut self, goal: Goal, place: u32) {
         let env = self.table.row(place).env;
-        if !self.pools.covers(&mut self.envs, pool, env) {
-            self.admit(pool, env, Origin::Entry(place));
+        match goal {
+            Goal::Instance(number) => self.conclude(number, env, Origin::Entry(place)),
+            Goal::Pool(pool) => {
+                if !self.pools.covers(&mut self.envs, pool, env) {
+                    self.admit(pool, env, Origin::Entry(place));
+                }
+            }
         }
     }
 
-    /// Puts the environments of these entries into the pool.
-    fn offer_rows(&mut self, pool: u32, rows: u32) {
+    /// Offers these entries.
+    fn offer_rows(&mut self, goal: Goal, rows: u32) {
         for place in 0..self.table.rows.list(rows).len() {
             let row = number_at(self.table.rows.list(rows), place);
-            self.offer(pool, row);
+            self.offer(goal, row);
+        }
+    }
+
+    /// Offers the entries that are there and meet the demand.
+    fn offer_present(&mut self, goal: Goal, demand: Demand) {
+        for place in 0..self.table.kinds.list(demand.point).len() {
+            if let Some(kind) = self.table.kinds.list(demand.point).get(place).copied() {
+                if self.envs.types.is_as_strong(kind.ty, demand.ty) {
+                    self.offer_rows(goal, kind.rows);
+                }
+            }
         }
     }
 
     /// The pool from which the demand is met.
     pub(crate) fn cell(&mut self, demand: Demand) -> u32 {
         let (pool, new) = self.pools.demand(demand.point, demand.ty);
-        if !new {
-            return pool;
-        }
-        for place in 0..self.table.kinds.list(demand.point).len() {
-            if let Some(kind) = self.table.kinds.list(demand.point).get(place).copied() {
-                if self.envs.types.is_as_strong(kind.ty, demand.ty) {
-                    self.offer_rows(pool, kind.rows);
-                }
-            }
+        if new {
+            self.offer_present(Goal::Pool(pool), demand);
         }
         pool
     }
@@ -248,6 +272,14 @@ impl<'a> Search<'a> {
         all
     }
 
+    /// Lets the instance wait for entries that meet its one demand.
+    fn wait(&mut self, number: u32, demand: Demand) {
+        let goal = Goal::Instance(number);
+        let ty = demand.ty;
+        self.pools.cells.push(demand.point, Cell { ty, goal });
+        self.offer_present(goal, demand);
+    }
+
     /// The pool of what all demands ask together, or none where there are no demands.
     fn pool_of(&mut self, demands: &[Demand]) -> Option<u32> {
         let mut cells = Vec::new(self.alloc);
@@ -265,6 +297,9 @@ impl<'a> Search<'a> {
         self.envs.count(1);
         let number = numbered(self.instances.len());
         put(&mut self.instances, instance, &mut self.refused);
+        if demands.len() == 1 {
+            return self.wait(number, demands[0]);
+        }
         let Some(pool) = self.pool_of(demands) else {
             return self.conclude(number, EMPTY, Origin::Nothing);
         };

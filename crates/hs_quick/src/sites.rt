@@ -154,9 +154,7 @@ impl Sites {
     /// rule's nonterminal.
     fn add_uses(&mut self, problem: &Problem, envs: &mut Envs, uses: &Uses, pair: HeadPair) {
         for parameter in uses.flows.list(pair.point) {
-            let points = uses
-                .of_param
-                .list(number_of(problem, parameter.rule, parameter.param));
+            let points = uses.applied(problem, *parameter);
             self.add_points(problem, envs, pair.rule, pair.given, points);
         }
     }

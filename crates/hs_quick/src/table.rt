@@ -114,8 +114,21 @@ impl Table {
         false
     }
 
+    /// Whether one of these entries asks at least what the environment asks.
+    fn has_asking(&self, envs: &mut Envs, rows: &[u32], env: u32) -> bool {
+        for place in rows {
+            if envs.asks(self.row(*place).env, env) {
+                return true;
+            }
+        }
+        false
+    }
+
     /// Drops those of the entries of a kind that ask at least what the environment asks.
     fn narrow(&mut self, envs: &mut Envs, rows: u32, env: u32) {
+        if !self.has_asking(envs, self.rows.list(rows), env) {
+            return;
+        }
         let mut left = Vec::new(self.alloc);
         for place in self.rows.list(rows) {
             if !envs.asks(self.row(*place).env, env) {

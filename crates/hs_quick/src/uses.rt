@@ -1,5 +1,7 @@
 //! Where the nonterminals and parameters of a problem are used.
 
+ghost use Rattle.std.specs.Prelude.{◌<◌, length};
+
 use crate::lists::Lists;
 use crate::look::number_of;
 use hs_scheme::{Head, HeadPair, Problem};
@@ -12,12 +14,14 @@ pub(crate) struct Parameter {
     pub(crate) param: u32,
 }
 
-/// For each nonterminal and each parameter the points that it heads, for each point the parameters
-/// for which it may stand, and for each nonterminal its head pairs.
+/// For each nonterminal and each parameter the points that it heads, for each parameter those of them that
+/// have arguments, for each point the parameters for which it may stand, and for each nonterminal those of
+/// its head pairs whose points may stand at the head of a point with arguments.
 #[derive(Drop)]
 pub(crate) struct Uses {
     pub(crate) of_rule: Lists<u32>,
     pub(crate) of_param: Lists<u32>,
+    pub(crate) applied: Lists<u32>,
     pub(crate) flows: Lists<Parameter>,
     pub(crate) becoming: Lists<HeadPair>,
 }
@@ -28,6 +32,7 @@ impl Uses {
         Uses {
             of_rule: Lists::new(alloc),
             of_param: Lists::new(alloc),
+            applied: Lists::new(alloc),
             flows: Lists::new(alloc),
             becoming: Lists::new(alloc),
         }
@@ -35,7 +40,11 @@ impl Uses {
 
     /// Whether memory was refused.
     pub(crate) fn is_refused(&self) -> bool {
-        self.of_rule.refused || self.of_param.refused || self.flows.refused || self.becoming.refused
+        self.of_rule.refused
+            || self.of_param.refused
+            || self.applied.refused
+            || self.flows.refused
+            || self.becoming.refused
     }
 
     /// Finds the uses in the problem, in time in proportion to its points and its pairs.
@@ -43,23 +52,49 @@ impl Uses {
         let rules = problem.points.params().rules();
         self.of_rule.grow(rules);
         self.becoming.grow(rules);
-        self.of_param.grow(problem.points.params().count() as usize);
+        let params = problem.points.params().count() as usize;
+        self.of_param.grow(params);
+        self.applied.grow(params);
         self.flows.grow(problem.points.count() as usize);
         self.add_heads(problem);
         self.add_pairs(problem);
+    }
+
+    /// Adds a point with a parameter of its rule as its head.
+    fn add_applied(&mut self, problem: &Problem, param: u32, point: u32)
+        requires { point < length problem.now.points.points }
+    {
+        let number = number_of(problem, problem.points.rule_of(point), param);
+        self.of_param.push(number, point);
+        if !problem.points.args_of(point).is_empty() {
+            self.applied.push(number, point);
+        }
     }
 
     fn add_heads(&mut self, problem: &Problem) {
         for point in 0..problem.points.count() {
             match problem.points.head_of(point) {
                 Head::Nt(rule) => self.of_rule.push(rule, point),
-                Head::Var(param) => {
-                    let rule = problem.points.rule_of(point);
-                    self.of_param.push(number_of(problem, rule, param), point);
-                }
+                Head::Var(param) => self.add_applied(problem, param, point),
                 Head::Tm(_) => (),
             }
         }
+    }
+
+    /// The points with arguments that the parameter heads.
+    pub(crate) fn applied(&self, problem: &Problem, parameter: Parameter) -> &[u32] {
+        let number = number_of(problem, parameter.rule, parameter.param);
+        self.applied.list(number)
+    }
+
+    /// Whether the point may stand at the head of a point with arguments.
+    fn is_applied(&self, problem: &Problem, point: u32) -> bool {
+        for parameter in self.flows.list(point) {
+            if !self.applied(problem, *parameter).is_empty() {
+                return true;
+            }
+        }
+        false
     }
 
     fn add_pairs(&mut self, problem: &Problem) {
@@ -71,7 +106,9 @@ impl Uses {
             self.flows.push(pair.point, parameter);
         }
         for pair in problem.flow.heads.iter() {
-            self.becoming.push(pair.rule, *pair);
+            if self.is_applied(problem, pair.point) {
+                self.becoming.push(pair.rule, *pair);
+            }
         }
     }
 }

@@ -1,5 +1,5 @@
 -- What parameters may become.
-use Rattle.std.proofs.Common.{◌≡◌, sym, ◌∙◌, ap, subst, ℕ, List, get_or, slice_get, Some, Contains, []}
+use Rattle.std.proofs.Common.{◌≡◌, refl, sym, ◌∙◌, ap, subst, ℕ, ◌+◌, length, List, get_or, slice_get, Some, Contains, []}
 use Rattle.std.proofs.lemmas.Option.{slice_get-get_or, same_Some}
 use Rattle.hs_scheme.specs.declared.term.Head.{Head}
 use Rattle.hs_scheme.specs.declared.term.Head.TheVariants.{Var, Nt, Tm}
@@ -8,7 +8,15 @@ use Rattle.hs_scheme.specs.Problem.{ProblemData}
 use Rattle.hs_table_laws.proofs.Places.{within_from}
 use Rattle.hs_weak.specs.Reads.{PointIs, FlowsTo, Becomes, by_terminal, by_parameter}
 use Rattle.hs_reads.specs.declared.becoming.Becoming.{Becoming}
-use Rattle.hs_reads.specs.Becomings.{AreBecomings, IsByParameter, HasTerminals}
+use Rattle.hs_scheme.specs.declared.flow.FlowPair.{FlowPair}
+use Rattle.hs_scheme.specs.Parameters.{IsParameter, parameter_of}
+use Rattle.hs_scheme.proofs.ParameterLemmas.{number_once}
+use Rattle.hs_reads.specs.Growing.{AddsOnly, AreTooMany}
+use Rattle.hs_reads.specs.Lists.{list_of}
+use Rattle.hs_reads.specs.Own.{IsBecoming, AreMany}
+use Rattle.hs_reads.specs.Becomings.{AreBecomings, IsByParameter, IsHeadedAt, IsByHead, AreApart, AreShort, HasTerminals, HasTerminalsOnly}
+use Rattle.hs_scheme.proofs.Lists.{none_in}
+use Rattle.hs_reads.proofs.GrowLemmas.{adds_all}
 
 -- the point that is read at a number
 pub point_read : (points : PointsData) (w : ℕ) (d : PointData) → slice_get points.points w ≡ Some d → point_at points w ≡ d
@@ -47,3 +55,42 @@ tm_same a b e = cc
 
 pub nt_same : (f g : ℕ) → Nt f ≡ Nt g → f ≡ g
 nt_same f g e = cc
+
+-- ---- and nothing else
+
+-- by a pair whose point has a terminal at its head
+pub becomes_first : (p : ProblemData) (f : FlowPair) (rule a : ℕ) (args : List ℕ) → Contains p.flow.pairs f → PointIs p f.point rule (Tm a) args
+    → IsBecoming p (record { rule = f.rule; param = f.param; terminal = a; given = length args })
+becomes_first p f rule a args m at = (f.point, (m, by_terminal at refl))
+
+-- by a pair whose point has the parameter at its head
+pub becomes_next : (p : ProblemData) (b : Becoming) (f : FlowPair) (args : List ℕ) → IsBecoming p b → Contains p.flow.pairs f → PointIs p f.point b.rule (Var b.param) args
+    → IsBecoming p (record { rule = f.rule; param = f.param; terminal = b.terminal; given = b.given + length args })
+becomes_next p b f args known m at = (f.point, (m, by_parameter at known.1.0 known.1.1 refl))
+
+-- the pairs in the list of a parameter
+pub its_pairs : (p : ProblemData) (lists : List (List FlowPair)) (rule x : ℕ) (row : List FlowPair) → IsByHead p p.flow.pairs lists
+    → (IsParameter p.points.params rule x → row ≡ list_of lists (parameter_of p.points.params rule x)) → ((f : FlowPair) → Contains row f → IsParameter p.points.params rule x)
+    → (f : FlowPair) → Contains row f → IsHeadedAt p rule x f
+its_pairs p lists rule x row by is parameter f m =
+    let own = parameter f m in
+    let h = by.only (parameter_of p.points.params rule x) f (subst (λ (fs : List FlowPair). Contains fs f) (is own) m) in
+    let same = number_once p.points.params h.rule h.param rule x h.is own (sym h.number) in
+    subst (λ n. IsHeadedAt p rule n f) same.1 (subst (λ n. IsHeadedAt p n h.param f) same.0 h.headed)
+
+pub only_terminals : (p : ProblemData) (found : List Becoming) (lists : List (List Becoming)) → ((b : Becoming) → Contains found b → IsBecoming p b) → AreApart p.points.params found lists → HasTerminalsOnly p lists
+only_terminals p found lists known apart rule x b own m =
+    let at = apart (parameter_of p.points.params rule x) b m in
+    let same = number_once p.points.params rule x b.rule b.param own at.is at.number in
+    let is : IsBecoming p b = known b at.there in
+    (is.0, (subst (λ n. FlowsTo p n x is.0) (sym same.0) (subst (λ n. FlowsTo p b.rule n is.0) (sym same.1) is.1.0), is.1.1))
+
+pub many_becomings : (p : ProblemData) (found : List Becoming) → ((b : Becoming) → Contains found b → IsBecoming p b) → AreTooMany found → AreMany (IsBecoming p)
+many_becomings p found known many = record { these = found; distinct = many.distinct; each = known; many = many.many }
+
+-- what is found first
+pub first_known : (p : ProblemData) (old new : List Becoming) → old ≡ [] → AddsOnly (IsBecoming p) old new → (b : Becoming) → Contains new b → IsBecoming p b
+first_known p old new none only = adds_all (IsBecoming p) (IsBecoming p) old new only (λ b m. absurd (none_in b (subst (λ (bs : List Becoming). Contains bs b) none m))) (λ b k. k)
+
+pub none_short : (old : List Becoming) → old ≡ [] → AreShort old
+none_short old none b m = absurd (none_in b (subst (λ (bs : List Becoming). Contains bs b) none m))

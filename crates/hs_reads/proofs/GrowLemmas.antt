@@ -1,12 +1,13 @@
 -- Lists that grow, and what holds of more and more of a list.
-use Rattle.std.proofs.Common.{◌≡◌, sym, ◌∙◌, subst, ℕ, zero, suc, ◌+◌, ◌<◌, ◌≤◌, drop, List, [], ◌∷◌, length, get_or, take, slice_get, Option, Some, Contains, inl, inr, Result, Ok, Err, arith}
+use Rattle.std.proofs.Common.{◌≡◌, sym, ◌∙◌, subst, ℕ, zero, suc, ◌+◌, ◌-◌, ◌<◌, ◌≤◌, drop, List, [], ◌∷◌, length, get_or, take, slice_get, Option, Some, Contains, inl, inr, Result, Ok, Err, arith}
 use Rattle.std.specs.Prelude.{OnOk}
 use Rattle.std.proofs.lemmas.Bool.{cases_lt}
 use Rattle.std.proofs.lemmas.Option.{same_Some, slice_get-get_or}
 use Rattle.hs_scheme.proofs.Lists.{Contains-at, some_at, read-slice_get}
-use Rattle.hs_table_laws.proofs.Places.{place_of, within_from, to_take}
+use Rattle.hs_table_laws.proofs.Places.{place_of, within_from, to_take, fewer}
 use Rattle.hs_table_laws.proofs.Members.{taken_next, pushed_cases}
-use Rattle.hs_reads.specs.Growing.{Grows}
+use Rattle.hs_reads.specs.Growing.{Grows, AddsOnly}
+use Rattle.hs_reads.specs.Own.{AreMany}
 
 pub grows_same : {X : Type 0} (xs : List X) → Grows xs xs
 grows_same xs = record { kept = λ k x e. e; few = λ f. f }
@@ -68,3 +69,44 @@ past_end o xs k is never = elim (cases_lt k (length xs)) [
   | inl less ↦ let there = some_at xs k less in absurd (never there.0 (is ∙ there.1))
   | inr more ↦ more
 ]
+
+pub grows_long : {X : Type 0} (xs ys : List X) → Grows xs ys → length xs ≤ length ys
+grows_long xs ys g = elim (cases_lt 0 (length xs)) [
+  | inl some ↦ let last = some_at xs (length xs - 1) (omega (arith, some)) in
+      let there = within_from ys (length xs - 1) last.0 (g.kept (length xs - 1) last.0 last.1) in omega (arith, some, there)
+  | inr none ↦ omega (arith, none)
+]
+
+-- ---- what is new
+
+pub adds_none : {X : Type 0} (P : X → Type 0) (xs : List X) → AddsOnly P xs xs
+adds_none P xs x m = inl m
+
+pub adds_more : {X : Type 0} (P R : X → Type 0) (xs ys zs : List X) → AddsOnly R xs ys → AddsOnly P ys zs → ((x : X) → P x → R x) → AddsOnly R xs zs
+adds_more P R xs ys zs f g to x m = elim (g x m) [
+  | inl was ↦ f x was
+  | inr new ↦ inr (to x new)
+]
+
+pub adds_such : {X : Type 0} (P R : X → Type 0) (xs ys : List X) → AddsOnly P xs ys → ((x : X) → P x → R x) → AddsOnly R xs ys
+adds_such P R xs ys f to x m = elim (f x m) [
+  | inl was ↦ inl was
+  | inr new ↦ inr (to x new)
+]
+
+-- what holds of all that were there, and of all that are new
+pub adds_all : {X : Type 0} (P R : X → Type 0) (xs ys : List X) → AddsOnly R xs ys → ((x : X) → Contains xs x → P x) → ((x : X) → R x → P x) → (x : X) → Contains ys x → P x
+adds_all P R xs ys f was new x m = elim (f x m) [
+  | inl h ↦ was x h
+  | inr h ↦ new x h
+]
+
+-- a list of 4,000,000 at most has all that are such
+pub not_many : {X : Type 0} (P : X → Type 0) (xs : List X) → length xs ≤ 4000000 → ((x : X) → P x → Contains xs x) → AreMany P → ⊥
+not_many P xs few all many = let le = fewer many.these xs many.distinct (λ x m. all x (many.each x m)) in let lt = many.many in omega (arith, few, le, lt)
+
+-- what stands in front of a place
+pub from_drop : {X : Type 0} (xs : List X) (n j : ℕ) (x : X) → slice_get (drop n xs) j ≡ Some x → slice_get xs (n + j) ≡ Some x
+from_drop xs zero j x e = let z : j ≡ 0 + j = omega arith in subst (λ k. slice_get xs k ≡ Some x) z e
+from_drop [] (suc n) j x e = absurd (cc)
+from_drop (y ∷ xs) (suc n) j x e = let z : suc (n + j) ≡ suc n + j = omega arith in subst (λ k. slice_get (y ∷ xs) k ≡ Some x) z (from_drop xs n j x e)

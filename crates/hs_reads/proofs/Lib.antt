@@ -1,4 +1,4 @@
-mod ListLemmas
+pub mod ListLemmas
 mod GrowLemmas
 mod BecomingLemmas
 mod PairLemmas
@@ -9,3 +9,5 @@ mod ListingLemmas
 mod HeadLemmas
 mod HoldsLemmas
 mod ByPointLemmas
+mod ArgumentLemmas
+pub mod ReadLemmas

@@ -1,6 +1,6 @@
 -- A list of which one is longer by an item.
-use Rattle.std.proofs.Common.{◌≡◌, refl, sym, ◌∙◌, ap, subst, ℕ, Bool, true, false, cond, nat_eq, List, [], ◌∷◌, ◌++◌, Contains, ◌⊎◌, inl, inr}
-use Rattle.std.proofs.lemmas.Bool.{eq-eqb}
+use Rattle.std.proofs.Common.{◌≡◌, refl, sym, ◌∙◌, ap, subst, ℕ, Bool, true, false, cond, nat_eq, List, [], ◌∷◌, ◌++◌, Contains, inl, inr}
+use Rattle.std.proofs.lemmas.Bool.{eq-eqb, eqb-true}
 use Rattle.std.proofs.lemmas.List.Elements.{Contains-append_left, Contains-push}
 use Rattle.hs_table_laws.proofs.Members.{pushed_cases}
 use Rattle.hs_reads.specs.Lists.{list_of, IsPushed}
@@ -21,13 +21,13 @@ module _ {T : Type 0} (number : ℕ) (x : T) (old new : List (List T)) (is : IsP
   pub pushed_keeps : (k : ℕ) (y : T) → Contains (list_of old k) y → Contains (list_of new k) y
   pushed_keeps k y m = subst (λ ys. Contains ys y) (sym (is.each k)) (kept (nat_eq k number) k y m)
 
-  cases : (t : Bool) (k : ℕ) (y : T) → Contains (list_by t k) y → Contains (list_of old k) y ⊎ (y ≡ x)
-  cases true k y m = pushed_cases (list_of old k) x y m
-  cases false k y m = inl m
-
-  -- and what holds of all and of the item holds of all
-  pub pushed_all : (P : T → Type 0) → P x → ((k : ℕ) (y : T) → Contains (list_of old k) y → P y) → (k : ℕ) (y : T) → Contains (list_of new k) y → P y
-  pushed_all P own all k y m = elim (cases (nat_eq k number) k y (subst (λ ys. Contains ys y) (is.each k) m)) [
-    | inl was ↦ all k y was
-    | inr same ↦ subst P (sym same) own
-  ]
+  -- and what holds of all at their numbers, and of the item at its own, holds of all
+  pub pushed_at : (P : ℕ → T → Type 0) → P number x → ((k : ℕ) (y : T) → Contains (list_of old k) y → P k y) → (k : ℕ) (y : T) → Contains (list_of new k) y → P k y
+  pushed_at P own all k y m = by (nat_eq k number) refl
+    where
+      by : (t : Bool) → nat_eq k number ≡ t → P k y
+      by true e = elim (pushed_cases (list_of old k) x y (subst (λ ys. Contains ys y) (is.each k ∙ ap (λ t. list_by t k) e) m)) [
+        | inl was ↦ all k y was
+        | inr same ↦ subst (P k) (sym same) (subst (λ j. P j x) (sym (eqb-true k number e)) own)
+      ]
+      by false e = all k y (subst (λ ys. Contains ys y) (is.each k ∙ ap (λ t. list_by t k) e) m)

@@ -1,5 +1,6 @@
 pub mod Lists
 pub mod Growing
+pub mod Own
 pub mod Becomings
 pub mod Pairs
 pub mod ByPoint

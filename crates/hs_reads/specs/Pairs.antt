@@ -1,9 +1,15 @@
 -- Pairs of a point and a state.
 --     all_pairs points states     all of them
 --     pairs_in listed points states     those that are listed, and all where none are listed
-use Rattle.std.specs.Prelude.{◌≡◌, ℕ, zero, suc, List, [], ◌∷◌, ◌++◌, slice_get, Option, Some, None, Contains}
+--     IsArgumentRead args states x     an argument with the state at its place
+--     IsReadBehind ts state b args x   an argument with the state behind those of the arguments that are given to the terminal
+--     AreNeeded p pairs           the pairs are in each closed list
+use Rattle.std.specs.Prelude.{◌≡◌, ℕ, zero, suc, ◌+◌, List, [], ◌∷◌, ◌++◌, slice_get, Option, Some, None, Contains}
+use Rattle.hs_scheme.specs.Transition.{TransitionData}
+use Rattle.hs_scheme.specs.Automaton.{next}
 use Rattle.hs_scheme.specs.Problem.{ProblemData}
-use Rattle.hs_weak.specs.Reads.{Read}
+use Rattle.hs_weak.specs.Reads.{Read, IsClosedReads}
+use Rattle.hs_reads.specs.declared.becoming.Becoming.{Becoming}
 
 abbrev pub states_at : ℕ → ℕ → List (ℕ × ℕ)
 states_at point zero = []
@@ -24,3 +30,22 @@ HasStart p pairs = (body : ℕ) → slice_get p.points.bodies 0 ≡ Some body �
 -- the pairs have all that this pair demands
 abbrev pub Demands : ProblemData → ℕ × ℕ → List (ℕ × ℕ) → Type 0
 Demands p pair pairs = (point q : ℕ) → Read p (pair ∷ []) point q → Contains pairs (point, q)
+
+-- the pair demands this one
+abbrev pub IsDemandedBy : ProblemData → ℕ × ℕ → ℕ × ℕ → Type 0
+IsDemandedBy p pair x = Read p (pair ∷ []) x.0 x.1
+
+pub record IsArgumentRead (args states : List ℕ) (x : ℕ × ℕ) : Type 0 where
+  pub place : ℕ
+  pub arg : slice_get args place ≡ Some x.0
+  pub state : slice_get states place ≡ Some x.1
+
+pub record IsReadBehind (ts : List TransitionData) (state : ℕ) (b : Becoming) (args : List ℕ) (x : ℕ × ℕ) : Type 0 where
+  pub states : List ℕ
+  pub place : ℕ
+  pub moves : next ts state b.terminal ≡ Some states
+  pub arg : slice_get args place ≡ Some x.0
+  pub state_is : slice_get states (b.given + place) ≡ Some x.1
+
+abbrev pub AreNeeded : ProblemData → List (ℕ × ℕ) → Type 0
+AreNeeded p pairs = (S : List (ℕ × ℕ)) → IsClosedReads p S → (x : ℕ × ℕ) → Contains pairs x → Contains S x

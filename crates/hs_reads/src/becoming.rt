@@ -1,14 +1,17 @@
 //! Which terminals parameters may become.
 
-ghost use Rattle.std.specs.Prelude.{◌≡◌, ◌+◌, ◌<◌, ◌≤◌, ℕ, List, Contains, IfOk, OnOk, length, slice_get, sum};
+ghost use Rattle.std.specs.Prelude.{◌≡◌, [], ◌+◌, ◌*◌, ◌<◌, ◌≤◌, ℕ, List, Contains, IfOk, OnOk, IsErrOf, length, slice_get, sum};
 ghost use Rattle.hs_scheme.specs.declared.flow.FlowPair.{FlowPair as AnyFlow};
 ghost use Rattle.hs_scheme.specs.declared.term.Head.{Head as AnyHead};
 ghost use Rattle.hs_scheme.specs.declared.term.Head.TheVariants.{Var, Tm};
+ghost use Rattle.hs_scheme.specs.Points.{point_at};
 ghost use Rattle.hs_scheme.specs.Parameters.{IsParameter, parameter_of};
 ghost use Rattle.hs_weak.specs.Reads.{PointIs};
 ghost use Rattle.hs_reads.specs.Lists.{list_of};
-ghost use Rattle.hs_reads.specs.Growing.{Grows};
-ghost use Rattle.hs_reads.specs.Becomings.{AnyBecoming, HasTerminals, AreBecomings, IsByHead, IsByParameter};
+ghost use Rattle.hs_reads.specs.declared.stop.Stop.TheVariants.{Limit};
+ghost use Rattle.hs_reads.specs.Growing.{Grows, AddsOnly, AreTooMany};
+ghost use Rattle.hs_reads.specs.Own.{IsBecoming, AreMany};
+ghost use Rattle.hs_reads.specs.Becomings.{AnyBecoming, HasTerminals, HasTerminalsOnly, AreBecomings, AreShort, IsHeadedAt, AreHeaded, IsByHead, IsByParameter, AreApart};
 
 use crate::lists::Lists;
 use crate::stop::Stop;
@@ -33,6 +36,10 @@ pub(crate) struct Becoming {
 fn add(found: &mut IndexSet<Becoming>, becoming: Becoming) -> Result<(), Stop>
     ensures grows { OnOk result (Grows found.old.keys found.new.keys) }
     ensures there { OnOk result (Contains found.new.keys becoming) }
+    ensures only { AddsOnly (λ b. b ≡ becoming) found.old.keys found.new.keys }
+    ensures short { becoming.given ≤ 500000 * (length found.old.keys + 1) → AreShort found.old.keys
+        → AreShort found.new.keys }
+    ensures limit { IsErrOf result Limit → AreTooMany found.new.keys }
 {
     found.insert(becoming)?;
     if found.len() > MOST {
@@ -41,13 +48,25 @@ fn add(found: &mut IndexSet<Becoming>, becoming: Becoming) -> Result<(), Stop>
     Ok(())
 }
 
+/// How many arguments this point has, fewer than there are points.
+fn given_at(problem: &Problem, point: u32) -> usize
+    requires { point < length problem.now.points.points }
+    ensures len { result ≡ length (point_at problem.now.points point).args }
+    ensures few { result ≤ 500000 }
+{
+    is_sorted_problem(problem);
+    problem.points.count();
+    problem.points.args_of(point).len()
+}
+
 /// Adds what the pair's parameter becomes by the pair, where its point has a terminal at its head.
 fn add_terminal(
     problem: &Problem,
     found: &mut IndexSet<Becoming>,
     pair: &FlowPair,
 ) -> Result<(), Stop>
-    requires { pair.now.point < length problem.now.points.points }
+    requires point { pair.now.point < length problem.now.points.points }
+    requires flows { Contains problem.now.flow.pairs pair.now }
     ensures grows { OnOk result (Grows found.old.keys found.new.keys) }
     ensures there { OnOk result ((rule a : ℕ) (args : List ℕ)
         → PointIs problem.now pair.now.point rule (Tm a) args
@@ -57,11 +76,14 @@ fn add_terminal(
           terminal = a;
           given = length args;
         })) }
+    ensures only { AddsOnly (IsBecoming problem.now) found.old.keys found.new.keys }
+    ensures short { AreShort found.old.keys → AreShort found.new.keys }
+    ensures limit { IsErrOf result Limit → AreTooMany found.new.keys }
 {
     let Head::Tm(terminal) = problem.points.head_of(pair.point) else {
         return Ok(());
     };
-    let given = problem.points.args_of(pair.point).len();
+    let given = given_at(problem, pair.point);
     add(
         found,
         Becoming {
@@ -92,6 +114,9 @@ fn add_terminals(problem: &Problem, found: &mut IndexSet<Becoming>) -> Result<()
           terminal = a;
           given = length args;
         })) }
+    ensures only { AddsOnly (IsBecoming problem.now) found.old.keys found.new.keys }
+    ensures short { AreShort found.old.keys → AreShort found.new.keys }
+    ensures limit { IsErrOf result Limit → AreTooMany found.new.keys }
 {
     is_sorted_problem(problem);
     for pair in flow_pairs(problem) {
@@ -107,6 +132,7 @@ fn add_by_head(
     pair: FlowPair,
 ) -> Result<(), OutOfMemory>
     requires point { pair.point < length problem.now.points.points }
+    requires flows { Contains problem.now.flow.pairs pair }
     requires lists { length lists.old ≡ sum problem.now.points.params }
     ensures len { OnOk result (length lists.new ≡ sum problem.now.points.params) }
     ensures kept { OnOk result ((k : ℕ) (f : AnyFlow) → Contains (list_of lists.old k) f → Contains (list_of
@@ -115,10 +141,7 @@ fn add_by_head(
         → PointIs problem.now pair.point rule (Var x) args
         → IsParameter problem.now.points.params rule x
         × Contains (list_of lists.new (parameter_of problem.now.points.params rule x)) pair) }
-    ensures points { OnOk result (((k : ℕ) (f : AnyFlow) → Contains (list_of lists.old k) f → f.point < length
-        problem.now.points.points) → (k : ℕ) (f : AnyFlow) → Contains (list_of lists.new k) f
-        → f.point < length
-        problem.now.points.points) }
+    ensures only { OnOk result (AreHeaded problem.now lists.old → AreHeaded problem.now lists.new) }
 {
     let Head::Var(param) = problem.points.head_of(pair.point) else {
         return Ok(());
@@ -150,7 +173,11 @@ fn pass(
     becoming: Becoming,
     pair: &FlowPair,
 ) -> Result<(), Stop>
-    requires { pair.now.point < length problem.now.points.points }
+    requires point { pair.now.point < length problem.now.points.points }
+    requires headed { IsHeadedAt problem.now becoming.rule becoming.param pair.now }
+    requires known { IsBecoming problem.now becoming }
+    requires few { length found.old.keys ≤ 4000000 }
+    requires short { becoming.given ≤ 500000 * length found.old.keys }
     ensures grows { OnOk result (Grows found.old.keys found.new.keys) }
     ensures there { OnOk result ((rule : ℕ) (h : AnyHead) (args : List ℕ)
         → PointIs problem.now pair.now.point rule h args
@@ -160,8 +187,11 @@ fn pass(
           terminal = becoming.terminal;
           given = becoming.given + length args;
         })) }
+    ensures only { AddsOnly (IsBecoming problem.now) found.old.keys found.new.keys }
+    ensures short { AreShort found.old.keys → AreShort found.new.keys }
+    ensures limit { IsErrOf result Limit → AreTooMany found.new.keys }
 {
-    let more = problem.points.args_of(pair.point).len();
+    let more = given_at(problem, pair.point);
     let Some(given) = becoming.given.checked_add(more) else {
         return Err(Stop::Limit);
     };
@@ -184,7 +214,11 @@ fn pass_all(
     becoming: Becoming,
     pairs: &[FlowPair],
 ) -> Result<(), Stop>
-    requires { (f : AnyFlow) → Contains pairs.now f → f.point < length problem.now.points.points }
+    requires headed { (f : AnyFlow) → Contains pairs.now f
+        → IsHeadedAt problem.now becoming.rule becoming.param f }
+    requires known { IsBecoming problem.now becoming }
+    requires few { length found.old.keys ≤ 4000000 }
+    requires short { becoming.given ≤ 500000 * length found.old.keys }
     ensures grows { OnOk result (Grows found.old.keys found.new.keys) }
     ensures there { OnOk result ((f : AnyFlow) (rule : ℕ) (h : AnyHead) (args : List ℕ) → Contains pairs.now f
         → PointIs problem.now f.point rule h args
@@ -194,6 +228,9 @@ fn pass_all(
           terminal = becoming.terminal;
           given = becoming.given + length args;
         })) }
+    ensures only { AddsOnly (IsBecoming problem.now) found.old.keys found.new.keys }
+    ensures short { AreShort found.old.keys → AreShort found.new.keys }
+    ensures limit { IsErrOf result Limit → AreTooMany found.new.keys }
 {
     for pair in pairs {
         pass(problem, found, becoming, pair)?;
@@ -217,7 +254,7 @@ pub(crate) fn list_at<'a, T: Drop>(
 ) -> &'a [T]
     ensures list { IsParameter params.now rule param
         → result.now ≡ list_of lists.now (parameter_of params.now rule param) }
-    ensures from { (x : T) → Contains result.now x → (k : ℕ) × Contains (list_of lists.now k) x }
+    ensures parameter { (x : T) → Contains result.now x → IsParameter params.now rule param }
 {
     match params.number(rule, param) {
         Some(number) => lists.list(number as usize),
@@ -241,7 +278,12 @@ fn spread(
           terminal = a;
           given = length args;
         }) }
-    ensures { OnOk result (AreBecomings problem.now found.new.keys) }
+    requires known { (b : AnyBecoming) → Contains found.old.keys b → IsBecoming problem.now b }
+    requires short { AreShort found.old.keys }
+    ensures all { OnOk result (AreBecomings problem.now found.new.keys) }
+    ensures few { OnOk result (length found.new.keys ≤ 4000000) }
+    ensures known { (b : AnyBecoming) → Contains found.new.keys b → IsBecoming problem.now b }
+    ensures limit { IsErrOf result Limit → AreTooMany found.new.keys }
 {
     let mut taken = 0;
     while let Some(becoming) = becoming_at(found, taken) {
@@ -269,6 +311,8 @@ fn add_to_list(
         → Contains (list_of lists.new k) b) }
     ensures there { OnOk result (IsParameter params.now becoming.rule becoming.param
         → Contains (list_of lists.new (parameter_of params.now becoming.rule becoming.param)) becoming) }
+    ensures only { OnOk result ((found : List AnyBecoming) → Contains found becoming
+        → AreApart params.now found lists.old → AreApart params.now found lists.new) }
 {
     let Some(number) = params.number(becoming.rule, becoming.param) else {
         return Ok(());
@@ -282,7 +326,8 @@ fn by_parameter(
     params: &Parameters,
     found: &[Becoming],
 ) -> Result<Lists<Becoming>, OutOfMemory>
-    ensures { IfOk result (IsByParameter params.now found.now) }
+    ensures has { IfOk result (IsByParameter params.now found.now) }
+    ensures only { IfOk result (AreApart params.now found.now) }
 {
     let mut lists = Lists::empty(alloc, params.count() as usize)?;
     for becoming in found {
@@ -293,8 +338,11 @@ fn by_parameter(
 
 /// What parameters become.
 fn find(alloc: Global, problem: &Problem, found: &mut IndexSet<Becoming>) -> Result<(), Stop>
-    requires { length found.old.keys ≤ 4000000 }
-    ensures { OnOk result (AreBecomings problem.now found.new.keys) }
+    requires { found.old.keys ≡ [] }
+    ensures all { OnOk result (AreBecomings problem.now found.new.keys) }
+    ensures few { OnOk result (length found.new.keys ≤ 4000000) }
+    ensures known { (b : AnyBecoming) → Contains found.new.keys b → IsBecoming problem.now b }
+    ensures limit { IsErrOf result Limit → AreTooMany found.new.keys }
 {
     add_terminals(problem, found)?;
     let lists = by_head(alloc, problem)?;
@@ -304,7 +352,10 @@ fn find(alloc: Global, problem: &Problem, found: &mut IndexSet<Becoming>) -> Res
 /// The terminals that each parameter may become, in the list of its number. `Limit` comes where there
 /// are more than `MOST`.
 pub(crate) fn terminals(alloc: Global, problem: &Problem) -> Result<Lists<Becoming>, Stop>
-    ensures { IfOk result (HasTerminals problem.now) }
+    ensures all { IfOk result (HasTerminals problem.now) }
+    ensures only { IfOk result (HasTerminalsOnly problem.now) }
+    ensures few { OnOk result (AreMany (IsBecoming problem.now) → ⊥) }
+    ensures limit { IsErrOf result Limit → AreMany (IsBecoming problem.now) }
 {
     let mut found = IndexSet::new(alloc);
     find(alloc, problem, &mut found)?;

@@ -1,14 +1,15 @@
 //! What one pair of a point and a state demands.
 
-ghost use Rattle.std.specs.Prelude.{◌≡◌, ◌+◌, ◌<◌, ℕ, List, Some, Contains, OnOk, drop, length, option_copied, slice_get};
+ghost use Rattle.std.specs.Prelude.{◌≡◌, ◌+◌, ◌<◌, ℕ, List, Some, Contains, OnOk, IsErrOf, drop, length, option_copied, slice_get};
 ghost use Rattle.hs_scheme.specs.declared.flow.FlowPair.{FlowPair as AnyFlow};
 ghost use Rattle.hs_scheme.specs.declared.term.Head.TheVariants.{Var, Tm};
 ghost use Rattle.hs_scheme.specs.Points.{point_at};
 ghost use Rattle.hs_scheme.specs.Parameters.{IsParameter};
 ghost use Rattle.hs_scheme.specs.Automaton.{next};
-ghost use Rattle.hs_reads.specs.Growing.{Grows};
-ghost use Rattle.hs_reads.specs.Becomings.{AnyBecoming, HasTerminals};
-ghost use Rattle.hs_reads.specs.Pairs.{HasStart, Demands};
+ghost use Rattle.hs_reads.specs.declared.stop.Stop.TheVariants.{Limit};
+ghost use Rattle.hs_reads.specs.Growing.{Grows, AddsOnly, AreTooMany};
+ghost use Rattle.hs_reads.specs.Becomings.{AnyBecoming, HasTerminals, HasTerminalsOnly};
+ghost use Rattle.hs_reads.specs.Pairs.{HasStart, Demands, IsDemandedBy, IsArgumentRead, IsReadBehind};
 
 use crate::becoming::{Becoming, MOST, list_at};
 use crate::lists::Lists;
@@ -23,6 +24,8 @@ pub(crate) type Pairs = IndexSet<(u32, u32)>;
 fn add(pairs: &mut Pairs, point: u32, state: u32) -> Result<(), Stop>
     ensures grows { OnOk result (Grows pairs.old.keys pairs.new.keys) }
     ensures there { OnOk result (Contains pairs.new.keys (point, state)) }
+    ensures only { AddsOnly (λ x. x ≡ (point, state)) pairs.old.keys pairs.new.keys }
+    ensures limit { IsErrOf result Limit → AreTooMany pairs.new.keys }
 {
     pairs.insert((point, state))?;
     if pairs.len() > MOST {
@@ -36,6 +39,8 @@ fn add_children(pairs: &mut Pairs, args: &[u32], states: &[u32]) -> Result<(), S
     ensures grows { OnOk result (Grows pairs.old.keys pairs.new.keys) }
     ensures there { OnOk result ((i u r : ℕ) → slice_get args.now i ≡ Some u → slice_get states.now i ≡ Some r
         → Contains pairs.new.keys (u, r)) }
+    ensures only { AddsOnly (IsArgumentRead args.now states.now) pairs.old.keys pairs.new.keys }
+    ensures limit { IsErrOf result Limit → AreTooMany pairs.new.keys }
 {
     for (place, arg) in args.iter().enumerate() {
         let Some(state) = states.get(place) else {
@@ -76,6 +81,9 @@ fn add_behind(
         → next sorted.now.automaton.transitions state becoming.now.terminal ≡ Some qs
         → slice_get args.now j ≡ Some u → slice_get qs (becoming.now.given + j) ≡ Some r
         → Contains pairs.new.keys (u, r)) }
+    ensures only { AddsOnly (IsReadBehind sorted.now.automaton.transitions state becoming.now args.now)
+        pairs.old.keys pairs.new.keys }
+    ensures limit { IsErrOf result Limit → AreTooMany pairs.new.keys }
 {
     match next_of(sorted, state, becoming.terminal) {
         Some(states) => add_children(pairs, args, behind(states, becoming.given)),
@@ -96,6 +104,9 @@ fn add_all_behind(
         → next sorted.now.automaton.transitions state b.terminal ≡ Some qs
         → slice_get args.now j ≡ Some u → slice_get qs (b.given + j) ≡ Some r
         → Contains pairs.new.keys (u, r)) }
+    ensures only { AddsOnly (λ x. (b : AnyBecoming) × (Contains terminals.now b
+        × IsReadBehind sorted.now.automaton.transitions state b args.now x)) pairs.old.keys pairs.new.keys }
+    ensures limit { IsErrOf result Limit → AreTooMany pairs.new.keys }
 {
     for becoming in terminals {
         add_behind(sorted, pairs, state, becoming, args)?;
@@ -108,6 +119,9 @@ fn add_points(pairs: &mut Pairs, row: &[FlowPair], state: u32) -> Result<(), Sto
     ensures grows { OnOk result (Grows pairs.old.keys pairs.new.keys) }
     ensures there { OnOk result ((f : AnyFlow) → Contains row.now f
         → Contains pairs.new.keys (f.point, state)) }
+    ensures only { AddsOnly (λ x. (f : AnyFlow) × (Contains row.now f × (x ≡ (f.point, state))))
+        pairs.old.keys pairs.new.keys }
+    ensures limit { IsErrOf result Limit → AreTooMany pairs.new.keys }
 {
     for pair in row {
         add(pairs, pair.point, state)?;
@@ -129,9 +143,12 @@ fn add_by_parameter(
     requires parameter { IsParameter problem.now.points.params (point_at problem.now.points point).rule
         param }
     requires terminals { HasTerminals problem.now terminals.now }
+    requires only { HasTerminalsOnly problem.now terminals.now }
     ensures grows { OnOk result (Grows pairs.old.keys pairs.new.keys) }
     ensures there { OnOk result (HasStart problem.now pairs.old.keys
         → Demands problem.now (point, state) pairs.new.keys) }
+    ensures only { AddsOnly (IsDemandedBy problem.now (point, state)) pairs.old.keys pairs.new.keys }
+    ensures limit { IsErrOf result Limit → AreTooMany pairs.new.keys }
 {
     let rule = problem.points.rule_of(point);
     add_points(pairs, problem.flow.flow_of(rule, param), state)?;
@@ -156,6 +173,8 @@ fn add_by_terminal(
     ensures grows { OnOk result (Grows pairs.old.keys pairs.new.keys) }
     ensures there { OnOk result (HasStart problem.now pairs.old.keys
         → Demands problem.now (point, state) pairs.new.keys) }
+    ensures only { AddsOnly (IsDemandedBy problem.now (point, state)) pairs.old.keys pairs.new.keys }
+    ensures limit { IsErrOf result Limit → AreTooMany pairs.new.keys }
 {
     match next_of(&problem.sorted, state, terminal) {
         Some(states) => add_children(pairs, problem.points.args_of(point), states),
@@ -167,6 +186,9 @@ fn add_by_terminal(
 pub(crate) fn add_start(problem: &Problem, pairs: &mut Pairs) -> Result<(), Stop>
     ensures grows { OnOk result (Grows pairs.old.keys pairs.new.keys) }
     ensures there { OnOk result (HasStart problem.now pairs.new.keys) }
+    ensures only { AddsOnly (λ x. (slice_get problem.now.points.bodies 0 ≡ Some x.0) × (x.1 ≡ 0))
+        pairs.old.keys pairs.new.keys }
+    ensures limit { IsErrOf result Limit → AreTooMany pairs.new.keys }
 {
     if problem.points.params().rules() == 0 {
         return Ok(());
@@ -183,9 +205,12 @@ pub(crate) fn add_demanded(
     state: u32,
 ) -> Result<(), Stop>
     requires terminals { HasTerminals problem.now terminals.now }
+    requires only { HasTerminalsOnly problem.now terminals.now }
     ensures grows { OnOk result (Grows pairs.old.keys pairs.new.keys) }
     ensures there { OnOk result (HasStart problem.now pairs.old.keys
         → Demands problem.now (point, state) pairs.new.keys) }
+    ensures only { AddsOnly (IsDemandedBy problem.now (point, state)) pairs.old.keys pairs.new.keys }
+    ensures limit { IsErrOf result Limit → AreTooMany pairs.new.keys }
 {
     if point >= problem.points.count() {
         return Ok(());

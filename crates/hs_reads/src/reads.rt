@@ -1,9 +1,12 @@
 //! The pairs of a point and a state in which the point may be read.
 
-ghost use Rattle.std.specs.Prelude.{◌≡◌, ◌↔◌, ◌⊎◌, ◌+◌, ◌<◌, ◌≤◌, ℕ, Contains, IfOk, OnOk, IsTrue, length, slice_get};
+ghost use Rattle.std.specs.Prelude.{◌≡◌, ◌↔◌, ◌⊎◌, ◌+◌, ◌<◌, ◌≤◌, [], ℕ, Contains, IfOk, OnOk, IsErrOf, IsTrue, length, slice_get};
 ghost use Rattle.hs_weak.specs.Reads.{IsClosedReads};
-ghost use Rattle.hs_reads.specs.Becomings.{HasTerminals};
-ghost use Rattle.hs_reads.specs.Pairs.{HasStart};
+ghost use Rattle.hs_reads.specs.declared.stop.Stop.TheVariants.{Limit};
+ghost use Rattle.hs_reads.specs.Growing.{AreTooMany};
+ghost use Rattle.hs_reads.specs.Becomings.{HasTerminals, HasTerminalsOnly};
+ghost use Rattle.hs_reads.specs.Pairs.{HasStart, AreNeeded};
+ghost use Rattle.hs_reads.specs.Own.{HasManyReads, AreAllPairs, AreReadsOf};
 ghost use Rattle.hs_reads.specs.Lists.{list_of};
 ghost use Rattle.hs_reads.specs.ByPoint.{AreStatesOf};
 
@@ -58,9 +61,14 @@ fn pair_at(pairs: &Pairs, place: usize) -> Option<(u32, u32)>
 /// Adds all pairs that are demanded by those that are there.
 fn spread(problem: &Problem, terminals: &Lists<Becoming>, pairs: &mut Pairs) -> Result<(), Stop>
     requires terminals { HasTerminals problem.now terminals.now }
+    requires only { HasTerminalsOnly problem.now terminals.now }
     requires start { HasStart problem.now pairs.old.keys }
     requires few { length pairs.old.keys ≤ 4000000 }
-    ensures { OnOk result (IsClosedReads problem.now pairs.new.keys) }
+    requires needed { AreNeeded problem.now pairs.old.keys }
+    ensures closed { OnOk result (IsClosedReads problem.now pairs.new.keys) }
+    ensures few { OnOk result (length pairs.new.keys ≤ 4000000) }
+    ensures needed { AreNeeded problem.now pairs.new.keys }
+    ensures limit { IsErrOf result Limit → AreTooMany pairs.new.keys }
 {
     let mut taken = 0;
     while let Some((point, state)) = pair_at(pairs, taken) {
@@ -72,8 +80,11 @@ fn spread(problem: &Problem, terminals: &Lists<Becoming>, pairs: &mut Pairs) -> 
 
 /// Adds the pairs that are demanded from the start on.
 fn find(alloc: Global, problem: &Problem, pairs: &mut Pairs) -> Result<(), Stop>
-    requires { length pairs.old.keys ≤ 4000000 }
-    ensures { OnOk result (IsClosedReads problem.now pairs.new.keys) }
+    requires { pairs.old.keys ≡ [] }
+    ensures closed { OnOk result (IsClosedReads problem.now pairs.new.keys) }
+    ensures needed { OnOk result (AreNeeded problem.now pairs.new.keys) }
+    ensures few { OnOk result (HasManyReads problem.now → ⊥) }
+    ensures limit { IsErrOf result Limit → HasManyReads problem.now }
 {
     let terminals = terminals(alloc, problem)?;
     add_start(problem, pairs)?;
@@ -96,23 +107,6 @@ fn all_below(alloc: Global, states: u32) -> Result<Vec<u32>, OutOfMemory>
         every.push(q)?;
     }
     Ok(every)
-}
-
-/// All pairs of a point and a state of the problem.
-fn all(alloc: Global, problem: &Problem) -> Result<Reads, OutOfMemory>
-    ensures { IfOk result (IsClosedReads problem.now) }
-{
-    is_sorted_problem(problem);
-    let states = states_of(&problem.sorted);
-    let by_point = Lists::empty(alloc, 0)?;
-    let every = all_below(alloc, states)?;
-    Ok(Reads {
-        listed: None,
-        by_point,
-        points: problem.points.count(),
-        states,
-        every,
-    })
 }
 
 /// Adds the pair's state to the list of its point.
@@ -140,10 +134,9 @@ fn by_point(alloc: Global, pairs: &[(u32, u32)]) -> Result<Lists<u32>, OutOfMemo
     Ok(lists)
 }
 
-/// The pairs, which are closed.
-fn listed(alloc: Global, problem: &Problem, pairs: Pairs) -> Result<Reads, OutOfMemory>
-    requires { IsClosedReads problem.now pairs.keys }
-    ensures { IfOk result (IsClosedReads problem.now) }
+/// These pairs.
+fn listed(alloc: Global, pairs: Pairs) -> Result<Reads, OutOfMemory>
+    ensures { IfOk result (λ reads. reads ≡ pairs.keys) }
 {
     let by_point = by_point(alloc, pairs.as_slice())?;
     Ok(Reads {
@@ -160,22 +153,39 @@ impl Reads {
     /// Where more than 4,000,000 pairs come, or parameters may become more than 4,000,000 terminals together,
     /// they are all pairs, which aren't stored.
     ///
-    /// The pairs are closed: none is left out that they demand. That there are no more than needed isn't
-    /// claimed.
-    ///
     /// Memory is in proportion to the points, the states, the flow and the pairs. Time is in proportion to
     /// these and, for each pair whose point has a parameter at its head, to the flow of that parameter, and
     /// to the terminals that it may become times the point's arguments; for each of those terminals one
     /// transition is looked up, on average in constant time.
     pub fn of(alloc: Global, problem: &Problem) -> Result<Reads, OutOfMemory>
-        ensures { IfOk result (IsClosedReads problem.now) }
+        ensures reads { IfOk result (AreReadsOf problem.now) }
+        ensures closed { IfOk result (IsClosedReads problem.now) }
     {
         let mut pairs = IndexSet::new(alloc);
         match find(alloc, problem, &mut pairs) {
-            Ok(()) => listed(alloc, problem, pairs),
-            Err(Stop::Limit) => all(alloc, problem),
+            Ok(()) => listed(alloc, pairs),
+            Err(Stop::Limit) => Reads::all(alloc, problem),
             Err(Stop::OutOfMemory) => Err(OutOfMemory),
         }
+    }
+
+    /// All pairs of a point and a state of the problem, which aren't stored. They are closed. Memory and
+    /// time are in proportion to the states.
+    pub fn all(alloc: Global, problem: &Problem) -> Result<Reads, OutOfMemory>
+        ensures all { IfOk result (AreAllPairs problem.now) }
+        ensures closed { IfOk result (IsClosedReads problem.now) }
+    {
+        is_sorted_problem(problem);
+        let states = states_of(&problem.sorted);
+        let by_point = Lists::empty(alloc, 0)?;
+        let every = all_below(alloc, states)?;
+        Ok(Reads {
+            listed: None,
+            by_point,
+            points: problem.points.count(),
+            states,
+            every,
+        })
     }
 
     /// Whether the point, counted from 0, may be read in the state. Takes no memory, and constant time

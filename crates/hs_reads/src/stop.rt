@@ -1,5 +1,8 @@
 //! Why a search ends early.
 
+ghost use Rattle.std.specs.Prelude.{◌≡◌};
+ghost use Rattle.hs_reads.specs.declared.stop.Stop.TheVariants.{OutOfMemory as Refused};
+
 use hs_scheme::OutOfMemory;
 use std::alloc::{AllocError, AllocFailed};
 
@@ -13,18 +16,24 @@ pub(crate) enum Stop {
 }
 
 impl From<AllocError> for Stop {
+    ghost from_gives = { λ _ e. e ≡ Refused };
+
     fn from(_refused: AllocError) -> Stop {
         Stop::OutOfMemory
     }
 }
 
 impl<T: Drop> From<AllocFailed<T>> for Stop {
+    ghost from_gives = { λ _ e. e ≡ Refused };
+
     fn from(_refused: AllocFailed<T>) -> Stop {
         Stop::OutOfMemory
     }
 }
 
 impl From<OutOfMemory> for Stop {
+    ghost from_gives = { λ _ e. e ≡ Refused };
+
     fn from(_refused: OutOfMemory) -> Stop {
         Stop::OutOfMemory
     }

@@ -1,11 +1,14 @@
-use Rattle.std.proofs.Common.{◌≡◌, sym, ◌∙◌, ap, subst, ℕ, List, Contains, ◌<◌, length}
+use Rattle.std.proofs.Common.{◌≡◌, sym, ◌∙◌, ap, subst, ℕ, List, Contains}
 use Rattle.std.proofs.lemmas.Result.{on_ok_weaker}
 use Rattle.hs_scheme.specs.declared.term.Head.TheVariants.{Var}
 use Rattle.hs_scheme.specs.declared.flow.FlowPair.{FlowPair}
+use Rattle.hs_scheme.specs.Points.{point_at}
 use Rattle.hs_scheme.specs.Parameters.{IsParameter, parameter_of}
 use Rattle.hs_scheme.specs.Problem.{ProblemData}
 use Rattle.hs_reads.specs.Lists.{list_of}
-use Rattle.hs_reads.proofs.PushLemmas.{pushed_has, pushed_all}
+use Rattle.hs_reads.specs.Becomings.{IsHeadedBy}
+use Rattle.hs_reads.proofs.PushLemmas.{pushed_has, pushed_keeps, pushed_at}
+use Rattle.hs_reads.proofs.ReadLemmas.{point_is}
 use Rattle.hs_reads.proofs.BecomingLemmas.{parts_read, var_same}
 use Rattle.hs_reads.proofs.becoming.add_by_head.Goals as goal
 
@@ -22,6 +25,19 @@ returns-clause-there c = on_ok_weaker c.push.result (λ is rule x args at.
     (subst (λ (n : ℕ). IsParameter c.params.result.now n x) own (subst (λ (n : ℕ). IsParameter c.params.result.now c.rule_of-rule.result n) param c.in-Some.ensures.number.0)) in
     (there, subst (λ (n : ℕ). Contains (list_of c.push.new.self n) c.args.pair) number (pushed_has c.in-Some.number c.args.pair c.args.lists.now c.push.new.self is))) c.push.ensures.pushed
 
-pub returns-clause-points : goal.returns-clause-points
-returns-clause-points c = on_ok_weaker c.push.result (λ is all.
-    pushed_all c.in-Some.number c.args.pair c.args.lists.now c.push.new.self is (λ (f : FlowPair). f.point < length c.args.problem.now.points.points) c.requires.point all) c.push.ensures.pushed
+pub returns-clause-only : goal.returns-clause-only
+returns-clause-only c = on_ok_weaker c.push.result (λ is all.
+    let p = c.args.problem.now in
+    let f = c.args.pair in
+    let own = (point_at p.points f.point).rule in
+    let at = point_is p f.point (Var c.in-Var.param) c.requires.point (sym c.in-Var.is ∙ (c.head_of.ensures.head ∙ ap (λ (q : ProblemData). (point_at q.points f.point).head) c.problem.view_is)) in
+    let rule : c.rule_of-rule.result ≡ own = c.rule_of-rule.ensures.rule ∙ ap (λ (q : ProblemData). (point_at q.points f.point).rule) c.problem.view_is in
+    let counts : c.params.result.now ≡ p.points.params = c.params.ensures.params ∙ ap (λ (q : ProblemData). q.points.params) c.problem.view_is in
+    let number : c.in-Some.number ≡ parameter_of p.points.params own c.in-Var.param = c.in-Some.ensures.number.1 ∙ (λ i. parameter_of (counts i) (rule i) c.in-Var.param) in
+    let there : IsParameter p.points.params own c.in-Var.param = subst (λ (ns : List ℕ). IsParameter ns own c.in-Var.param) counts
+    (subst (λ (n : ℕ). IsParameter c.params.result.now n c.in-Var.param) rule c.in-Some.ensures.number.0) in
+    pushed_at c.in-Some.number f c.args.lists.now c.push.new.self is (λ (k : ℕ) (g : FlowPair). IsHeadedBy p k g)
+    (record { rule = own; param = c.in-Var.param; is = there; number = number; headed = (c.requires.flows, ((point_at p.points f.point).args, at)) }) all) c.push.ensures.pushed
+
+pub returns-clause-kept : goal.returns-clause-kept
+returns-clause-kept c = on_ok_weaker c.push.result (λ is. pushed_keeps c.in-Some.number c.args.pair c.args.lists.now c.push.new.self is) c.push.ensures.pushed

@@ -7,7 +7,11 @@ use Rattle.hs_scheme.specs.Parameters.{IsParameter, parameter_of}
 use Rattle.hs_scheme.specs.Problem.{ProblemData}
 use Rattle.hs_reads.specs.Lists.{list_of}
 use Rattle.hs_reads.specs.Becomings.{AnyBecoming}
-use Rattle.hs_reads.proofs.GrowLemmas.{grows_then, grows_has, both_ok}
+use Rattle.hs_reads.specs.Growing.{AddsOnly}
+use Rattle.hs_reads.specs.Own.{IsBecoming}
+use Rattle.hs_reads.specs.Pairs.{IsDemandedBy, IsReadBehind}
+use Rattle.hs_reads.proofs.GrowLemmas.{grows_then, grows_has, both_ok, adds_such, adds_more}
+use Rattle.hs_reads.proofs.ReadLemmas.{flow_read, later_read}
 use Rattle.hs_reads.proofs.HeadLemmas.{start_kept, demands_var, in_row, none_at}
 use Rattle.hs_reads.proofs.reading.add_by_parameter.Goals as goal
 
@@ -59,3 +63,56 @@ returns-then-is_empty-clause-there c = λ start.
     (λ v flows. c.in_ok-add_points.ensures.there (record { rule = own; param = x; point = v })
     (subst (λ (fs : List FlowPair). Contains fs (record { rule = own; param = x; point = v })) (sym row) (in_row p.flow.pairs own x v flows)))
     (λ v a g j u r qs flows becomes moves at_u at_r. absurd (none_at c.args_of-args.result.now j u c.is_empty.result c.is_empty.ensures c.if-is_empty.true (subst (λ (us : List ℕ). slice_get us j ≡ Some u) (sym args) at_u)))
+
+pub returns-in_err-add_points-clause-only : goal.returns-in_err-add_points-clause-only
+returns-in_err-add_points-clause-only c =
+    let p = c.args.problem.now in
+    let w = c.args.point in
+    let q = c.args.state in
+    let x = c.args.param in
+    let own = (point_at p.points w).rule in
+    let rule : c.rule_of-rule.result ≡ own = c.rule_of-rule.ensures.rule ∙ ap (λ (z : ProblemData). (point_at z.points w).rule) c.problem.view_is in
+    let row : c.flow_of.result.now ≡ filter (λ (f : FlowPair). nat_eq f.rule own && nat_eq f.param x) p.flow.pairs =
+    c.flow_of.ensures.pairs ∙ (λ i. filter (λ (f : FlowPair). nat_eq f.rule (rule i) && nat_eq f.param x) (ap (λ (z : ProblemData). z.flow.pairs) c.problem.view_is i)) in
+    adds_such (λ (y : ℕ × ℕ). (f : FlowPair) × (Contains c.flow_of.result.now f × (y ≡ (f.point, q)))) (IsDemandedBy p (w, q)) c.args.pairs.now.keys c.add_points.new.pairs.keys c.add_points.ensures.only
+    (flow_read p w q c.requires.point x c.flow_of.result.now (sym c.requires.head) row)
+
+pub returns-then-is_empty-clause-only : goal.returns-then-is_empty-clause-only
+returns-then-is_empty-clause-only c =
+    let p = c.args.problem.now in
+    let w = c.args.point in
+    let q = c.args.state in
+    let x = c.args.param in
+    let own = (point_at p.points w).rule in
+    let rule : c.rule_of-rule.result ≡ own = c.rule_of-rule.ensures.rule ∙ ap (λ (z : ProblemData). (point_at z.points w).rule) c.problem.view_is in
+    let row : c.flow_of.result.now ≡ filter (λ (f : FlowPair). nat_eq f.rule own && nat_eq f.param x) p.flow.pairs =
+    c.flow_of.ensures.pairs ∙ (λ i. filter (λ (f : FlowPair). nat_eq f.rule (rule i) && nat_eq f.param x) (ap (λ (z : ProblemData). z.flow.pairs) c.problem.view_is i)) in
+    adds_such (λ (y : ℕ × ℕ). (f : FlowPair) × (Contains c.flow_of.result.now f × (y ≡ (f.point, q)))) (IsDemandedBy p (w, q)) c.args.pairs.now.keys c.add_points.new.pairs.keys c.add_points.ensures.only
+    (flow_read p w q c.requires.point x c.flow_of.result.now (sym c.requires.head) row)
+
+pub returns-clause-only : goal.returns-clause-only
+returns-clause-only c =
+    let p = c.args.problem.now in
+    let w = c.args.point in
+    let q = c.args.state in
+    let x = c.args.param in
+    let own = (point_at p.points w).rule in
+    let rule : c.rule_of-rule.result ≡ own = c.rule_of-rule.ensures.rule ∙ ap (λ (z : ProblemData). (point_at z.points w).rule) c.problem.view_is in
+    let row : c.flow_of.result.now ≡ filter (λ (f : FlowPair). nat_eq f.rule own && nat_eq f.param x) p.flow.pairs =
+    c.flow_of.ensures.pairs ∙ (λ i. filter (λ (f : FlowPair). nat_eq f.rule (rule i) && nat_eq f.param x) (ap (λ (z : ProblemData). z.flow.pairs) c.problem.view_is i)) in
+    let args : c.args_of-args.result.now ≡ (point_at p.points w).args = c.args_of-args.ensures.args ∙ ap (λ (z : ProblemData). (point_at z.points w).args) c.problem.view_is in
+    let counts : c.params.result.now ≡ p.points.params = c.params.ensures.params ∙ ap (λ (z : ProblemData). z.points.params) c.problem.view_is in
+    let list : c.list_at-list.result.now ≡ list_of c.args.terminals.now (parameter_of p.points.params own x) =
+    subst (λ (ns : List ℕ). IsParameter ns own x → c.list_at-list.result.now ≡ list_of c.args.terminals.now (parameter_of ns own x)) counts
+    (subst (λ (n : ℕ). IsParameter c.params.result.now n x → c.list_at-list.result.now ≡ list_of c.args.terminals.now (parameter_of c.params.result.now n x)) rule c.list_at-list.ensures.list) c.requires.parameter in
+    let automaton = ap (λ (z : ProblemData). z.sorted.automaton) c.problem.view_is in
+    let mid = c.add_points.new.pairs.keys in
+    let first : AddsOnly (IsDemandedBy p (w, q)) c.args.pairs.now.keys mid =
+    adds_such (λ (y : ℕ × ℕ). (f : FlowPair) × (Contains c.flow_of.result.now f × (y ≡ (f.point, q)))) (IsDemandedBy p (w, q)) c.args.pairs.now.keys c.add_points.new.pairs.keys c.add_points.ensures.only
+    (flow_read p w q c.requires.point x c.flow_of.result.now (sym c.requires.head) row) in
+    let known : (b : AnyBecoming) → Contains c.list_at-list.result.now b → IsBecoming p (record { rule = own; param = x; terminal = b.terminal; given = b.given }) =
+    λ b m. c.requires.only own x b c.requires.parameter (subst (λ (bs : List AnyBecoming). Contains bs b) list m) in
+    let behind : AutomatonData → ℕ × ℕ → Type 0 = λ z y. (b : AnyBecoming) × (Contains c.list_at-list.result.now b × IsReadBehind z.transitions q b c.args_of-args.result.now y) in
+    adds_more (behind p.sorted.automaton) (IsDemandedBy p (w, q)) c.args.pairs.now.keys mid c.add_all_behind.new.pairs.keys first
+    (subst (λ (z : AutomatonData). AddsOnly (behind z) mid c.add_all_behind.new.pairs.keys) automaton c.add_all_behind.ensures.only)
+    (later_read p w q c.requires.point x c.list_at-list.result.now c.args_of-args.result.now (sym c.requires.head) args known)

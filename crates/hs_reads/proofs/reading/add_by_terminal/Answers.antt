@@ -3,7 +3,9 @@ use Rattle.std.proofs.lemmas.Option.{same_Some}
 use Rattle.hs_scheme.specs.Automaton.{AutomatonData, next}
 use Rattle.hs_scheme.specs.Points.{point_at}
 use Rattle.hs_scheme.specs.Problem.{ProblemData}
-use Rattle.hs_reads.proofs.GrowLemmas.{both_ok}
+use Rattle.hs_reads.specs.Pairs.{IsDemandedBy, IsArgumentRead}
+use Rattle.hs_reads.proofs.GrowLemmas.{both_ok, adds_none, adds_such}
+use Rattle.hs_reads.proofs.ReadLemmas.{child_read}
 use Rattle.hs_reads.proofs.HeadLemmas.{start_kept, demands_tm}
 use Rattle.hs_reads.proofs.reading.add_by_terminal.Goals as goal
 
@@ -23,6 +25,22 @@ returns-in-Some-clause-there c =
     (λ i u r qs at at_u at_r. there i u r (subst (λ (us : List ℕ). slice_get us i ≡ Some u) (sym args) at_u)
     (subst (λ (rs : List ℕ). slice_get rs i ≡ Some r) (sym (same_Some c.in-Some.states.now qs (moves ∙ at))) at_r)))
     c.add_children.ensures.grows c.add_children.ensures.there
+
+pub returns-in-Some-clause-only : goal.returns-in-Some-clause-only
+returns-in-Some-clause-only c =
+    let p = c.args.problem.now in
+    let w = c.args.point in
+    let q = c.args.state in
+    let a = c.args.terminal in
+    let args : c.args_of.result.now ≡ (point_at p.points w).args = c.args_of.ensures.args ∙ ap (λ (z : ProblemData). (point_at z.points w).args) c.problem.view_is in
+    let automaton = ap (λ (z : ProblemData). z.sorted.automaton) c.problem.view_is in
+    let moves : Some c.in-Some.states.now ≡ next p.sorted.automaton.transitions q a =
+    sym (ap option_copied c.in-Some.is) ∙ (c.next_of.ensures ∙ ap (λ (z : AutomatonData). next z.transitions q a) automaton) in
+    adds_such (IsArgumentRead c.args_of.result.now c.in-Some.states.now) (IsDemandedBy p (w, q)) c.args.pairs.now.keys c.add_children.new.pairs.keys c.add_children.ensures.only
+    (child_read p w q c.requires.point a c.args_of.result.now c.in-Some.states.now (sym c.requires.head) args moves)
+
+pub returns-in-None-clause-only : goal.returns-in-None-clause-only
+returns-in-None-clause-only c = adds_none (IsDemandedBy c.args.problem.now (c.args.point, c.args.state)) c.args.pairs.now.keys
 
 pub returns-in-None-clause-there : goal.returns-in-None-clause-there
 returns-in-None-clause-there c = λ start.

@@ -1,0 +1,24 @@
+use Rattle.std.proofs.Common.{rules, sym, subst, ℕ, ◌≤◌, List, length, arith}
+use Rattle.hs_reads.specs.Growing.{AreTooMany}
+use Rattle.hs_reads.specs.Own.{HasManyReads}
+use Rattle.hs_reads.proofs.GrowLemmas.{both_ok}
+use Rattle.hs_reads.proofs.ReadLemmas.{none_needed, start_needed, start_many, many_pairs, not_many_reads}
+use Rattle.hs_reads.proofs.reads.find.Goals as goal
+
+pub spread-requires-clause-few : goal.spread-requires-clause-few
+spread-requires-clause-few c = c.in_ok-add_start.ensures.grows.few (subst (λ (xs : List (ℕ × ℕ)). length xs ≤ 4000000) (sym c.requires) (omega arith))
+
+pub spread-requires-clause-needed : goal.spread-requires-clause-needed
+spread-requires-clause-needed c = start_needed c.args.problem.now c.args.pairs.now.keys c.add_start.new.pairs.keys (none_needed c.args.problem.now c.args.pairs.now.keys c.requires) c.add_start.ensures.only
+
+pub returns-clause-few : goal.returns-clause-few
+returns-clause-few c = both_ok c.spread.result (λ closed few. not_many_reads c.args.problem.now c.spread.new.pairs.keys closed few c.in_ok-terminals.ensures.few) c.spread.ensures.closed c.spread.ensures.few
+
+pub returns-clause-limit : goal.returns-clause-limit
+returns-clause-limit c = λ e. many_pairs c.args.problem.now c.spread.new.pairs.keys c.spread.ensures.needed (c.spread.ensures.limit e)
+
+pub returns-in_err-add_start-clause-limit : goal.returns-in_err-add_start-clause-limit
+returns-in_err-add_start-clause-limit c =
+    let many : AreTooMany c.add_start.new.pairs.keys → HasManyReads c.args.problem.now =
+    start_many c.args.problem.now c.args.pairs.now.keys c.add_start.new.pairs.keys c.requires c.add_start.ensures.only in
+    search (rules, many)
