@@ -13,3 +13,4 @@ pub mod Pieces
 pub mod Parsed
 pub mod Written
 pub mod WithinLimits
+mod ExplainingLemmas

@@ -1,5 +1,5 @@
 -- A scheme has one problem at most, by what is asked for.
-use Rattle.std.proofs.Common.{◌≡◌, ap, subst, sym}
+use Rattle.std.proofs.Common.{◌≡◌, ap, subst}
 use Rattle.hs_scheme.specs.Unsorted.{UnsortedData}
 use Rattle.hs_scheme.specs.Sorted.{SortedData}
 use Rattle.hs_scheme.specs.Problem.{ProblemData}

@@ -187,6 +187,7 @@ module _ (u : UnsortedData) (form : SortedData) (unsorted : IsUnsorted u) (is_so
       table = r.table;
       void = r.void;
       reads = r.reads;
+      own = r.own;
       certificate = r.certificate;
       listed = r.listed;
       tells = r.tells;

@@ -5,7 +5,7 @@
 -- All else that is claimed of a run stands in `Rows` of `Outcome`, from which these three follow.
 -- To read, each file behind those that it leads to, with the number of its lines that these clauses lead to; `.ci/headline --names` names
 -- the definitions. What stands in the toolchain's libraries (lists, numbers, options, `clap`) is vocabulary that is trusted.
--- For `accepted` and `rejected`, 650 lines of 29 files:
+-- For `accepted` and `rejected`, 672 lines of 29 files:
 --     102  hs_reader/specs/Tokens.antt
 --      20  hs_scheme/specs/Tree.antt
 --       7  hs_reader/specs/Limits.antt
@@ -26,12 +26,12 @@
 --      23  hs_scheme/specs/Cut.antt
 --      16  hs_scheme/specs/Run.antt
 --      19  hs_front/specs/Files.antt
---      18  hs_words/src/options.rt
+--      22  hs_words/src/options.rt
 --       3  hs_edge/specs/Count.antt
 --      27  hs_edge/specs/Reading.antt
 --      36  hs_front/specs/Outside.antt
 --      19  hs_gen/specs/Cycle.antt
---      56  hs_words/specs/Words.antt
+--      74  hs_words/specs/Words.antt
 --      14  hs_app/specs/Order.antt
 --       3  hs_edge/src/errors.rt
 --      59  hs_edge/src/source.rt
@@ -67,7 +67,7 @@
 --      15  hs_app/specs/Order.antt
 --      26  hs_edge/src/sink.rt
 --      27  hs_passes/src/pass.rt
--- At most 660 lines, and 760 further.
+-- At most 680 lines, and 760 further.
 use Rattle.std.specs.Prelude.{◌≡◌, ◌≤◌, ◌<◌, ◌⊎◌, ℕ, List, length, IfSome, IsSomeAnd}
 use Rattle.hs_edge.specs.Count.{Rose}
 use Rattle.hs_scheme.specs.Unsorted.{UnsortedData}

@@ -2,5 +2,6 @@ pub mod Problems
 pub mod Order
 pub mod Headline
 pub mod Verdict
+pub mod Explaining
 pub mod Outcome
 pub mod ReadAgain

@@ -1,10 +1,11 @@
 -- What a run comes to.
 --     IsAnswerOfRun         the verdict with its report, or why there is none, by the order and by what the source handed out
+--     MayExplain            where the words ask for it, the text explains the answer; else it is empty, and it may be so in any case
 --     Ends, status_at       how a run ends, with what comes with it; its exit status
 --     IsDue, Complies       what has to be answered, by the order and by the bytes; that it is answered
 --     Keeps                 what a run leaves as it was, and what doesn't fall
 --     Rows                  all that is claimed of a run
-use Rattle.std.specs.Prelude.{◌≡◌, ◌≢◌, ℕ, ◌<◌, ◌≤◌, List, ◌++◌, Option, Some, None, Result, Ok, Err, length, codes, ◌⊎◌, IsSomeAnd}
+use Rattle.std.specs.Prelude.{◌≡◌, ◌≢◌, ℕ, ◌<◌, ◌≤◌, true, List, [], ◌++◌, Option, Some, None, Result, Ok, Err, length, codes, ◌⊎◌, IsSomeAnd}
 use Rattle.hs_edge.specs.Count.{Rose}
 use Rattle.hs_edge.specs.Writing.{AddsPart}
 use Rattle.hs_front.specs.Refusal.{line_of, status_of}
@@ -21,6 +22,7 @@ use Rattle.hs_app.specs.Order.{Order, bytes_of, IsReadToEnd, IsPart, HasFault, O
 use Rattle.hs_front.specs.Files.{max_bytes}
 use Rattle.hs_app.specs.Headline.{IsWithinLimits}
 use Rattle.hs_app.specs.Verdict.{HasAnswer, Warrants}
+use Rattle.hs_app.specs.Explaining.{ExplainsAnswer}
 
 -- ---- the answer
 
@@ -43,11 +45,16 @@ module _ (order : Option Order) (source : SourceRun) where
   IsAnswerOfRun (Ok decided) = IsOfBytes (Ok decided)
   IsAnswerOfRun (Err refusal) = HasCause refusal
 
+  -- what may stand on standard error besides
+  abbrev pub MayExplain : Result Decided Refusal → List ℕ → Type 0
+  MayExplain answer text =
+      (text ≡ []) ⊎ IsSomeAnd order (λ o. (o.asked.settings.explain ≡ true) × ExplainsAnswer (bytes_of o.job source.after.given) answer text)
+
 -- ---- how a run ends
 
 -- the line where the words are refused
 abbrev pub usage : List ℕ
-usage = ended (codes "usage: horsat [--workers N] [--entries N] [--steps N] [--table] [--first] [--quick] [--simplify] [--gen K] [FILE]")
+usage = ended (codes "usage: horsat [--workers N] [--entries N] [--steps N] [--table] [--first] [--minimal] [--quick] [--explain] [--simplify] [--gen K] [FILE]")
 
 module _ (order : Option Order) (source : SourceRun) (out err : SinkRun) where
   -- the verdict was reported whole
@@ -55,7 +62,10 @@ module _ (order : Option Order) (source : SourceRun) (out err : SinkRun) where
     pub answer : IsAnswerOfRun order source (Ok decided)
     pub taken : out.taken_after ≡ out.taken ++ decided.report.items
     pub same_faults : out.faults_after ≡ out.faults
-    pub silent : HasTakenNothing err
+    pub text : List ℕ
+    pub explains : MayExplain order source (Ok decided) text
+    pub told : HasTakenOrFailed err text
+    pub silent : text ≡ [] → HasTakenNothing err
 
   -- the report met a fault
   pub record IsCutOff (decided : Decided) : Type 0 where
@@ -68,7 +78,9 @@ module _ (order : Option Order) (source : SourceRun) (out err : SinkRun) where
   pub record Refuses (refusal : Refusal) : Type 0 where
     pub cause : HasCause order source refusal
     pub silent : HasTakenNothing out
-    pub told : HasTakenOrFailed err (line_of usage refusal)
+    pub text : List ℕ
+    pub explains : MayExplain order source (Err refusal) text
+    pub told : HasTakenOrFailed err (line_of usage refusal ++ text)
 
   abbrev pub Ends : Ending → Type 0
   Ends (Reported decided) = IsReported decided

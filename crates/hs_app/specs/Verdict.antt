@@ -1,10 +1,12 @@
 -- What the bytes of a file are answered with.
 --     FailsAlong              the path leads, after some number of steps, to a terminal without transition, which it names with its state
+--     IsSought                what the search for a compact list came to, where it is asked for
+--     IsShown                 the text is the report of a verdict by a table
 --     Reports                 the text is the report of the verdict on a scheme, by its table, or, where that is asked for, by evidence
 --     IsAnsweredWith          the verdict with its report, or the reason why there is none
 --     HasAnswer               the answer of a file that isn't too long
 --     Warrants                the verdict that the bytes come to, or the reason why there is none, whatever is answered
-use Rattle.std.specs.Prelude.{◌≡◌, ◌≤◌, ◌<◌, ◌⊎◌, ℕ, Bool, true, false, List, ◌++◌, length, All, Option, Some, None, Result, Ok, Err, if◌then◌else◌}
+use Rattle.std.specs.Prelude.{◌≡◌, ◌≤◌, ◌<◌, ◌⊎◌, ℕ, true, false, List, ◌++◌, length, All, Option, Some, None, Result, Ok, Err, if◌then◌else◌}
 use Rattle.hs_scheme.specs.declared.term.Head.{Head}
 use Rattle.hs_scheme.specs.declared.term.Rule.{Rule}
 use Rattle.hs_scheme.specs.Scheme.{AreRules}
@@ -25,9 +27,13 @@ use Rattle.hs_checker.specs.Checked.{IsCount}
 use Rattle.hs_passes.specs.Passing.{KeepsRest}
 use Rattle.hs_scheme.specs.FailingPath.{FailingPathData}
 use Rattle.hs_scheme.specs.Failing.{IsFailingPath}
+use Rattle.hs_reads.specs.Own.{AreReadsOf}
 use Rattle.hs_weak.specs.Void.{VoidData, void_cmp}
 use Rattle.hs_weak.specs.Certificate.{IsAcceptanceCertificate}
+use Rattle.hs_minimal.specs.Compact.{IsTable, IsOneTooMany}
 use Rattle.hs_text.specs.Report.{IsReport, IsCertificateReport, path_summary}
+use Rattle.hs_text.specs.declared.minimal.Minimal.{Minimal}
+use Rattle.hs_text.specs.declared.minimal.Minimal.TheVariants.{Table, More}
 use Rattle.hs_text.specs.declared.verdict.Verdict as shown
 use Rattle.hs_text.specs.declared.verdict.Verdict.TheVariants as shown_as
 use Rattle.hs_front.specs.declared.refusal.Refusal.{Refusal}
@@ -43,9 +49,16 @@ use Rattle.hs_front.specs.Files.{max_bytes}
 
 -- ---- the verdict on a scheme, with its report
 
--- the text is the report of the verdict, and shows the entries where they are asked for
-abbrev pub IsShown : ProblemData → Bool → shown.Verdict → List EntryData → Option ℕ → List ℕ → Type 0
-IsShown p table verdict log removed text = IsReport p verdict (if table then Some log else None) removed text
+-- what the search for a compact list came to, where it is asked for: such a list; or more entries came on the way than are allowed
+abbrev pub IsSought : Settings → ProblemData → Option Minimal → Type 0
+IsSought settings p None = settings.minimal ≡ false
+IsSought settings p (Some (Table C)) = (settings.minimal ≡ true) × IsTable p settings.entries C.items
+IsSought settings p (Some (More budget)) = (settings.minimal ≡ true) × ((budget ≡ settings.entries) × ((T : List EntryData) × IsOneTooMany p settings.entries T))
+
+-- the text is the report of the verdict, and shows the entries where they are asked for, and a compact list where that is sought
+abbrev pub IsShown : Settings → ProblemData → shown.Verdict → List EntryData → Option ℕ → List ℕ → Type 0
+IsShown settings p verdict log removed text =
+    (minimal : Option Minimal) × (IsSought settings p minimal × IsReport p verdict (if settings.table then Some log else None) removed minimal text)
 
 -- the path leads to its last terminal, which has no transition in its state, after some number of steps
 abbrev pub FailsAlong : List Rule → List TransitionData → FailingPathData → Type 0
@@ -55,7 +68,7 @@ FailsAlong rules ts path = (used : ℕ) × IsFailingPath rules ts (record path {
 -- text of the report.
 module _ (settings : Settings) (rules : List Rule) (ts : List TransitionData) (p : ProblemData) (removed : Option ℕ) (text : List ℕ) where
   abbrev pub IsReportOf : shown.Verdict → List EntryData → Type 0
-  IsReportOf verdict log = IsShown p settings.table verdict log removed text
+  IsReportOf verdict log = IsShown settings p verdict log removed text
 
   -- the rules along which steps are counted: where the scheme was simplified, those that came of it
   abbrev pub rules_walked : List Rule
@@ -123,12 +136,13 @@ pub record AreListed (p : ProblemData) (table : List EntryData) (void : List Voi
   pub pairs : IsAscending void_cmp void
 
 module _ (settings : Settings) (rules : List Rule) (ts : List TransitionData) (p : ProblemData) (removed : Option ℕ) (text : List ℕ) where
-  -- the tree is accepted, and that is seen from a certificate
+  -- the tree is accepted, and that is seen from a certificate with the problem's read pairs
   pub record ShowsAccepted : Type 0 where
     pub accepts : Accepts rules ts
     pub table : List EntryData
     pub void : List VoidData
     pub reads : List (ℕ × ℕ)
+    pub own : AreReadsOf p reads
     pub certificate : IsAcceptanceCertificate p table void reads
     pub listed : AreListed p table void
     pub tells : IsCertificateReport p table void settings.table removed text

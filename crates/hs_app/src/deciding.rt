@@ -1,6 +1,6 @@
 //! The verdict on a problem, with its report.
 
-ghost use Rattle.std.specs.Prelude.{◌≡◌, ◌↔◌, ℕ, Option, true, IfOk, IfSome, option_map};
+ghost use Rattle.std.specs.Prelude.{◌≡◌, ◌↔◌, ℕ, Option, Some, None, true, if◌then◌else◌, IfOk, IfSome, option_map};
 ghost use Rattle.hs_scheme.specs.Run.{Accepts};
 ghost use Rattle.hs_scheme.specs.Sorted.{SortedData};
 ghost use Rattle.hs_table.specs.Tables.{IsLeastTable, IsClosedTable, HasStart};
@@ -12,7 +12,7 @@ ghost use Rattle.hs_workers.specs.Answers.{IsShared, IsSharedDone};
 ghost use Rattle.hs_checker.specs.Checked.{IsCount};
 ghost use Rattle.hs_app.specs.Problems.{IsReportedTable};
 ghost use Rattle.hs_words.specs.Words.{AreSettingsWithin};
-ghost use Rattle.hs_app.specs.Verdict.{IsShown, Decides, DecidesProblem};
+ghost use Rattle.hs_app.specs.Verdict.{IsSought, IsShown, Decides, DecidesProblem};
 
 use crate::evidence::by_evidence;
 use crate::verdict::{Decided, Verdict};
@@ -20,11 +20,12 @@ use hs_checker::{CheckFault, check};
 use hs_core::{Core, Done};
 use hs_flow::Dependents;
 use hs_front::Refusal;
+use hs_minimal::{Compact, compact};
 use hs_naming::namings_end_and_fail;
 use hs_path::{Walk, walk};
-use hs_scheme::{OutOfMemory, Problem, Sorted};
+use hs_scheme::{FailingPath, OutOfMemory, Problem, Sorted};
 use hs_table::Entry;
-use hs_text::{Verdict as Told, report};
+use hs_text::{Minimal, Verdict as Told, report};
 use hs_verdict::is_sorted_problem;
 use hs_words::Settings;
 use hs_workers::{Gate, saturate};
@@ -32,6 +33,51 @@ use std::alloc::Global;
 use std::mem::forget;
 use std::sync::Wait;
 use std::thread::Threads;
+
+/// What the search for a compact list comes to, where it is asked for.
+fn minimal_of(
+    alloc: Global,
+    problem: &Problem,
+    settings: Settings,
+) -> Result<Option<Minimal>, OutOfMemory>
+    requires { AreSettingsWithin settings }
+    ensures { IfOk result (IsSought settings problem.now) }
+{
+    if !settings.minimal {
+        return Ok(None);
+    }
+    match compact(alloc, problem, settings.entries)? {
+        Compact::Table(entries) => Ok(Some(Minimal::Table(entries))),
+        Compact::Over(_added) => Ok(Some(Minimal::More {
+            budget: settings.entries,
+        })),
+    }
+}
+
+/// The report of a verdict, with the core's entries where they are given, and with a compact list where
+/// that is asked for.
+fn report_by(
+    alloc: Global,
+    problem: &Problem,
+    core: &Core,
+    table: Option<&[Entry]>,
+    settings: Settings,
+    verdict: &Told,
+    removed: Option<u64>,
+) -> Result<Vec<u8>, OutOfMemory>
+    requires settings { AreSettingsWithin settings }
+    requires problem { problem.now ≡ core.now.base.problem }
+    requires table { option_map (λ t. t.now) table ≡ if settings.table then Some (log_of core.now) else None }
+    ensures { IfOk result (λ text. IsShown settings problem.now verdict.now (log_of core.now) removed
+        text.items) }
+{
+    core.is_core();
+    is_sorted_problem(problem);
+    let minimal = minimal_of(alloc, problem, settings)?;
+    let text = report(alloc, problem, verdict, table, removed, minimal.as_ref());
+    drop(minimal);
+    text
+}
 
 /// The report of a verdict, with these entries where the table is asked for.
 fn report_with(
@@ -43,17 +89,24 @@ fn report_with(
     verdict: &Told,
     removed: Option<u64>,
 ) -> Result<Vec<u8>, OutOfMemory>
+    requires settings { AreSettingsWithin settings }
     requires problem { problem.now ≡ core.now.base.problem }
     requires entries { entries.now ≡ log_of core.now }
-    ensures { IfOk result (λ text. IsShown problem.now settings.table verdict.now
-        (log_of core.now) removed text.items) }
+    ensures { IfOk result (λ text. IsShown settings problem.now verdict.now (log_of core.now) removed
+        text.items) }
 {
     if !settings.table {
-        return report(alloc, problem, verdict, None, removed);
+        return report_by(alloc, problem, core, None, settings, verdict, removed);
     }
-    core.is_core();
-    is_sorted_problem(problem);
-    report(alloc, problem, verdict, Some(entries), removed)
+    report_by(
+        alloc,
+        problem,
+        core,
+        Some(entries),
+        settings,
+        verdict,
+        removed,
+    )
 }
 
 /// The report of a verdict, with the core's entries where the table is asked for.
@@ -65,19 +118,20 @@ fn report_of(
     verdict: &Told,
     removed: Option<u64>,
 ) -> Result<Vec<u8>, OutOfMemory>
+    requires settings { AreSettingsWithin settings }
     requires problem { problem.now ≡ core.now.base.problem }
-    ensures { IfOk result (λ text. IsShown problem.now settings.table verdict.now
-        (log_of core.now) removed text.items) }
+    ensures { IfOk result (λ text. IsShown settings problem.now verdict.now (log_of core.now) removed
+        text.items) }
 {
     if !settings.table {
-        return report(alloc, problem, verdict, None, removed);
+        return report_by(alloc, problem, core, None, settings, verdict, removed);
     }
     let entries = core.table(alloc)?;
-    report_with(
+    report_by(
         alloc,
         problem,
         core,
-        entries.as_slice(),
+        Some(entries.as_slice()),
         settings,
         verdict,
         removed,
@@ -108,6 +162,7 @@ fn accepted(
     removed: Option<u64>,
 ) -> Result<Decided, OutOfMemory>
     requires flow { HasClosedFlow problem.now }
+    requires settings { AreSettingsWithin settings }
     requires problem { problem.now ≡ core.now.base.problem }
     requires budget { core.now.base.budget ≡ settings.entries }
     requires least { IsLeastTable problem.now (log_of core.now) }
@@ -134,7 +189,17 @@ fn accepted(
     Ok(Decided {
         verdict: Verdict::Accepted,
         report,
+        path: None,
     })
+}
+
+/// The path of a verdict, where it has one. Nothing is claimed of it: who explains it looks whether the
+/// report shows it.
+fn path_in(verdict: Told) -> Option<FailingPath> {
+    match verdict {
+        Told::Rejected { entries: _, path } => Some(path),
+        _ => None,
+    }
 }
 
 /// The verdict where the log has the start entry, with the path that it names or, where that is too
@@ -165,6 +230,7 @@ fn rejected(
             Ok(Decided {
                 verdict: Verdict::Rejected,
                 report,
+                path: path_in(verdict),
             })
         }
         Walk::StepLimit(_prefix) => {
@@ -176,6 +242,7 @@ fn rejected(
             Ok(Decided {
                 verdict: Verdict::Long,
                 report,
+                path: None,
             })
         }
     }

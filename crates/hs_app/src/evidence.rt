@@ -9,6 +9,7 @@ ghost use Rattle.hs_scheme.specs.Sorted.{SortedData};
 ghost use Rattle.hs_table.specs.Entries.{InShape, entry_cmp};
 ghost use Rattle.hs_weak.specs.Reads.{IsClosedReads};
 ghost use Rattle.hs_weak.specs.Void.{void_cmp};
+ghost use Rattle.hs_reads.specs.Own.{AreReadsOf};
 ghost use Rattle.hs_words.specs.Words.{AreSettingsWithin};
 ghost use Rattle.hs_text.specs.Report.{path_summary};
 ghost use Rattle.hs_app.specs.declared.verdict.Verdict.TheVariants.{Rejected};
@@ -83,6 +84,7 @@ fn by_certificate(
 ) -> Option<Decided>
     requires quick { settings.quick ≡ true }
     requires reads { IsClosedReads problem.now reads.now }
+    requires own { AreReadsOf problem.now reads.now }
     ensures { IfSome result (λ decided. (before : SortedData)
         → DecidesQuickly settings before problem.now removed decided) }
 {
@@ -96,6 +98,7 @@ fn by_certificate(
         Ok(report) => Some(Decided {
             verdict: Verdict::Accepted,
             report,
+            path: None,
         }),
         Err(_) => None,
     }
@@ -105,16 +108,17 @@ fn by_certificate(
 fn rejected_along(
     alloc: Global,
     problem: &Problem,
-    path: &FailingPath,
+    path: FailingPath,
     removed: Option<u64>,
 ) -> Option<Decided>
     ensures { IfSome result (λ decided. (decided.verdict ≡ Rejected)
-        × (decided.report.items ≡ path_summary problem.now path.now removed)) }
+        × (decided.report.items ≡ path_summary problem.now path removed)) }
 {
-    match path_report(alloc, problem, path, removed) {
+    match path_report(alloc, problem, &path, removed) {
         Ok(report) => Some(Decided {
             verdict: Verdict::Rejected,
             report,
+            path: Some(path),
         }),
         Err(_) => None,
     }
@@ -138,7 +142,7 @@ fn by_path(
         return None;
     }
     match failure_along(alloc, before, path, settings.steps) {
-        Ok(Some(failing)) => rejected_along(alloc, problem, &failing, removed),
+        Ok(Some(failing)) => rejected_along(alloc, problem, failing, removed),
         Ok(None) => None,
         Err(_) => None,
     }
@@ -156,6 +160,7 @@ fn by_proposal(
     requires quick { settings.quick ≡ true }
     requires settings { AreSettingsWithin settings }
     requires reads { IsClosedReads problem.now reads.now }
+    requires own { AreReadsOf problem.now reads.now }
     ensures { IfSome result (DecidesQuickly settings before.now problem.now removed) }
 {
     match propose(alloc, problem, reads, Limits::usual()) {

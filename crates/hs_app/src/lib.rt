@@ -3,6 +3,7 @@
 
 mod deciding;
 mod evidence;
+mod explaining;
 mod laws;
 mod top;
 mod verdict;

@@ -1,6 +1,6 @@
 //! The top call.
 
-ghost use Rattle.std.specs.Prelude.{◌≡◌, ◌≢◌, ◌⊎◌, ◌≤◌, ◌^◌, map, Some, All};
+ghost use Rattle.std.specs.Prelude.{◌≡◌, ◌≢◌, ◌⊎◌, ◌≤◌, ◌^◌, [], map, Some, All};
 ghost use Rattle.hs_words.specs.Words.{texts, AreSettingsWithin};
 ghost use Rattle.hs_front.specs.Files.{IsAccepted, IsRejected};
 ghost use Rattle.hs_front.specs.Outside.{source_run, sink_run, IsCalm, KeepsSource};
@@ -9,8 +9,10 @@ ghost use Rattle.hs_app.specs.Problems.{asked_of};
 ghost use Rattle.hs_app.specs.Headline as headline;
 ghost use Rattle.hs_app.specs.Outcome as outcome;
 ghost use Rattle.hs_app.specs.Verdict.{HasAnswer};
+ghost use Rattle.hs_app.specs.Explaining.{IsExplanation};
 ghost use Rattle.hs_gen.specs.Cycle.{cycle_file_text};
 
+use crate::explaining::{explain, explanation, refuse_and_explain};
 use crate::verdict::{Decided, Verdict, decide};
 use hs_edge::{Sink, Source, write_all};
 use hs_front::{Refusal, read, refuse, status};
@@ -28,10 +30,10 @@ const STANDARD_INPUT: &str = "-";
 
 /// The line where the words are refused.
 const USAGE: &str =
-    "usage: horsat [--workers N] [--entries N] [--steps N] [--table] [--first] [--quick] [--simplify] \
-     [--gen K] [FILE]\n";
+    "usage: horsat [--workers N] [--entries N] [--steps N] [--table] [--first] [--minimal] [--quick] \
+     [--explain] [--simplify] [--gen K] [FILE]\n";
 
-/// Reads the file of this name, and gives the verdict on it.
+/// Reads the file of this name, and gives the verdict on it. What explains it becomes the text `told`.
 fn verdict_on<R: Threads + Wait + Sync, S: Source, G: Gate + Sync>(
     rt: &R,
     alloc: Global,
@@ -40,9 +42,18 @@ fn verdict_on<R: Threads + Wait + Sync, S: Source, G: Gate + Sync>(
     source: &mut S,
     passes: &mut Vec<Box<dyn Pass>>,
     gate: &G,
+    told: &mut Vec<u8>,
 ) -> Result<Decided, Refusal>
     requires settings { AreSettingsWithin settings }
     requires tallies { All (λ p. taken p ≡ 0) passes.old.items }
+    requires untold { told.old.items ≡ [] }
+    ensures explains { outcome.MayExplain
+        (Some (record {
+          job = read_file name.now;
+          asked = asked_of settings
+              (map (λ p. image p) passes.old.items);
+        }))
+        (source_run S.file S.left S.reading S.faults source.old source.new) result told.new.items }
     ensures answer { outcome.IsAnswerOfRun
         (Some (record {
           job = read_file name.now;
@@ -55,12 +66,16 @@ fn verdict_on<R: Threads + Wait + Sync, S: Source, G: Gate + Sync>(
     ensures keeps { KeepsSource (source_run S.file S.left S.reading S.faults source.old source.new) }
 {
     match read(alloc, name, source, MAX_BYTES) {
-        Ok(bytes) => decide(rt, alloc, bytes.as_slice(), settings, passes, gate),
+        Ok(bytes) => {
+            let decided = decide(rt, alloc, bytes.as_slice(), settings, passes, gate);
+            *told = explanation(alloc, bytes.as_slice(), settings.explain, &decided);
+            decided
+        }
         Err(refusal) => Err(refusal),
     }
 }
 
-/// The verdict on the generated file of this number.
+/// The verdict on the generated file of this number. What explains it becomes the text `told`.
 fn verdict_on_cycle<R: Threads + Wait + Sync, G: Gate + Sync>(
     rt: &R,
     alloc: Global,
@@ -68,20 +83,30 @@ fn verdict_on_cycle<R: Threads + Wait + Sync, G: Gate + Sync>(
     settings: Settings,
     passes: &mut Vec<Box<dyn Pass>>,
     gate: &G,
+    told: &mut Vec<u8>,
 ) -> Result<Decided, Refusal>
     requires least { 1 ≤ k }
     requires most { k ≤ 300 }
     requires settings { AreSettingsWithin settings }
     requires tallies { All (λ p. taken p ≡ 0) passes.old.items }
-    ensures { HasAnswer (asked_of settings (map (λ p. image p) passes.old.items)) result (cycle_file_text k) }
+    requires untold { told.old.items ≡ [] }
+    ensures explains { IsExplanation settings.explain (cycle_file_text k) result told.new.items }
+    ensures answer { HasAnswer (asked_of settings (map (λ p. image p) passes.old.items)) result
+        (cycle_file_text k) }
 {
     match cycle_file(alloc, k) {
-        Ok(bytes) => decide(rt, alloc, bytes.as_slice(), settings, passes, gate),
+        Ok(bytes) => {
+            let decided = decide(rt, alloc, bytes.as_slice(), settings, passes, gate);
+            *told = explanation(alloc, bytes.as_slice(), settings.explain, &decided);
+            decided
+        }
         Err(_) => Err(Refusal::OutOfMemory),
     }
 }
 
-/// The verdict on what the words name: the file of a name, or the generated file of a number.
+/// The verdict on what the words name: the file of a name, or the generated file of a number. What
+/// explains it becomes the text `told`, which is empty before, and stays so where no explanation is asked
+/// for.
 fn answer<R: Threads + Wait + Sync, S: Source, G: Gate + Sync>(
     rt: &R,
     alloc: Global,
@@ -89,8 +114,12 @@ fn answer<R: Threads + Wait + Sync, S: Source, G: Gate + Sync>(
     source: &mut S,
     passes: &mut Vec<Box<dyn Pass>>,
     gate: &G,
+    told: &mut Vec<u8>,
 ) -> Result<Decided, Refusal>
-    requires { All (λ p. taken p ≡ 0) passes.old.items }
+    requires tallies { All (λ p. taken p ≡ 0) passes.old.items }
+    requires untold { told.old.items ≡ [] }
+    ensures explains { outcome.MayExplain (ordered (map (λ p. image p) passes.old.items) (texts words.now))
+        (source_run S.file S.left S.reading S.faults source.old source.new) result told.new.items }
     ensures answer { outcome.IsAnswerOfRun (ordered (map (λ p. image p) passes.old.items) (texts words.now))
         (source_run S.file S.left S.reading S.faults source.old source.new) result }
     ensures calm { result ≢ Err Refusal.Source
@@ -106,7 +135,7 @@ fn answer<R: Threads + Wait + Sync, S: Source, G: Gate + Sync>(
     };
     let settings = options.settings;
     match options.cycle {
-        Some(k) => verdict_on_cycle(rt, alloc, k, settings, passes, gate),
+        Some(k) => verdict_on_cycle(rt, alloc, k, settings, passes, gate, told),
         None => verdict_on(
             rt,
             alloc,
@@ -115,6 +144,7 @@ fn answer<R: Threads + Wait + Sync, S: Source, G: Gate + Sync>(
             source,
             passes,
             gate,
+            told,
         ),
     }
 }
@@ -152,15 +182,25 @@ fn end<R: Threads + Wait + Sync, S: Source, O: Sink, E: Sink, G: Gate + Sync>(
     ensures untouched { ReadsNothing (ordered (map (λ p. image p) passes.old.items) (texts words.now))
         → source.new ≡ source.old }
 {
-    match answer(rt, alloc, words, source, passes, gate) {
+    let mut told = Vec::new(alloc);
+    match answer(rt, alloc, words, source, passes, gate, &mut told) {
         Ok(decided) => match write_all(out, decided.report.as_slice()) {
-            Ok(()) => Ending::Reported(decided),
+            Ok(()) => {
+                explain(err, told.as_slice());
+                Ending::Reported(decided)
+            }
             Err(_) => {
                 let _ = refuse(alloc, err, USAGE, Refusal::Sink);
                 Ending::CutOff(decided)
             }
         },
-        Err(refusal) => Ending::Refused(refuse(alloc, err, USAGE, refusal)),
+        Err(refusal) => Ending::Refused(refuse_and_explain(
+            alloc,
+            err,
+            USAGE,
+            refusal,
+            told.as_slice(),
+        )),
     }
 }
 
@@ -193,8 +233,9 @@ fn exit_status(ending: &Ending) -> u8
 /// says: the name of a file, or `--gen K` for the generated file of that number, or neither, and then
 /// the source is started with the name `-`; `--entries N` and `--steps N` bound the table and the
 /// path, `--table` shows the table, and with `--first` the first start entry is enough; with `--quick`
-/// evidence is sought before the table is filled, and checked; `--workers N` workers fill the table, and
-/// `--simplify` makes the scheme smaller before. The source is started once at most, and nothing is read
+/// evidence is sought before the table is filled, and checked; with `--explain` a text on `err` explains
+/// the answer; `--workers N` workers fill the table, and `--simplify` makes the scheme smaller before. The
+/// source is started once at most, and nothing is read
 /// behind its end. The report is formed before the first write. A fault of `err` changes no status.
 ///
 /// Reading takes time and memory in proportion to the file. What saturation takes isn't bounded by

@@ -10,7 +10,7 @@ use crate::deciding::decide_problem;
 use hs_front::{Refusal, problem_of, sorted_of};
 use hs_passes::{Pass, simplify, weight_of};
 use hs_reader::MAX_BYTES;
-use hs_scheme::{Problem, Sorted};
+use hs_scheme::{FailingPath, Problem, Sorted};
 use hs_words::Settings;
 use hs_workers::Gate;
 use std::alloc::Global;
@@ -32,6 +32,8 @@ pub(crate) enum Verdict {
 pub(crate) struct Decided {
     pub(crate) verdict: Verdict,
     pub(crate) report: Vec<u8>,
+    /// The path that the report shows, where it shows one.
+    pub(crate) path: Option<FailingPath>,
 }
 
 /// What holds of each scheme with its sorts.

@@ -120,8 +120,8 @@ const FAULTS: [(&str, Calls, &[&str], Ended); 14] = [
 ];
 
 const USAGE: &str =
-    "usage: horsat [--workers N] [--entries N] [--steps N] [--table] [--first] [--quick] [--simplify] \
-     [--gen K] [FILE]\n";
+    "usage: horsat [--workers N] [--entries N] [--steps N] [--table] [--first] [--minimal] [--quick] \
+     [--explain] [--simplify] [--gen K] [FILE]\n";
 
 #[test]
 fn of_several_faults_the_first_is_told(rt: HostRuntime) -> Result<(), Fail> {

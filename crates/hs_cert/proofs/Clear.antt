@@ -189,7 +189,7 @@ module _ (p : ProblemData) (known : HasOwnNames p) (has : HasNamesInLines p) (ta
   entries_inside = texts_inside (line_text p) sorted (λ e c. entry_inside p known has e (point_small e c))
 
 pub report_certificate : (p : ProblemData) (table : List EntryData) (entries checked : ℕ) (text : List ℕ) → HasOwnNames p → HasNamesInLines p
-    → IsReport p (Accepted entries checked) (Some table) None text → AllPairs (λ a b. a ≢ b) table → entries ≡ length table → entries ≤ 1000000 → checked < 2 ^ 64
+    → IsReport p (Accepted entries checked) (Some table) None None text → AllPairs (λ a b. a ≢ b) table → entries ≡ length table → entries ≤ 1000000 → checked < 2 ^ 64
     → All (InShape p) table → All IsNested table
     → (sorted : List EntryData) × ((e : EntryData) → Contains sorted e ↔ Contains table e) × IsCertificate p text sorted checked
 report_certificate p table entries checked text known has r once count few fits shape nested = (
@@ -219,7 +219,7 @@ report_certificate p table entries checked text known has r once count few fits 
     lengths : length sorted ≡ length table
     lengths = long p known has table shape nested once sorted t.ascending t.same
 
-    spelled : summary p (Accepted entries checked) None ++ r.0 ≡ text_of (certificate_lines p Full checked sorted [])
+    spelled : summary p (Accepted entries checked) None None ++ r.0 ≡ text_of (certificate_lines p Full checked sorted [])
     spelled =
         let head = codes "accepted\nentries " ++ (decimal entries ++ codes "\n") in
         let numbers = codes "checked " ++ (decimal checked ++ codes "\n") in

@@ -33,7 +33,7 @@ pub fn certificate_is_unique()
 /// has an LF.
 pub fn report_is_certificate()
     ensures { (p : ProblemData) (table : List EntryData) (entries checked : ℕ) (text : List ℕ) →
-        HasOwnNames p → HasNamesInLines p → IsReport p (Accepted entries checked) (Some table) None text →
+        HasOwnNames p → HasNamesInLines p → IsReport p (Accepted entries checked) (Some table) None None text →
         AllPairs (λ a b. a ≢ b) table → entries ≡ length table → entries ≤ 1000000 → checked < 2 ^ 64 →
         All (InShape p) table → All IsNested table →
         (sorted : List EntryData) × ((e : EntryData) → Contains sorted e ↔ Contains table e)

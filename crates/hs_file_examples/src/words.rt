@@ -10,7 +10,9 @@ const DEFAULT: Settings = Settings {
     steps: 1_000_000,
     table: false,
     first: false,
+    minimal: false,
     quick: false,
+    explain: false,
     simplify: false,
 };
 
@@ -68,6 +70,41 @@ fn files_and_flags(rt: HostRuntime) {
             table: *table,
             first: *first,
             quick: *quick,
+            ..DEFAULT
+        };
+        let expected = Options {
+            settings,
+            cycle: None,
+            file: *file,
+        };
+        see_words(&rt, rt.alloc(), words, expected);
+    }
+}
+
+/// Words, whether a compact table and an explanation are asked for, and the file.
+const FURTHER_FLAGS: [(&[&str], bool, bool, Option<&str>); 4] = [
+    (&["horsat", "--minimal"], true, false, None),
+    (&["horsat", "--explain", "f"], false, true, Some("f")),
+    (
+        &["horsat", "--explain", "f", "--minimal"],
+        true,
+        true,
+        Some("f"),
+    ),
+    (
+        &["horsat", "--", "--minimal"],
+        false,
+        false,
+        Some("--minimal"),
+    ),
+];
+
+#[test]
+fn compact_tables_and_explanations(rt: HostRuntime) {
+    for (words, minimal, explain, file) in &FURTHER_FLAGS {
+        let settings = Settings {
+            minimal: *minimal,
+            explain: *explain,
             ..DEFAULT
         };
         let expected = Options {

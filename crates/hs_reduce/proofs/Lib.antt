@@ -3,3 +3,4 @@ pub mod ReplacementLemmas
 pub mod Walks
 pub mod ReplayLemmas
 pub mod CutLemmas
+mod TraceLemmas

@@ -14,6 +14,7 @@ use Rattle.hs_scheme.specs.Automaton.{next}
 use Rattle.hs_scheme.specs.Tree.{Tree, Trees, node, children, forest, children-forest}
 use Rattle.hs_scheme.specs.Cut.{unfolded}
 use Rattle.hs_scheme.specs.Run.{start}
+use Rattle.hs_scheme.specs.Failing.{IsFailingPath}
 use Rattle.hs_scheme.specs.Scheme.{IsScheme}
 use Rattle.hs_scheme.specs.Sorting.{Sorts}
 use Rattle.hs_scheme.specs.Sorted.{SortedData, IsSorted, known, sorts_of}
@@ -24,10 +25,10 @@ use Rattle.hs_steps.proofs.Sorted.{count, as_many, start_sorted, step_sorted}
 use Rattle.hs_steps.proofs.PathLemmas.{one_more}
 use Rattle.hs_reduce.specs.declared.answers.Replay.{Replay}
 use Rattle.hs_reduce.specs.declared.answers.Replay.TheVariants.{Stuck, Ended, NoChild, Runs}
-use Rattle.hs_reduce.specs.Replays.{IsMet, HasTransition, IsNoChild, IsEndOfPath, IsOffPath, MeetsAlong, IsReplayAnswer, IsFailureAlong}
+use Rattle.hs_reduce.specs.Replays.{IsMet, HasTransition, IsNoChild, IsEndOfPath, IsOffPath, MeetsAlong, IsReplayAnswer}
 use Rattle.hs_reduce.specs.declared.replaying.Spot.{Spot}
 use Rattle.hs_reduce.specs.Graph.{term_at, head_of, arguments_of, NamesTerms}
-use Rattle.hs_reduce.specs.Advances.{HasKnownSorts, HasNoStep, IsReachedSpot, EndsTrail}
+use Rattle.hs_reduce.specs.Advances.{HasKnownSorts, HasNoStep, IsReachedSpot}
 use Rattle.hs_reduce.proofs.ReplacementLemmas.{whole}
 use Rattle.hs_reduce.proofs.Walks.{Config, config, goes, after, walked, last, stops_without_transition, stops_without_child, stops_without_step}
 
@@ -235,7 +236,7 @@ module _ (s : SortedData) (sorted : HasKnownSorts s) where
 
     -- what is met at a spot
     module _ (trail : Path) (spot : Spot) (t : Tree Head) (a : ℕ) (is : IsReachedSpot s path trail spot t) (front : head_of t ≡ Tm a) where
-      fronted : t ≡ node (Tm a) (forest (arguments_of t))
+      pub fronted : t ≡ node (Tm a) (forest (arguments_of t))
       fronted = sym (whole t) ∙ ap (λ h. node h (forest (arguments_of t))) front
 
       reached_front : Reaches rules ts spot.used 0 start trail spot.state (node (Tm a) (forest (arguments_of t)))
@@ -245,7 +246,8 @@ module _ (s : SortedData) (sorted : HasKnownSorts s) where
       in_front = (trail, is.numbers, reached_front)
 
       -- without transition the path fails there
-      pub fails_at : next ts spot.state a ≡ None → EndsTrail s path trail (Stuck a spot.state spot.at spot.used)
+      pub fails_at : next ts spot.state a ≡ None
+          → IsFailingPath rules ts (record { steps = trail; last = a; state = spot.state; used = spot.used }) × (child_numbers trail ≡ take spot.at path)
       fails_at e = (record { arguments = forest (arguments_of t); reaches = reached_front; stuck = e }, is.numbers)
 
       met_at : (steps : ℕ) → spot.used ≤ steps → IsMet s path steps spot.at spot.used spot.state a
@@ -290,39 +292,35 @@ module _ (s : SortedData) (sorted : HasKnownSorts s) where
         child_term i place there =
             ap (λ us. slice_get us i) (own_arguments ∙ sym named.terms) ∙ (slice_get-map (term_at trees) places i ∙ ap (option_map (term_at trees)) there)
 
+        pub step_down : (i place q : ℕ) → c ≡ i + 1 → slice_get places i ≡ Some place → slice_get to i ≡ Some q → StepsTo rules ts spot.state t ((a, c) ∷ []) q (term_at trees place)
+        step_down i place q is_number there in_state =
+            along (λ (u : Tree Head). StepsTo rules ts spot.state u ((a, c) ∷ []) q (term_at trees place)) (sym fronted)
+            (to, e, record { place = i; labelled = ap (λ k. (a, k) ∷ []) is_number; state = in_state; term = child_term i place there })
+
         pub goes_down : (i place q : ℕ) → c ≡ i + 1 → slice_get places i ≡ Some place → slice_get to i ≡ Some q
             → IsReachedSpot s path (trail ++ (a, c) ∷ []) (record { place = place; state = q; at = spot.at + 1; used = spot.used + 1 }) (term_at trees place)
         goes_down i place q is_number there in_state =
-            let step : StepsTo rules ts spot.state (node (Tm a) (forest (arguments_of t))) ((a, c) ∷ []) q (term_at trees place) =
-            (to, e, record { place = i; labelled = ap (λ k. (a, k) ∷ []) is_number; state = in_state; term = child_term i place there }) in
             let lt : spot.at < length path = slice_get_within path spot.at c at in
             let numbers : take (spot.at + 1) path ≡ take spot.at path ++ c ∷ [] =
             take_more path spot.at c lt ∙ ap (λ k. take spot.at path ++ k ∷ []) (get_or_from_slice_get path spot.at c c at) in
             record {
               on_path = omega arith;
               numbers = numbers_on spot.at (spot.at + 1) trail ((a, c) ∷ []) is.numbers numbers;
-              reached = one_more rules ts spot.used 0 spot.state q start (node (Tm a) (forest (arguments_of t))) (term_at trees place) trail ((a, c) ∷ []) reached_front step;
+              reached = one_more rules ts spot.used 0 spot.state q start t (term_at trees place) trail ((a, c) ∷ []) is.reached (step_down i place q is_number there in_state);
             }
 
     -- a replacement in front
+    pub step_replaced : (q f : ℕ) (t u : Tree Head) → head_of t ≡ Nt f → unfolded rules f (arguments_of t) ≡ Some u → StepsTo rules ts q t [] q u
+    step_replaced q f t u front e =
+        let fronted : node (Nt f) (forest (arguments_of t)) ≡ t = sym (ap (λ h. node h (forest (arguments_of t))) front) ∙ whole t in
+        let goes_to : unfolded rules f (children (forest (arguments_of t))) ≡ Some u = ap (unfolded rules f) (children-forest (arguments_of t)) ∙ e in
+        along (λ (v : Tree Head). StepsTo rules ts q v [] q u) fronted (refl, refl, goes_to)
+
     pub replaces : (trail : Path) (spot : Spot) (t u : Tree Head) (f place : ℕ) → IsReachedSpot s path trail spot t → head_of t ≡ Nt f → unfolded rules f (arguments_of t) ≡ Some u
         → IsReachedSpot s path (trail ++ []) (record { place = place; state = spot.state; at = spot.at; used = spot.used + 1 }) u
     replaces trail spot t u f place is front e =
-        let fronted : node (Nt f) (forest (arguments_of t)) ≡ t = sym (ap (λ h. node h (forest (arguments_of t))) front) ∙ whole t in
-        let goes_to : unfolded rules f (children (forest (arguments_of t))) ≡ Some u = ap (unfolded rules f) (children-forest (arguments_of t)) ∙ e in
-        let step : StepsTo rules ts spot.state t [] spot.state u = along (λ (v : Tree Head). StepsTo rules ts spot.state v [] spot.state u) fronted (refl, refl, goes_to) in
         record {
           on_path = is.on_path;
           numbers = numbers_on spot.at spot.at trail [] is.numbers (sym (append-nil (take spot.at path)));
-          reached = one_more rules ts spot.used 0 spot.state spot.state start t u trail [] is.reached step;
+          reached = one_more rules ts spot.used 0 spot.state spot.state start t u trail [] is.reached (step_replaced spot.state f t u front e);
         }
-
--- the answer with the trail, as a failing path
-pub failing : (s : SortedData) (path : List ℕ) (steps a q at used : ℕ) (trail : Path) → EndsTrail s path trail (Stuck a q at used) → IsReplayAnswer s path steps (Stuck a q at used)
-    → IsFailureAlong s path steps (Some (record { steps = trail; last = a; state = q; used = used }))
-failing s path steps a q at used trail ends is = record { fails = ends.0; few = is.0.in_time; at = at; numbers = ends.1 }
-
--- where something else is answered, none is met
-pub no_failure : (s : SortedData) (path : List ℕ) (steps : ℕ) (r : Replay) → ((answer : Replay) → (r ≡ answer) ↔ IsReplayAnswer s path steps answer)
-    → ((a q at used : ℕ) → r ≡ Stuck a q at used → ⊥) → IsFailureAlong s path steps None
-no_failure s path steps r exact other = λ a q at used met. other a q at used ((exact (Stuck a q at used)).1 met)

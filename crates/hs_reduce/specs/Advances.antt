@@ -1,10 +1,11 @@
 -- One step of a reduction along a path; only private contracts cite it.
---     IsReachedSpot  the spot is reached from the start along the trail, after its numbers of children and steps
+--     IsReachedSpot  the spot is reached from the start along the labels, after its numbers of children and steps
+--     IsTracedSpot   so along the labels of the steps, which lead there one after another
+--     Keeps          what is kept of all steps: their labels, and the first of them
 --     HasNoStep      no terminal is in front, and there is no step
---     EndsTrail      the trail leads to what was met, where that is a terminal without transition
---     labelled       the label of a step, as a path
+--     EndsTrail      the steps lead to what was met, where that is a terminal without transition
 --     Advances       what comes of a spot
-use Rattle.std.specs.Prelude.{◌≡◌, ℕ, ◌+◌, ◌<◌, ◌≤◌, List, [], ◌∷◌, ◌++◌, length, take, Option, Some, None}
+use Rattle.std.specs.Prelude.{◌≡◌, ℕ, ◌+◌, ◌<◌, ◌≤◌, List, [], ◌∷◌, ◌++◌, length, take}
 use Rattle.hs_scheme.specs.declared.term.Head.{Head}
 use Rattle.hs_scheme.specs.declared.term.Head.TheVariants.{Tm}
 use Rattle.hs_scheme.specs.Tree.{Tree, Trees, node}
@@ -18,6 +19,9 @@ use Rattle.hs_reduce.specs.declared.answers.Replay.TheVariants.{Stuck}
 use Rattle.hs_reduce.specs.declared.replaying.Spot.{Spot}
 use Rattle.hs_reduce.specs.declared.replaying.Advance.{Advance}
 use Rattle.hs_reduce.specs.declared.replaying.Advance.TheVariants.{Met, Stays, Moved}
+use Rattle.hs_reduce.specs.declared.answers.ReductionStep.{ReductionStep}
+use Rattle.hs_reduce.specs.declared.trail.Trail.{Trail}
+use Rattle.hs_reduce.specs.Trace.{labels_of, Traces, IsFailingTrace}
 use Rattle.hs_reduce.specs.Graph.{term_at}
 use Rattle.hs_reduce.specs.Replays.{MeetsAlong}
 
@@ -30,21 +34,28 @@ pub record IsReachedSpot (s : SortedData) (path : List ℕ) (trail : Path) (spot
   pub numbers : child_numbers trail ≡ take spot.at path
   pub reached : Reaches s.scheme.rules s.automaton.transitions spot.used 0 start trail spot.state t
 
+pub record IsTracedSpot (s : SortedData) (path : List ℕ) (all : List ReductionStep) (spot : Spot) (t : Tree Head) : Type 0 where
+  pub at : IsReachedSpot s path (labels_of all) spot t
+  pub traces : Traces s.scheme.rules s.automaton.transitions all 0 start spot.state t
+  pub count : length all ≡ spot.used
+
+pub record Keeps (most : ℕ) (all : List ReductionStep) (trail : Trail) : Type 0 where
+  pub labels : trail.labels.items ≡ labels_of all
+  pub steps : trail.steps.items ≡ take most all
+
 pub record HasNoStep (s : SortedData) (q : ℕ) (t : Tree Head) : Type 0 where
   pub no_terminal : (a : ℕ) (us : Trees Head) → t ≡ node (Tm a) us → ⊥
   pub no_step : (p : ℕ) (u : Tree Head) (label : Path) → StepsTo s.scheme.rules s.automaton.transitions q t label p u → ⊥
 
-abbrev pub EndsTrail : SortedData → List ℕ → Path → Replay → Type 0
-EndsTrail s path trail (Stuck a q at used) =
-    IsFailingPath s.scheme.rules s.automaton.transitions (record { steps = trail; last = a; state = q; used = used }) × (child_numbers trail ≡ take at path)
-EndsTrail s path trail answer = Unit {0}
+abbrev pub EndsTrail : SortedData → List ℕ → List ReductionStep → Replay → Type 0
+EndsTrail s path all (Stuck a q at used) =
+    IsFailingPath s.scheme.rules s.automaton.transitions (record { steps = labels_of all; last = a; state = q; used = used })
+    × (child_numbers (labels_of all) ≡ take at path)
+    × IsFailingTrace s.scheme.rules s.automaton.transitions all (record { steps = labels_of all; last = a; state = q; used = used })
+EndsTrail s path all answer = Unit {0}
 
-abbrev pub labelled : Option (ℕ × ℕ) → Path
-labelled None = []
-labelled (Some label) = label ∷ []
-
-abbrev pub Advances : SortedData → List ℕ → Path → Spot → Tree Head → List (Tree Head) → Advance → Type 0
-Advances s path trail spot t trees (Met answer) = EndsTrail s path trail answer × ((steps : ℕ) → spot.used ≤ steps → MeetsAlong s path steps answer)
-Advances s path trail spot t trees Stays = HasNoStep s spot.state t
-Advances s path trail spot t trees (Moved label further) =
-    (further.used ≡ spot.used + 1) × (further.place < length trees) × IsReachedSpot s path (trail ++ labelled label) further (term_at trees further.place)
+abbrev pub Advances : SortedData → List ℕ → List ReductionStep → Spot → Tree Head → List (Tree Head) → Advance → Type 0
+Advances s path all spot t trees (Met answer) = EndsTrail s path all answer × ((steps : ℕ) → spot.used ≤ steps → MeetsAlong s path steps answer)
+Advances s path all spot t trees Stays = HasNoStep s spot.state t
+Advances s path all spot t trees (Moved step further) =
+    (further.used ≡ spot.used + 1) × (further.place < length trees) × IsTracedSpot s path (all ++ step ∷ []) further (term_at trees further.place)

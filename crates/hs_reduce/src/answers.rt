@@ -37,3 +37,29 @@ pub enum Bounded {
     /// It doesn't, and the path leads to an error in fewer steps than the cut has.
     Error(FailingPath),
 }
+
+/// A step of a reduction along a path.
+#[derive(Clone, Copy, Debug, PartialEq, Eq, Drop)]
+pub enum ReductionStep {
+    /// The nonterminal in front, by the number of its rule, counted from 0, is replaced.
+    Call {
+        rule: u32,
+    },
+    /// From the terminal in front, counted from 0, the reduction goes down to its child, counted from
+    /// 1, and from a state to the one in which the child is read.
+    Descent {
+        terminal: u32,
+        child: u32,
+        from: u32,
+        to: u32,
+    },
+}
+
+/// The reduction of the start along a path to a terminal without transition.
+#[derive(Debug, Drop)]
+pub struct Trace {
+    /// The path. Its `used` is the number of all steps.
+    pub path: FailingPath,
+    /// The first of the steps, in their order.
+    pub steps: Vec<ReductionStep>,
+}

@@ -11,8 +11,9 @@ mod graph;
 mod limits;
 mod replacement;
 mod replaying;
+mod trail;
 
-pub use answers::{Bounded, Replay};
+pub use answers::{Bounded, ReductionStep, Replay, Trace};
 pub use cutting::bounded;
 pub use limits::{MAX_CUT, MAX_STEPS};
-pub use replaying::{failure_along, replay};
+pub use replaying::{failure_along, replay, trace_along};

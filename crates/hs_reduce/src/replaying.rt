@@ -1,17 +1,19 @@
 //! Reduction along a path.
 
-ghost use Rattle.std.specs.Prelude.{◌≡◌, ℕ, ◌<◌, ◌≤◌, ◌+◌, ◌⊎◌, ◌↔◌, [], length, slice_get, Some, IfOk, MatchOption, option_map};
+ghost use Rattle.std.specs.Prelude.{◌≡◌, ℕ, ◌<◌, ◌≤◌, ◌+◌, ◌⊎◌, ◌↔◌, List, [], length, slice_get, Some, IfOk, MatchOption, option_map};
 ghost use Rattle.hs_scheme.specs.declared.term.Head.TheVariants.{Tm};
 ghost use Rattle.hs_reduce.specs.declared.answers.Replay.{Replay};
-ghost use Rattle.hs_scheme.specs.Steps.{Path};
+ghost use Rattle.hs_reduce.specs.declared.answers.ReductionStep.{ReductionStep as AnyStep};
 ghost use Rattle.hs_reduce.specs.Graph.{term_at, head_of};
 ghost use Rattle.hs_reduce.specs.Replays.{IsReplayAnswer, IsFailureAlong};
-ghost use Rattle.hs_reduce.specs.Advances.{HasKnownSorts, IsReachedSpot, EndsTrail, Advances};
+ghost use Rattle.hs_reduce.specs.Trace.{IsTraceAlong};
+ghost use Rattle.hs_reduce.specs.Advances.{HasKnownSorts, IsTracedSpot, Keeps, EndsTrail, Advances};
 
-use crate::answers::Replay;
+use crate::answers::{ReductionStep, Replay, Trace};
 use crate::graph::Graph;
 use crate::limits::MAX_STEPS;
 use crate::replacement::replace;
+use crate::trail::Trail;
 use hs_scheme::{FailingPath, Head, OutOfMemory, Sorted};
 use std::alloc::Global;
 
@@ -25,13 +27,12 @@ pub(crate) struct Spot {
     pub(crate) used: u64,
 }
 
-/// What comes of a spot: what is met there, nothing, or one step. A descent has the terminal and the
-/// number of its child as its label.
+/// What comes of a spot: what is met there, nothing, or one step.
 #[derive(Drop)]
 pub(crate) enum Advance {
     Met(Replay),
     Stays,
-    Moved(Option<(u32, u32)>, Spot),
+    Moved(ReductionStep, Spot),
 }
 
 /// The place and the state of the child with this number, counted from 1.
@@ -58,8 +59,8 @@ fn descend(sorted: &Sorted, graph: &Graph, spot: Spot, path: &[u32], terminal: u
     requires few { spot.used ≤ MAX_STEPS }
     requires short { length path.now ≤ MAX_STEPS }
     requires head { head_of (term_at graph.now spot.place) ≡ Tm terminal }
-    ensures { (trail : Path) → IsReachedSpot sorted.now path.now trail spot (term_at graph.now spot.place)
-        → Advances sorted.now path.now trail spot (term_at graph.now spot.place) graph.now result }
+    ensures { (all : List AnyStep) → IsTracedSpot sorted.now path.now all spot (term_at graph.now spot.place)
+        → Advances sorted.now path.now all spot (term_at graph.now spot.place) graph.now result }
 {
     let at = spot.at as u32;
     let Some(to) = sorted.automaton.next(spot.state, terminal) else {
@@ -76,7 +77,12 @@ fn descend(sorted: &Sorted, graph: &Graph, spot: Spot, path: &[u32], terminal: u
     match child_at(to, graph.arguments(spot.place), *number) {
         None => Advance::Met(Replay::NoChild { at }),
         Some((place, state)) => Advance::Moved(
-            Some((terminal, *number)),
+            ReductionStep::Descent {
+                terminal,
+                child: *number,
+                from: spot.state,
+                to: state,
+            },
             Spot {
                 place,
                 state,
@@ -100,16 +106,16 @@ fn next_step(
     requires on_path { spot.at ≤ length path.now }
     requires few { spot.used ≤ MAX_STEPS }
     requires short { length path.now ≤ MAX_STEPS }
-    ensures { IfOk result (λ advance. (trail : Path)
-        → IsReachedSpot sorted.now path.now trail spot (term_at graph.old spot.place)
-        → Advances sorted.now path.now trail spot (term_at graph.old spot.place) graph.new advance) }
+    ensures { IfOk result (λ advance. (all : List AnyStep)
+        → IsTracedSpot sorted.now path.now all spot (term_at graph.old spot.place)
+        → Advances sorted.now path.now all spot (term_at graph.old spot.place) graph.new advance) }
 {
     match graph.head(spot.place) {
         Head::Var(_) => Ok(Advance::Stays),
         Head::Nt(number) => match replace(alloc, sorted, graph, spot.place, number)? {
             None => Ok(Advance::Stays),
             Some(place) => Ok(Advance::Moved(
-                None,
+                ReductionStep::Call { rule: number },
                 Spot {
                     place,
                     state: spot.state,
@@ -122,21 +128,23 @@ fn next_step(
     }
 }
 
-/// Reduces the start along these child numbers, and puts each terminal on the way with the number of
-/// its child on the trail, which is empty before.
+/// Reduces the start along these child numbers, and puts each step on the trail, which is empty before
+/// and keeps so many steps.
 fn follow(
     alloc: Global,
     sorted: &Sorted,
     path: &[u32],
     steps: u64,
-    trail: &mut Vec<(u32, u32)>,
+    most: usize,
+    trail: &mut Trail,
 ) -> Result<Replay, OutOfMemory>
     requires few { steps ≤ 4000000 }
     requires short { length path.now ≤ 4000000 }
-    requires empty { trail.old.items ≡ [] }
+    requires empty { Keeps most [] trail.old }
     ensures answer { IfOk result (λ found. (answer : Replay) → (found ≡ answer)
         ↔ IsReplayAnswer sorted.now path.now steps answer) }
-    ensures trail { IfOk result (EndsTrail sorted.now path.now trail.new.items) }
+    ensures trail { IfOk result (λ found. (all : List AnyStep) × Keeps most all trail.new
+        × EndsTrail sorted.now path.now all found) }
 {
     // What the types of `sorted` and of its scheme keep is known where their fields are read.
     let scheme = &sorted.scheme;
@@ -152,13 +160,11 @@ fn follow(
         match next_step(alloc, sorted, &mut graph, spot, path)? {
             Advance::Met(answer) => return Ok(answer),
             Advance::Stays => return Ok(Replay::Runs),
-            Advance::Moved(label, further) => {
+            Advance::Moved(step, further) => {
                 if spot.used == steps {
                     return Ok(Replay::Runs);
                 }
-                if let Some(label) = label {
-                    trail.push(label)?;
-                }
+                trail.push(most, step)?;
                 spot = further;
             }
         }
@@ -181,13 +187,45 @@ pub fn replay(
     ensures { IfOk result (λ found. (answer : Replay) → (found ≡ answer)
         ↔ IsReplayAnswer sorted.now path.now steps answer) }
 {
-    let mut trail = Vec::new(alloc);
-    follow(alloc, sorted, path, steps, &mut trail)
+    let mut trail = Trail::new(alloc);
+    follow(alloc, sorted, path, steps, 0, &mut trail)
 }
 
-/// Reduces the start likewise, and where a terminal without transition is met, gives the path to it: the
-/// first of the children, with their terminals. `None` comes exactly where none is met. Time and memory
-/// are those of `replay`.
+/// Reduces the start likewise, and where a terminal without transition is met, gives the path to it, the
+/// first of the children with their terminals, and the first `most` steps of the reduction. `None` comes
+/// exactly where none is met. Time and memory are those of `replay`, and `most` steps are kept.
+pub fn trace_along(
+    alloc: Global,
+    sorted: &Sorted,
+    path: &[u32],
+    steps: u64,
+    most: usize,
+) -> Result<Option<Trace>, OutOfMemory>
+    requires few { steps ≤ 4000000 }
+    requires short { length path.now ≤ 4000000 }
+    ensures { IfOk result (IsTraceAlong sorted.now path.now steps most) }
+{
+    let mut trail = Trail::new(alloc);
+    match follow(alloc, sorted, path, steps, most, &mut trail)? {
+        Replay::Stuck {
+            terminal,
+            state,
+            at: _,
+            used,
+        } => Ok(Some(Trace {
+            path: FailingPath {
+                steps: trail.labels,
+                last: terminal,
+                state,
+                used,
+            },
+            steps: trail.steps,
+        })),
+        _ => Ok(None),
+    }
+}
+
+/// Reduces the start likewise, and gives the path alone.
 pub fn failure_along(
     alloc: Global,
     sorted: &Sorted,
@@ -198,19 +236,8 @@ pub fn failure_along(
     requires short { length path.now ≤ 4000000 }
     ensures { IfOk result (IsFailureAlong sorted.now path.now steps) }
 {
-    let mut trail = Vec::new(alloc);
-    match follow(alloc, sorted, path, steps, &mut trail)? {
-        Replay::Stuck {
-            terminal,
-            state,
-            at: _,
-            used,
-        } => Ok(Some(FailingPath {
-            steps: trail,
-            last: terminal,
-            state,
-            used,
-        })),
-        _ => Ok(None),
+    match trace_along(alloc, sorted, path, steps, 0)? {
+        Some(trace) => Ok(Some(trace.path)),
+        None => Ok(None),
     }
 }

@@ -1,12 +1,15 @@
 //! Tests of tables without threads: the order of types and of entries, types as numbers, the look-ups
 //! of a log, the plain program, and the indexed programs beside it; saturation by one worker, the
-//! budget's edge, what a core tells of itself, and workers step by step; and what the checker answers.
+//! budget's edge, what a core tells of itself, and workers step by step; compact tables; and what the
+//! checker answers.
 #![tactic(auto)]
 
 #[cfg(test)]
 mod accessors;
 #[cfg(test)]
 mod checking;
+#[cfg(test)]
+mod compacting;
 #[cfg(test)]
 mod comparing;
 #[cfg(test)]

@@ -3,9 +3,12 @@
 --     set_text        the types of a set in braces
 --     env_text        for each parameter its name, `:` and its set, in brackets
 --     entry_line      the number of a point, its rule's name, the environment and the type, on a line
---     summary         the verdict with the number of entries and what it rests on, and the weight that was removed
+--     minimal_line    how many entries a compact list has, or that more came on the way than are allowed
+--     HoldsOfList P   P holds of the compact list, where there is one
+--     summary         the verdict with the number of entries and what it rests on, the weight that was removed, and the line on a compact list
 --     IsTableText     the lines of a table's entries, ascending
---     IsReport        the summary, and behind it the table where it is asked for
+--     HasCompactText  behind some text the word `compact` with the lines of the compact list, where there is one
+--     IsReport        the summary, and behind it the table and the compact list where the table is asked for
 -- The reports of what was found without a table.
 --     void_line            a nonterminal and an environment that is void for it, on a line
 --     certificate_summary  of a certificate of acceptance: how many entries it has, and how many void environments
@@ -25,6 +28,8 @@ use Rattle.hs_table.specs.Entries.{Env, EntryData, entry_cmp}
 use Rattle.hs_scheme.specs.FailingPath.{FailingPathData}
 use Rattle.hs_weak.specs.Void.{VoidData, void_cmp}
 use Rattle.hs_text.specs.Canonical.{name_at, params_at}
+use Rattle.hs_text.specs.declared.minimal.Minimal.{Minimal}
+use Rattle.hs_text.specs.declared.minimal.Minimal.TheVariants.{Table, More}
 use Rattle.hs_text.specs.declared.verdict.Verdict.{Verdict}
 use Rattle.hs_text.specs.declared.verdict.Verdict.TheVariants.{Accepted, Rejected, Long}
 
@@ -92,8 +97,20 @@ verdict_lines names (Accepted entries checked) = head_lines (codes "accepted\n")
 verdict_lines names (Rejected entries path) = head_lines (codes "rejected\n") entries ++ path_lines names path
 verdict_lines names (Long entries steps) = head_lines (codes "rejected\n") entries ++ (codes "path longer than " ++ (decimal steps ++ codes " steps\n"))
 
-abbrev pub summary : ProblemData → Verdict → Option ℕ → List ℕ
-summary p verdict removed = verdict_lines p.sorted.names verdict ++ number_line_if (codes "simplified ") removed
+abbrev pub minimal_line : Minimal → List ℕ
+minimal_line (Table C) = number_line (codes "minimal ") (length C.items)
+minimal_line (More budget) = number_line (codes "minimal more than ") budget
+
+abbrev pub minimal_line_if : Option Minimal → List ℕ
+minimal_line_if minimal = option_map_or minimal_line minimal []
+
+abbrev pub HoldsOfList : (List EntryData → Type 0) → Option Minimal → Type 0
+HoldsOfList P None = Unit {0}
+HoldsOfList P (Some (Table C)) = P C.items
+HoldsOfList P (Some (More budget)) = Unit {0}
+
+abbrev pub summary : ProblemData → Verdict → Option ℕ → Option Minimal → List ℕ
+summary p verdict removed minimal = verdict_lines p.sorted.names verdict ++ (number_line_if (codes "simplified ") removed ++ minimal_line_if minimal)
 
 -- The ascending list with the entries of the table, each on its line. There is just one such list.
 pub record IsTableText (p : ProblemData) (table : List EntryData) (text : List ℕ) : Type 0 where
@@ -102,9 +119,14 @@ pub record IsTableText (p : ProblemData) (table : List EntryData) (text : List �
   pub same : (e : EntryData) → Contains entries e ↔ Contains table e
   pub is : text ≡ flat_map (entry_line p) entries
 
-abbrev pub IsReport : ProblemData → Verdict → Option (List EntryData) → Option ℕ → List ℕ → Type 0
-IsReport p verdict None removed text = text ≡ summary p verdict removed
-IsReport p verdict (Some table) removed text = (lines : List ℕ) × (IsTableText p table lines × (text ≡ summary p verdict removed ++ lines))
+abbrev pub HasCompactText : ProblemData → Option Minimal → List ℕ → List ℕ → Type 0
+HasCompactText p None before text = text ≡ before
+HasCompactText p (Some (Table C)) before text = (lines : List ℕ) × (IsTableText p C.items lines × (text ≡ before ++ (codes "compact\n" ++ lines)))
+HasCompactText p (Some (More budget)) before text = text ≡ before
+
+abbrev pub IsReport : ProblemData → Verdict → Option (List EntryData) → Option ℕ → Option Minimal → List ℕ → Type 0
+IsReport p verdict None removed minimal text = text ≡ summary p verdict removed minimal
+IsReport p verdict (Some table) removed minimal text = (lines : List ℕ) × (IsTableText p table lines × HasCompactText p minimal (summary p verdict removed minimal ++ lines) text)
 
 -- ---- what was found without a table
 

@@ -5,6 +5,7 @@
 mod canonical;
 mod evidence;
 mod laws;
+mod minimal;
 mod pieces;
 mod summary;
 mod table;
@@ -13,6 +14,8 @@ mod verdict;
 pub use canonical::scheme_text;
 pub use evidence::{certificate_report, path_report, void_line};
 pub use laws::report_is_unique;
-pub use summary::report;
+pub use minimal::Minimal;
+pub use pieces::name_of;
+pub use summary::{path_text, report};
 pub use table::{entry_line, table_text};
 pub use verdict::Verdict;

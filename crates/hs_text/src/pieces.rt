@@ -55,8 +55,8 @@ impl Text {
     }
 }
 
-/// The name with this number; nothing where there is none.
-pub(crate) fn name_of(names: &[Name], number: usize) -> &[u8]
+/// The name with this number; nothing where there is none. Takes no memory.
+pub fn name_of(names: &[Name], number: usize) -> &[u8]
     ensures { result.now ≡ name_at names.now number }
 {
     match names.get(number) {

@@ -2,25 +2,19 @@
 use Rattle.std.proofs.Common.{◌≡◌, ◌∙◌, ap, sym, ℕ, Bool, false, List, Option, Some, None}
 use Rattle.std.specs.Prelude.{◌&&◌, is_some, option_and_then, if◌then◌else◌}
 use Rattle.hs_words.specs.declared.options.Settings.{Settings}
-use Rattle.hs_words.specs.Words.{OptionsData, number_if, number_or, settings_by_values, said_by_values}
+use Rattle.hs_words.specs.Words.{OptionsData, number_if, number_or, said_by_values}
 
-abbrev values : ℕ → ℕ → ℕ → Bool → Bool → Bool → Bool → Settings
-values w e s t f k m = record { workers = w; entries = e; steps = s; table = t; first = f; quick = k; simplify = m }
+abbrev bounded : Option ℕ → Option ℕ → Option ℕ → (ℕ → ℕ → ℕ → Settings) → Option Settings
+bounded ws es ss of = option_and_then (λ w. option_and_then (λ e. option_and_then (λ s. Some (of w e s)) ss) es) ws
 
-abbrev bounded : Option ℕ → Option ℕ → Option ℕ → Bool → Bool → Bool → Bool → Option Settings
-bounded ws es ss t f k m = option_and_then (λ w. option_and_then (λ e. option_and_then (λ s. Some (values w e s t f k m)) ss) es) ws
-
-pub settings_said : (workers entries steps : Option (List ℕ)) (table first quick simplify : Bool) (w e s : ℕ) (t f k m : Bool)
+pub settings_said : (workers entries steps : Option (List ℕ)) (of said : ℕ → ℕ → ℕ → Settings) (w e s : ℕ)
     → Some w ≡ number_or 4 1 16 workers
     → Some e ≡ number_or 200000 1 1000000 entries
     → Some s ≡ number_or 1000000 1 4000000 steps
-    → t ≡ table
-    → f ≡ first
-    → k ≡ quick
-    → m ≡ simplify
-    → Some (values w e s t f k m) ≡ settings_by_values workers entries steps table first quick simplify
-settings_said workers entries steps table first quick simplify w e s t f k m ws es ss ts fs ks ms =
-    λ i. bounded (ws i) (es i) (ss i) (ts i) (fs i) (ks i) (ms i)
+    → of w e s ≡ said w e s
+    → Some (of w e s) ≡ bounded (number_or 4 1 16 workers) (number_or 200000 1 1000000 entries) (number_or 1000000 1 4000000 steps) said
+settings_said workers entries steps of said w e s ws es ss same =
+    ap (λ k. Some k) same ∙ (λ i. bounded (ws i) (es i) (ss i) said)
 
 abbrev whole : Settings → Option ℕ → Option (List ℕ) → OptionsData
 whole s n x = record { settings = s; cycle = n; file = x }

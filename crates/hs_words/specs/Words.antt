@@ -36,8 +36,13 @@ bare = on_top (λ (s : Shape). record s { disable_help_flag = true }) (new_app (
 abbrev pub with_bounds : App → App
 with_bounds command = with_rule (with_rule (with_rule command (option (codes "workers"))) (option (codes "entries"))) (option (codes "steps"))
 
+abbrev pub with_flag : App → List ℕ → App
+with_flag command name = with_rule command (flag name)
+
 abbrev pub with_flags : App → App
-with_flags command = with_rule (with_rule (with_rule (with_rule command (flag (codes "table"))) (flag (codes "first"))) (flag (codes "quick"))) (flag (codes "simplify"))
+with_flags command =
+    with_flag (with_flag (with_flag (with_flag (with_flag (with_flag command
+    (codes "table")) (codes "first")) (codes "minimal")) (codes "quick")) (codes "explain")) (codes "simplify")
 
 -- the first of the words is the program's name, and one that is no option is FILE
 abbrev pub horsat : App
@@ -70,22 +75,37 @@ pub record OptionsData : Type 0 where
 abbrev pub unless_both : OptionsData → Option OptionsData
 unless_both o = if is_some o.cycle && is_some o.file then None else Some o
 
--- what the values of the options say of the settings, and of the whole
-abbrev pub settings_by_values : Option (List ℕ) → Option (List ℕ) → Option (List ℕ) → Bool → Bool → Bool → Bool → Option Settings
-settings_by_values workers entries steps table first quick simplify =
-    option_and_then (λ w. option_and_then (λ e. option_and_then (λ s. Some (record { workers = w; entries = e; steps = s; table = table; first = first; quick = quick; simplify = simplify }))
-    (number_or 1000000 1 4000000 steps)) (number_or 200000 1 1000000 entries)) (number_or 4 1 16 workers)
+-- whether the matches have the flag
+abbrev pub has_flag : List Row → List ℕ → Bool
+has_flag rows name = is_set (first_of name rows)
 
+-- the settings with these bounds, and the flags that the matches have
+abbrev pub settings_with : List Row → ℕ → ℕ → ℕ → Settings
+settings_with rows workers entries steps = record {
+  workers = workers;
+  entries = entries;
+  steps = steps;
+  table = has_flag rows (codes "table");
+  first = has_flag rows (codes "first");
+  minimal = has_flag rows (codes "minimal");
+  quick = has_flag rows (codes "quick");
+  explain = has_flag rows (codes "explain");
+  simplify = has_flag rows (codes "simplify");
+}
+
+-- what the matches say of the settings
+abbrev pub settings_in : List Row → Option Settings
+settings_in rows =
+    option_and_then (λ w. option_and_then (λ e. option_and_then (λ s. Some (settings_with rows w e s))
+    (number_or 1000000 1 4000000 (first_of (codes "steps") rows))) (number_or 200000 1 1000000 (first_of (codes "entries") rows)))
+    (number_or 4 1 16 (first_of (codes "workers") rows))
+
+-- what the settings, `--gen` and FILE say together
 abbrev pub said_by_values : Option Settings → Option (List ℕ) → Option (List ℕ) → Option OptionsData
 said_by_values settings cycle file =
     option_and_then (λ s. option_and_then (λ c. unless_both (record { settings = s; cycle = c; file = file })) (number_if 1 300 cycle)) settings
 
--- what the matches say of the settings, and of the whole
-abbrev pub settings_in : List Row → Option Settings
-settings_in rows =
-    settings_by_values (first_of (codes "workers") rows) (first_of (codes "entries") rows) (first_of (codes "steps") rows)
-    (is_set (first_of (codes "table") rows)) (is_set (first_of (codes "first") rows)) (is_set (first_of (codes "quick") rows)) (is_set (first_of (codes "simplify") rows))
-
+-- what the matches say
 abbrev pub said : List Row → Option OptionsData
 said rows = said_by_values (settings_in rows) (first_of (codes "gen") rows) (first_of (codes "file") rows)
 

@@ -54,7 +54,9 @@ fn with_flags<'a>(alloc: Global, command: Command<'a>) -> Result<Command<'a>, Al
     command
         .arg(flag(alloc, "table"))?
         .arg(flag(alloc, "first"))?
+        .arg(flag(alloc, "minimal"))?
         .arg(flag(alloc, "quick"))?
+        .arg(flag(alloc, "explain"))?
         .arg(flag(alloc, "simplify"))
 }
 
@@ -88,7 +90,9 @@ fn settings<'a>(matches: &ArgMatches<'a>) -> Option<Settings>
         steps: u64::from(steps),
         table: is_set(value(matches, "table")),
         first: is_set(value(matches, "first")),
+        minimal: is_set(value(matches, "minimal")),
         quick: is_set(value(matches, "quick")),
+        explain: is_set(value(matches, "explain")),
         simplify: is_set(value(matches, "simplify")),
     })
 }
@@ -115,9 +119,9 @@ fn options<'a>(matches: &ArgMatches<'a>) -> Option<Options<'a>>
 /// at.
 ///
 /// The command is a simple one of `clap`: `--workers`, `--entries`, `--steps` and `--gen` take one
-/// number each, as `--gen 2` or `--gen=2`; `--table`, `--first`, `--quick` and `--simplify` take no
-/// value; another word is the file, and behind `--` every word is. Nothing is given twice. A number is
-/// one to nine ASCII digits with a value in its range. `Usage` comes exactly where the words aren't of
+/// number each, as `--gen 2` or `--gen=2`; `--table`, `--first`, `--minimal`, `--quick`, `--explain` and
+/// `--simplify` take no value; another word is the file, and behind `--` every word is. Nothing is given
+/// twice. A number is one to nine ASCII digits with a value in its range. `Usage` comes exactly where the words aren't of
 /// this form, a number is out of form or range, or a file and `--gen` are both given. Time and
 /// memory are in proportion to the words.
 pub fn read_words<'a>(alloc: Global, words: &'a [&'a str]) -> Result<Options<'a>, WordsFault>

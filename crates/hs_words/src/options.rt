@@ -13,8 +13,12 @@ pub struct Settings {
     pub table: bool,
     /// Whether no more work is taken once the start entry stands.
     pub first: bool,
+    /// Whether a compact table is shown beside the least one.
+    pub minimal: bool,
     /// Whether a verdict by evidence is sought before the table is filled.
     pub quick: bool,
+    /// Whether the answer is explained on standard error.
+    pub explain: bool,
     /// Whether the scheme is made smaller before it is decided.
     pub simplify: bool,
 }

@@ -24,6 +24,6 @@ returns c =
       checked = c.in_ok-checked.checked;
       count = subst (λ (t : List EntryData). IsCount c.args.problem.now t c.in_ok-checked.checked) (c.as_slice.ensures.value ∙ c.in_ok-table.ensures) c.in_ok-checked.ensures;
       tells =
-          subst (λ (n : ℕ). IsShown c.args.problem.now c.args.settings.table (Accepted n c.in_ok-checked.checked) log c.args.removed c.in_ok-report.report.items)
+          subst (λ (n : ℕ). IsShown c.args.settings c.args.problem.now (Accepted n c.in_ok-checked.checked) log c.args.removed c.in_ok-report.report.items)
           c.len.ensures (c.in_ok-report.ensures);
     }

@@ -34,7 +34,7 @@ returns-in_ok-report-in-Found c =
       supported = supported;
       names = found.names;
       tells =
-          subst (λ (n : ℕ). IsShown p c.args.settings.table (Rejected n c.in-Found.path) log c.args.removed c.in_ok-report-in-Found.report.items)
+          subst (λ (n : ℕ). IsShown c.args.settings p (Rejected n c.in-Found.path) log c.args.removed c.in_ok-report-in-Found.report.items)
           c.len-entries.ensures (c.in_ok-report-in-Found.ensures);
     }
 
@@ -67,6 +67,6 @@ returns-in_ok-report-in-StepLimit c =
       begins = cut.begins;
       fails = (cut.need, c.namings_end_and_fail.ensures.fails p log supports c.is_sorted_problem.ensures supported cut.need cut.path cut.names);
       tells =
-          subst (λ (n : ℕ). IsShown p c.args.settings.table (Long n c.args.settings.steps) log c.args.removed c.in_ok-report-in-StepLimit.report.items)
+          subst (λ (n : ℕ). IsShown c.args.settings p (Long n c.args.settings.steps) log c.args.removed c.in_ok-report-in-StepLimit.report.items)
           c.len-entries.ensures (c.in_ok-report-in-StepLimit.ensures);
     }

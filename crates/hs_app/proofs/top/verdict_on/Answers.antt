@@ -1,15 +1,28 @@
+use Rattle.std.proofs.Common.{◌∙◌, inl, []}
 use Rattle.hs_front.specs.Outside.{source_run}
+use Rattle.hs_app.specs.Problems.{asked_of}
+use Rattle.hs_app.specs.Order.{read_file}
 use Rattle.hs_app.proofs.OutcomeLemmas.{of_whole, has_of, of_fault}
+use Rattle.hs_app.proofs.ExplainingLemmas.{may_explain}
 use Rattle.hs_app.proofs.top.verdict_on.Goals as goal
 
 pub returns-in-Ok-clause-answer : goal.returns-in-Ok-clause-answer
 returns-in-Ok-clause-answer g c =
     let source = source_run g.S.Source.file g.S.Source.left g.S.Source.reading g.S.Source.faults c.args.source.now c.read.new.source in
-    of_whole c.args.name.now _ source c.decide.result
-    (has_of _ c.decide.result c.as_slice.result.now c.in-Ok.bytes.items source.after.given c.as_slice.ensures.value c.in-Ok.ensures.answer.given c.in-Ok.ensures.answer.within c.decide.ensures)
+    of_whole c.args.name.now _ source c.decide-decided.result
+    (has_of _ c.decide-decided.result c.as_slice.result.now c.in-Ok.bytes.items source.after.given c.as_slice.ensures.value c.in-Ok.ensures.answer.given c.in-Ok.ensures.answer.within c.decide-decided.ensures)
     c.in-Ok.ensures.answer.read
 
 pub returns-in-Err-clause-answer : goal.returns-in-Err-clause-answer
 returns-in-Err-clause-answer g c =
     let source = source_run g.S.Source.file g.S.Source.left g.S.Source.reading g.S.Source.faults c.args.source.now c.read.new.source in
     of_fault c.args.name.now _ source c.in-Err.refusal c.in-Err.ensures.answer
+
+pub returns-in-Ok-clause-explains : goal.returns-in-Ok-clause-explains
+returns-in-Ok-clause-explains g c =
+    let source = source_run g.S.Source.file g.S.Source.left g.S.Source.reading g.S.Source.faults c.args.source.now c.read.new.source in
+    may_explain (record { job = read_file c.args.name.now; asked = asked_of c.args.settings [] }) source c.as_slice-in-Ok.result.now c.decide-decided.result c.explanation.result.items
+    (c.as_slice-in-Ok.ensures.value ∙ c.in-Ok.ensures.answer.given) c.explanation.ensures
+
+pub returns-in-Err-clause-explains : goal.returns-in-Err-clause-explains
+returns-in-Err-clause-explains g c = inl c.requires.untold

@@ -1,14 +1,15 @@
--- the spot is reached within the steps, along the trail
-use Rattle.std.proofs.Common.{◌-◌, ◌<◌, ◌≤◌, length}
+-- the spot is reached within the steps, which the trail keeps
+use Rattle.std.proofs.Common.{◌-◌, ◌<◌, ◌≤◌, List, length}
+use Rattle.hs_reduce.specs.declared.answers.ReductionStep.{ReductionStep}
 use Rattle.hs_reduce.specs.Graph.{term_at}
-use Rattle.hs_reduce.specs.Advances.{IsReachedSpot}
+use Rattle.hs_reduce.specs.Advances.{IsTracedSpot, Keeps}
 use Rattle.hs_reduce.proofs.replaying.follow.Given as goal
 
 abbrev pub invariant-loop-graph : goal.invariant-loop-graph
 invariant-loop-graph l = record {
   in_time : l.spot.used ≤ l.steps;
   within : l.spot.place < length l.graph;
-  at : IsReachedSpot l.sorted l.path l.trail.items l.spot (term_at l.graph l.spot.place);
+  at : (all : List ReductionStep) × Keeps l.most all l.trail × IsTracedSpot l.sorted l.path all l.spot (term_at l.graph l.spot.place);
 }
 
 abbrev pub decreases-loop-graph : goal.decreases-loop-graph

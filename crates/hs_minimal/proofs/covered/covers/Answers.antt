@@ -1,0 +1,16 @@
+use Rattle.std.proofs.Common.{subst, IsTrue, ◌↔◌}
+use Rattle.std.proofs.lemmas.Result.{IfOk-weaker}
+use Rattle.hs_weak.specs.Strength.{AsStrongAs, AsksAtLeast, Covers}
+use Rattle.hs_weak.proofs.ComparingLemmas.{covers_whole}
+use Rattle.hs_types.specs.Interned.{InternerData, env_of_id, entry_of}
+use Rattle.hs_minimal.proofs.covered.covers.Goals as goal
+
+pub returns-clause-ok : goal.returns-clause-ok
+returns-clause-ok c =
+    let I = c.args.types.now in
+    let J = c.is_as_strong.new.self in
+    let e = c.args.entry.now in
+    let o = c.args.other.now in
+    let strong = c.in_ok-is_as_strong.ensures.ok.0 c.if-not-branch.false in
+    IfOk-weaker c.asks_at_least.result (λ b. IsTrue b ↔ AsksAtLeast AsStrongAs (env_of_id J o.env) (env_of_id J e.env)) (λ b. IsTrue b ↔ Covers AsStrongAs (entry_of I e) (entry_of I o))
+    (λ b asks. covers_whole (entry_of I e) (entry_of I o) c.requires.point strong (IsTrue b) (subst (λ (K : InternerData). IsTrue b ↔ AsksAtLeast AsStrongAs (env_of_id K o.env) (env_of_id K e.env)) c.is_as_strong.ensures.same asks)) c.asks_at_least.ensures.ok

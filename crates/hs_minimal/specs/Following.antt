@@ -1,0 +1,73 @@
+-- What weakly follows at a point, by rows; only private contracts cite it.
+--     IsHeadSource        the types of a head come from the entries at this point
+--     IsSource            so, or it is an argument: what follows at a point comes from entries at such points alone
+--     AddsRowsOf          the entries that are kept at points of a kind were added
+--     IsGathered          just the entries at the sources of a point
+--     row_with            the row with a point, a type and an environment
+--     IsSplitAtArgs       a type of the point's head, split at its arguments
+--     IsCoveredAmong      one of the rows covers the entry
+--     AreCoveredByType    whatever follows by a type of the head is covered by one of the rows
+--     IsFollowing         the row's entry weakly follows at the point
+--     AddsFollowing       what follows by a type of the head was added, as much as it takes
+--     AddsFollowingAll    so for each type of the head, and nothing else is there
+--     AreLeastFollowing        rows that weakly follow at the point, one of which covers each entry that does
+use Rattle.std.specs.Prelude.{◌≡◌, ℕ, ◌<◌, List, length, Contains, ◌⊎◌, ◌↔◌}
+use Rattle.hs_scheme.specs.declared.term.Head.{Head}
+use Rattle.hs_scheme.specs.Dependents.{HeadReads}
+use Rattle.hs_scheme.specs.Points.{PointData, point_at}
+use Rattle.hs_scheme.specs.Problem.{ProblemData}
+use Rattle.hs_table.specs.Types.{TypeTree, arrows}
+use Rattle.hs_table.specs.Entries.{Env, EntryData, Has, IsEnv, params_of}
+use Rattle.hs_table.specs.Follows.{HeadHas, AnyHas}
+use Rattle.hs_weak.specs.Strength.{AsStrongAs, Covers}
+use Rattle.hs_weak.specs.Weak.{WeaklyChosen, WeaklyFollows}
+use Rattle.hs_types.specs.Interned.{InternerData, type_of_id, RowData, IsRow, entry_of}
+use Rattle.hs_heads.specs.HeadTypes.{HeadTypeData, sets_of, IsHeadRow}
+use Rattle.hs_reads.specs.Lists.{list_of}
+use Rattle.hs_minimal.specs.Growing.{GrowingData, entries, AreOfRows}
+
+abbrev pub IsHeadSource : ProblemData → ℕ → Head → ℕ → Type 0
+IsHeadSource p rule head u = HeadReads p.points.bodies p.flow.pairs rule head u
+
+abbrev pub IsSource : ProblemData → PointData → ℕ → Type 0
+IsSource p of u = IsHeadSource p of.rule of.head u ⊎ Contains of.args u
+
+abbrev pub AddsRowsOf : GrowingData → (ℕ → Type 0) → List RowData → List RowData → Type 0
+AddsRowsOf g Of old new = (r : RowData) → Contains new r ↔ (Contains old r ⊎ ((u : ℕ) × (Of u × Contains (list_of g.rows u) r)))
+
+abbrev pub IsGathered : GrowingData → ℕ → List RowData → Type 0
+IsGathered g point rows = (r : RowData) → Contains rows r ↔ ((u : ℕ) × (IsSource g.problem (point_at g.problem.points point) u × Contains (list_of g.rows u) r))
+
+abbrev pub row_with : ℕ → ℕ → ℕ → RowData
+row_with point ty env = record { point = point; env = env; ty = ty }
+
+pub record IsSplitAtArgs (p : ProblemData) (point : ℕ) (I : InternerData) (h : HeadTypeData) : Type 0 where
+  pub row : IsHeadRow p (point_at p.points point) I h
+  pub long : length h.sets ≡ length (point_at p.points point).args
+
+abbrev pub IsCoveredAmong : InternerData → List RowData → EntryData → Type 0
+IsCoveredAmong I rows e = (by : RowData) × (Contains rows by × Covers AsStrongAs (entry_of I by) e)
+
+abbrev pub AreCoveredByType : ProblemData → List EntryData → ℕ → PointData → InternerData → Env → TypeTree → List RowData → Type 0
+AreCoveredByType p C point of J sets ty rows =
+    (places : List (ℕ × ℕ)) (es : List EntryData) → WeaklyChosen AsStrongAs p C 0 of.args sets places es → (E : Env) → IsEnv (params_of p of.rule) E
+    → ((j : ℕ) (a : TypeTree) → j < length E → Has E j a ↔ (HeadHas of.head (arrows sets ty) j a ⊎ AnyHas es j a)) → IsCoveredAmong J rows (record { point = point; env = E; ty = ty })
+
+pub record IsFollowing (p : ProblemData) (C : List EntryData) (point : ℕ) (J : InternerData) (r : RowData) : Type 0 where
+  pub in_use : IsRow J r
+  pub at : r.point ≡ point
+  pub follows : WeaklyFollows AsStrongAs p C (entry_of J r)
+
+pub record AddsFollowing (p : ProblemData) (C : List EntryData) (point : ℕ) (of : PointData) (J : InternerData) (sets : Env) (ty : TypeTree) (old new : List RowData) : Type 0 where
+  pub keeps : (r : RowData) → Contains old r → Contains new r
+  pub come : (r : RowData) → Contains new r → Contains old r ⊎ IsFollowing p C point J r
+  pub covered : AreCoveredByType p C point of J sets ty new
+
+-- the head types are read in I, the rows in J
+pub record AddsFollowingAll (p : ProblemData) (C : List EntryData) (point : ℕ) (of : PointData) (I J : InternerData) (heads : List HeadTypeData) (found : List RowData) : Type 0 where
+  pub all : (r : RowData) → Contains found r → IsFollowing p C point J r
+  pub covered : (h : HeadTypeData) → Contains heads h → AreCoveredByType p C point of J (sets_of I h) (type_of_id I h.ty) found
+
+pub record AreLeastFollowing (I : InternerData) (g : GrowingData) (point : ℕ) (found : List RowData) : Type 0 where
+  pub all : (r : RowData) → Contains found r → IsFollowing g.problem (entries I g.history) point I r
+  pub covered : (C : List EntryData) → AreOfRows I g C → (e : EntryData) → e.point ≡ point → WeaklyFollows AsStrongAs g.problem C e → IsCoveredAmong I found e

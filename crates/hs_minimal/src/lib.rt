@@ -1,0 +1,20 @@
+//! Compact tables: a list of entries none of which covers another, and which decides as the least table
+//! does.
+//!
+//! `specs/Weak` of `hs_weak` says what a compact list is, and `specs/Compact` here what `compact` answers.
+//! `Growing` and `Following` are cited by private contracts.
+#![tactic(auto)]
+
+mod answer;
+mod compacting;
+mod covered;
+mod dropping;
+mod following;
+mod gathering;
+mod growing;
+mod rows;
+mod settling;
+mod turns;
+
+pub use answer::Compact;
+pub use compacting::compact;
