@@ -1,15 +1,15 @@
 -- The bytes of a file come to one answer, want of memory and the length of a path aside.
 use Rattle.std.proofs.Common.{◌≡◌, refl, sym, ◌∙◌, ap, subst, ℕ, ◌<◌, ◌≤◌, List, Result, Ok, Err, Bool, true, false, length, ◌⊎◌, inl, inr, arith}
-use Rattle.hs_scheme.specs.Unsorted.{UnsortedData}
+use Rattle.hs_scheme.specs.sorting.Unsorted.{UnsortedData}
 use Rattle.hs_scheme.specs.Problem.{ProblemData}
-use Rattle.hs_scheme.specs.Run.{Accepts}
+use Rattle.hs_scheme.specs.acceptance.Run.{Accepts}
 use Rattle.hs_table.specs.Entries.{EntryData}
 use Rattle.hs_table.specs.Tables.{IsLeastTable, Exceeds}
 use Rattle.hs_table_laws.proofs.Least.{least_decides}
 use Rattle.hs_front.specs.declared.refusal.Refusal.{Refusal}
 use Rattle.hs_front.specs.declared.refusal.Refusal.TheVariants.{Usage, Source, FileTooLong, Syntax, Limit, Names, IllSorted, NotFirstOrder, SortTooLarge, RuleTooLong, PointLimit, FlowLimit, EntryLimit, Sink, OutOfMemory}
-use Rattle.hs_app.specs.declared.verdict.Verdict.{Verdict}
-use Rattle.hs_app.specs.declared.verdict.Verdict.TheVariants.{Accepted, Rejected, Long}
+use Rattle.hs_app.specs.declared.verdict.Decision.{Decision}
+use Rattle.hs_app.specs.declared.verdict.Decision.TheVariants.{Accepted, Rejected, Long}
 use Rattle.hs_app.specs.declared.verdict.Decided.{Decided}
 use Rattle.hs_front.specs.Problems.{HasManyPoints, HasMuchFlow}
 use Rattle.hs_front.specs.Faults.{IsFileFault}
@@ -52,7 +52,7 @@ module _ (R : Refusal → Type 0) (S : UnsortedData → Type 0) (asked : Asked) 
 -- ---- an answer and a warrant on a scheme
 
 -- the answer is one of those that the warrant allows
-abbrev pub Matches : Result Verdict Refusal → Result Decided Refusal → Type 0
+abbrev pub Matches : Result Decision Refusal → Result Decided Refusal → Type 0
 Matches (Ok Accepted) (Ok decided) = decided.verdict ≡ Accepted
 Matches (Ok Rejected) (Ok decided) = (decided.verdict ≡ Rejected) ⊎ (decided.verdict ≡ Long)
 Matches (Ok Long) (Ok decided) = ⊥
@@ -63,11 +63,11 @@ Matches (Err refusal) (Err other) = refusal ≡ other
 abbrev pub Wants : Result Decided Refusal → Type 0
 Wants a = a ≡ Err OutOfMemory
 
-abbrev pub Right : Result Verdict Refusal → Result Decided Refusal → Type 0
+abbrev pub Right : Result Decision Refusal → Result Decided Refusal → Type 0
 Right d a = Wants a ⊎ Matches d a
 
-matching : (c d : Result Verdict Refusal) (a b : Result Decided Refusal) → d ≡ c → a ≡ b → Matches c b → Matches d a
-matching c d a b e f h = subst (λ (x : Result Verdict Refusal). Matches x a) (sym e) (subst (λ (y : Result Decided Refusal). Matches c y) (sym f) h)
+matching : (c d : Result Decision Refusal) (a b : Result Decided Refusal) → d ≡ c → a ≡ b → Matches c b → Matches d a
+matching c d a b e f h = subst (λ (x : Result Decision Refusal). Matches x a) (sym e) (subst (λ (y : Result Decided Refusal). Matches c y) (sym f) h)
 
 module _ (asked : Asked) (u : UnsortedData) where
   -- a tree that is accepted; where no other evidence is sought, within the budget
@@ -123,7 +123,7 @@ module _ (asked : Asked) (u : UnsortedData) where
         | inr (quick, s) ↦ absurd s
       ]
 
-  told_verdict : (d : Decided) (v : Verdict) → d.verdict ≡ v → Reports asked u v d.report.items → Told (Ok d)
+  told_verdict : (d : Decided) (v : Decision) → d.verdict ≡ v → Reports asked u v d.report.items → Told (Ok d)
   told_verdict d Accepted e h = inr (inl (d, (refl, (e, won d.report.items h))))
   told_verdict d Rejected e h = inr (inr (inl (d, (refl, (inl e, lost_along d.report.items h)))))
   told_verdict d Long e h = inr (inr (inl (d, (refl, (inr e, lost_long d.report.items h)))))
@@ -146,7 +146,7 @@ module _ (asked : Asked) (u : UnsortedData) where
   told (Err (RuleTooLong rule)) h = absurd h
   told (Err Sink) h = absurd h
 
-  abbrev Warranted : Result Verdict Refusal → Type 0
+  abbrev Warranted : Result Decision Refusal → Type 0
   Warranted d =
       ((d ≡ Ok Accepted) × (Accepts u.rules u.automaton.transitions × IsWithinBudget asked u))
       ⊎ (((d ≡ Ok Rejected) × ((Accepts u.rules u.automaton.transitions → ⊥) × IsWithinBudget asked u))
@@ -154,7 +154,7 @@ module _ (asked : Asked) (u : UnsortedData) where
       ⊎ (((d ≡ Err FlowLimit) × OfForm asked u HasMuchFlow)
       ⊎ ((d ≡ Err EntryLimit) × IsBoundToExceed asked u))))
 
-  warranted : (d : Result Verdict Refusal) → WarrantsOnScheme asked u d → Warranted d
+  warranted : (d : Result Decision Refusal) → WarrantsOnScheme asked u d → Warranted d
   warranted (Ok Accepted) h = inl (refl, (h.0, h.1))
   warranted (Ok Rejected) h = inr (inl (refl, (h.0, h.1)))
   warranted (Err PointLimit) h = inr (inr (inl (refl, h)))
@@ -203,7 +203,7 @@ module _ (asked : Asked) (u : UnsortedData) where
       ]
 
   -- an answer beside a scheme that has a problem
-  beside_problem : (d : Result Verdict Refusal) (a : Result Decided Refusal) (p : ProblemData) → HasProblem asked u p → Told a
+  beside_problem : (d : Result Decision Refusal) (a : Result Decided Refusal) (p : ProblemData) → HasProblem asked u p → Told a
       → ((x : Decided) → a ≡ Ok x → x.verdict ≡ Accepted → IsWon → Matches d a)
       → ((x : Decided) → a ≡ Ok x → (x.verdict ≡ Rejected) ⊎ (x.verdict ≡ Long) → IsLost → Matches d a)
       → (a ≡ Err EntryLimit → IsOverBudget asked u → Matches d a)
@@ -219,7 +219,7 @@ module _ (asked : Asked) (u : UnsortedData) where
       ]
 
   -- an answer beside a scheme that has none
-  beside_limit : (d : Result Verdict Refusal) (a : Result Decided Refusal) → Told a
+  beside_limit : (d : Result Decision Refusal) (a : Result Decided Refusal) → Told a
       → ((p : ProblemData) → HasProblem asked u p → ⊥)
       → (a ≡ Err PointLimit → OfForm asked u HasManyPoints → Matches d a)
       → (a ≡ Err FlowLimit → OfForm asked u HasMuchFlow → Matches d a)
@@ -234,7 +234,7 @@ module _ (asked : Asked) (u : UnsortedData) where
         | inr (inr (inr (inr (inr (e, o))))) ↦ absurd (none o.0 o.1.0)
       ]
 
-  pub scheme_matches : (d : Result Verdict Refusal) (a : Result Decided Refusal) → WarrantsOnScheme asked u d → IsAnswerOn asked u a → Right d a
+  pub scheme_matches : (d : Result Decision Refusal) (a : Result Decided Refusal) → WarrantsOnScheme asked u d → IsAnswerOn asked u a → Right d a
   scheme_matches d a w h =
       elim (warranted d w) [
         | inl (is, (accepts, within)) ↦
@@ -265,7 +265,7 @@ module _ (asked : Asked) (u : UnsortedData) where
 -- ---- an answer and a warrant on the bytes of a file
 
 module _ (asked : Asked) (bytes : List ℕ) where
-  answer_layers : (a : Result Decided Refusal) → IsAnsweredWith asked bytes a → Wants a ⊎ Layered (λ r. a ≡ Err r) (λ u. IsAnswerOn asked u a) bytes
+  pub answer_layers : (a : Result Decided Refusal) → IsAnsweredWith asked bytes a → Wants a ⊎ Layered (λ r. a ≡ Err r) (λ u. IsAnswerOn asked u a) bytes
   answer_layers (Ok d) h = inr (of_sound (λ r. Ok d ≡ Err r) (λ u. IsAnswerOn asked u (Ok d)) bytes h.scheme h.sound h.decides)
   answer_layers (Err r) h =
       elim (of_refusal (λ s. Err r ≡ Err s) (λ u. IsAnswerOn asked u (Err r)) asked bytes r h refl) [
@@ -274,7 +274,7 @@ module _ (asked : Asked) (bytes : List ℕ) where
         | inr (inr l) ↦ inr l
       ]
 
-  module _ (d : Result Verdict Refusal) where
+  module _ (d : Result Decision Refusal) where
     abbrev IsRefusal : Refusal → Type 0
     IsRefusal r = d ≡ Err r
 
@@ -296,10 +296,10 @@ module _ (asked : Asked) (bytes : List ℕ) where
         ]
 
   -- the file is too long, or not, and then there are the layers
-  abbrev Lies : Result Verdict Refusal → Type 0
+  abbrev Lies : Result Decision Refusal → Type 0
   Lies d = (max_bytes < length bytes) ⊎ ((length bytes ≤ max_bytes) × Layers d)
 
-  warrant_layers : (d : Result Verdict Refusal) → Warrants asked d bytes → Lies d
+  warrant_layers : (d : Result Decision Refusal) → Warrants asked d bytes → Lies d
   warrant_layers (Ok v) h = inr (h.0, of_warrant (Ok v) h.1)
   warrant_layers (Err Usage) h = absurd h
   warrant_layers (Err Source) h = absurd h
@@ -318,7 +318,7 @@ module _ (asked : Asked) (bytes : List ℕ) where
   warrant_layers (Err EntryLimit) h = inr (h.0, of_warrant (Err EntryLimit) h.1)
 
   -- what the file warrants is answered, want of memory aside
-  pub answer_meets : (d : Result Verdict Refusal) (a : Result Decided Refusal) → Warrants asked d bytes → HasAnswer asked a bytes → Right d a
+  pub answer_meets : (d : Result Decision Refusal) (a : Result Decided Refusal) → Warrants asked d bytes → HasAnswer asked a bytes → Right d a
   answer_meets d a w h =
       elim (answer_layers a h.1) [
         | inl wants ↦ inl wants

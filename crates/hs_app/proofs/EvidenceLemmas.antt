@@ -7,11 +7,11 @@ use Rattle.std.specs.declared.cmp.Ordering.{Ordering}
 use Rattle.std.specs.declared.cmp.Ordering.TheVariants.{Less, Equal}
 use Rattle.std.proofs.lemmas.Cmp.{tied_itself}
 use Rattle.hs_scheme.specs.declared.term.Head.TheVariants.{Tm}
-use Rattle.hs_scheme.specs.Flow.{IsAscending}
-use Rattle.hs_scheme.specs.FailingPath.{FailingPathData}
+use Rattle.hs_scheme.specs.flow.Flow.{IsAscending}
+use Rattle.hs_scheme.specs.acceptance.FailingPath.{FailingPathData}
 use Rattle.hs_scheme.specs.Problem.{ProblemData}
-use Rattle.hs_scheme.specs.Run.{start}
-use Rattle.hs_scheme.specs.Sorted.{SortedData}
+use Rattle.hs_scheme.specs.acceptance.Run.{start}
+use Rattle.hs_scheme.specs.sorting.Sorted.{SortedData}
 use Rattle.hs_scheme.specs.Tree.{node}
 use Rattle.hs_steps.proofs.Failing.{no_failure_accepted}
 use Rattle.hs_steps.proofs.PathLemmas.{ends_fails}
@@ -20,8 +20,8 @@ use Rattle.hs_front.specs.declared.refusal.Refusal.{Refusal}
 use Rattle.hs_text.specs.Report.{path_summary}
 use Rattle.hs_words.specs.declared.options.Settings.{Settings}
 use Rattle.hs_app.specs.declared.verdict.Decided.{Decided}
-use Rattle.hs_app.specs.declared.verdict.Verdict.{Verdict}
-use Rattle.hs_app.specs.declared.verdict.Verdict.TheVariants.{Rejected}
+use Rattle.hs_app.specs.declared.verdict.Decision.{Decision}
+use Rattle.hs_app.specs.declared.verdict.Decision.TheVariants.{Rejected}
 use Rattle.hs_app.specs.Verdict.{DecidesProblem, DecidesQuickly, Decides, ShowsOf}
 
 -- no two items of a list that ascends are equal
@@ -46,7 +46,7 @@ path_decides settings before p removed path failing (Some d) quick is h =
     let rules = before.scheme.rules in
     let ts = before.automaton.transitions in (
       quick,
-      subst (λ (v : Verdict). ShowsOf settings before p removed v d.report.items) (sym h.0) (record {
+      subst (λ (v : Decision). ShowsOf settings before p removed v d.report.items) (sym h.0) (record {
         rejects = λ accepts.
             no_failure_accepted rules ts accepts failing.used failing.steps
             (ends_fails rules ts failing.used 0 start failing.steps (failing.state, node (Tm failing.last) is.fails.arguments, is.fails.reaches, is.fails.stuck));

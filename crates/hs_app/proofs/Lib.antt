@@ -1,4 +1,6 @@
 pub mod OneProblem
+pub mod OneTable
+pub mod OneReport
 pub mod ReportedTables
 pub mod DecidingLemmas
 pub mod EvidenceLemmas

@@ -1,7 +1,7 @@
 -- A scheme has one problem at most, by what is asked for.
 use Rattle.std.proofs.Common.{◌≡◌, ap, subst}
-use Rattle.hs_scheme.specs.Unsorted.{UnsortedData}
-use Rattle.hs_scheme.specs.Sorted.{SortedData}
+use Rattle.hs_scheme.specs.sorting.Unsorted.{UnsortedData}
+use Rattle.hs_scheme.specs.sorting.Sorted.{SortedData}
 use Rattle.hs_scheme.specs.Problem.{ProblemData}
 use Rattle.hs_front.specs.Problems.{IsSortedFormOf, HasManyPoints, HasMuchFlow}
 use Rattle.hs_front.proofs.OneProblem.{one_form, problem_is, few_points, little_flow, one_limit}

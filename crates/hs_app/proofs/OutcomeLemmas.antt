@@ -1,12 +1,12 @@
 -- What is claimed of a run, from how it ends.
-use Rattle.std.proofs.Common.{◌≡◌, ◌≢◌, refl, sym, ◌∙◌, ap, subst, ℕ, ◌<◌, ◌≤◌, true, List, Option, Some, None, Result, Ok, Err, length, ◌⊎◌, inl, inr, arith}
+use Rattle.std.proofs.Common.{◌≡◌, ◌≢◌, refl, sym, ◌∙◌, ap, subst, ℕ, ◌<◌, ◌≤◌, Bool, true, List, Option, Some, None, Result, Ok, Err, length, ◌⊎◌, inl, inr, arith}
 use Rattle.std.specs.Option.{IsSomeAnd, IfSome}
 use Rattle.hs_gen.specs.Cycle.{cycle_file_text}
 use Rattle.hs_front.specs.declared.refusal.Refusal.{Refusal}
 use Rattle.hs_front.specs.declared.refusal.Refusal.TheVariants.{Usage, Source, FileTooLong, Syntax, Limit, Names, IllSorted, NotFirstOrder, SortTooLarge, RuleTooLong, PointLimit, FlowLimit, EntryLimit, Sink, OutOfMemory}
 use Rattle.hs_app.specs.Problems.{Asked}
-use Rattle.hs_app.specs.declared.verdict.Verdict.{Verdict}
-use Rattle.hs_app.specs.declared.verdict.Verdict.TheVariants.{Accepted, Rejected, Long}
+use Rattle.hs_app.specs.declared.verdict.Decision.{Decision}
+use Rattle.hs_app.specs.declared.verdict.Decision.TheVariants.{Accepted, Rejected, Long}
 use Rattle.hs_app.specs.declared.verdict.Decided.{Decided}
 use Rattle.hs_app.specs.declared.top.Ending.{Ending}
 use Rattle.hs_app.specs.declared.top.Ending.TheVariants.{Reported, CutOff, Refused}
@@ -24,7 +24,7 @@ use Rattle.hs_app.proofs.AnswerLemmas.{Wants, Matches, answer_meets, readable_co
 -- ---- facts about the bytes of a job's file
 
 -- the same as `OfTold`, where the file need not be told
-abbrev OfFile : FileOrigin → (List ℕ → Option (List ℕ)) → (List ℕ → Type 0) → Type 0
+abbrev pub OfFile : FileOrigin → (List ℕ → Option (List ℕ)) → (List ℕ → Type 0) → Type 0
 OfFile (read_file n) file P = IfSome (file n) P
 OfFile (generate k) file P = P (cycle_file_text k)
 
@@ -48,18 +48,18 @@ always_of_job R (read_file n) file h = always_of_bytes R (file n) h
 always_of_job R (generate k) file h = h
 
 -- What was handed out says of these files what it says itself.
-record IsShownBy (job : FileOrigin) (source : SourceRun) (file : List ℕ → Option (List ℕ)) : Type 1 where
-  whole : (P : List ℕ → Type 0) → P (bytes_of job source.after.given) → IsReadToEnd job source → OfFile job file P
-  part : max_bytes < length source.after.given → IsPart job source → OfFile job file (λ bytes. max_bytes < length bytes)
+pub record IsShownBy (job : FileOrigin) (source : SourceRun) (file : List ℕ → Option (List ℕ)) : Type 1 where
+  pub whole : (P : List ℕ → Type 0) → P (bytes_of job source.after.given) → IsReadToEnd job source → OfFile job file P
+  pub part : max_bytes < length source.after.given → IsPart job source → OfFile job file (λ bytes. max_bytes < length bytes)
 
-shows_told : (job : FileOrigin) (source : SourceRun) → IsShownBy job source source.file
+pub shows_told : (job : FileOrigin) (source : SourceRun) → IsShownBy job source source.file
 shows_told (read_file n) source = record {
   whole = λ P h read. whole_bytes P source.after.given (source.file n) source.left_after read.told (read.all refl) h;
   part = λ h read. part_bytes max_bytes source.after.given (source.file n) source.left_after read.told h;
 }
 shows_told (generate k) source = record { whole = λ P h read. h; part = λ h read. absurd read }
 
-shows_handed : (job : FileOrigin) (source : SourceRun) → IsShownBy job source (λ _. Some source.after.given)
+pub shows_handed : (job : FileOrigin) (source : SourceRun) → IsShownBy job source (λ _. Some source.after.given)
 shows_handed (read_file n) source = record { whole = λ P h read. h; part = λ h read. h }
 shows_handed (generate k) source = record { whole = λ P h read. h; part = λ h read. absurd read }
 
@@ -146,12 +146,12 @@ any_cause order source OutOfMemory h changes = h
 abbrev IsFailure : Result Decided Refusal → Type 0
 IsFailure b = (b ≡ Err Source) ⊎ Wants b
 
-abbrev status_due : Result Decided Refusal → ℕ
+abbrev pub status_due : Result Decided Refusal → ℕ
 status_due (Ok decided) = status_of_verdict decided.verdict
 status_due (Err refusal) = status_of refusal
 
 -- a file that is too long warrants that alone
-long_only : (asked : Asked) (bytes : List ℕ) (d : Result Verdict Refusal) → max_bytes < length bytes → Warrants asked d bytes → d ≡ Err FileTooLong
+long_only : (asked : Asked) (bytes : List ℕ) (d : Result Decision Refusal) → max_bytes < length bytes → Warrants asked d bytes → d ≡ Err FileTooLong
 long_only asked bytes (Ok v) l h = absurd (omega (arith, l, h.0))
 long_only asked bytes (Err Usage) l h = absurd h
 long_only asked bytes (Err Source) l h = absurd h
@@ -170,7 +170,7 @@ long_only asked bytes (Err FlowLimit) l h = absurd (omega (arith, l, h.0))
 long_only asked bytes (Err EntryLimit) l h = absurd (omega (arith, l, h.0))
 
 -- the statuses of an answer that the warrant allows
-status_matches : (d : Result Verdict Refusal) (b : Result Decided Refusal) → Matches d b → IsStatusOf d (status_due b)
+status_matches : (d : Result Decision Refusal) (b : Result Decided Refusal) → Matches d b → IsStatusOf d (status_due b)
 status_matches (Ok Accepted) (Ok x) h = ap status_of_verdict h
 status_matches (Ok Rejected) (Ok x) (inl e) = inl (ap status_of_verdict e)
 status_matches (Ok Rejected) (Ok x) (inr e) = inr (ap status_of_verdict e)
@@ -181,17 +181,17 @@ status_matches (Ok Long) (Err r) h = absurd h
 status_matches (Err r) (Ok x) h = absurd h
 status_matches (Err r) (Err s) h = ap status_of (sym h)
 
-verdict_matches : (d : Result Verdict Refusal) (x : Decided) → Matches d (Ok x) → (v : Verdict) × (d ≡ Ok v)
+verdict_matches : (d : Result Decision Refusal) (x : Decided) → Matches d (Ok x) → (v : Decision) × (d ≡ Ok v)
 verdict_matches (Ok v) x h = (v, refl)
 verdict_matches (Err r) x h = absurd h
 
-verdict_status : (v : Verdict) → status_of_verdict v ≤ 2
+verdict_status : (v : Decision) → status_of_verdict v ≤ 2
 verdict_status Accepted = omega arith
 verdict_status Rejected = omega arith
 verdict_status Long = omega arith
 
-abbrev IsDueStatus : ℕ → Result Verdict Refusal → Type 0
-IsDueStatus status d = IsStatusOf d status ⊎ ((status ≡ 8) ⊎ (((status ≡ 9) × (v : Verdict) × (d ≡ Ok v)) ⊎ (status ≡ 10)))
+abbrev IsDueStatus : ℕ → Result Decision Refusal → Type 0
+IsDueStatus status d = IsStatusOf d status ⊎ ((status ≡ 8) ⊎ (((status ≡ 9) × (v : Decision) × (d ≡ Ok v)) ⊎ (status ≡ 10)))
 
 abbrev Completes : ℕ → Type 0
 Completes status = (status ≤ 3) ⊎ ((status ≡ 8) ⊎ ((status ≡ 9) ⊎ (status ≡ 10)))
@@ -206,7 +206,7 @@ module _ (o : Order) (source : SourceRun) (file : List ℕ → Option (List ℕ)
   abbrev Is : Result Decided Refusal → Type 0
   Is b = IsAnswerOfRun (Some o) source b
 
-  due_told : (d : Result Verdict Refusal) → IsDue (Some o) file d → Told (Warrants o.asked d)
+  due_told : (d : Result Decision Refusal) → IsDue (Some o) file d → Told (Warrants o.asked d)
   due_told (Ok v) h = h
   due_told (Err Usage) h = absurd (cc)
   due_told (Err Source) h = h
@@ -231,7 +231,7 @@ module _ (o : Order) (source : SourceRun) (file : List ℕ → Option (List ℕ)
   by_bytes : (b : Result Decided Refusal) → HasAnswer o.asked b (bytes_of o.job source.after.given) × IsReadToEnd o.job source → Why b
   by_bytes b h = inr (inr (shows.whole (HasAnswer o.asked b) h.0 h.1))
 
-  why : (b : Result Decided Refusal) → Is b → Why b
+  pub why : (b : Result Decided Refusal) → Is b → Why b
   why (Ok x) h = by_bytes (Ok x) h
   why (Err Usage) h = let e = h.0 in absurd (cc)
   why (Err Source) h = inl (inl refl)
@@ -249,15 +249,15 @@ module _ (o : Order) (source : SourceRun) (file : List ℕ → Option (List ℕ)
   why (Err Sink) h = absurd h
   why (Err OutOfMemory) h = inl (inr refl)
 
-  abbrev Meet : Result Verdict Refusal → Result Decided Refusal → Type 0
+  abbrev Meet : Result Decision Refusal → Result Decided Refusal → Type 0
   Meet d b = IsFailure b ⊎ Matches d b
 
-  meet_long : (d : Result Verdict Refusal) (b : Result Decided Refusal) → b ≡ Err FileTooLong → (bytes : List ℕ) → Warrants o.asked d bytes → max_bytes < length bytes → Meet d b
+  meet_long : (d : Result Decision Refusal) (b : Result Decided Refusal) → b ≡ Err FileTooLong → (bytes : List ℕ) → Warrants o.asked d bytes → max_bytes < length bytes → Meet d b
   meet_long d b e bytes w l =
       inr (subst (λ (x : Result Decided Refusal). Matches d x) (sym e)
-      (subst (λ (x : Result Verdict Refusal). Matches x (Err FileTooLong)) (sym (long_only o.asked bytes d l w)) refl))
+      (subst (λ (x : Result Decision Refusal). Matches x (Err FileTooLong)) (sym (long_only o.asked bytes d l w)) refl))
 
-  meet_bytes : (d : Result Verdict Refusal) (b : Result Decided Refusal) (bytes : List ℕ) → Warrants o.asked d bytes → HasAnswer o.asked b bytes → Meet d b
+  meet_bytes : (d : Result Decision Refusal) (b : Result Decided Refusal) (bytes : List ℕ) → Warrants o.asked d bytes → HasAnswer o.asked b bytes → Meet d b
   meet_bytes d b bytes w h =
       elim (answer_meets o.asked bytes d b w h) [
         | inl wants ↦ inl (inr wants)
@@ -265,7 +265,7 @@ module _ (o : Order) (source : SourceRun) (file : List ℕ → Option (List ℕ)
       ]
 
   -- what is due is answered, unless reading or memory fails
-  meets : (d : Result Verdict Refusal) (b : Result Decided Refusal) → IsDue (Some o) file d → Is b → Meet d b
+  meets : (d : Result Decision Refusal) (b : Result Decided Refusal) → IsDue (Some o) file d → Is b → Meet d b
   meets d b due h =
       let w = due_told d due in
       elim (why b h) [
@@ -277,7 +277,7 @@ module _ (o : Order) (source : SourceRun) (file : List ℕ → Option (List ℕ)
       ]
 
   -- from the answer to its status
-  follows : (d : Result Verdict Refusal) (b : Result Decided Refusal) → IsDue (Some o) file d → Is b → IsDueStatus (status_due b) d
+  follows : (d : Result Decision Refusal) (b : Result Decided Refusal) → IsDue (Some o) file d → Is b → IsDueStatus (status_due b) d
   follows d b due h =
       elim (meets d b due h) [
         | inl (inl e) ↦ inr (inl (ap status_due e))
@@ -285,7 +285,7 @@ module _ (o : Order) (source : SourceRun) (file : List ℕ → Option (List ℕ)
         | inr matches ↦ inl (status_matches d b matches)
       ]
 
-  cut_off : (d : Result Verdict Refusal) (x : Decided) → IsDue (Some o) file d → Is (Ok x) → IsDueStatus 9 d
+  cut_off : (d : Result Decision Refusal) (x : Decided) → IsDue (Some o) file d → Is (Ok x) → IsDueStatus 9 d
   cut_off d x due h =
       elim (meets d (Ok x) due h) [
         | inl (inl e) ↦ absurd (cc)
@@ -323,8 +323,8 @@ module _ (o : Order) (source : SourceRun) (file : List ℕ → Option (List ℕ)
         | inr (inr e) ↦ inl (subst (λ (y : Result Decided Refusal). status_due y ≤ 3) (sym e) (omega arith))
       ]
 
-  module _ (out err : SinkRun) where
-    complies : (e : Ending) → Ends (Some o) source out err e → Complies (Some o) file (status_at e)
+  module _ (mentioned : Bool) (out err : SinkRun) where
+    complies : (e : Ending) → Ends mentioned (Some o) source out err e → Complies (Some o) file (status_at e)
     complies (Reported x) h = record { due = λ d due. follows d (Ok x) due h.answer; complete = λ r. completes (Ok x) r h.answer }
     complies (CutOff x) h = record { due = λ d due. cut_off d x due h.answer; complete = λ r. inr (inr (inl refl)) }
     complies (Refused s) h = record { due = λ d due. follows d (Err s) due h.cause; complete = λ r. completes (Err s) r h.cause }
@@ -350,7 +350,7 @@ module _ (source : SourceRun) where
   no_order (Err Sink) h = absurd h
   no_order (Err OutOfMemory) h = inr refl
 
-  usage_only : (file : List ℕ → Option (List ℕ)) (d : Result Verdict Refusal) → IsDue None file d → d ≡ Err Usage
+  usage_only : (file : List ℕ → Option (List ℕ)) (d : Result Decision Refusal) → IsDue None file d → d ≡ Err Usage
   usage_only file (Ok v) h = absurd h
   usage_only file (Err Usage) h = refl
   usage_only file (Err Source) h = absurd h
@@ -368,8 +368,8 @@ module _ (source : SourceRun) where
   usage_only file (Err Sink) h = absurd h
   usage_only file (Err OutOfMemory) h = absurd h
 
-  module _ (out err : SinkRun) where
-    refused_status : (e : Ending) → Ends None source out err e → (status_at e ≡ 4) ⊎ (status_at e ≡ 10)
+  module _ (mentioned : Bool) (out err : SinkRun) where
+    refused_status : (e : Ending) → Ends mentioned None source out err e → (status_at e ≡ 4) ⊎ (status_at e ≡ 10)
     refused_status (Reported x) h = absurd h.answer
     refused_status (CutOff x) h = absurd h.answer
     refused_status (Refused s) h =
@@ -378,9 +378,9 @@ module _ (source : SourceRun) where
           | inr e ↦ inr (ap status_due e)
         ]
 
-    no_order_complies : (file : List ℕ → Option (List ℕ)) (e : Ending) → Ends None source out err e → Complies None file (status_at e)
+    no_order_complies : (file : List ℕ → Option (List ℕ)) (e : Ending) → Ends mentioned None source out err e → Complies None file (status_at e)
     no_order_complies file e h = record {
-      due = λ d due. subst (λ (x : Result Verdict Refusal). IsDueStatus (status_at e) x) (sym (usage_only file d due)) (elim (refused_status e h) [
+      due = λ d due. subst (λ (x : Result Decision Refusal). IsDueStatus (status_at e) x) (sym (usage_only file d due)) (elim (refused_status e h) [
         | inl is ↦ inl is
         | inr is ↦ inr (inr (inr is))
       ]);
@@ -389,33 +389,33 @@ module _ (source : SourceRun) where
 
 -- ---- all rows
 
-abbrev HasRows : Option Order → SourceRun → SinkRun → SinkRun → Ending → Type 0
-HasRows order source out err e = Rows order source out err (status_at e)
+abbrev HasRows : Bool → Option Order → SourceRun → SinkRun → SinkRun → Ending → Type 0
+HasRows mentioned order source out err e = Rows mentioned order source out err (status_at e)
 
-rows_of : (order : Option Order) (source : SourceRun) (out err : SinkRun) (e : Ending) → Ends order source out err e → (status_at e ≢ 8 → IsCalm source) → HasRows order source out err e
-rows_of None source out err e h calm = record {
+rows_of : (mentioned : Bool) (order : Option Order) (source : SourceRun) (out err : SinkRun) (e : Ending) → Ends mentioned order source out err e → (status_at e ≢ 8 → IsCalm source) → HasRows mentioned order source out err e
+rows_of mentioned None source out err e h calm = record {
   ending = e;
   ends = h;
   is = refl;
-  usage = λ none. refused_status source out err e h;
+  usage = λ none. refused_status source mentioned out err e h;
   calm = calm;
-  told = no_order_complies source out err source.file e h;
-  handed = no_order_complies source out err (λ _. Some source.after.given) e h;
+  told = no_order_complies source mentioned out err source.file e h;
+  handed = no_order_complies source mentioned out err (λ _. Some source.after.given) e h;
 }
-rows_of (Some o) source out err e h calm = record {
+rows_of mentioned (Some o) source out err e h calm = record {
   ending = e;
   ends = h;
   is = refl;
   usage = λ none. absurd (cc);
   calm = calm;
-  told = complies o source source.file (shows_told o.job source) out err e h;
-  handed = complies o source (λ _. Some source.after.given) (shows_handed o.job source) out err e h;
+  told = complies o source source.file (shows_told o.job source) mentioned out err e h;
+  handed = complies o source (λ _. Some source.after.given) (shows_handed o.job source) mentioned out err e h;
 }
 
-pub rows : (order : Option Order) (source : SourceRun) (out err : SinkRun) (e : Ending) (status : ℕ)
-    → Ends order source out err e
+pub rows : (mentioned : Bool) (order : Option Order) (source : SourceRun) (out err : SinkRun) (e : Ending) (status : ℕ)
+    → Ends mentioned order source out err e
     → (e ≢ Refused Source → IsCalm source)
     → status ≡ status_at e
-    → Rows order source out err status
-rows order source out err e status h calm is =
-    subst (Rows order source out err) (sym is) (rows_of order source out err e h (λ other. calm (λ same. other (ap status_at same))))
+    → Rows mentioned order source out err status
+rows mentioned order source out err e status h calm is =
+    subst (Rows mentioned order source out err) (sym is) (rows_of mentioned order source out err e h (λ other. calm (λ same. other (ap status_at same))))

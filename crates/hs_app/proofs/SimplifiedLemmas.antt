@@ -2,7 +2,7 @@
 use Rattle.std.proofs.Common.{◌≡◌, refl, sym, ◌∙◌, ap, subst, ◌-◌, ◌≤◌, Bool, true, false, List, Some, None, Result, Ok, Err, arith}
 use Rattle.std.specs.Prelude.{if◌then◌else◌}
 use Rattle.hs_scheme.specs.SameTree.{HaveSameTree}
-use Rattle.hs_scheme.specs.Sorted.{SortedData, IsSorted}
+use Rattle.hs_scheme.specs.sorting.Sorted.{SortedData, IsSorted}
 use Rattle.hs_passes.specs.Weight.{weight}
 use Rattle.hs_passes.specs.Passing.{KeepsRest, Image, composed}
 use Rattle.hs_front.specs.declared.refusal.Refusal.{Refusal}

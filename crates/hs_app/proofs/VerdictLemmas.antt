@@ -1,14 +1,17 @@
 -- From what is answered on a sorted scheme to what is answered on the bytes of its file.
-use Rattle.std.proofs.Common.{◌≡◌, refl, sym, ◌∙◌, subst, ap, List, length, ℕ, Bool, true, false, Option, None, Result, Ok, Err, inl, inr}
+use Rattle.std.proofs.Common.{◌≡◌, refl, sym, ◌∙◌, subst, ap, List, length, ℕ, ◌≤◌, Bool, true, false, Option, None, Result, Ok, Err, inl, inr}
 use Rattle.std.specs.Prelude.{if◌then◌else◌}
 use Rattle.hs_scheme.specs.declared.term.Rule.{Rule}
-use Rattle.hs_scheme.specs.Transition.{TransitionData}
+use Rattle.hs_scheme.specs.acceptance.Transition.{TransitionData}
 use Rattle.hs_scheme.specs.Problem.{ProblemData}
-use Rattle.hs_scheme.specs.Automaton.{next}
-use Rattle.hs_scheme.specs.Steps.{Path, Fails, Reaches, HasNoTransition}
-use Rattle.hs_scheme.specs.Run.{start, Accepts}
-use Rattle.hs_scheme.specs.Unsorted.{UnsortedData, IsUnsorted}
-use Rattle.hs_scheme.specs.Sorted.{SortedData, IsSorted, sorts_of}
+use Rattle.hs_scheme.specs.flow.Points.{PointsData, IsPoints}
+use Rattle.hs_scheme.proofs.PointLemmas.{are_points}
+use Rattle.hs_scheme.proofs.PlaceLemmas.{once}
+use Rattle.hs_scheme.specs.acceptance.Automaton.{next}
+use Rattle.hs_scheme.specs.acceptance.Steps.{Path, Fails, Reaches, HasNoTransition}
+use Rattle.hs_scheme.specs.acceptance.Run.{start, Accepts}
+use Rattle.hs_scheme.specs.sorting.Unsorted.{UnsortedData, IsUnsorted}
+use Rattle.hs_scheme.specs.sorting.Sorted.{SortedData, IsSorted, sorts_of}
 use Rattle.hs_scheme.specs.Scheme.{AreRules}
 use Rattle.hs_scheme.specs.SameTree.{FailsFromStart, HaveSameTree}
 use Rattle.hs_scheme.specs.declared.term.Head.{Head}
@@ -26,13 +29,13 @@ use Rattle.hs_resolve.specs.Numbering.{unsorted_of}
 use Rattle.hs_resolve.specs.Answer.{IsFaultless}
 use Rattle.hs_sorts.specs.Inference.{IsInferred}
 use Rattle.hs_passes.specs.Passing.{KeepsRest}
-use Rattle.hs_scheme.specs.FailingPath.{FailingPathData}
-use Rattle.hs_scheme.specs.Failing.{IsFailingPath}
+use Rattle.hs_scheme.specs.acceptance.FailingPath.{FailingPathData}
+use Rattle.hs_scheme.specs.acceptance.Failing.{IsFailingPath}
 use Rattle.hs_front.specs.declared.refusal.Refusal.{Refusal}
 use Rattle.hs_front.specs.declared.refusal.Refusal.TheVariants.{Usage, Source, FileTooLong, Syntax, Limit, Names, IllSorted, NotFirstOrder, SortTooLarge, RuleTooLong, PointLimit, FlowLimit, EntryLimit, Sink, OutOfMemory}
 use Rattle.hs_words.specs.declared.options.Settings.{Settings}
-use Rattle.hs_app.specs.declared.verdict.Verdict.{Verdict}
-use Rattle.hs_app.specs.declared.verdict.Verdict.TheVariants.{Accepted, Rejected, Long}
+use Rattle.hs_app.specs.declared.verdict.Decision.{Decision}
+use Rattle.hs_app.specs.declared.verdict.Decision.TheVariants.{Accepted, Rejected, Long}
 use Rattle.hs_app.specs.declared.verdict.Decided.{Decided}
 use Rattle.hs_front.specs.Problems.{IsSortedFormOf, IsProblemOf, HasManyPoints, HasMuchFlow}
 use Rattle.hs_app.specs.Problems.{Asked, IsSimplified, IsRemoved, OfForm, HasProblem}
@@ -132,7 +135,7 @@ module _ (u : UnsortedData) (form : SortedData) (unsorted : IsUnsorted u) (is_so
     same_form : settings.simplify ≡ false → p.sorted ≡ form
     same_form e = simplified.same (ap (λ (s : Settings). s.simplify) of ∙ e)
 
-    judged : AreRules p.sorted.scheme.rules (length p.sorted.scheme.ranks) → (v : Verdict) (text : List ℕ) → ReportsBy settings p.sorted.scheme.rules ts p removed v text → ReportsBy settings u.rules u.automaton.transitions p removed v text
+    judged : AreRules p.sorted.scheme.rules (length p.sorted.scheme.ranks) → (v : Decision) (text : List ℕ) → ReportsBy settings p.sorted.scheme.rules ts p removed v text → ReportsBy settings u.rules u.automaton.transitions p removed v text
     judged are Accepted text r = record {
       accepts = accepts_back r.accepts;
       table = r.table;
@@ -155,6 +158,7 @@ module _ (u : UnsortedData) (form : SortedData) (unsorted : IsUnsorted u) (is_so
           few = r.few;
           supports = r.supports;
           supported = r.supported;
+          canonical = r.canonical;
           names = r.names;
           tells = r.tells;
         }
@@ -170,6 +174,7 @@ module _ (u : UnsortedData) (form : SortedData) (unsorted : IsUnsorted u) (is_so
       goes_on = λ stuck. r.goes_on (subst (λ (l : List TransitionData). HasNoTransition l r.state r.term) (sym of_rules) stuck);
       supports = r.supports;
       supported = r.supported;
+      canonical = r.canonical;
       need = r.need;
       whole = r.whole;
       names = r.names;
@@ -181,7 +186,7 @@ module _ (u : UnsortedData) (form : SortedData) (unsorted : IsUnsorted u) (is_so
     }
 
     -- what evidence shows of the rules that were saturated, and of those before, it shows of the file's
-    shown : (v : Verdict) (text : List ℕ) → ShowsOf settings form p removed v text → ShowsBy settings u.rules u.automaton.transitions p removed v text
+    shown : (v : Decision) (text : List ℕ) → ShowsOf settings form p removed v text → ShowsBy settings u.rules u.automaton.transitions p removed v text
     shown Accepted text r = record {
       accepts = accepts_back r.accepts;
       table = r.table;
@@ -201,6 +206,12 @@ module _ (u : UnsortedData) (form : SortedData) (unsorted : IsUnsorted u) (is_so
           tells = r.tells;
         }
     shown Long text r = absurd r
+
+-- the points of a form are in range
+points_of_form : (form : SortedData) (p : ProblemData) → IsProblemOf form p → AreRules form.scheme.rules (length form.scheme.ranks) → IsPoints p.points
+points_of_form form p w are =
+    subst (λ (d : PointsData). IsPoints d) (sym w.points)
+    (are_points form.scheme.rules (length form.scheme.ranks) are (subst (λ (d : PointsData). length d.points ≤ 500000) w.points w.few_points) (once form.scheme.rules))
 
 -- what is decided on a problem is decided on its scheme
 pub of_problem : (settings : Settings) (before form : SortedData) (p : ProblemData) (removed : Option ℕ) (r : Result Decided Refusal) → IsProblemOf form p
@@ -270,6 +281,7 @@ module _ (asked : Asked) (bytes : List ℕ) (file : File) (reads : IsFileWithin 
         decides = record {
           problem = p;
           of = problem p w;
+          points = points_of_form form p w are;
           rest = subst (λ (s : SortedData). KeepsRest sorted s) (sym w.same) simplified.rest;
           removed = removed;
           lighter = subst (λ (s : SortedData). IsRemoved asked.settings.simplify sorted s removed) (sym w.same) lighter;

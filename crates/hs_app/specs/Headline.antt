@@ -14,17 +14,17 @@
 --      46  hs_reader/specs/Grammar.antt
 --       2  hs_reader/specs/Faults.antt
 --      13  hs_resolve/specs/Names.antt
---       5  hs_scheme/specs/Transition.antt
---      10  hs_scheme/specs/Automaton.antt
+--       5  hs_scheme/specs/acceptance/Transition.antt
 --       6  hs_scheme/specs/Names.antt
 --      18  hs_scheme/src/term.rt
---       6  hs_scheme/specs/Unsorted.antt
+--      10  hs_scheme/specs/acceptance/Automaton.antt
+--       6  hs_scheme/specs/sorting/Unsorted.antt
 --      48  hs_resolve/specs/Numbering.antt
 --      38  hs_resolve/specs/LineFaults.antt
 --       5  hs_resolve/specs/Answer.antt
---      14  hs_scheme/specs/Replacement.antt
---      23  hs_scheme/specs/Cut.antt
---      16  hs_scheme/specs/Run.antt
+--      14  hs_scheme/specs/acceptance/Replacement.antt
+--      23  hs_scheme/specs/acceptance/Cut.antt
+--      16  hs_scheme/specs/acceptance/Run.antt
 --      19  hs_front/specs/Files.antt
 --      22  hs_words/src/options.rt
 --       3  hs_edge/specs/Count.antt
@@ -39,22 +39,22 @@
 --      18  hs_reader/src/fault.rt
 --      83  hs_reader/specs/Faults.antt
 --      22  hs_scheme/specs/Scheme.antt
---      13  hs_scheme/specs/Unsorted.antt
+--      13  hs_scheme/specs/sorting/Unsorted.antt
 --       7  hs_front/specs/Files.antt
---       2  hs_scheme/specs/Parameters.antt
---      37  hs_scheme/specs/Points.antt
+--       2  hs_scheme/specs/sorting/Parameters.antt
+--      37  hs_scheme/specs/flow/Points.antt
 --      21  hs_scheme/src/flow.rt
---      54  hs_scheme/specs/Flow.antt
---      66  hs_scheme/specs/Sorting.antt
---      29  hs_scheme/specs/Sorted.antt
+--      54  hs_scheme/specs/flow/Flow.antt
+--      66  hs_scheme/specs/sorting/Sorting.antt
+--      29  hs_scheme/specs/sorting/Sorted.antt
 --       4  hs_scheme/specs/Problem.antt
---      13  hs_scheme/specs/Lengthening.antt
+--      13  hs_scheme/specs/sorting/Lengthening.antt
 --      13  hs_sorts/specs/Naming.antt
 --      20  hs_sorts/specs/Inference.antt
 --      12  hs_front/specs/Problems.antt
 --       4  hs_passes/specs/Weight.antt
 --      10  hs_passes/specs/Passing.antt
---      31  hs_scheme/specs/Steps.antt
+--      31  hs_scheme/specs/acceptance/Steps.antt
 --       6  hs_scheme/specs/SameTree.antt
 --      37  hs_table/specs/Types.antt
 --      24  hs_table/specs/Entries.antt
@@ -70,7 +70,7 @@
 -- At most 680 lines, and 760 further.
 use Rattle.std.specs.Prelude.{◌≡◌, ◌≤◌, ◌<◌, ◌⊎◌, ℕ, List, length, IfSome, IsSomeAnd}
 use Rattle.hs_edge.specs.Count.{Rose}
-use Rattle.hs_scheme.specs.Unsorted.{UnsortedData}
+use Rattle.hs_scheme.specs.sorting.Unsorted.{UnsortedData}
 use Rattle.hs_scheme.specs.Problem.{ProblemData}
 use Rattle.hs_front.specs.Files.{IsSchemeOf, max_bytes}
 use Rattle.hs_passes.specs.Passing.{Image}

@@ -4,4 +4,5 @@ pub mod Headline
 pub mod Verdict
 pub mod Explaining
 pub mod Outcome
+pub mod OneReport
 pub mod ReadAgain

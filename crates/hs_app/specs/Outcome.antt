@@ -1,11 +1,11 @@
 -- What a run comes to.
 --     IsAnswerOfRun         the verdict with its report, or why there is none, by the order and by what the source handed out
---     MayExplain            where the words ask for it, the text explains the answer; else it is empty, and it may be so in any case
+--     MayExplain            where `--explain` is among the words, the text explains the answer; else it is empty, and it may be so in any case
 --     Ends, status_at       how a run ends, with what comes with it; its exit status
 --     IsDue, Complies       what has to be answered, by the order and by the bytes; that it is answered
 --     Keeps                 what a run leaves as it was, and what doesn't fall
 --     Rows                  all that is claimed of a run
-use Rattle.std.specs.Prelude.{◌≡◌, ◌≢◌, ℕ, ◌<◌, ◌≤◌, true, List, [], ◌++◌, Option, Some, None, Result, Ok, Err, length, codes, ◌⊎◌, IsSomeAnd}
+use Rattle.std.specs.Prelude.{◌≡◌, ◌≢◌, ℕ, ◌<◌, ◌≤◌, Bool, true, List, [], ◌++◌, Option, Some, None, Result, Ok, Err, length, codes, ◌⊎◌, IsSomeAnd}
 use Rattle.hs_edge.specs.Count.{Rose}
 use Rattle.hs_edge.specs.Writing.{AddsPart}
 use Rattle.hs_front.specs.Refusal.{line_of, status_of}
@@ -14,8 +14,8 @@ use Rattle.hs_front.specs.declared.refusal.Refusal.TheVariants.{Usage, Source, F
 use Rattle.hs_app.specs.declared.top.Ending.{Ending}
 use Rattle.hs_app.specs.declared.top.Ending.TheVariants.{Reported, CutOff, Refused}
 use Rattle.hs_app.specs.declared.verdict.Decided.{Decided}
-use Rattle.hs_app.specs.declared.verdict.Verdict.{Verdict}
-use Rattle.hs_app.specs.declared.verdict.Verdict.TheVariants.{Accepted, Rejected, Long}
+use Rattle.hs_app.specs.declared.verdict.Decision.{Decision}
+use Rattle.hs_app.specs.declared.verdict.Decision.TheVariants.{Accepted, Rejected, Long}
 use Rattle.hs_front.specs.Line.{ended}
 use Rattle.hs_front.specs.Outside.{SourceRun, SinkRun, IsUntouched, IsCalm, KeepsSource, HasTakenOrFailed, HasTakenNothing}
 use Rattle.hs_app.specs.Order.{Order, bytes_of, IsReadToEnd, IsPart, HasFault, OfTold}
@@ -45,10 +45,16 @@ module _ (order : Option Order) (source : SourceRun) where
   IsAnswerOfRun (Ok decided) = IsOfBytes (Ok decided)
   IsAnswerOfRun (Err refusal) = HasCause refusal
 
-  -- what may stand on standard error besides
-  abbrev pub MayExplain : Result Decided Refusal → List ℕ → Type 0
-  MayExplain answer text =
-      (text ≡ []) ⊎ IsSomeAnd order (λ o. (o.asked.settings.explain ≡ true) × ExplainsAnswer (bytes_of o.job source.after.given) answer text)
+-- ---- what may stand on standard error besides
+
+module _ (mentioned : Bool) (source : SourceRun) (answer : Result Decided Refusal) (text : List ℕ) where
+  -- of words that are refused nothing is said but that `--explain` is among them
+  abbrev pub IsExplained : Option Order → Type 0
+  IsExplained None = (answer ≡ Err Usage) × (mentioned ≡ true)
+  IsExplained (Some o) = (o.asked.settings.explain ≡ true) × ExplainsAnswer (bytes_of o.job source.after.given) answer text
+
+  abbrev pub MayExplain : Option Order → Type 0
+  MayExplain order = (text ≡ []) ⊎ IsExplained order
 
 -- ---- how a run ends
 
@@ -56,14 +62,14 @@ module _ (order : Option Order) (source : SourceRun) where
 abbrev pub usage : List ℕ
 usage = ended (codes "usage: horsat [--workers N] [--entries N] [--steps N] [--table] [--first] [--minimal] [--quick] [--explain] [--simplify] [--gen K] [FILE]")
 
-module _ (order : Option Order) (source : SourceRun) (out err : SinkRun) where
+module _ (mentioned : Bool) (order : Option Order) (source : SourceRun) (out err : SinkRun) where
   -- the verdict was reported whole
   pub record IsReported (decided : Decided) : Type 0 where
     pub answer : IsAnswerOfRun order source (Ok decided)
     pub taken : out.taken_after ≡ out.taken ++ decided.report.items
     pub same_faults : out.faults_after ≡ out.faults
     pub text : List ℕ
-    pub explains : MayExplain order source (Ok decided) text
+    pub explains : MayExplain mentioned source (Ok decided) text order
     pub told : HasTakenOrFailed err text
     pub silent : text ≡ [] → HasTakenNothing err
 
@@ -79,7 +85,7 @@ module _ (order : Option Order) (source : SourceRun) (out err : SinkRun) where
     pub cause : HasCause order source refusal
     pub silent : HasTakenNothing out
     pub text : List ℕ
-    pub explains : MayExplain order source (Err refusal) text
+    pub explains : MayExplain mentioned source (Err refusal) text order
     pub told : HasTakenOrFailed err (line_of usage refusal ++ text)
 
   abbrev pub Ends : Ending → Type 0
@@ -88,7 +94,7 @@ module _ (order : Option Order) (source : SourceRun) (out err : SinkRun) where
   Ends (Refused refusal) = Refuses refusal
 
 -- the exit status of a verdict
-abbrev pub status_of_verdict : Verdict → ℕ
+abbrev pub status_of_verdict : Decision → ℕ
 status_of_verdict Accepted = 0
 status_of_verdict Rejected = 1
 status_of_verdict Long = 2
@@ -102,12 +108,12 @@ status_at (Refused refusal) = status_of refusal
 -- ---- what has to be answered
 
 -- what the order and the file's bytes come to, memory and faults of reading and writing aside
-abbrev pub IsDue : Option Order → (List ℕ → Option (List ℕ)) → Result Verdict Refusal → Type 0
+abbrev pub IsDue : Option Order → (List ℕ → Option (List ℕ)) → Result Decision Refusal → Type 0
 IsDue order file (Err Usage) = order ≡ None
 IsDue order file answer = IsSomeAnd order (λ o. OfTold o.job file (Warrants o.asked answer))
 
 -- the exit statuses of what is due: of a tree that is rejected 1, or 2 where the path is too long
-abbrev pub IsStatusOf : Result Verdict Refusal → ℕ → Type 0
+abbrev pub IsStatusOf : Result Decision Refusal → ℕ → Type 0
 IsStatusOf (Ok Accepted) status = status ≡ 0
 IsStatusOf (Ok Rejected) status = (status ≡ 1) ⊎ (status ≡ 2)
 IsStatusOf (Ok Long) status = ⊥
@@ -115,16 +121,16 @@ IsStatusOf (Err refusal) status = status ≡ status_of refusal
 
 -- what is due of these files is answered, unless reading, writing or memory fails
 pub record Complies (order : Option Order) (file : List ℕ → Option (List ℕ)) (status : ℕ) : Type 0 where
-  pub due : (answer : Result Verdict Refusal) → IsDue order file answer
-      → IsStatusOf answer status ⊎ ((status ≡ 8) ⊎ (((status ≡ 9) × (verdict : Verdict) × (answer ≡ Ok verdict)) ⊎ (status ≡ 10)))
+  pub due : (answer : Result Decision Refusal) → IsDue order file answer
+      → IsStatusOf answer status ⊎ ((status ≡ 8) ⊎ (((status ≡ 9) × (verdict : Decision) × (answer ≡ Ok verdict)) ⊎ (status ≡ 10)))
   pub complete : IsSomeAnd order (λ o. OfTold o.job file (IsWithinLimits o.asked)) → (status ≤ 3) ⊎ ((status ≡ 8) ⊎ ((status ≡ 9) ⊎ (status ≡ 10)))
 
 -- ---- the run
 
-pub record Rows (order : Option Order) (source : SourceRun) (out err : SinkRun) (status : ℕ) : Type 0 where
+pub record Rows (mentioned : Bool) (order : Option Order) (source : SourceRun) (out err : SinkRun) (status : ℕ) : Type 0 where
   -- the status is that of how the run ended, and all that comes with that came
   pub ending : Ending
-  pub ends : Ends order source out err ending
+  pub ends : Ends mentioned order source out err ending
   pub is : status ≡ status_at ending
   pub usage : order ≡ None → (status ≡ 4) ⊎ (status ≡ 10)
   pub calm : status ≢ 8 → IsCalm source

@@ -8,8 +8,8 @@
 --     IsReportedTable the list of entries that is reported where the start is rejected: the least table, or, where the first start entry
 --                     is asked for, some supported list; it has the start entry
 use Rattle.std.specs.Prelude.{◌≡◌, ℕ, ◌+◌, Bool, true, false, List, Option, Some, None, if◌then◌else◌}
-use Rattle.hs_scheme.specs.Unsorted.{UnsortedData}
-use Rattle.hs_scheme.specs.Sorted.{SortedData}
+use Rattle.hs_scheme.specs.sorting.Unsorted.{UnsortedData}
+use Rattle.hs_scheme.specs.sorting.Sorted.{SortedData}
 use Rattle.hs_scheme.specs.Problem.{ProblemData}
 use Rattle.hs_scheme.specs.SameTree.{HaveSameTree}
 use Rattle.hs_front.specs.Problems.{IsSortedFormOf, IsProblemOf}

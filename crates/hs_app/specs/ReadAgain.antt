@@ -1,6 +1,6 @@
 -- What it means that bytes are a file that stands for a scheme.
 use Rattle.std.specs.Prelude.{◌≡◌, ℕ, List, ◌∷◌, ◌++◌, Ok}
-use Rattle.hs_scheme.specs.Unsorted.{UnsortedData}
+use Rattle.hs_scheme.specs.sorting.Unsorted.{UnsortedData}
 use Rattle.hs_reader.specs.Raw.{File}
 use Rattle.hs_reader.specs.declared.fault.Which.TheVariants.{Depth}
 use Rattle.hs_reader.specs.Tokens.{Token, Placed, Lexes}

@@ -10,23 +10,25 @@ use Rattle.std.specs.Prelude.{◌≡◌, ◌≤◌, ◌<◌, ◌⊎◌, ℕ, tru
 use Rattle.hs_scheme.specs.declared.term.Head.{Head}
 use Rattle.hs_scheme.specs.declared.term.Rule.{Rule}
 use Rattle.hs_scheme.specs.Scheme.{AreRules}
-use Rattle.hs_scheme.specs.Transition.{TransitionData}
+use Rattle.hs_scheme.specs.acceptance.Transition.{TransitionData}
 use Rattle.hs_scheme.specs.Tree.{Tree}
-use Rattle.hs_scheme.specs.Unsorted.{UnsortedData}
-use Rattle.hs_scheme.specs.Sorted.{SortedData, IsSorted}
+use Rattle.hs_scheme.specs.sorting.Unsorted.{UnsortedData}
+use Rattle.hs_scheme.specs.sorting.Sorted.{SortedData, IsSorted}
 use Rattle.hs_scheme.specs.Problem.{ProblemData}
-use Rattle.hs_scheme.specs.Run.{start, Accepts}
-use Rattle.hs_scheme.specs.Steps.{Path, Reaches, HasNoTransition}
-use Rattle.hs_scheme.specs.Flow.{IsAscending}
+use Rattle.hs_scheme.specs.acceptance.Run.{start, Accepts}
+use Rattle.hs_scheme.specs.acceptance.Steps.{Path, Reaches, HasNoTransition}
+use Rattle.hs_scheme.specs.flow.Flow.{IsAscending}
+use Rattle.hs_scheme.specs.flow.Points.{IsPoints}
 use Rattle.hs_table.specs.Entries.{EntryData, InShape, entry_cmp}
 use Rattle.hs_scheme.specs.SameTree.{FailsFromStart}
 use Rattle.hs_table.specs.Follows.{Support}
 use Rattle.hs_table.specs.Tables.{IsSupportedTable, IsLeastTable, HasSupports, HasStart, Exceeds}
-use Rattle.hs_naming.specs.Naming.{NamesPath}
+use Rattle.hs_verdict.specs.Naming.{NamesPath}
+use Rattle.hs_rank.specs.Canonical.{IsCanonicalLog}
 use Rattle.hs_checker.specs.Checked.{IsCount}
 use Rattle.hs_passes.specs.Passing.{KeepsRest}
-use Rattle.hs_scheme.specs.FailingPath.{FailingPathData}
-use Rattle.hs_scheme.specs.Failing.{IsFailingPath}
+use Rattle.hs_scheme.specs.acceptance.FailingPath.{FailingPathData}
+use Rattle.hs_scheme.specs.acceptance.Failing.{IsFailingPath}
 use Rattle.hs_reads.specs.Own.{AreReadsOf}
 use Rattle.hs_weak.specs.Void.{VoidData, void_cmp}
 use Rattle.hs_weak.specs.Certificate.{IsAcceptanceCertificate}
@@ -39,8 +41,8 @@ use Rattle.hs_text.specs.declared.verdict.Verdict.TheVariants as shown_as
 use Rattle.hs_front.specs.declared.refusal.Refusal.{Refusal}
 use Rattle.hs_front.specs.declared.refusal.Refusal.TheVariants.{Usage, Source, FileTooLong, PointLimit, FlowLimit, EntryLimit, Sink, OutOfMemory}
 use Rattle.hs_words.specs.declared.options.Settings.{Settings}
-use Rattle.hs_app.specs.declared.verdict.Verdict.{Verdict}
-use Rattle.hs_app.specs.declared.verdict.Verdict.TheVariants.{Accepted, Rejected, Long}
+use Rattle.hs_app.specs.declared.verdict.Decision.{Decision}
+use Rattle.hs_app.specs.declared.verdict.Decision.TheVariants.{Accepted, Rejected, Long}
 use Rattle.hs_app.specs.declared.verdict.Decided.{Decided}
 use Rattle.hs_front.specs.Problems.{IsProblemOf, IsPastLimits, HasManyPoints, HasMuchFlow}
 use Rattle.hs_front.specs.Faults.{IsSortable, IsFileFault}
@@ -85,7 +87,8 @@ module _ (settings : Settings) (rules : List Rule) (ts : List TransitionData) (p
     pub count : IsCount p table checked
     pub tells : IsReportOf (shown_as.Accepted (length table) checked) table
 
-  -- it isn't, and the path that the table names leads to its last terminal, which has no transition in its state
+  -- it isn't, and the path that the table names leads to its last terminal, which has no transition in its state; unless the first
+  -- start entry is enough, this is the path of the canonical log
   pub record ReportsRejected : Type 0 where
     pub rejects : Accepts rules ts → ⊥
     pub table : List EntryData
@@ -97,10 +100,12 @@ module _ (settings : Settings) (rules : List Rule) (ts : List TransitionData) (p
     pub few : path.used ≤ settings.steps
     pub supports : List Support
     pub supported : HasSupports p table supports
+    pub canonical : settings.first ≡ false → IsCanonicalLog p table supports
     pub names : NamesPath p table supports path.used path.steps
     pub tells : IsReportOf (shown_as.Rejected (length table) path) table
 
-  -- it isn't, and so many steps lead along a prefix, not to a terminal without transition; the path that the table names needs more
+  -- it isn't, and so many steps lead along a prefix, not to a terminal without transition; the path that the table names, unless the first
+  -- start entry is enough that of the canonical log, needs more
   pub record ReportsLong : Type 0 where
     pub rejects : Accepts rules ts → ⊥
     pub table : List EntryData
@@ -113,6 +118,7 @@ module _ (settings : Settings) (rules : List Rule) (ts : List TransitionData) (p
     pub goes_on : HasNoTransition ts state term → ⊥
     pub supports : List Support
     pub supported : HasSupports p table supports
+    pub canonical : settings.first ≡ false → IsCanonicalLog p table supports
     pub need : ℕ
     pub whole : Path
     pub names : NamesPath p table supports need whole
@@ -122,7 +128,7 @@ module _ (settings : Settings) (rules : List Rule) (ts : List TransitionData) (p
     pub fails : FailsFromStart rules ts 0 whole
     pub tells : IsReportOf (shown_as.Long (length table) settings.steps) table
 
-abbrev pub ReportsBy : Settings → List Rule → List TransitionData → ProblemData → Option ℕ → Verdict → List ℕ → Type 0
+abbrev pub ReportsBy : Settings → List Rule → List TransitionData → ProblemData → Option ℕ → Decision → List ℕ → Type 0
 ReportsBy settings rules ts p removed Accepted text = ReportsAccepted settings rules ts p removed text
 ReportsBy settings rules ts p removed Rejected text = ReportsRejected settings rules ts p removed text
 ReportsBy settings rules ts p removed Long text = ReportsLong settings rules ts p removed text
@@ -155,16 +161,17 @@ module _ (settings : Settings) (rules : List Rule) (ts : List TransitionData) (p
     pub few : path.used ≤ settings.steps
     pub tells : text ≡ path_summary p path removed
 
-abbrev pub ShowsBy : Settings → List Rule → List TransitionData → ProblemData → Option ℕ → Verdict → List ℕ → Type 0
+abbrev pub ShowsBy : Settings → List Rule → List TransitionData → ProblemData → Option ℕ → Decision → List ℕ → Type 0
 ShowsBy settings rules ts p removed Accepted text = ShowsAccepted settings rules ts p removed text
 ShowsBy settings rules ts p removed Rejected text = ShowsRejected settings rules ts p removed text
 ShowsBy settings rules ts p removed Long text = ⊥
 
 -- The verdict is on the rules of the file, and by the problem of their scheme, in which the terminals, the states and their names are
 -- those of the file.
-pub record Reports (asked : Asked) (u : UnsortedData) (verdict : Verdict) (text : List ℕ) : Type 0 where
+pub record Reports (asked : Asked) (u : UnsortedData) (verdict : Decision) (text : List ℕ) : Type 0 where
   pub problem : ProblemData
   pub of : HasProblem asked u problem
+  pub points : IsPoints problem.points
   pub rest : KeepsRest of.form problem.sorted
   pub removed : Option ℕ
   pub lighter : IsRemoved asked.settings.simplify of.form problem.sorted removed
@@ -196,7 +203,7 @@ DecidesProblem settings p removed (Err OutOfMemory) = Unit {0}
 DecidesProblem settings p removed (Err refusal) = ⊥
 
 -- the same by evidence: a certificate is of the problem, and a path leads along the rules of a scheme that became the problem's
-abbrev pub ShowsOf : Settings → SortedData → ProblemData → Option ℕ → Verdict → List ℕ → Type 0
+abbrev pub ShowsOf : Settings → SortedData → ProblemData → Option ℕ → Decision → List ℕ → Type 0
 ShowsOf settings before p removed Accepted text = ShowsAccepted settings p.sorted.scheme.rules p.sorted.automaton.transitions p removed text
 ShowsOf settings before p removed Rejected text = ShowsRejected settings before.scheme.rules before.automaton.transitions p removed text
 ShowsOf settings before p removed Long text = ⊥
@@ -266,7 +273,7 @@ pub record IsBoundToExceed (asked : Asked) (u : UnsortedData) : Type 0 where
   pub plain : asked.settings.quick ≡ false
   pub tells : (asked.settings.first ≡ false) ⊎ Accepts u.rules u.automaton.transitions
 
-abbrev pub WarrantsOnScheme : Asked → UnsortedData → Result Verdict Refusal → Type 0
+abbrev pub WarrantsOnScheme : Asked → UnsortedData → Result Decision Refusal → Type 0
 WarrantsOnScheme asked u (Ok Accepted) = Accepts u.rules u.automaton.transitions × IsWithinBudget asked u
 WarrantsOnScheme asked u (Ok Rejected) = (Accepts u.rules u.automaton.transitions → ⊥) × IsWithinBudget asked u
 WarrantsOnScheme asked u (Err PointLimit) = OfForm asked u HasManyPoints
@@ -274,13 +281,13 @@ WarrantsOnScheme asked u (Err FlowLimit) = OfForm asked u HasMuchFlow
 WarrantsOnScheme asked u (Err EntryLimit) = IsBoundToExceed asked u
 WarrantsOnScheme asked u answer = ⊥
 
-pub record HasWarrant (asked : Asked) (bytes : List ℕ) (answer : Result Verdict Refusal) : Type 0 where
+pub record HasWarrant (asked : Asked) (bytes : List ℕ) (answer : Result Decision Refusal) : Type 0 where
   pub scheme : UnsortedData
   pub sound : IsSortable bytes scheme
   pub warrants : WarrantsOnScheme asked scheme answer
 
 -- the verdict of a file, or its refusal
-abbrev pub Warrants : Asked → Result Verdict Refusal → List ℕ → Type 0
+abbrev pub Warrants : Asked → Result Decision Refusal → List ℕ → Type 0
 Warrants asked (Err Usage) bytes = ⊥
 Warrants asked (Err Source) bytes = ⊥
 Warrants asked (Err Sink) bytes = ⊥

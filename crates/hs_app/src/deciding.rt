@@ -1,32 +1,34 @@
 //! The verdict on a problem, with its report.
 
-ghost use Rattle.std.specs.Prelude.{◌≡◌, ◌↔◌, ℕ, Option, Some, None, true, if◌then◌else◌, IfOk, IfSome, option_map};
-ghost use Rattle.hs_scheme.specs.Run.{Accepts};
-ghost use Rattle.hs_scheme.specs.Sorted.{SortedData};
-ghost use Rattle.hs_table.specs.Tables.{IsLeastTable, IsClosedTable, HasStart};
+ghost use Rattle.std.specs.Prelude.{◌≡◌, ◌↔◌, ◌≤◌, ℕ, List, Option, Some, None, true, false, length, if◌then◌else◌, IfOk, IfSome, option_map};
+ghost use Rattle.hs_scheme.specs.acceptance.Run.{Accepts};
+ghost use Rattle.hs_scheme.specs.sorting.Sorted.{SortedData};
+ghost use Rattle.hs_table.specs.Entries.{EntryData};
+ghost use Rattle.hs_table.specs.Tables.{IsLeastTable, IsClosedTable, HasStart, Exceeds};
 ghost use Rattle.hs_verdict.specs.Premises.{HasClosedFlow, IsSortedProblem};
-ghost use Rattle.hs_core.specs.Core.{log_of};
+ghost use Rattle.hs_core.specs.Core.{state_of, log_of};
 ghost use Rattle.hs_core.specs.Answers.{IsLeastAnswer, IsOverAnswer, IsFirstAnswer};
 ghost use Rattle.hs_core.specs.Saturation.{IsVerdict};
 ghost use Rattle.hs_workers.specs.Answers.{IsShared, IsSharedDone};
+ghost use Rattle.hs_rank.specs.Canonical.{IsCanonicalLog};
 ghost use Rattle.hs_checker.specs.Checked.{IsCount};
 ghost use Rattle.hs_app.specs.Problems.{IsReportedTable};
 ghost use Rattle.hs_words.specs.Words.{AreSettingsWithin};
 ghost use Rattle.hs_app.specs.Verdict.{IsSought, IsShown, Decides, DecidesProblem};
 
-use crate::evidence::by_evidence;
-use crate::verdict::{Decided, Verdict};
+use crate::proposed::decide_by_search;
+use crate::verdict::{Decided, Decision};
+use hs_canonical::canonical;
 use hs_checker::{CheckFault, check};
 use hs_core::{Core, Done};
 use hs_flow::Dependents;
 use hs_front::Refusal;
 use hs_minimal::{Compact, compact};
-use hs_naming::namings_end_and_fail;
 use hs_path::{Walk, walk};
 use hs_scheme::{FailingPath, OutOfMemory, Problem, Sorted};
 use hs_table::Entry;
-use hs_text::{Minimal, Verdict as Told, report};
-use hs_verdict::is_sorted_problem;
+use hs_text::{Minimal, Verdict, report};
+use hs_verdict::{know_sorted_problem, namings_end_and_fail};
 use hs_words::Settings;
 use hs_workers::{Gate, saturate};
 use std::alloc::Global;
@@ -62,7 +64,7 @@ fn report_by(
     core: &Core,
     table: Option<&[Entry]>,
     settings: Settings,
-    verdict: &Told,
+    verdict: &Verdict,
     removed: Option<u64>,
 ) -> Result<Vec<u8>, OutOfMemory>
     requires settings { AreSettingsWithin settings }
@@ -71,8 +73,8 @@ fn report_by(
     ensures { IfOk result (λ text. IsShown settings problem.now verdict.now (log_of core.now) removed
         text.items) }
 {
-    core.is_core();
-    is_sorted_problem(problem);
+    core.know_core();
+    know_sorted_problem(problem);
     let minimal = minimal_of(alloc, problem, settings)?;
     let text = report(alloc, problem, verdict, table, removed, minimal.as_ref());
     drop(minimal);
@@ -86,7 +88,7 @@ fn report_with(
     core: &Core,
     entries: &[Entry],
     settings: Settings,
-    verdict: &Told,
+    verdict: &Verdict,
     removed: Option<u64>,
 ) -> Result<Vec<u8>, OutOfMemory>
     requires settings { AreSettingsWithin settings }
@@ -115,7 +117,7 @@ fn report_of(
     problem: &Problem,
     core: &Core,
     settings: Settings,
-    verdict: &Told,
+    verdict: &Verdict,
     removed: Option<u64>,
 ) -> Result<Vec<u8>, OutOfMemory>
     requires settings { AreSettingsWithin settings }
@@ -170,10 +172,10 @@ fn accepted(
     requires accepts { Accepts problem.now.sorted.scheme.rules problem.now.sorted.automaton.transitions }
     ensures { IfOk result (λ decided. DecidesProblem settings problem.now removed (Ok decided)) }
 {
-    core.is_core();
+    core.know_core();
     let table = core.table(alloc)?;
     let checked = instances_of(alloc, problem, table.as_slice())?;
-    let verdict = Told::Accepted {
+    let verdict = Verdict::Accepted {
         entries: core.len(),
         checked,
     };
@@ -187,7 +189,7 @@ fn accepted(
         removed,
     )?;
     Ok(Decided {
-        verdict: Verdict::Accepted,
+        verdict: Decision::Accepted,
         report,
         path: None,
     })
@@ -195,15 +197,15 @@ fn accepted(
 
 /// The path of a verdict, where it has one. Nothing is claimed of it: who explains it looks whether the
 /// report shows it.
-fn path_in(verdict: Told) -> Option<FailingPath> {
+fn path_in(verdict: Verdict) -> Option<FailingPath> {
     match verdict {
-        Told::Rejected { entries: _, path } => Some(path),
+        Verdict::Rejected { entries: _, path } => Some(path),
         _ => None,
     }
 }
 
 /// The verdict where the log has the start entry, with the path that it names or, where that is too
-/// long, without one.
+/// long, without one. Unless the first start entry is enough, the log is the canonical one.
 fn rejected(
     alloc: Global,
     problem: &Problem,
@@ -212,35 +214,37 @@ fn rejected(
     removed: Option<u64>,
 ) -> Result<Decided, OutOfMemory>
     requires problem { problem.now ≡ core.now.base.problem }
-    requires budget { core.now.base.budget ≡ settings.entries }
+    requires few { length (log_of core.now) ≤ settings.entries }
     requires settings { AreSettingsWithin settings }
     requires reported { IsReportedTable settings.first problem.now (log_of core.now) }
+    requires canonical { settings.first ≡ false
+        → IsCanonicalLog problem.now (log_of core.now) (state_of core.now).supports }
     requires start { HasStart problem.now (log_of core.now) }
     requires rejects { Accepts problem.now.sorted.scheme.rules problem.now.sorted.automaton.transitions → ⊥ }
     ensures { IfOk result (λ decided. DecidesProblem settings problem.now removed (Ok decided)) }
 {
-    core.is_core();
-    is_sorted_problem(problem);
+    core.know_core();
+    know_sorted_problem(problem);
     namings_end_and_fail();
     let entries = core.len();
     match walk(alloc, problem, core, settings.steps)? {
         Walk::Found(path) => {
-            let verdict = Told::Rejected { entries, path };
+            let verdict = Verdict::Rejected { entries, path };
             let report = report_of(alloc, problem, core, settings, &verdict, removed)?;
             Ok(Decided {
-                verdict: Verdict::Rejected,
+                verdict: Decision::Rejected,
                 report,
                 path: path_in(verdict),
             })
         }
         Walk::StepLimit(_prefix) => {
-            let verdict = Told::Long {
+            let verdict = Verdict::Long {
                 entries,
                 steps: settings.steps,
             };
             let report = report_of(alloc, problem, core, settings, &verdict, removed)?;
             Ok(Decided {
-                verdict: Verdict::Long,
+                verdict: Decision::Long,
                 report,
                 path: None,
             })
@@ -259,7 +263,7 @@ fn over(problem: &Problem, core: &Core, settings: Settings) -> Refusal
     requires answer { IsOverAnswer core.now }
     ensures { (removed : Option ℕ) → DecidesProblem settings problem.now removed (Err result) }
 {
-    core.is_core();
+    core.know_core();
     Refusal::EntryLimit
 }
 
@@ -281,15 +285,53 @@ fn first(
     requires answer { IsFirstAnswer core.now }
     ensures { IfOk result (λ decided. DecidesProblem settings problem.now removed (Ok decided)) }
 {
-    core.is_core();
+    core.know_core();
     rejected(alloc, problem, core, settings, removed)
 }
 
-/// The verdict of the least table.
-fn least(
+/// A core whose log is the canonical one, in the place of one whose log is the least table, which is
+/// dropped before.
+fn canonical_core<'p>(
     alloc: Global,
-    problem: &Problem,
-    core: &Core,
+    problem: &'p Problem,
+    core: Core<'p>,
+) -> Result<Core<'p>, OutOfMemory>
+    requires few { Exceeds problem.now 1000000 → ⊥ }
+    ensures problem { IfOk result (λ ranked. ranked.base.problem ≡ problem.now) }
+    ensures canonical { IfOk result
+        (λ ranked. IsCanonicalLog problem.now (log_of ranked) (state_of ranked).supports) }
+{
+    drop(core);
+    canonical(alloc, problem)
+}
+
+/// The verdict where the least table has the start entry: the path is the one that the canonical log
+/// names.
+fn by_canonical_log<'p>(
+    alloc: Global,
+    problem: &'p Problem,
+    core: Core<'p>,
+    settings: Settings,
+    removed: Option<u64>,
+) -> Result<Decided, OutOfMemory>
+    requires settings { AreSettingsWithin settings }
+    requires all { settings.first ≡ false }
+    requires few { Exceeds problem.now settings.entries → ⊥ }
+    requires start { (T : List EntryData) → IsLeastTable problem.now T → HasStart problem.now T }
+    requires rejects { Accepts problem.now.sorted.scheme.rules problem.now.sorted.automaton.transitions → ⊥ }
+    ensures { IfOk result (λ decided. DecidesProblem settings problem.now removed (Ok decided)) }
+{
+    let ranked = canonical_core(alloc, problem, core)?;
+    let decided = rejected(alloc, problem, &ranked, settings, removed);
+    forget(ranked);
+    decided
+}
+
+/// The verdict of the least table.
+fn least<'p>(
+    alloc: Global,
+    problem: &'p Problem,
+    core: Core<'p>,
     settings: Settings,
     removed: Option<u64>,
 ) -> Result<Decided, OutOfMemory>
@@ -300,24 +342,29 @@ fn least(
       problem = problem.now;
       budget = settings.entries;
       first = settings.first;
-    }) settings.workers core.now }
-    requires answer { IsLeastAnswer core.now }
+    }) settings.workers core }
+    requires answer { IsLeastAnswer core }
     requires verdict { Accepts problem.now.sorted.scheme.rules problem.now.sorted.automaton.transitions
-        ↔ (HasStart problem.now (log_of core.now) → ⊥) }
+        ↔ (HasStart problem.now (log_of core) → ⊥) }
     ensures { IfOk result (λ decided. DecidesProblem settings problem.now removed (Ok decided)) }
 {
-    core.is_core();
+    core.know_core();
     match core.start() {
-        Some(_place) => rejected(alloc, problem, core, settings, removed),
-        None => accepted(alloc, problem, core, settings, removed),
+        Some(_place) => by_canonical_log(alloc, problem, core, settings, removed),
+        None => {
+            let decided = accepted(alloc, problem, &core, settings, removed);
+            forget(core);
+            decided
+        }
     }
 }
 
-/// What saturation has come to, as a verdict.
-fn of_done(
+/// What saturation has come to, as a verdict. A run ends with it, so what is large is given to the system:
+/// to give back a million entries one by one would take longer.
+fn of_done<'p>(
     alloc: Global,
-    problem: &Problem,
-    done: &Done,
+    problem: &'p Problem,
+    done: Done<'p>,
     settings: Settings,
     removed: Option<u64>,
 ) -> Result<Decided, Refusal>
@@ -328,19 +375,27 @@ fn of_done(
       problem = problem.now;
       budget = settings.entries;
       first = settings.first;
-    }) settings.workers done.now }
-    requires verdict { IsVerdict problem.now done.now }
+    }) settings.workers done }
+    requires verdict { IsVerdict problem.now done }
     ensures { DecidesProblem settings problem.now removed result }
 {
     match done {
-        Done::Over(core) => Err(over(problem, core, settings)),
-        Done::First(core) => Ok(first(alloc, problem, core, settings, removed)?),
+        Done::Over(core) => {
+            let refusal = over(problem, &core, settings);
+            forget(core);
+            Err(refusal)
+        }
+        Done::First(core) => {
+            let decided = first(alloc, problem, &core, settings, removed);
+            forget(core);
+            Ok(decided?)
+        }
         Done::Least(core) => Ok(least(alloc, problem, core, settings, removed)?),
     }
 }
 
 /// The verdict by the least table, or that it has more entries than are allowed.
-fn by_table<R: Threads + Wait + Sync, G: Gate + Sync>(
+pub(crate) fn by_table<R: Threads + Wait + Sync, G: Gate + Sync>(
     rt: &R,
     alloc: Global,
     problem: &Problem,
@@ -352,7 +407,7 @@ fn by_table<R: Threads + Wait + Sync, G: Gate + Sync>(
     requires flow { HasClosedFlow problem.now }
     ensures { DecidesProblem settings problem.now removed result }
 {
-    is_sorted_problem(problem);
+    know_sorted_problem(problem);
     let dependents = Dependents::of(alloc, problem)?;
     let done = saturate(
         rt,
@@ -364,10 +419,7 @@ fn by_table<R: Threads + Wait + Sync, G: Gate + Sync>(
         settings.first,
         gate,
     )?;
-    let decided = of_done(alloc, problem, &done, settings, removed);
-    // A run ends here. To give back a million entries one by one would take longer than the system does.
-    forget(done);
-    decided
+    of_done(alloc, problem, done, settings, removed)
 }
 
 /// The verdict on a problem, or that its least table has more entries than are allowed. Where the scheme
@@ -387,10 +439,8 @@ pub(crate) fn decide_problem<R: Threads + Wait + Sync, G: Gate + Sync>(
     ensures { (source : SortedData) → IfSome (option_map (λ s. s.now) before.entry) (λ s. s ≡ source)
         → Decides settings source problem.now removed result }
 {
-    if let Some(before) = before {
-        if let Some(decided) = by_evidence(alloc, before, problem, removed, settings) {
-            return Ok(decided);
-        }
+    match before {
+        Some(before) => decide_by_search(rt, alloc, before, problem, removed, settings, gate),
+        None => by_table(rt, alloc, problem, removed, settings, gate),
     }
-    by_table(rt, alloc, problem, removed, settings, gate)
 }

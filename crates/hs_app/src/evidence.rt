@@ -1,24 +1,24 @@
-//! The verdict by evidence: what a search proposes, once it was checked.
+//! The verdict by evidence: what is proposed, once it was checked.
 //!
 //! Nothing is known of a proposal. A certificate is checked, and a path is followed by reduction; where
 //! either fails, or memory doesn't suffice for it, there is no verdict from here, and the table decides.
 
 ghost use Rattle.std.specs.Prelude.{◌≡◌, true, All, IfSome, IsTrue};
-ghost use Rattle.hs_scheme.specs.Flow.{IsAscending};
-ghost use Rattle.hs_scheme.specs.Sorted.{SortedData};
+ghost use Rattle.hs_scheme.specs.flow.Flow.{IsAscending};
+ghost use Rattle.hs_scheme.specs.sorting.Sorted.{SortedData};
 ghost use Rattle.hs_table.specs.Entries.{InShape, entry_cmp};
 ghost use Rattle.hs_weak.specs.Reads.{IsClosedReads};
 ghost use Rattle.hs_weak.specs.Void.{void_cmp};
 ghost use Rattle.hs_reads.specs.Own.{AreReadsOf};
 ghost use Rattle.hs_words.specs.Words.{AreSettingsWithin};
 ghost use Rattle.hs_text.specs.Report.{path_summary};
-ghost use Rattle.hs_app.specs.declared.verdict.Verdict.TheVariants.{Rejected};
+ghost use Rattle.hs_app.specs.declared.verdict.Decision.TheVariants.{Rejected};
 ghost use Rattle.hs_app.specs.Verdict.{AreListed, DecidesQuickly};
 
-use crate::verdict::{Decided, Verdict};
+use crate::verdict::{Decided, Decision};
 use hs_certificate_checker::check_certificate;
 use hs_checker::is_in_shape;
-use hs_quick::{Limits, Proposal, propose};
+use hs_quick::Proposal;
 use hs_reads::Reads;
 use hs_reduce::{MAX_STEPS, failure_along};
 use hs_scheme::{FailingPath, Problem, Sorted};
@@ -96,7 +96,7 @@ fn by_certificate(
     }
     match certificate_report(alloc, problem, table, void, settings.table, removed) {
         Ok(report) => Some(Decided {
-            verdict: Verdict::Accepted,
+            verdict: Decision::Accepted,
             report,
             path: None,
         }),
@@ -116,7 +116,7 @@ fn rejected_along(
 {
     match path_report(alloc, problem, &path, removed) {
         Ok(report) => Some(Decided {
-            verdict: Verdict::Rejected,
+            verdict: Decision::Rejected,
             report,
             path: Some(path),
         }),
@@ -148,12 +148,13 @@ fn by_path(
     }
 }
 
-/// The verdict by what the search proposes, where that stands.
-fn by_proposal(
+/// The verdict by the proposal, where it stands.
+pub(crate) fn by_proposal(
     alloc: Global,
     before: &Sorted,
     problem: &Problem,
     reads: &Reads,
+    proposal: &Proposal,
     removed: Option<u64>,
     settings: Settings,
 ) -> Option<Decided>
@@ -163,39 +164,14 @@ fn by_proposal(
     requires own { AreReadsOf problem.now reads.now }
     ensures { IfSome result (DecidesQuickly settings before.now problem.now removed) }
 {
-    match propose(alloc, problem, reads, Limits::usual()) {
-        Ok(Proposal::Accepted { table, void }) => {
+    match proposal {
+        Proposal::Accepted { table, void } => {
             let (table, void) = (table.as_slice(), void.as_slice());
             by_certificate(alloc, problem, reads, table, void, removed, settings)
         }
-        Ok(Proposal::Rejected(path)) => {
+        Proposal::Rejected(path) => {
             by_path(alloc, before, problem, path.as_slice(), removed, settings)
         }
-        Ok(Proposal::None) => None,
-        Err(_) => None,
-    }
-}
-
-/// The verdict on a problem by evidence, where some is found that stands. A path leads along the rules
-/// of the scheme `before`, which the passes made smaller, or of the problem's own. Where memory doesn't
-/// suffice, none is found.
-pub(crate) fn by_evidence(
-    alloc: Global,
-    before: &Sorted,
-    problem: &Problem,
-    removed: Option<u64>,
-    settings: Settings,
-) -> Option<Decided>
-    requires quick { settings.quick ≡ true }
-    requires settings { AreSettingsWithin settings }
-    ensures { IfSome result (DecidesQuickly settings before.now problem.now removed) }
-{
-    match Reads::of(alloc, problem) {
-        Ok(reads) => {
-            let decided = by_proposal(alloc, before, problem, &reads, removed, settings);
-            drop(reads);
-            decided
-        }
-        Err(_) => None,
+        Proposal::None => None,
     }
 }

@@ -1,16 +1,19 @@
 //! What explains an answer, on standard error.
 
-ghost use Rattle.std.specs.Prelude.{◌≡◌, ◌≤◌, ◌++◌, [], length, true, IfSome};
+ghost use Rattle.std.specs.Prelude.{◌≡◌, ◌⊎◌, ◌≤◌, ◌++◌, [], length, true, IfSome};
+ghost use Rattle.hs_words.specs.Words.{texts};
 ghost use Rattle.hs_front.specs.Outside.{sink_run, HasTakenOrFailed};
 ghost use Rattle.hs_front.specs.Refusal.{line_of};
-ghost use Rattle.hs_app.specs.Explaining.{ExplainsAnswer, ExplainsVerdict, IsExplanation, TellsAndExplains};
+ghost use Rattle.hs_app.specs.Explaining.{ExplainsAnswer, ExplainsVerdict, IsExplanation, TellsAndExplains, mentions_explain};
 ghost use Rattle.hs_app.specs.Outcome.{usage};
 
-use crate::verdict::{Decided, Verdict};
+use crate::verdict::{Decided, Decision};
 use hs_edge::{Sink, write_all};
-use hs_explain::{refusal_text, trace_of_report, unmet_text};
+use hs_explain::{refusal_text, unmet_text, unread_text, words_text};
 use hs_front::{Refusal, line, refuse, tell};
 use hs_reader::MAX_BYTES;
+use hs_trace::trace_of_report;
+use hs_words::Settings;
 use std::alloc::Global;
 
 /// What explains a verdict on the bytes of a file.
@@ -20,23 +23,28 @@ fn of_verdict(alloc: Global, bytes: &[u8], decided: &Decided) -> Option<Vec<u8>>
         ExplainsVerdict bytes.now decided.now.verdict decided.now.report.items text.items) }
 {
     match decided.verdict {
-        Verdict::Accepted => unmet_text(alloc, bytes),
-        Verdict::Rejected => match &decided.path {
+        Decision::Accepted => unmet_text(alloc, bytes),
+        Decision::Rejected => match &decided.path {
             Some(path) => trace_of_report(alloc, bytes, path, decided.report.as_slice()),
             None => None,
         },
-        Verdict::Long => None,
+        Decision::Long => None,
     }
 }
 
 /// What explains the answer on the bytes of a file.
-fn of_answer(alloc: Global, bytes: &[u8], answer: &Result<Decided, Refusal>) -> Option<Vec<u8>>
+fn of_answer(
+    alloc: Global,
+    bytes: &[u8],
+    entries: u32,
+    answer: &Result<Decided, Refusal>,
+) -> Option<Vec<u8>>
     requires { length bytes.now ≤ MAX_BYTES }
     ensures { IfSome result (λ text. ExplainsAnswer bytes.now answer.now text.items) }
 {
     match answer {
         Ok(decided) => of_verdict(alloc, bytes, decided),
-        Err(refusal) => refusal_text(alloc, bytes, refusal),
+        Err(refusal) => refusal_text(alloc, bytes, entries, refusal),
     }
 }
 
@@ -45,14 +53,52 @@ fn of_answer(alloc: Global, bytes: &[u8], answer: &Result<Decided, Refusal>) -> 
 pub(crate) fn explanation(
     alloc: Global,
     bytes: &[u8],
-    asked: bool,
+    settings: Settings,
     answer: &Result<Decided, Refusal>,
 ) -> Vec<u8>
     requires { length bytes.now ≤ MAX_BYTES }
-    ensures { IsExplanation asked bytes.now answer.now result.items }
+    ensures { IsExplanation settings.explain bytes.now answer.now result.items }
+{
+    if settings.explain {
+        if let Some(text) = of_answer(alloc, bytes, settings.entries, answer) {
+            return text;
+        }
+    }
+    Vec::new(alloc)
+}
+
+/// The text that explains why the file of this name wasn't read, where that is asked for; none where it
+/// isn't, there is nothing to say, or memory doesn't suffice.
+pub(crate) fn unread_explanation(
+    alloc: Global,
+    name: &str,
+    asked: bool,
+    refusal: &Refusal,
+) -> Vec<u8>
+    ensures { (result.items ≡ []) ⊎ (asked ≡ true) }
 {
     if asked {
-        if let Some(text) = of_answer(alloc, bytes, answer) {
+        if let Some(text) = unread_text(alloc, name, refusal) {
+            return text;
+        }
+    }
+    Vec::new(alloc)
+}
+
+/// Whether `--explain` is among the words.
+fn has_explain(words: &[&str]) -> bool
+    ensures { result ≡ mentions_explain (texts words.now) }
+{
+    words.contains(&"--explain")
+}
+
+/// The text that explains why the words are refused, where `--explain` is among them; none where it isn't,
+/// there is nothing to say, or memory doesn't suffice.
+pub(crate) fn words_explanation(alloc: Global, words: &[&str]) -> Vec<u8>
+    ensures { (result.items ≡ []) ⊎ (mentions_explain (texts words.now) ≡ true) }
+{
+    if has_explain(words) {
+        if let Some(text) = words_text(alloc, words) {
             return text;
         }
     }

@@ -5,10 +5,13 @@ mod deciding;
 mod evidence;
 mod explaining;
 mod laws;
+mod proposed;
 mod top;
 mod verdict;
 mod words;
 
 pub use laws::canonical_file_is_read_again;
+pub use proposed::decide_on;
 pub use top::run;
+pub use verdict::{Decided, Decision};
 pub use words::run_on;

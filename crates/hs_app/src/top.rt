@@ -8,12 +8,15 @@ ghost use Rattle.hs_app.specs.Order.{read_file, ordered, ReadsNothing};
 ghost use Rattle.hs_app.specs.Problems.{asked_of};
 ghost use Rattle.hs_app.specs.Headline as headline;
 ghost use Rattle.hs_app.specs.Outcome as outcome;
+ghost use Rattle.hs_app.specs.OneReport as one;
 ghost use Rattle.hs_app.specs.Verdict.{HasAnswer};
-ghost use Rattle.hs_app.specs.Explaining.{IsExplanation};
+ghost use Rattle.hs_app.specs.Explaining.{IsExplanation, mentions_explain};
 ghost use Rattle.hs_gen.specs.Cycle.{cycle_file_text};
 
-use crate::explaining::{explain, explanation, refuse_and_explain};
-use crate::verdict::{Decided, Verdict, decide};
+use crate::explaining::{
+    explain, explanation, refuse_and_explain, unread_explanation, words_explanation,
+};
+use crate::verdict::{Decided, Decision, decide};
 use hs_edge::{Sink, Source, write_all};
 use hs_front::{Refusal, read, refuse, status};
 use hs_gen::cycle_file;
@@ -47,13 +50,7 @@ fn verdict_on<R: Threads + Wait + Sync, S: Source, G: Gate + Sync>(
     requires settings { AreSettingsWithin settings }
     requires tallies { All (λ p. taken p ≡ 0) passes.old.items }
     requires untold { told.old.items ≡ [] }
-    ensures explains { outcome.MayExplain
-        (Some (record {
-          job = read_file name.now;
-          asked = asked_of settings
-              (map (λ p. image p) passes.old.items);
-        }))
-        (source_run S.file S.left S.reading S.faults source.old source.new) result told.new.items }
+    ensures explains { IsExplanation settings.explain (S.reading source.new).given result told.new.items }
     ensures answer { outcome.IsAnswerOfRun
         (Some (record {
           job = read_file name.now;
@@ -68,10 +65,13 @@ fn verdict_on<R: Threads + Wait + Sync, S: Source, G: Gate + Sync>(
     match read(alloc, name, source, MAX_BYTES) {
         Ok(bytes) => {
             let decided = decide(rt, alloc, bytes.as_slice(), settings, passes, gate);
-            *told = explanation(alloc, bytes.as_slice(), settings.explain, &decided);
+            *told = explanation(alloc, bytes.as_slice(), settings, &decided);
             decided
         }
-        Err(refusal) => Err(refusal),
+        Err(refusal) => {
+            *told = unread_explanation(alloc, name, settings.explain, &refusal);
+            Err(refusal)
+        }
     }
 }
 
@@ -97,7 +97,7 @@ fn verdict_on_cycle<R: Threads + Wait + Sync, G: Gate + Sync>(
     match cycle_file(alloc, k) {
         Ok(bytes) => {
             let decided = decide(rt, alloc, bytes.as_slice(), settings, passes, gate);
-            *told = explanation(alloc, bytes.as_slice(), settings.explain, &decided);
+            *told = explanation(alloc, bytes.as_slice(), settings, &decided);
             decided
         }
         Err(_) => Err(Refusal::OutOfMemory),
@@ -118,8 +118,9 @@ fn answer<R: Threads + Wait + Sync, S: Source, G: Gate + Sync>(
 ) -> Result<Decided, Refusal>
     requires tallies { All (λ p. taken p ≡ 0) passes.old.items }
     requires untold { told.old.items ≡ [] }
-    ensures explains { outcome.MayExplain (ordered (map (λ p. image p) passes.old.items) (texts words.now))
-        (source_run S.file S.left S.reading S.faults source.old source.new) result told.new.items }
+    ensures explains { outcome.MayExplain (mentions_explain (texts words.now))
+        (source_run S.file S.left S.reading S.faults source.old source.new) result told.new.items
+        (ordered (map (λ p. image p) passes.old.items) (texts words.now)) }
     ensures answer { outcome.IsAnswerOfRun (ordered (map (λ p. image p) passes.old.items) (texts words.now))
         (source_run S.file S.left S.reading S.faults source.old source.new) result }
     ensures calm { result ≢ Err Refusal.Source
@@ -130,7 +131,10 @@ fn answer<R: Threads + Wait + Sync, S: Source, G: Gate + Sync>(
 {
     let options = match read_words(alloc, words) {
         Ok(options) => options,
-        Err(WordsFault::Usage) => return Err(Refusal::Usage),
+        Err(WordsFault::Usage) => {
+            *told = words_explanation(alloc, words);
+            return Err(Refusal::Usage);
+        }
         Err(WordsFault::OutOfMemory) => return Err(Refusal::OutOfMemory),
     };
     let settings = options.settings;
@@ -172,7 +176,8 @@ fn end<R: Threads + Wait + Sync, S: Source, O: Sink, E: Sink, G: Gate + Sync>(
     gate: &G,
 ) -> Ending
     requires { All (λ p. taken p ≡ 0) passes.old.items }
-    ensures ends { outcome.Ends (ordered (map (λ p. image p) passes.old.items) (texts words.now))
+    ensures ends { outcome.Ends (mentions_explain (texts words.now))
+        (ordered (map (λ p. image p) passes.old.items) (texts words.now))
         (source_run S.file S.left S.reading S.faults source.old source.new)
         (sink_run O.writing O.faults out.old out.new) (sink_run E.writing E.faults err.old err.new) result }
     ensures calm { result ≢ Ending.Refused Refusal.Source
@@ -205,13 +210,13 @@ fn end<R: Threads + Wait + Sync, S: Source, O: Sink, E: Sink, G: Gate + Sync>(
 }
 
 /// The exit status of a verdict.
-fn verdict_status(verdict: Verdict) -> u8
+fn verdict_status(verdict: Decision) -> u8
     ensures { result ≡ outcome.status_of_verdict verdict }
 {
     match verdict {
-        Verdict::Accepted => 0,
-        Verdict::Rejected => 1,
-        Verdict::Long => 2,
+        Decision::Accepted => 0,
+        Decision::Rejected => 1,
+        Decision::Long => 2,
     }
 }
 
@@ -229,20 +234,21 @@ fn exit_status(ending: &Ending) -> u8
 /// Runs the program: decides what the words name, writes the report to `out`, or a line to `err`
 /// that says why there is none, and answers the exit status.
 ///
-/// `words` has the program's name first, which isn't looked at. The others are read as `hs_words`
-/// says: the name of a file, or `--gen K` for the generated file of that number, or neither, and then
-/// the source is started with the name `-`; `--entries N` and `--steps N` bound the table and the
-/// path, `--table` shows the table, and with `--first` the first start entry is enough; with `--quick`
-/// evidence is sought before the table is filled, and checked; with `--explain` a text on `err` explains
-/// the answer; `--workers N` workers fill the table, and `--simplify` makes the scheme smaller before. The
-/// source is started once at most, and nothing is read
-/// behind its end. The report is formed before the first write. A fault of `err` changes no status.
+/// `words` has the program's name first, which isn't looked at. The others are read as `hs_words` says: the
+/// name of a file, or `--gen K` for the generated file of that number, or neither, and then the source is
+/// started with the name `-`; `--entries N` and `--steps N` bound the table and the path, `--table` shows
+/// the table, and with `--first` the first start entry is enough; with `--quick` evidence is sought before
+/// the table is filled, and checked; with `--explain` a text on `err` explains the answer; `--workers N`
+/// workers fill the table, and `--simplify` makes the scheme smaller before. The path is that of the
+/// canonical log, so their number changes nothing of the report, unless `--first` or `--quick` is given.
+/// The source is started once at most, and nothing is read behind its end. The report is formed before the
+/// first write. A fault of `err` changes no status.
 ///
-/// Reading takes time and memory in proportion to the file. What saturation takes isn't bounded by
-/// the file: a table has at most `--entries` entries, and a path is followed for at most `--steps`
-/// steps. Each of the workers passes `gate` before it does a work; with `Open` nobody waits there. The
-/// passes, none of which has a tally yet, are applied in their order with `--simplify`, and dropped at
-/// the end in any case.
+/// Reading takes time and memory in proportion to the file. What saturation takes isn't bounded by the
+/// file: a table has at most `--entries` entries, and a path is followed for at most `--steps` steps; for
+/// the canonical log of a rejected file one worker forms the table a second time. Each of the workers
+/// passes `gate` before it does a work; with `Open` nobody waits there. The passes, none of which has a
+/// tally yet, are applied in their order with `--simplify`, and dropped at the end in any case.
 pub fn run<R: Threads + Wait + Sync, S: Source, O: Sink, E: Sink, G: Gate + Sync>(
     rt: &R,
     alloc: Global,
@@ -262,7 +268,13 @@ pub fn run<R: Threads + Wait + Sync, S: Source, O: Sink, E: Sink, G: Gate + Sync
         (source_run S.file S.left S.reading S.faults source.old source.new)
         (sink_run O.writing O.faults out.old out.new) result }
     // All that is claimed of a run, from which the three above follow.
-    ensures rows { outcome.Rows (ordered (map (λ p. image p) passes.items) (texts words.now))
+    ensures rows { outcome.Rows (mentions_explain (texts words.now))
+        (ordered (map (λ p. image p) passes.items) (texts words.now))
+        (source_run S.file S.left S.reading S.faults source.old source.new)
+        (sink_run O.writing O.faults out.old out.new) (sink_run E.writing E.faults err.old err.new) result }
+    // Each run of the same words but for the number of workers, on the same bytes, comes to the same status
+    // and report.
+    ensures one_report { one.HasOneReport (ordered (map (λ p. image p) passes.items) (texts words.now))
         (source_run S.file S.left S.reading S.faults source.old source.new)
         (sink_run O.writing O.faults out.old out.new) (sink_run E.writing E.faults err.old err.new) result }
     ensures keeps { outcome.Keeps (source_run S.file S.left S.reading S.faults source.old source.new)

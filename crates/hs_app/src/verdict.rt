@@ -1,7 +1,7 @@
 //! From the bytes of a file to the verdict.
 
 ghost use Rattle.std.specs.Prelude.{◌≡◌, ◌≤◌, ◌^◌, true, false, length, map, All, IfSome, option_map};
-ghost use Rattle.hs_scheme.specs.Sorted.{SortedData, IsSorted};
+ghost use Rattle.hs_scheme.specs.sorting.Sorted.{SortedData, IsSorted};
 ghost use Rattle.hs_app.specs.Problems.{asked_of};
 ghost use Rattle.hs_words.specs.Words.{AreSettingsWithin};
 ghost use Rattle.hs_app.specs.Verdict.{DecidesForm, DecidesSorted, IsAnsweredWith};
@@ -19,7 +19,7 @@ use std::thread::Threads;
 
 /// What the automaton makes of the value tree.
 #[derive(Clone, Copy)]
-pub(crate) enum Verdict {
+pub enum Decision {
     Accepted,
     /// It isn't, and the path that the report shows leads to a terminal without transition.
     Rejected,
@@ -29,11 +29,12 @@ pub(crate) enum Verdict {
 
 /// A verdict with its report.
 #[derive(Drop)]
-pub(crate) struct Decided {
-    pub(crate) verdict: Verdict,
-    pub(crate) report: Vec<u8>,
+pub struct Decided {
+    pub verdict: Decision,
+    /// The bytes of the report.
+    pub report: Vec<u8>,
     /// The path that the report shows, where it shows one.
-    pub(crate) path: Option<FailingPath>,
+    pub path: Option<FailingPath>,
 }
 
 /// What holds of each scheme with its sorts.

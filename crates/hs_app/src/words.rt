@@ -6,8 +6,10 @@ ghost use Rattle.std.specs.Vec.Iter.{into_iter_items};
 ghost use Rattle.hs_front.specs.Files.{IsAccepted, IsRejected};
 ghost use Rattle.hs_front.specs.Outside.{source_run, sink_run};
 ghost use Rattle.hs_app.specs.Order.{ordered};
+ghost use Rattle.hs_app.specs.Explaining.{mentions_explain};
 ghost use Rattle.hs_app.specs.Headline as headline;
 ghost use Rattle.hs_app.specs.Outcome as outcome;
+ghost use Rattle.hs_app.specs.OneReport as one;
 
 use crate::top::run;
 use hs_edge::{Sink, Source};
@@ -45,7 +47,12 @@ pub fn run_on<R: Threads + Wait + Sync, S: Source, O: Sink, E: Sink>(
         (sink_run O.writing O.faults out.old out.new) result) }
     ensures rows { IfOk words (λ given.
         ((result ≡ 10) × (source.new ≡ source.old) × (out.new ≡ out.old) × (err.new ≡ err.old))
-        ⊎ outcome.Rows (ordered (map (λ p. image p) passes.items) (map string_bytes (into_iter_items given)))
+        ⊎ outcome.Rows (mentions_explain (map string_bytes (into_iter_items given)))
+        (ordered (map (λ p. image p) passes.items) (map string_bytes (into_iter_items given)))
+        (source_run S.file S.left S.reading S.faults source.old source.new)
+        (sink_run O.writing O.faults out.old out.new) (sink_run E.writing E.faults err.old err.new) result) }
+    ensures one_report { IfOk words (λ given. one.HasOneReport
+        (ordered (map (λ p. image p) passes.items) (map string_bytes (into_iter_items given)))
         (source_run S.file S.left S.reading S.faults source.old source.new)
         (sink_run O.writing O.faults out.old out.new) (sink_run E.writing E.faults err.old err.new) result) }
     ensures keeps { outcome.Keeps (source_run S.file S.left S.reading S.faults source.old source.new)

@@ -3,7 +3,7 @@ use Rattle.std.proofs.Common.{◌≡◌, refl, sym, ap, subst, List, [], ◌∷�
 use Rattle.std.specs.Cmp.{IsTotalOrder}
 use Rattle.std.specs.declared.cmp.Ordering.{Ordering}
 use Rattle.std.specs.declared.cmp.Ordering.TheVariants.{Less}
-use Rattle.hs_scheme.specs.Flow.{IsAscending}
+use Rattle.hs_scheme.specs.flow.Flow.{IsAscending}
 use Rattle.hs_scheme.proofs.Lists.{none_in, here, later, uncons, only, pairs_append}
 use Rattle.hs_table_laws.proofs.Places.{pairs_tail, pairs_head, pairs_cons}
 use Rattle.hs_cert.specs.Front.{IsAboveLast}

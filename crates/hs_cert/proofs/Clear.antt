@@ -14,8 +14,8 @@ use Rattle.std.proofs.lemmas.List.Concat.{flat_map-append}
 use Rattle.std.proofs.lemmas.List.Elements.{All-contains}
 use Rattle.std.proofs.lemmas.Str.Parse.{digit_from_value}
 use Rattle.hs_scheme.specs.Tree.{Tree, Trees, node, none, more}
-use Rattle.hs_scheme.specs.Flow.{IsAscending}
-use Rattle.hs_scheme.specs.Points.{point_at}
+use Rattle.hs_scheme.specs.flow.Flow.{IsAscending}
+use Rattle.hs_scheme.specs.flow.Points.{point_at}
 use Rattle.hs_scheme.specs.Problem.{ProblemData}
 use Rattle.hs_scheme.proofs.Lists.{here, later, not_equal, read-slice_get}
 use Rattle.hs_reader.specs.Tokens.{is_name_byte}

@@ -3,7 +3,7 @@ use Rattle.std.proofs.Common.{◌≡◌, refl, sym, ◌∙◌, ap, subst, ℕ, z
 use Rattle.std.specs.declared.cmp.Ordering.{Ordering}
 use Rattle.std.specs.declared.cmp.Ordering.TheVariants.{Less}
 use Rattle.std.proofs.lemmas.List.{length-map, map-append}
-use Rattle.hs_scheme.specs.Flow.{IsAscending}
+use Rattle.hs_scheme.specs.flow.Flow.{IsAscending}
 use Rattle.hs_cert.specs.Certificate.{IsLine, StandsAt, IsRightItem}
 use Rattle.hs_cert.specs.Front.{Cut, IsNextItem}
 use Rattle.hs_cert.proofs.Above.{above_before}

@@ -18,8 +18,8 @@ use Rattle.std.specs.List.{list_all, flat_map}
 use Rattle.std.specs.declared.cmp.Ordering.{Ordering}
 use Rattle.std.specs.declared.cmp.Ordering.TheVariants.{Less}
 use Rattle.hs_scheme.specs.Tree.{height}
-use Rattle.hs_scheme.specs.Flow.{IsAscending}
-use Rattle.hs_scheme.specs.Points.{point_at}
+use Rattle.hs_scheme.specs.flow.Flow.{IsAscending}
+use Rattle.hs_scheme.specs.flow.Points.{point_at}
 use Rattle.hs_scheme.specs.Problem.{ProblemData}
 use Rattle.hs_reader.specs.Tokens.{is_name_byte}
 use Rattle.hs_table.specs.Types.{TypeTree}

@@ -12,8 +12,8 @@ use Rattle.std.specs.List.{flat_map}
 use Rattle.std.specs.declared.cmp.Ordering.{Ordering}
 use Rattle.std.specs.declared.cmp.Ordering.TheVariants.{Less}
 use Rattle.hs_scheme.specs.Tree.{Tree, Trees, node, none, more, forest, height, heights}
-use Rattle.hs_scheme.specs.Flow.{IsAscending}
-use Rattle.hs_scheme.specs.Points.{point_at}
+use Rattle.hs_scheme.specs.flow.Flow.{IsAscending}
+use Rattle.hs_scheme.specs.flow.Points.{point_at}
 use Rattle.hs_scheme.specs.Problem.{ProblemData}
 use Rattle.hs_reader.specs.Tokens.{EndsRun}
 use Rattle.hs_table.specs.Types.{TypeTree, IsSet, IsType, AreTypes}

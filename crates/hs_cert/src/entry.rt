@@ -1,7 +1,7 @@
 //! Entries.
 
 ghost use Rattle.std.specs.Prelude.{◌≡◌, ◌≢◌, ◌<◌, ◌≤◌, ◌++◌, ℕ, List, [], length, IfOk, OnOk, IsErrOf, codes, if◌then◌else◌, ◌==◌};
-ghost use Rattle.hs_scheme.specs.Points.{point_at};
+ghost use Rattle.hs_scheme.specs.flow.Points.{point_at};
 ghost use Rattle.hs_table.specs.Entries as table;
 ghost use Rattle.hs_table.specs.Entries.{Env, EntryData};
 ghost use Rattle.hs_text.specs.Canonical.{name_at, params_at};
@@ -65,7 +65,7 @@ pub(crate) fn read_env(
     ensures faulty { IsErrOf result Faulty → (env : Env) (rest : List ℕ)
         → IsSetsFront states.now params.now count ahead.old.bytes.now env rest → ⊥ }
 {
-    let mut env = Vec::new(alloc);
+    let mut env = Vec::with_capacity(alloc, count as usize)?;
     for number in 0..count {
         expect_label(params, number as usize, ahead)?;
         let mut types = Vec::new(alloc);

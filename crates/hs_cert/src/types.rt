@@ -12,7 +12,7 @@ use crate::ahead::Ahead;
 use crate::fault::Misread;
 use crate::names::NameTable;
 use hs_table::{Shape, Ty};
-use std::alloc::Global;
+use std::alloc::{AllocError, Global};
 use std::cmp::Ordering;
 
 /// The state whose name stands at the front.
@@ -35,6 +35,18 @@ fn is_above(set: &[Ty], ty: &Ty) -> bool
     match set {
         [] => true,
         [.., last] => last.compare(ty) == Ordering::Less,
+    }
+}
+
+/// Makes room for one type more. The first two get no more than they need: most sets have no others, and a
+/// table may have a million sets.
+fn make_room_for_one(set: &mut Vec<Ty>) -> Result<(), AllocError>
+    ensures { set.new.items ≡ set.old.items }
+{
+    if set.len() < 2 {
+        set.reserve_exact(1)
+    } else {
+        Ok(())
     }
 }
 
@@ -92,6 +104,7 @@ pub(crate) fn read_members(
         if !is_above(set.as_slice(), &ty) {
             return Err(Misread::Faulty);
         }
+        make_room_for_one(set)?;
         set.push(ty)?;
         if !ahead.take(b",") {
             ahead.expect(b"}")?;

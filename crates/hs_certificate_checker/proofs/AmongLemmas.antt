@@ -1,7 +1,7 @@
 -- What is opened by the types of a head, at a point, and at all points.
 use Rattle.std.proofs.Common.{◌≡◌, refl, sym, ◌∙◌, subst, ℕ, ◌+◌, ◌<◌, ◌≤◌, List, [], length, map, get_or, take, slice_get, Option, Some, None, MatchOption, Contains, inl, inr, arith}
 use Rattle.std.proofs.lemmas.List.{take_all, length-map}
-use Rattle.hs_scheme.specs.Points.{PointData, point_at}
+use Rattle.hs_scheme.specs.flow.Points.{PointData, point_at}
 use Rattle.hs_scheme.specs.Problem.{ProblemData}
 use Rattle.hs_scheme.proofs.Lists.{none_in, match_some}
 use Rattle.hs_table.specs.Types.{TypeTree}

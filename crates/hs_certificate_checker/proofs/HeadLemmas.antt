@@ -1,7 +1,7 @@
 -- What least unions for a type of a point's head decide, by trees.
 use Rattle.std.proofs.Common.{◌≡◌, sym, ◌∙◌, subst, ℕ, List, slice_get, Some, Contains, inl, inr}
 use Rattle.std.proofs.lemmas.Option.{same_Some}
-use Rattle.hs_scheme.specs.Points.{PointData}
+use Rattle.hs_scheme.specs.flow.Points.{PointData}
 use Rattle.hs_scheme.specs.Problem.{ProblemData}
 use Rattle.hs_table.specs.Types.{TypeTree, arrows}
 use Rattle.hs_table.specs.Entries.{Env, EntryData, params_of}

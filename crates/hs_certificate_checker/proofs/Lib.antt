@@ -8,4 +8,5 @@ pub mod HeadLemmas
 pub mod OpenLemmas
 pub mod AmongLemmas
 pub mod FlawLemmas
+pub mod IdleLemmas
 mod FaultLemmas

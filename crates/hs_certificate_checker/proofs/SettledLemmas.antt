@@ -2,7 +2,7 @@
 use Rattle.std.proofs.Common.{◌≡◌, refl, sym, ◌∙◌, ap, subst, ℕ, ◌+◌, ◌<◌, ◌≤◌, Bool, true, false, IsTrue, List, length, map, get_or, take, slice_get, Some, Contains, ◌⊎◌, inl, inr, ◌↔◌}
 use Rattle.std.proofs.lemmas.List.{take_all}
 use Rattle.std.proofs.lemmas.Option.{same_Some}
-use Rattle.hs_scheme.specs.Points.{PointData}
+use Rattle.hs_scheme.specs.flow.Points.{PointData}
 use Rattle.hs_scheme.specs.Problem.{ProblemData}
 use Rattle.hs_scheme.proofs.Lists.{none_in, read-slice_get, Contains-at}
 use Rattle.hs_table.specs.Types.{TypeTree, arrows}

@@ -1,3 +1,4 @@
 pub mod Faults
 pub mod Trees
 pub mod Settled
+pub mod Idle

@@ -8,7 +8,7 @@
 --     AreSettled       so is all
 --     IsOpen           the row's entry isn't, though it follows and matters
 use Rattle.std.specs.Prelude.{◌≡◌, ℕ, ◌<◌, List, length, slice_get, Some, Contains, ◌⊎◌, ◌↔◌}
-use Rattle.hs_scheme.specs.Points.{PointData}
+use Rattle.hs_scheme.specs.flow.Points.{PointData}
 use Rattle.hs_scheme.specs.Problem.{ProblemData}
 use Rattle.hs_table.specs.Types.{TypeTree, arrows}
 use Rattle.hs_table.specs.Entries.{Env, EntryData, Has, IsEnv, params_of}

@@ -1,7 +1,7 @@
 //! The check of a certificate.
 
 ghost use Rattle.std.specs.Prelude.{IfErr, OnOk};
-ghost use Rattle.hs_scheme.specs.Run.{Accepts};
+ghost use Rattle.hs_scheme.specs.acceptance.Run.{Accepts};
 ghost use Rattle.hs_verdict.specs.Premises.{HasClosedFlow};
 ghost use Rattle.hs_weak.specs.Reads.{IsClosedReads};
 ghost use Rattle.hs_weak.specs.Void.{IsVoidList};
@@ -20,7 +20,7 @@ use hs_reads::Reads;
 use hs_scheme::Problem;
 use hs_table::Entry;
 use hs_types::Interner;
-use hs_verdict::is_sorted_problem;
+use hs_verdict::know_sorted_problem;
 use hs_weak::Void;
 use hs_weak_laws::certificates_accept;
 use std::alloc::Global;
@@ -80,7 +80,7 @@ pub fn check_certificate(
         (Accepts problem.now.sorted.scheme.rules problem.now.sorted.automaton.transitions) }
     ensures fault { IfErr result (HasCause problem.now table.now void.now reads.now) }
 {
-    is_sorted_problem(problem);
+    know_sorted_problem(problem);
     certificates_accept();
     check_flow(alloc, problem)?;
     if has_start(problem, table) {

@@ -9,6 +9,7 @@ mod checking;
 mod covered;
 mod fault;
 mod flow;
+mod idle;
 mod import;
 mod laws;
 mod missing;

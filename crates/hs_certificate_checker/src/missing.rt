@@ -2,7 +2,7 @@
 
 ghost use Rattle.std.specs.Prelude.{◌≡◌, ◌↔◌, ◌<◌, ℕ, List, Some, Contains, IfOk, OnOk, IsTrue, MatchOption};
 ghost use Rattle.std.specs.Prelude.{length, slice_get};
-ghost use Rattle.hs_scheme.specs.Points.{PointData, point_at};
+ghost use Rattle.hs_scheme.specs.flow.Points.{PointData, point_at};
 ghost use Rattle.hs_table.specs.Entries.{Env, EntryData};
 ghost use Rattle.hs_weak.specs.Void.{VoidData};
 ghost use Rattle.hs_types.specs.Interned.{IsRow, type_of_id, env_of_id, Grows};
@@ -14,12 +14,13 @@ ghost use Rattle.hs_certificate_checker.specs.Settled.{StandFor, IsOther, IsSpli
 ghost use Rattle.hs_certificate_checker.specs.Settled.{AreSettledBy, AreSettledAt, AreSettled};
 
 use crate::covered::is_covered;
+use crate::idle::is_idle;
 use hs_choices::{Known, rows_of_arguments_are_of_one_rule, slots_for};
 use hs_heads::{HeadType, head_types};
 use hs_reads::Reads;
 use hs_scheme::{OutOfMemory, Problem};
 use hs_types::{EnvId, Row, TyId};
-use hs_verdict::is_sorted_problem;
+use hs_verdict::know_sorted_problem;
 use hs_void::Voids;
 use std::alloc::Global;
 
@@ -128,7 +129,7 @@ fn open_by(
     ensures fits { Fits types.new voids.new }
     ensures basis { voids.new.basis ≡ voids.old.basis }
 {
-    is_sorted_problem(problem);
+    know_sorted_problem(problem);
     rows_of_arguments_are_of_one_rule();
     let rule = rule_at(problem, point);
     let args = args_at(problem, point);
@@ -170,7 +171,7 @@ fn open_among(
     Ok(None)
 }
 
-/// An entry that follows at the point, matters and is neither covered nor void.
+/// An entry that follows at the point, matters and is neither covered nor void. An idle point has none.
 fn open_at(
     alloc: Global,
     problem: &Problem,
@@ -191,6 +192,9 @@ fn open_at(
     ensures fits { OnOk result (Fits types.new voids.new) }
     ensures basis { voids.new.basis ≡ voids.old.basis }
 {
+    if is_idle(problem, reads, table, point) {
+        return Ok(None);
+    }
     let heads = head_types(alloc, types, problem, reads, table, point)?;
     open_among(alloc, problem, types, voids, table, point, heads.as_slice())
 }
@@ -198,9 +202,9 @@ fn open_at(
 /// An entry that weakly follows, whose last state is read at its point, and that is neither covered nor void:
 /// one at the first point that has any.
 ///
-/// For each type of a point's head in whose last state it is read, the least unions of what may be chosen
-/// for its sets are formed, where void ones are left out, and each of them is compared with the rows at the
-/// point.
+/// A point is passed over where a look at its arguments tells that nothing comes of it. Else for each type of
+/// its head in whose last state it is read, the least unions of what may be chosen for its sets are formed,
+/// where void ones are left out, and each of them is compared with the rows at the point.
 pub(crate) fn first_missing(
     alloc: Global,
     problem: &Problem,

@@ -2,7 +2,9 @@
 //! their order, each term before its arguments.
 
 use crate::shorts::{ShortEntry, ShortVoid};
-use hs_fixtures::{BRANCHING, BRANCHING_ACCEPTED, BRANCHING_REJECTED};
+use hs_fixtures::{
+    BRANCHING, BRANCHING_ACCEPTED, BRANCHING_REJECTED, PARTIAL, RESOURCE, RESOURCE_TRANSITIONS,
+};
 
 /// What the checker is to answer.
 #[derive(Clone, Copy)]
@@ -30,6 +32,8 @@ pub(crate) type Case = (
 const CALLED: &str = "S -> F c. F x -> b x.";
 
 const ARGUMENT: ShortEntry = (1, &[], (None, 1));
+
+const ARGUMENT_IN_START: ShortEntry = (1, &[], (None, 0));
 
 const PARAMETER: ShortEntry = (3, &[&[(None, 1)]], (None, 1));
 
@@ -183,13 +187,13 @@ pub(crate) const CASES: &[(&str, &str, &[Case])] = &[
                 "no entry at the argument",
             ),
             (
-                &[(1, &[], (None, 0))],
+                &[ARGUMENT_IN_START],
                 &[(1, &[&[(None, 0)]])],
                 Expected::NotVoid(0),
                 "an entry that asks nothing",
             ),
             (
-                &[(1, &[], (None, 0))],
+                &[ARGUMENT_IN_START],
                 &[],
                 Expected::Missing(&(2, &[&[(None, 0)]], (None, 0))),
                 "x by its argument",
@@ -247,13 +251,13 @@ pub(crate) const CASES: &[(&str, &str, &[Case])] = &[
             ),
             (&[], &[], Expected::Certificate, "nothing is rejected"),
             (
-                &[(1, &[], (None, 0)), X, Y],
+                &[ARGUMENT_IN_START, X, Y],
                 &[F_ASKS, G_ASKS],
                 Expected::NotVoid(0),
                 "a circle that is entered",
             ),
             (
-                &[(1, &[], (None, 0)), X, Y],
+                &[ARGUMENT_IN_START, X, Y],
                 &[G_ASKS, F_ASKS],
                 Expected::NotVoid(1),
                 "the same in another order",
@@ -326,5 +330,54 @@ pub(crate) const CASES: &[(&str, &str, &[Case])] = &[
             Expected::Missing(&(6, &[&[]], (None, 1))),
             "b is read in q1",
         )],
+    ),
+    (
+        "S -> a S.",
+        "q0 a -> q0.",
+        &[
+            (&[], &[], Expected::Certificate, "a loop"),
+            (&[START], &[], Expected::Start, "the start of a loop"),
+        ],
+    ),
+    (
+        "S -> S.",
+        "q0 a -> .",
+        &[(&[], &[], Expected::Certificate, "a tree without a root")],
+    ),
+    (
+        RESOURCE,
+        RESOURCE_TRANSITIONS,
+        &[
+            (&[], &[], Expected::Certificate, "end is read in q1 alone"),
+            (
+                &[ARGUMENT_IN_START],
+                &[],
+                Expected::Certificate,
+                "an entry in whose state the point isn't read",
+            ),
+        ],
+    ),
+    (
+        PARTIAL,
+        "q0 b -> q1. q1 c -> .",
+        &[
+            (
+                &[],
+                &[],
+                Expected::Missing(&(2, &[], (None, 0))),
+                "the argument of K that is read",
+            ),
+            (
+                &[(2, &[], (None, 0))],
+                &[],
+                Expected::Missing(&(6, &[&[(None, 0)], &[]], (None, 0))),
+                "x of K",
+            ),
+        ],
+    ),
+    (
+        PARTIAL,
+        "q0 c -> .",
+        &[(&[], &[], Expected::Certificate, "nothing is rejected")],
     ),
 ];

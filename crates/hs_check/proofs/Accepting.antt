@@ -1,9 +1,9 @@
 -- The tree of a file is accepted where that of its problem is.
 use Rattle.std.proofs.Common.{List, ℕ, length, Ok, subst}
 use Rattle.hs_scheme.specs.Problem.{ProblemData}
-use Rattle.hs_scheme.specs.Sorted.{SortedData, sorts_of}
-use Rattle.hs_scheme.specs.Unsorted.{UnsortedData}
-use Rattle.hs_scheme.specs.Run.{Accepts}
+use Rattle.hs_scheme.specs.sorting.Sorted.{SortedData, sorts_of}
+use Rattle.hs_scheme.specs.sorting.Unsorted.{UnsortedData}
+use Rattle.hs_scheme.specs.acceptance.Run.{Accepts}
 use Rattle.hs_scheme.specs.TreeTerms.{AreSortedBy}
 use Rattle.hs_steps.specs.Lengthened.{IsLengthened}
 use Rattle.hs_steps.proofs.Failing.{accepted_without_failure, no_failure_accepted}

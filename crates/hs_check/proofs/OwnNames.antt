@@ -5,10 +5,10 @@ use Rattle.std.specs.List.{AllByRecursion, flat_map, list_all}
 use Rattle.std.proofs.lemmas.List.Elements.{All-filter, All-from_recursion, recursion_from_All}
 use Rattle.std.proofs.lemmas.List.Kept.{AllPairs-cons, AllPairs-filter}
 use Rattle.std.specs.Str.{bytes_eq}
-use Rattle.hs_scheme.specs.Flow.{IsClosed, pairs_of}
+use Rattle.hs_scheme.specs.flow.Flow.{IsClosed, pairs_of}
 use Rattle.hs_scheme.specs.Problem.{ProblemData}
-use Rattle.hs_scheme.specs.Sorted.{SortedData}
-use Rattle.hs_scheme.specs.Unsorted.{UnsortedData}
+use Rattle.hs_scheme.specs.sorting.Sorted.{SortedData}
+use Rattle.hs_scheme.specs.sorting.Unsorted.{UnsortedData}
 use Rattle.hs_scheme.specs.Names.{NamesData}
 use Rattle.hs_reader.specs.declared.raw.RawName.{RawName}
 use Rattle.hs_reader.specs.Raw.{Rule, Transition, File}

@@ -1,7 +1,7 @@
 //! Laws of the second program, each the contract of a function that does nothing.
 
 ghost use Rattle.std.specs.Prelude.{◌≢◌, ◌≤◌, ◌<◌, ◌^◌, ℕ, List, true, Ok, Some, None, length, All, AllPairs};
-ghost use Rattle.hs_scheme.specs.Automaton.{IsAutomaton};
+ghost use Rattle.hs_scheme.specs.acceptance.Automaton.{IsAutomaton};
 ghost use Rattle.hs_scheme.specs.Problem.{ProblemData};
 ghost use Rattle.hs_table.specs.Entries.{EntryData, InShape};
 ghost use Rattle.hs_table.specs.Tables.{IsLeastTable, HasStart};

@@ -1,7 +1,7 @@
 //! The top call.
 
 ghost use Rattle.std.specs.Prelude.{◌≡◌, ◌≢◌, ◌≤◌, ℕ, List, Option, map, true, Ok, Err, Some, None, IfOk, OnOk, MatchResult};
-ghost use Rattle.hs_scheme.specs.Run.{Accepts};
+ghost use Rattle.hs_scheme.specs.acceptance.Run.{Accepts};
 ghost use Rattle.hs_front.specs.Line.{bytes_of};
 ghost use Rattle.hs_front.specs.Outside.{SourceRun, source_run, sink_run, IsUntouched, IsReadFromFront, IsCalm, KeepsSource};
 ghost use Rattle.hs_front.specs.Files.{IsAccepted};

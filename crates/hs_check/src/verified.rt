@@ -1,7 +1,7 @@
 //! Whether the text of a table shows that a scheme is accepted.
 
 ghost use Rattle.std.specs.Prelude.{◌≡◌, ◌⊎◌, ◌<◌, length, Err, OnOk};
-ghost use Rattle.hs_scheme.specs.Run.{Accepts};
+ghost use Rattle.hs_scheme.specs.acceptance.Run.{Accepts};
 ghost use Rattle.hs_verdict.specs.Premises.{HasClosedFlow};
 ghost use Rattle.hs_weak.specs.Reads.{IsClosedReads};
 ghost use Rattle.hs_cert.specs.Certificate.{AreNames};

@@ -4,8 +4,8 @@ use Rattle.std.proofs.lemmas.Option.{slice_get-get_or, same_Some}
 use Rattle.hs_scheme.specs.declared.flow.HeadPair.{HeadPair}
 use Rattle.hs_scheme.specs.declared.term.Head.{Head}
 use Rattle.hs_scheme.specs.declared.term.Head.TheVariants.{Var, Tm}
-use Rattle.hs_scheme.specs.Flow.{IsBase}
-use Rattle.hs_scheme.specs.Points.{PointData, point_at}
+use Rattle.hs_scheme.specs.flow.Flow.{IsBase}
+use Rattle.hs_scheme.specs.flow.Points.{PointData, point_at}
 use Rattle.hs_scheme.specs.Problem.{ProblemData}
 use Rattle.hs_scheme.proofs.Lists.{none_in, Contains-at}
 use Rattle.hs_table.specs.declared.support.HeadBy.{HeadBy}

@@ -3,7 +3,7 @@ use Rattle.std.proofs.Common.{◌≡◌, refl, sym, ◌∙◌, ap, subst, ℕ, z
 use Rattle.std.proofs.lemmas.Option.{slice_get-get_or, same_Some}
 use Rattle.hs_scheme.specs.Tree.{forest, children-forest}
 use Rattle.hs_scheme.specs.declared.term.Head.TheVariants.{Tm}
-use Rattle.hs_scheme.specs.Points.{PointData, point_at}
+use Rattle.hs_scheme.specs.flow.Points.{PointData, point_at}
 use Rattle.hs_scheme.specs.Problem.{ProblemData}
 use Rattle.hs_scheme.proofs.Lists.{none_in, uncons}
 use Rattle.hs_table.specs.Types.{TypeTree, arrow, IsSet, IsType, AreTypes}

@@ -2,7 +2,7 @@
 //! have entries. The types that these entries say of the nonterminal are counted, not formed.
 
 ghost use Rattle.std.specs.Prelude.{◌≡◌, ◌<◌, ◌∷◌, [], ℕ, length, Contains, IsTrue, IfOk, IfErr, OnOk, MatchOption};
-ghost use Rattle.hs_scheme.specs.Points.{point_at};
+ghost use Rattle.hs_scheme.specs.flow.Points.{point_at};
 ghost use Rattle.hs_scheme.specs.declared.term.Head.TheVariants.{Nt};
 ghost use Rattle.hs_table.specs.Types as types;
 ghost use Rattle.hs_table.specs.Types.{TypeTree};

@@ -1,7 +1,7 @@
 //! The check of a table.
 
 ghost use Rattle.std.specs.Prelude.{◌≡◌, ◌↔◌, ◌<◌, [], length, Contains, IsTrue, IfOk, IfErr, OnOk};
-ghost use Rattle.hs_scheme.specs.Run.{Accepts};
+ghost use Rattle.hs_scheme.specs.acceptance.Run.{Accepts};
 ghost use Rattle.hs_table.specs.Types.{state};
 ghost use Rattle.hs_table.specs.Entries.{EntryData, InShape};
 ghost use Rattle.hs_table.specs.Follows.{Follows};
@@ -21,7 +21,7 @@ use crate::terminals::complete_terminals;
 use hs_flow_checker::{HeadPairs, first_gap, is_marked};
 use hs_scheme::{Head, Pair, Problem};
 use hs_table::{Entry, Shape};
-use hs_verdict::is_sorted_problem;
+use hs_verdict::know_sorted_problem;
 use std::alloc::Global;
 
 /// The fault of a flow that lacks the pair.
@@ -156,7 +156,7 @@ fn check_index(
         (Accepts problem.now.sorted.scheme.rules problem.now.sorted.automaton.transitions) }
     ensures fault { IfErr result (IsFault problem.now table.now) }
 {
-    is_sorted_problem(problem);
+    know_sorted_problem(problem);
     let heads = HeadPairs::of(alloc, problem)?;
     let inert = inert_points(alloc, problem, index, &heads)?;
     let gap = first_gap(problem, &heads, inert.as_slice());

@@ -5,7 +5,7 @@ ghost use Rattle.std.specs.Prelude.{Contains, IsTrue, IfOk, IfSome, MatchOption}
 ghost use Rattle.std.specs.Borrow.{Bor};
 ghost use Rattle.std.specs.declared.cmp.Ordering.TheVariants.{Equal};
 ghost use Rattle.hs_scheme.specs.declared.flow.FlowPair.{FlowPair as AnyFlow};
-ghost use Rattle.hs_scheme.specs.Flow.{IsAscending};
+ghost use Rattle.hs_scheme.specs.flow.Flow.{IsAscending};
 ghost use Rattle.hs_table.specs.Types.{type_cmp};
 ghost use Rattle.hs_table.specs.Entries.{EntryData, InShape};
 ghost use Rattle.hs_checker.specs.Order.{index_cmp, key_cmp, IsInIndexOrder, AreStartsOfPoints, IsStartOfPoint};
@@ -115,7 +115,7 @@ impl<'a> Model for EntryIndex<'a> {
     ghost use Rattle.std.specs.Prelude.{List, map};
     ghost use Rattle.std.specs.Coded.{coded_list};
     ghost use Rattle.hs_table.specs.Entries.{EntryData, coded_entry};
-    ghost use Rattle.hs_scheme.specs.Flow.{IsAscending};
+    ghost use Rattle.hs_scheme.specs.flow.Flow.{IsAscending};
     ghost use Rattle.hs_checker.specs.Order.{index_cmp, IsInIndexOrder, AreStartsOfPoints};
 
     ghost Value = { List EntryData };

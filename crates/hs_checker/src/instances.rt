@@ -2,7 +2,7 @@
 //! have entries.
 
 ghost use Rattle.std.specs.Prelude.{◌≡◌, ◌↔◌, ◌⊎◌, ◌<◌, ℕ, length, Contains, IsTrue, IfOk, OnOk};
-ghost use Rattle.hs_scheme.specs.Points.{point_at};
+ghost use Rattle.hs_scheme.specs.flow.Points.{point_at};
 ghost use Rattle.hs_table.specs.Types as types;
 ghost use Rattle.hs_table.specs.Types.{TypeTree, IsSet};
 ghost use Rattle.hs_table.specs.Tables.{IsInstance};

@@ -1,7 +1,7 @@
 //! The types of a terminal whose sets have entries.
 
 ghost use Rattle.std.specs.Prelude.{◌≡◌, ◌<◌, ◌≤◌, ◌↔◌, ◌⊎◌, ℕ, IsTrue, length, slice_get, Some, true, Contains, IfOk, OnOk, option_copied, replicate, []};
-ghost use Rattle.hs_scheme.specs.Automaton as automaton;
+ghost use Rattle.hs_scheme.specs.acceptance.Automaton as automaton;
 ghost use Rattle.hs_table.specs.Types as types;
 ghost use Rattle.hs_table.specs.Types.{TypeTree};
 ghost use Rattle.hs_table.specs.Follows.{HasMove};
@@ -150,7 +150,7 @@ fn moving(
     ensures { IfOk result (λ marks. (q : ℕ) → slice_get marks.items q ≡ Some true
         → HasMove automaton.now.transitions terminal most q) }
 {
-    automaton.is_automaton();
+    automaton.know_automaton();
     let mut marks = vec![in alloc; false; automaton.states() as usize]?;
     let transitions = automaton.transitions();
     for place in automaton.with_terminal(terminal) {

@@ -4,7 +4,7 @@
 ghost use Rattle.std.specs.Prelude.{◌≡◌, ◌≤◌, ◌↔◌, ◌⊎◌, length, Contains, IfOk, OnOk, map};
 ghost use Rattle.hs_checker.specs.Any.{AnyOf};
 ghost use Rattle.std.specs.List.{flat_map};
-ghost use Rattle.hs_scheme.specs.Flow.{IsAscending};
+ghost use Rattle.hs_scheme.specs.flow.Flow.{IsAscending};
 ghost use Rattle.hs_table.specs.Types as types;
 ghost use Rattle.hs_table.specs.Entries.{EntryData, set_at, entry_cmp};
 ghost use Rattle.hs_table_plain.specs.Enumeration as plain;

@@ -120,7 +120,7 @@ impl Comparing for Known {
     ghost known = { λ a. a };
 
     fn sets_ascend(&self) {
-        self.types.numbers_are_exact();
+        self.types.know_numbers();
     }
 
     fn count(&self, set: SetId) -> usize {

@@ -2,7 +2,7 @@
 
 ghost use Rattle.std.specs.Prelude.{◌≡◌, ◌↔◌, ◌⊎◌, ◌<◌, ℕ, List, [], length, slice_get, Some, replicate};
 ghost use Rattle.std.specs.Prelude.{Contains, All};
-ghost use Rattle.hs_scheme.specs.Points.{PointData};
+ghost use Rattle.hs_scheme.specs.flow.Points.{PointData};
 ghost use Rattle.hs_scheme.specs.Problem.{ProblemData};
 ghost use Rattle.hs_table.specs.declared.support.HeadBy.{HeadBy};
 ghost use Rattle.hs_table.specs.Types.{TypeTree, arrows};

@@ -9,8 +9,8 @@ use Rattle.std.proofs.lemmas.List.{take_all, take-append-le}
 use Rattle.std.proofs.lemmas.List.Elements.{All-nil, All-cons, All-append, All-map, All-contains, All-weaker, Contains-append_left, Contains-append_right, Contains-push}
 use Rattle.hs_scheme.specs.Problem.{ProblemData}
 use Rattle.hs_scheme.specs.declared.flow.FlowPair.{FlowPair}
-use Rattle.hs_scheme.specs.Points.{PointsData}
-use Rattle.hs_scheme.specs.Dependents.{IsDependent}
+use Rattle.hs_scheme.specs.flow.Points.{PointsData}
+use Rattle.hs_scheme.specs.flow.Dependents.{IsDependent}
 use Rattle.hs_scheme.proofs.Lists.{here, Contains-at}
 use Rattle.hs_flow.specs.Dependents.{HasDependents, list_of}
 use Rattle.hs_table.specs.Entries.{EntryData}

@@ -6,7 +6,7 @@ use Rattle.std.proofs.lemmas.List.{take-append-le}
 use Rattle.std.proofs.lemmas.List.Elements.{All-contains}
 use Rattle.std.proofs.lemmas.Option.{same_Some, none-some, get_or_from_slice_get}
 use Rattle.hs_scheme.specs.declared.memory.OutOfMemory.{OutOfMemory}
-use Rattle.hs_scheme.specs.Dependents.{IsDependent}
+use Rattle.hs_scheme.specs.flow.Dependents.{IsDependent}
 use Rattle.hs_scheme.specs.Problem.{ProblemData}
 use Rattle.hs_scheme.proofs.Lists.{slice_get-read, Contains-at}
 use Rattle.hs_flow.specs.Dependents.{HasDependents, list_of}

@@ -2,7 +2,7 @@
 use Rattle.std.proofs.Common.{◌≡◌, refl, sym, ◌∙◌, ap, subst, ℕ, ◌≤◌, true, List, [], ◌∷◌, ◌++◌, length, slice_get, take, get_or, Option, Some, None, IsSome, All, AllPairs, ◌≢◌, arith, Contains, inl, inr, length-append}
 use Rattle.hs_scheme.specs.Problem.{ProblemData}
 use Rattle.hs_table.specs.Entries.{EntryData, InShape}
-use Rattle.hs_scheme.specs.Automaton.{IsAutomaton}
+use Rattle.hs_scheme.specs.acceptance.Automaton.{IsAutomaton}
 use Rattle.hs_scheme.proofs.Lists.{here, at_append, Contains-at, slice_get-push}
 use Rattle.hs_table.specs.Tables.{IsSupportedTable, HasStart, IsStart}
 use Rattle.hs_table_laws.proofs.Places.{place_of, within_from}

@@ -2,7 +2,7 @@
 use Rattle.std.proofs.Common.{◌≤◌, length, take, All}
 use Rattle.std.specs.Prelude.{slice_index_or}
 use Rattle.std.proofs.lemmas.List.Elements.{All-contains_itself}
-use Rattle.hs_scheme.specs.Automaton.{IsAutomaton}
+use Rattle.hs_scheme.specs.acceptance.Automaton.{IsAutomaton}
 use Rattle.hs_table.specs.Entries.{EntryData, InShape}
 use Rattle.hs_table.specs.Tables.{IsSupportedTable, HasSupports}
 use Rattle.hs_table_laws.proofs.Least.{supports_support}

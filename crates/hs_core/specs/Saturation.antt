@@ -5,7 +5,7 @@
 --     IsVerdict                  what the core of a least answer says of the automaton
 use Rattle.std.specs.Prelude.{◌≡◌, ◌↔◌, ℕ, ◌++◌, None, All}
 use Rattle.hs_scheme.specs.Problem.{ProblemData}
-use Rattle.hs_scheme.specs.Run.{Accepts}
+use Rattle.hs_scheme.specs.acceptance.Run.{Accepts}
 use Rattle.hs_table.specs.Tables.{HasStart}
 use Rattle.hs_history.specs.Story.{Base, gives_back, CoreStep, Story}
 use Rattle.hs_history.specs.History.{state_after}

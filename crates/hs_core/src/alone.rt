@@ -12,9 +12,8 @@ use crate::draining::{answer, work_alone};
 use crate::gate::Open;
 use crate::state::Core;
 use hs_flow::Dependents;
-use hs_naming::least_tables_decide;
 use hs_scheme::{OutOfMemory, Problem};
-use hs_verdict::is_sorted_problem;
+use hs_verdict::{know_sorted_problem, least_tables_decide};
 use std::alloc::Global;
 
 /// What has come of the core, in which nothing is left to do.
@@ -24,7 +23,7 @@ fn as_done<'p>(problem: &Problem, core: Core<'p>) -> Done<'p>
     ensures done { (base : Base) → IsAlone base core.entry → IsDone base result }
     ensures verdict { HasClosedFlow problem.now → IsVerdict problem.now result }
 {
-    is_sorted_problem(problem);
+    know_sorted_problem(problem);
     least_tables_decide();
     match answer(&core) {
         Drained::Quiet => Done::Least(core),

@@ -8,7 +8,7 @@ ghost use Rattle.hs_core.specs.Core.{log_of};
 use crate::state::Core;
 use hs_rules::{Deduced, conclusions_with, seed_conclusions};
 use hs_scheme::OutOfMemory;
-use hs_verdict::is_sorted_problem;
+use hs_verdict::know_sorted_problem;
 use std::alloc::Global;
 
 impl<'p> Core<'p> {
@@ -38,7 +38,7 @@ impl<'p> Core<'p> {
         ensures kept { self.new ≡ record self.old { ids = self.new.ids } }
         ensures grows { Grows self.old.ids self.new.ids }
     {
-        is_sorted_problem(self.problem);
+        know_sorted_problem(self.problem);
         conclusions_with(alloc, self.problem, &mut self.replica, point, place)
     }
 }

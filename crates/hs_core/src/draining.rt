@@ -80,7 +80,7 @@ fn conclude_place(
     ensures closed { IfOk result (λ all. MatchBool all
         (IsClosedPlace core.new.base.problem (log_of core.new) place) (IsSome (state_of core.new).kept)) }
 {
-    core.is_core();
+    core.know_core();
     let point = core.replica().row(place).point;
     for dependent in dependents.list(point) {
         let found = core.at_place(alloc, *dependent, place)?;
@@ -167,7 +167,7 @@ fn seed_turn(alloc: Global, core: &mut Core, worker: u32, point: u32) -> Result<
     ensures more { IfOk result (λ more. MatchBool more (weight core.new < weight core.old)
         (EndsAtRest core.new)) }
 {
-    core.is_core();
+    core.know_core();
     let found = core.at_seed(alloc, point)?;
     if found.is_empty() {
         core.pass_seed(worker, point);
@@ -201,7 +201,7 @@ fn turn<G: Gate>(
         gate.before(worker, Work::Seed(point));
         return seed_turn(alloc, core, worker, point);
     }
-    core.is_core();
+    core.know_core();
     let Taken::Item { work, ticket } = core.take(worker) else {
         return Ok(false);
     };
@@ -231,15 +231,16 @@ pub fn do_work(
     ensures closed { IfOk result (λ all. MatchBool all
         (IsClosedWork core.new.base.problem (log_of core.new) work) (IsSome (state_of core.new).kept)) }
 {
-    core.is_core();
+    core.know_core();
     let all = conclude(alloc, core, dependents, worker, work, ticket, tally);
     close(core, worker, ticket, all)
 }
 
 /// Does the works that are pending, as this worker, until nothing is left or `take` gives out none.
 /// What follows is published at once, the first found first, until much follows from little; from then
-/// on it waits, and the most promising is published where no work is pending. So no more is formed than
-/// what the log and those that wait hold together within the budget, and what one work more forms. The
+/// on it waits, and the most promising is published where no work is pending. So no more is kept than
+/// what the log and those that wait hold together within the budget, and what one work more forms;
+/// conclusions that are known already are formed beside that, and no clause bounds them. The
 /// worker passes the gate before each work that it does. Nothing is in flight, and the dependents
 /// are those of the core's problem. After a refusal of memory the story has gone on, and nothing is in
 /// flight.
@@ -271,7 +272,7 @@ pub(crate) fn answer(core: &Core) -> Drained
     requires { EndsAtRest core.now }
     ensures { IsDrained core.now result }
 {
-    core.is_core();
+    core.know_core();
     if let Some(place) = core.found() {
         return Drained::Found { place };
     }

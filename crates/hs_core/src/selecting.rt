@@ -68,7 +68,7 @@ fn form_place(
     ensures all { OnOk result (HasPlace core.old.base.problem (log_of core.old) place
         (IsThereOrWaits core.new.ids (log_of core.old) (Waits waiting.new.found))) }
 {
-    core.is_core();
+    core.know_core();
     let point = core.replica().row(place).point;
     let before = waiting.len();
     let mut formed = 0_u64;
@@ -177,7 +177,7 @@ fn select_turn<G: Gate>(
     let Progress::Done = progress else {
         return Ok(progress);
     };
-    core.is_core();
+    core.know_core();
     match core.take(worker) {
         Taken::Item { work, ticket } => {
             *last = ticket;

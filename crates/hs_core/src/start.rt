@@ -6,13 +6,13 @@ ghost use Rattle.hs_types.specs.Interned.{IsRow, entry_of};
 
 use hs_scheme::Problem;
 use hs_types::{Interner, Row, View};
-use hs_verdict::is_sorted_problem;
+use hs_verdict::know_sorted_problem;
 
 /// The point of the start's body.
 fn start_body(problem: &Problem) -> u32
     ensures { slice_get problem.now.points.bodies 0 ≡ Some result }
 {
-    is_sorted_problem(problem);
+    know_sorted_problem(problem);
     problem.points.body_of(0)
 }
 

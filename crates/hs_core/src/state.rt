@@ -144,10 +144,10 @@ impl<'p> Core<'p> {
     }
 
     /// What holds of each core. Takes no memory and no time.
-    pub fn is_core(&self)
+    pub fn know_core(&self)
         ensures { IsCore self.now }
     {
-        self.replica.interner().numbers_are_exact();
+        self.replica.interner().know_numbers();
     }
 
     /// Makes room for `k` events, at most 1,000,000. After a refusal of memory nothing has changed.

@@ -1,20 +1,18 @@
-//! What explains an answer: the trace of the reduction along a path that was printed, what an accepted
-//! file says and was never met, and where and why a file was refused.
+//! What explains an answer but for traces: what an accepted file says and was never met, and where and why
+//! words, a file or a table are refused.
+//!
+//! Nothing is proved of the texts.
 #![tactic(auto)]
 
+mod limits;
 mod lines;
 mod met;
-mod names;
-mod placing;
 mod refused;
-mod rejected;
-mod shapes;
-mod sort_clash;
-mod syntax;
-mod trace;
 mod unmet;
+mod unread;
+mod words;
 
 pub use refused::refusal_text;
-pub use rejected::trace_of_report;
-pub use trace::{MOST_STEPS, trace_text};
 pub use unmet::unmet_text;
+pub use unread::unread_text;
+pub use words::words_text;

@@ -7,12 +7,13 @@ ghost use Rattle.std.specs.Prelude.{◌≤◌, length};
 
 use crate::lines::Lines;
 use crate::met::Met;
-use crate::placing::{push_number, push_placed};
+use hs_diagnostics::push_placed;
 use hs_front::problem_of_file;
 use hs_reader::MAX_BYTES;
 use hs_reads::Reads;
 use hs_scheme::{Automaton, Names, OutOfMemory, Problem};
 use hs_text::name_of;
+use hs_trace::push_number;
 use std::alloc::Global;
 
 /// The most lines of one kind.

@@ -1,7 +1,7 @@
 //! Schemes and problems of texts.
 
 ghost use Rattle.std.specs.Prelude.{◌≡◌};
-ghost use Rattle.hs_scheme.specs.Automaton.{IsAutomaton};
+ghost use Rattle.hs_scheme.specs.acceptance.Automaton.{IsAutomaton};
 
 use hs_flow::analyse;
 use hs_gen::{MAX_CYCLE, cycle_file};
@@ -20,7 +20,7 @@ const MOST_PAIRS: u32 = 10_000;
 pub fn know(problem: &Problem)
     ensures { IsAutomaton problem.now.sorted.automaton }
 {
-    problem.sorted.automaton.is_automaton();
+    problem.sorted.automaton.know_automaton();
 }
 
 /// The text of a file with these rules and transitions.

@@ -10,8 +10,8 @@ use Rattle.hs_scheme.specs.declared.flow.FlowPair.{FlowPair}
 use Rattle.hs_scheme.specs.declared.flow.HeadPair.{HeadPair}
 use Rattle.hs_scheme.specs.declared.flow.Pair.{Pair}
 use Rattle.hs_scheme.specs.declared.flow.Pair.TheVariants.{OfFlow, OfHead}
-use Rattle.hs_scheme.specs.Points.{points_of}
-use Rattle.hs_scheme.specs.Flow.{IsClosed, IsSupported}
+use Rattle.hs_scheme.specs.flow.Points.{points_of}
+use Rattle.hs_scheme.specs.flow.Flow.{IsClosed, IsSupported}
 use Rattle.hs_scheme.proofs.Lists.{slice_get-read, read-slice_get, none_in, only, here as first_in}
 use Rattle.hs_scheme.proofs.DemandLemmas.{same_flow, same_head, no_head}
 use Rattle.hs_flow.specs.declared.bases.Base.{Base}

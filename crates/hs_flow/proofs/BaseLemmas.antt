@@ -7,7 +7,7 @@ use Rattle.std.proofs.lemmas.List.Elements.{Contains-append_cases, Contains-appe
 use Rattle.std.proofs.lemmas.Map.Made.{is_member-Decides}
 use Rattle.hs_flow.specs.declared.bases.Base.{Base}
 use Rattle.hs_flow.specs.contracts.bases.BasePartialEq.TheImpl.{eq-value}
-use Rattle.hs_scheme.specs.Parameters.{IsParameter, parameter_of}
+use Rattle.hs_scheme.specs.sorting.Parameters.{IsParameter, parameter_of}
 use Rattle.hs_scheme.proofs.ParameterLemmas.{number_once}
 use Rattle.hs_scheme.proofs.Lists.{only}
 use Rattle.hs_flow.specs.Bases.{HasFlag, InRows, IsOutside, TellsNew, HasBase, IsNumber}

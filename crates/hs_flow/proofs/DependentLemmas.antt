@@ -7,8 +7,8 @@ use Rattle.std.proofs.lemmas.List.{take_more, get_or_append_left, get_or_push, g
 use Rattle.std.proofs.lemmas.List.Elements.{All-append, All-cons, Contains-append_left, Contains-append_right, Contains-append_cases}
 use Rattle.hs_scheme.specs.declared.flow.FlowPair.{FlowPair}
 use Rattle.hs_scheme.specs.declared.term.Head.{Head}
-use Rattle.hs_scheme.specs.Points.{PointData, PointsData, point_at}
-use Rattle.hs_scheme.specs.Dependents.{HeadReads, IsDependent}
+use Rattle.hs_scheme.specs.flow.Points.{PointData, PointsData, point_at}
+use Rattle.hs_scheme.specs.flow.Dependents.{HeadReads, IsDependent}
 use Rattle.hs_scheme.proofs.Lists.{slice_get-read, none_in, only, here as first_in, later}
 use Rattle.hs_flow.specs.Dependents.{RisesToPoint, AddsPoint, HasPoint, HasDependents, list_of}
 use Rattle.std.proofs.lemmas.Option.{slice_get-get_or}

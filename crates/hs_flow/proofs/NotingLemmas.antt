@@ -2,7 +2,7 @@
 use Rattle.std.proofs.Common.{◌≡◌, refl, sym, ◌∙◌, ap, subst, ◌≤◌, ◌⊎◌, ◌↔◌, List, ℕ, Option, length, Bool, true, false, inl, inr, Contains}
 use Rattle.std.proofs.lemmas.List.Elements.{Contains-append_left}
 use Rattle.hs_scheme.specs.declared.flow.Pair.{Pair}
-use Rattle.hs_scheme.specs.Points.{PointsData, points_of}
+use Rattle.hs_scheme.specs.flow.Points.{PointsData, points_of}
 use Rattle.hs_flow.specs.declared.bases.Base.{Base}
 use Rattle.hs_flow.specs.Bases.{BasesData, HasBase, IsNumber, TellsNew}
 use Rattle.hs_flow.specs.Users.{UserMap}

@@ -8,9 +8,9 @@ use Rattle.std.proofs.lemmas.Bool.{cases_lt, eqb-true, eq-eqb}
 use Rattle.std.proofs.lemmas.List.Sorted.{IsPermutation-filter_both, IsPermutation-append, IsPermutation-trans, IsPermutation-sym, IsPermutation-refl, Contains-permutation}
 use Rattle.std.proofs.Math.Bool.{and-false}
 use Rattle.hs_scheme.specs.declared.flow.FlowPair.{FlowPair}
-use Rattle.hs_scheme.specs.Parameters.{IsParameter}
-use Rattle.hs_scheme.specs.FlowRows.{number_of}
-use Rattle.hs_scheme.specs.Flow.{flow_cmp, IsAscending}
+use Rattle.hs_scheme.specs.sorting.Parameters.{IsParameter}
+use Rattle.hs_scheme.specs.flow.FlowRows.{number_of}
+use Rattle.hs_scheme.specs.flow.Flow.{flow_cmp, IsAscending}
 use Rattle.hs_scheme.proofs.FlowLemmas.{flow_cmp_total, flow_cmp-equal}
 use Rattle.hs_scheme.proofs.ParameterLemmas.{number_less}
 use Rattle.hs_scheme.proofs.Orderings.{ascends}

@@ -7,8 +7,8 @@ use Rattle.hs_scheme.specs.declared.term.Rule.{Rule}
 use Rattle.hs_scheme.specs.declared.flow.FlowPair.{FlowPair}
 use Rattle.hs_scheme.specs.declared.flow.Pair.{Pair}
 use Rattle.hs_scheme.specs.declared.flow.Pair.TheVariants.{OfFlow, OfHead}
-use Rattle.hs_scheme.specs.Flow.{Passes}
-use Rattle.hs_scheme.specs.Points.{PointsData, points_of, point_at}
+use Rattle.hs_scheme.specs.flow.Flow.{Passes}
+use Rattle.hs_scheme.specs.flow.Points.{PointsData, points_of, point_at}
 use Rattle.hs_scheme.proofs.Lists.{slice_get-read}
 use Rattle.hs_flow.specs.Users.{UserMap}
 use Rattle.hs_flow.specs.Passing.{PassedBy}

@@ -7,8 +7,8 @@ use Rattle.hs_scheme.specs.declared.term.Head.TheVariants.{Var, Nt, Tm}
 use Rattle.hs_scheme.specs.declared.flow.HeadPair.{HeadPair}
 use Rattle.hs_scheme.specs.declared.flow.Pair.{Pair}
 use Rattle.hs_scheme.specs.declared.flow.Pair.TheVariants.{OfFlow, OfHead}
-use Rattle.hs_scheme.specs.Points.{PointData, PointsData, points_of, point_at, IsArgument}
-use Rattle.hs_scheme.specs.Flow.{IsBase, Passes, Demands}
+use Rattle.hs_scheme.specs.flow.Points.{PointData, PointsData, points_of, point_at, IsArgument}
+use Rattle.hs_scheme.specs.flow.Flow.{IsBase, Passes, Demands}
 use Rattle.hs_scheme.proofs.PlaceLemmas.{once}
 use Rattle.hs_flow.specs.declared.bases.Base.{Base}
 use Rattle.hs_flow.specs.Users.{UserMap, users_of, IsUser}

@@ -9,9 +9,9 @@ use Rattle.hs_scheme.specs.declared.flow.FlowPair.{FlowPair}
 use Rattle.hs_scheme.specs.declared.flow.HeadPair.{HeadPair}
 use Rattle.hs_scheme.specs.declared.flow.Pair.{Pair}
 use Rattle.hs_scheme.specs.declared.flow.Pair.TheVariants.{OfFlow, OfHead}
-use Rattle.hs_scheme.specs.Points.{PointData, PointsData, points_of}
+use Rattle.hs_scheme.specs.flow.Points.{PointData, PointsData, points_of}
 use Rattle.hs_scheme.specs.Problem.{FlowWithin, HeadWithin}
-use Rattle.hs_scheme.specs.Flow.{HasParameter, Demands, IsSupported}
+use Rattle.hs_scheme.specs.flow.Flow.{HasParameter, Demands, IsSupported}
 use Rattle.hs_scheme.proofs.PointLemmas.{args_within}
 use Rattle.hs_scheme.proofs.Lists.{slice_get-read, read-slice_get, only, here}
 use Rattle.hs_flow.specs.declared.bases.Base.{Base}

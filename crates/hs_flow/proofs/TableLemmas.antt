@@ -13,10 +13,10 @@ use Rattle.hs_scheme.specs.declared.flow.HeadPair.{HeadPair}
 use Rattle.hs_scheme.specs.declared.flow.Pair.{Pair}
 use Rattle.hs_scheme.specs.declared.flow.Pair.TheVariants.{OfFlow, OfHead}
 use Rattle.hs_scheme.specs.declared.term.Rule.{Rule}
-use Rattle.hs_scheme.specs.Parameters.{IsParameter, counts_of}
-use Rattle.hs_scheme.specs.FlowRows.{AreOfParameters}
-use Rattle.hs_scheme.specs.Flow.{HasParameter, pairs_of, IsAscending, flow_cmp, head_cmp, IsClosed, Demands, IsSupported, IsFlow, IsFlowTable}
-use Rattle.hs_scheme.specs.Points.{points_of}
+use Rattle.hs_scheme.specs.sorting.Parameters.{IsParameter, counts_of}
+use Rattle.hs_scheme.specs.flow.FlowRows.{AreOfParameters}
+use Rattle.hs_scheme.specs.flow.Flow.{HasParameter, pairs_of, IsAscending, flow_cmp, head_cmp, IsClosed, Demands, IsSupported, IsFlow, IsFlowTable}
+use Rattle.hs_scheme.specs.flow.Points.{points_of}
 use Rattle.hs_scheme.specs.Problem.{FlowWithin, HeadWithin}
 use Rattle.hs_scheme.proofs.FlowLemmas.{flow_cmp_total, head_cmp_total}
 use Rattle.hs_scheme.proofs.DemandLemmas.{Demands-more}

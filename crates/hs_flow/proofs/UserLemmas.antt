@@ -5,8 +5,8 @@ use Rattle.std.proofs.lemmas.List.Elements.{Contains-append_left, Contains-appen
 use Rattle.std.proofs.lemmas.List.Quantifiers.{all_pairs_push}
 use Rattle.hs_scheme.specs.declared.term.Head.TheVariants.{Var}
 use Rattle.hs_scheme.specs.Key.{key_eq}
-use Rattle.hs_scheme.specs.Points.{PointData}
-use Rattle.hs_scheme.specs.Parameters.{IsParameter, parameter_of}
+use Rattle.hs_scheme.specs.flow.Points.{PointData}
+use Rattle.hs_scheme.specs.sorting.Parameters.{IsParameter, parameter_of}
 use Rattle.hs_scheme.proofs.ParameterLemmas.{number_once}
 use Rattle.hs_scheme.proofs.Lists.{only as only_in, here as first_in}
 use Rattle.std.proofs.lemmas.Bool.Decides.{nat_tests}

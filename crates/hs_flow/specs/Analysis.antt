@@ -10,7 +10,7 @@ use Rattle.hs_scheme.specs.declared.flow.FlowPair.{FlowPair}
 use Rattle.hs_scheme.specs.declared.flow.HeadPair.{HeadPair}
 use Rattle.hs_scheme.specs.declared.flow.Pair.{Pair}
 use Rattle.hs_scheme.specs.declared.flow.Pair.TheVariants.{OfFlow, OfHead}
-use Rattle.hs_scheme.specs.Points.{points_of}
+use Rattle.hs_scheme.specs.flow.Points.{points_of}
 use Rattle.hs_flow.specs.declared.bases.Base.{Base}
 use Rattle.hs_flow.specs.Lists.{list_of}
 use Rattle.hs_flow.specs.Users.{IsUser}

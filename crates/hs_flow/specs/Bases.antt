@@ -6,7 +6,7 @@
 --     TellsNew P added             whether something was added tells whether P didn't hold
 use Rattle.std.specs.Prelude.{◌≡◌, refl, ◌<◌, ℕ, length, List, Bool, true, false, ◌⊎◌, slice_get, Some, Option, SomeIff, Contains}
 use Rattle.std.specs.Coded.{Coded, code_by, coded×, coded_ℕ, coded_bool, coded_list}
-use Rattle.hs_scheme.specs.Parameters.{IsParameter, parameter_of}
+use Rattle.hs_scheme.specs.sorting.Parameters.{IsParameter, parameter_of}
 use Rattle.hs_flow.specs.declared.bases.Base.{Base}
 use Rattle.hs_flow.specs.Lists.{list_of}
 

@@ -3,8 +3,8 @@
 use Rattle.std.specs.Prelude.{◌≡◌, ℕ, ◌≤◌, List, length, All, Contains, ◌⊎◌, ◌↔◌}
 use Rattle.std.specs.List.Sorted.{IsStrictlyIncreasing}
 use Rattle.hs_scheme.specs.declared.flow.FlowPair.{FlowPair}
-use Rattle.hs_scheme.specs.Points.{PointsData}
-use Rattle.hs_scheme.specs.Dependents.{IsDependent}
+use Rattle.hs_scheme.specs.flow.Points.{PointsData}
+use Rattle.hs_scheme.specs.flow.Dependents.{IsDependent}
 pub use Rattle.hs_flow.specs.Lists.{list_of}
 
 pub record HasDependents (points : PointsData) (flows : List FlowPair) (lists : List (List ℕ)) : Type 0 where

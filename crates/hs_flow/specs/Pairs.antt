@@ -18,8 +18,8 @@ use Rattle.hs_scheme.specs.declared.flow.HeadPair.{HeadPair}
 use Rattle.hs_scheme.specs.declared.flow.Pair.{Pair}
 use Rattle.hs_scheme.specs.declared.flow.Pair.TheVariants.{OfFlow, OfHead}
 use Rattle.hs_scheme.specs.Scheme.{coded_rule}
-use Rattle.hs_scheme.specs.Points.{PointsData, points_of}
-use Rattle.hs_scheme.specs.Flow.{IsSupported, coded_flow_pair, coded_head_pair}
+use Rattle.hs_scheme.specs.flow.Points.{PointsData, points_of}
+use Rattle.hs_scheme.specs.flow.Flow.{IsSupported, coded_flow_pair, coded_head_pair}
 use Rattle.hs_flow.specs.declared.fault.FlowFault.{FlowFault}
 use Rattle.hs_flow.specs.declared.fault.FlowFault.TheVariants.{FlowLimit}
 use Rattle.hs_flow.specs.declared.bases.Base.{Base}

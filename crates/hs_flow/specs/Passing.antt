@@ -8,8 +8,8 @@ use Rattle.hs_scheme.specs.declared.term.Head.TheVariants.{Nt}
 use Rattle.hs_scheme.specs.declared.term.Rule.{Rule}
 use Rattle.hs_scheme.specs.declared.flow.Pair.{Pair}
 use Rattle.hs_scheme.specs.declared.flow.Pair.TheVariants.{OfFlow, OfHead}
-use Rattle.hs_scheme.specs.Points.{PointData, points_of}
-use Rattle.hs_scheme.specs.Flow.{Passes}
+use Rattle.hs_scheme.specs.flow.Points.{PointData, points_of}
+use Rattle.hs_scheme.specs.flow.Flow.{Passes}
 use Rattle.hs_flow.specs.declared.bases.Base.{Base}
 use Rattle.hs_flow.specs.Users.{IsUser}
 

@@ -8,8 +8,8 @@ use Rattle.hs_scheme.specs.declared.flow.FlowPair.{FlowPair}
 use Rattle.hs_scheme.specs.declared.flow.HeadPair.{HeadPair}
 use Rattle.hs_scheme.specs.declared.flow.Pair.{Pair}
 use Rattle.hs_scheme.specs.declared.flow.Pair.TheVariants.{OfFlow, OfHead}
-use Rattle.hs_scheme.specs.Flow.{flow_cmp}
-use Rattle.hs_scheme.specs.FlowRows.{number_of}
+use Rattle.hs_scheme.specs.flow.Flow.{flow_cmp}
+use Rattle.hs_scheme.specs.flow.FlowRows.{number_of}
 
 abbrev pub flows_in : List Pair → List FlowPair
 flows_in [] = []

@@ -4,8 +4,8 @@
 --     IsUserMap points users     for each parameter just its users, each once
 use Rattle.std.specs.Prelude.{◌≡◌, ◌≢◌, AllPairs, ℕ, List, [], cond, nat_lt, length, sum, slice_index, slice_get, Some, Contains, ◌↔◌}
 use Rattle.hs_scheme.specs.declared.term.Head.TheVariants.{Var}
-use Rattle.hs_scheme.specs.Parameters.{parameter_of}
-use Rattle.hs_scheme.specs.Points.{PointData}
+use Rattle.hs_scheme.specs.sorting.Parameters.{parameter_of}
+use Rattle.hs_scheme.specs.flow.Points.{PointData}
 use Rattle.hs_flow.specs.declared.users.Users.{Users}
 use Rattle.hs_flow.specs.Lists.{list_of}
 

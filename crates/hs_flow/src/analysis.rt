@@ -4,8 +4,8 @@ ghost use Rattle.std.specs.Prelude.{◌≡◌, ◌+◌, ◌≤◌, ◌<◌, List
 ghost use Rattle.std.specs.Prelude.{slice_get, All, IfOk, IfSome, IfNone, OnOk, IsErrOf};
 ghost use Rattle.hs_scheme.specs.declared.flow.Pair.{Pair as AnyPair};
 ghost use Rattle.hs_scheme.specs.declared.flow.Pair.TheVariants.{OfFlow, OfHead};
-ghost use Rattle.hs_scheme.specs.Points.{points_of};
-ghost use Rattle.hs_scheme.specs.Flow.{IsClosed, IsSupported, IsFlow, IsFlowTable};
+ghost use Rattle.hs_scheme.specs.flow.Points.{points_of};
+ghost use Rattle.hs_scheme.specs.flow.Flow.{IsClosed, IsSupported, IsFlow, IsFlowTable};
 ghost use Rattle.hs_scheme.specs.Problem.{FlowWithin, HeadWithin};
 ghost use Rattle.hs_flow.specs.declared.fault.FlowFault.TheVariants.{FlowLimit};
 ghost use Rattle.hs_flow.specs.Users.{IsUserMap};

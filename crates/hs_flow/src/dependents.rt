@@ -2,8 +2,8 @@
 
 ghost use Rattle.std.specs.Prelude.{◌≡◌, ◌<◌, ℕ, length, All, Contains, Some, slice_get, OnOk, IfOk};
 ghost use Rattle.hs_scheme.specs.declared.flow.FlowPair.{FlowPair};
-ghost use Rattle.hs_scheme.specs.Points.{NonterminalWithin};
-ghost use Rattle.hs_scheme.specs.Dependents.{HeadReads, IsDependent};
+ghost use Rattle.hs_scheme.specs.flow.Points.{NonterminalWithin};
+ghost use Rattle.hs_scheme.specs.flow.Dependents.{HeadReads, IsDependent};
 ghost use Rattle.hs_flow.specs.Dependents.{HasDependents, AddsPoint, HasPoint};
 
 use crate::short_lists::ShortLists;

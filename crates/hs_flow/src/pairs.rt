@@ -6,8 +6,8 @@ ghost use Rattle.hs_scheme.specs.declared.flow.FlowPair.{FlowPair as AnyFlowPair
 ghost use Rattle.hs_scheme.specs.declared.flow.HeadPair.{HeadPair as AnyHeadPair};
 ghost use Rattle.hs_scheme.specs.declared.flow.Pair.{Pair as AnyPair};
 ghost use Rattle.hs_scheme.specs.declared.flow.Pair.TheVariants.{OfFlow, OfHead};
-ghost use Rattle.hs_scheme.specs.Points.{points_of};
-ghost use Rattle.hs_scheme.specs.Flow.{IsSupported};
+ghost use Rattle.hs_scheme.specs.flow.Points.{points_of};
+ghost use Rattle.hs_scheme.specs.flow.Flow.{IsSupported};
 ghost use Rattle.hs_flow.specs.Users.{IsUser, IsUserMap};
 ghost use Rattle.hs_flow.specs.Passing.{PassedBy, PassedAtFirst, PassedFor, MayBecome};
 ghost use Rattle.hs_flow.specs.Pairs.{HasBaseAt, AreNone, IsAddable, IsReady, FindsOnly, Extends, TellsLimit};

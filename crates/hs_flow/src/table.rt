@@ -6,8 +6,8 @@ ghost use Rattle.std.specs.List.Sorted.{IsPermutation};
 ghost use Rattle.hs_scheme.specs.declared.flow.FlowPair.{FlowPair as AnyFlowPair};
 ghost use Rattle.hs_scheme.specs.declared.flow.Pair.{Pair as AnyPair};
 ghost use Rattle.hs_scheme.specs.declared.flow.Pair.TheVariants.{OfFlow};
-ghost use Rattle.hs_scheme.specs.Parameters.{IsParameter};
-ghost use Rattle.hs_scheme.specs.Flow.{IsAscending, flow_cmp, IsFlowTable, pairs_of};
+ghost use Rattle.hs_scheme.specs.sorting.Parameters.{IsParameter};
+ghost use Rattle.hs_scheme.specs.flow.Flow.{IsAscending, flow_cmp, IsFlowTable, pairs_of};
 ghost use Rattle.hs_flow.specs.Lists.{list_of};
 ghost use Rattle.hs_flow.specs.Tables.{flows_in, heads_in, of_number, HasSorted};
 

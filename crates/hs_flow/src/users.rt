@@ -2,7 +2,7 @@
 
 ghost use Rattle.std.specs.Prelude.{◌≡◌, ◌++◌, ◌∷◌, ◌&&◌, [], ℕ};
 ghost use Rattle.std.specs.Prelude.{length, sum, OnOk, IfOk, if◌then◌else◌, nat_eq};
-ghost use Rattle.hs_scheme.specs.Parameters.{IsParameter};
+ghost use Rattle.hs_scheme.specs.sorting.Parameters.{IsParameter};
 ghost use Rattle.hs_flow.specs.Users.{users_of, IsUserMap};
 
 use crate::short_lists::ShortLists;

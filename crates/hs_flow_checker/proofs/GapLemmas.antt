@@ -8,11 +8,11 @@ use Rattle.hs_scheme.specs.declared.flow.FlowPair.{FlowPair}
 use Rattle.hs_scheme.specs.declared.flow.HeadPair.{HeadPair}
 use Rattle.hs_scheme.specs.declared.flow.Pair.{Pair}
 use Rattle.hs_scheme.specs.declared.flow.Pair.TheVariants.{OfFlow, OfHead}
-use Rattle.hs_scheme.specs.Flow.{pairs_of, HasParameter, IsBase}
+use Rattle.hs_scheme.specs.flow.Flow.{pairs_of, HasParameter, IsBase}
 use Rattle.hs_scheme.specs.Problem.{ProblemData}
 use Rattle.hs_scheme.specs.declared.term.Head.TheVariants.{Var, Nt, Tm}
 use Rattle.hs_scheme.specs.declared.term.Head.{Head}
-use Rattle.hs_scheme.specs.Points.{PointData, PointsData, point_at, points_of}
+use Rattle.hs_scheme.specs.flow.Points.{PointData, PointsData, point_at, points_of}
 use Rattle.hs_scheme.proofs.Lists.{none_in, here, uncons, filter_keeps, filter_has, filter_passes}
 use Rattle.hs_table_laws.proofs.Places.{within_from}
 use Rattle.hs_table_laws.proofs.Members.{from_map, into_map}

@@ -9,7 +9,7 @@ use Rattle.std.proofs.lemmas.Bool.{cases_lt}
 use Rattle.std.proofs.lemmas.Bool.Decides.{nat_tests}
 use Rattle.std.proofs.lemmas.List.{get_or-take, get_or-drop, length-drop, length-take, length-append, get_or_default}
 use Rattle.hs_scheme.specs.declared.flow.HeadPair.{HeadPair}
-use Rattle.hs_scheme.specs.Flow.{IsAscending, head_cmp}
+use Rattle.hs_scheme.specs.flow.Flow.{IsAscending, head_cmp}
 use Rattle.hs_flow_checker.specs.Starts.{IsStartBy, AreStartsBy, IsEmptyAt}
 
 module _ {X : Type 0} (at : X → ℕ) where

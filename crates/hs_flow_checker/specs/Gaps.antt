@@ -4,7 +4,7 @@
 use Rattle.std.specs.Prelude.{List, Contains}
 use Rattle.hs_scheme.specs.declared.flow.Pair.{Pair}
 use Rattle.hs_scheme.specs.declared.flow.Pair.TheVariants.{OfFlow, OfHead}
-use Rattle.hs_scheme.specs.Flow.{Demands, pairs_of}
+use Rattle.hs_scheme.specs.flow.Flow.{Demands, pairs_of}
 use Rattle.hs_scheme.specs.Problem.{ProblemData}
 use Rattle.hs_flow_checker.specs.declared.gaps.Kind.{Kind}
 use Rattle.hs_flow_checker.specs.declared.gaps.Kind.TheVariants.{Flow, Heads}

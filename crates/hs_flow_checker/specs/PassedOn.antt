@@ -7,8 +7,8 @@ use Rattle.hs_scheme.specs.declared.flow.FlowPair.{FlowPair}
 use Rattle.hs_scheme.specs.declared.flow.HeadPair.{HeadPair}
 use Rattle.hs_scheme.specs.declared.flow.Pair.{Pair}
 use Rattle.hs_scheme.specs.declared.flow.Pair.TheVariants.{OfFlow, OfHead}
-use Rattle.hs_scheme.specs.Points.{PointData}
-use Rattle.hs_scheme.specs.Flow.{HasParameter, IsBase, Passes}
+use Rattle.hs_scheme.specs.flow.Points.{PointData}
+use Rattle.hs_scheme.specs.flow.Flow.{HasParameter, IsBase, Passes}
 use Rattle.hs_scheme.specs.Problem.{ProblemData}
 use Rattle.hs_flow_checker.specs.declared.passing.Base.{Base}
 use Rattle.hs_flow_checker.specs.declared.gaps.Kind.{Kind}

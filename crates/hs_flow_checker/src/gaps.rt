@@ -4,7 +4,7 @@ ghost use Rattle.std.specs.Prelude.{◌≡◌, ◌<◌, ◌≤◌, ℕ, Contains
 ghost use Rattle.hs_scheme.specs.declared.flow.Pair.{Pair as AnyPair};
 ghost use Rattle.hs_scheme.specs.declared.flow.HeadPair.{HeadPair as AnyHead};
 ghost use Rattle.hs_scheme.specs.declared.term.Rule.{Rule as AnyRule};
-ghost use Rattle.hs_scheme.specs.Flow.{IsBase};
+ghost use Rattle.hs_scheme.specs.flow.Flow.{IsBase};
 ghost use Rattle.hs_scheme.specs.Problem.{ProblemData};
 ghost use Rattle.hs_table.specs.Entries.{params_of};
 ghost use Rattle.hs_flow_checker.specs.declared.passing.Base.{Base as AnyBase};

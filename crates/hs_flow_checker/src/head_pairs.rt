@@ -3,7 +3,7 @@
 ghost use Rattle.std.specs.Prelude.{◌≡◌, ◌↔◌, ◌⊎◌, ◌+◌, ◌<◌, ◌≤◌, ℕ, false, Contains, IfOk, IsTrue, MatchOption, length, slice_index_or};
 ghost use Rattle.hs_scheme.specs.declared.flow.FlowPair.{FlowPair as AnyFlow};
 ghost use Rattle.hs_scheme.specs.declared.flow.HeadPair.{HeadPair as AnyHead};
-ghost use Rattle.hs_scheme.specs.Flow.{IsAscending, head_cmp};
+ghost use Rattle.hs_scheme.specs.flow.Flow.{IsAscending, head_cmp};
 ghost use Rattle.hs_flow_checker.specs.Starts.{AreHeadStarts, IsStartBy};
 ghost use Rattle.hs_flow_checker.specs.PassedOn.{HasTaken};
 
@@ -24,7 +24,7 @@ impl<'a> Model for HeadPairs<'a> {
     ghost use Rattle.std.specs.Prelude.{List};
     ghost use Rattle.std.specs.Coded.{coded_list};
     ghost use Rattle.hs_scheme.specs.declared.flow.HeadPair.{HeadPair};
-    ghost use Rattle.hs_scheme.specs.Flow.{IsAscending, head_cmp, coded_head_pair};
+    ghost use Rattle.hs_scheme.specs.flow.Flow.{IsAscending, head_cmp, coded_head_pair};
     ghost use Rattle.hs_flow_checker.specs.Starts.{AreHeadStarts};
 
     ghost Value = { List HeadPair };

@@ -1,6 +1,6 @@
 -- What comes of a file, layer by layer: one refusal, or one scheme with sorts, want of memory aside.
 use Rattle.std.proofs.Common.{◌≡◌, refl, sym, ◌∙◌, ap, subst, ℕ, List, slice_get, Some, Result, Ok, Err, ◌⊎◌, inl, inr}
-use Rattle.hs_scheme.specs.Unsorted.{UnsortedData}
+use Rattle.hs_scheme.specs.sorting.Unsorted.{UnsortedData}
 use Rattle.hs_reader.specs.Raw.{File}
 use Rattle.hs_reader.specs.declared.fault.ReadFault.{ReadFault}
 use Rattle.hs_reader.specs.declared.fault.ReadFault.TheVariants as read

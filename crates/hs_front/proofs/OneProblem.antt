@@ -10,12 +10,12 @@ use Rattle.hs_scheme.specs.declared.flow.Pair.{Pair}
 use Rattle.hs_scheme.specs.declared.flow.Pair.TheVariants.{OfFlow, OfHead}
 use Rattle.hs_scheme.specs.declared.term.Rule.{Rule}
 use Rattle.hs_scheme.specs.Names.{NamesData}
-use Rattle.hs_scheme.specs.Points.{PointsData, points_of}
-use Rattle.hs_scheme.specs.Sorting.{SortTree, o, ranked, arguments, AreEqual}
-use Rattle.hs_scheme.specs.Unsorted.{UnsortedData}
-use Rattle.hs_scheme.specs.Sorted.{SortedData, sorts_of}
-use Rattle.hs_scheme.specs.Lengthening.{lengthening}
-use Rattle.hs_scheme.specs.Flow.{FlowData, pairs_of, IsFlow, IsFlowTable, flow_cmp, head_cmp}
+use Rattle.hs_scheme.specs.flow.Points.{PointsData, points_of}
+use Rattle.hs_scheme.specs.sorting.Sorting.{SortTree, o, ranked, arguments, AreEqual}
+use Rattle.hs_scheme.specs.sorting.Unsorted.{UnsortedData}
+use Rattle.hs_scheme.specs.sorting.Sorted.{SortedData, sorts_of}
+use Rattle.hs_scheme.specs.sorting.Lengthening.{lengthening}
+use Rattle.hs_scheme.specs.flow.Flow.{FlowData, pairs_of, IsFlow, IsFlowTable, flow_cmp, head_cmp}
 use Rattle.hs_scheme.specs.Problem.{ProblemData}
 use Rattle.hs_scheme.proofs.DemandLemmas.{flow_unique, fewer, same_flow, same_head, no_head}
 use Rattle.hs_scheme.proofs.FlowLemmas.{flow_cmp-equal, head_cmp-equal, flow_cmp_total, head_cmp_total}

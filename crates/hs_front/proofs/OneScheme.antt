@@ -1,6 +1,6 @@
 -- The bytes of a file have one scheme.
 use Rattle.std.proofs.Common.{◌≡◌, ◌∙◌, refl, sym, ap, List, ℕ, Result, Ok, Err}
-use Rattle.hs_scheme.specs.Unsorted.{UnsortedData}
+use Rattle.hs_scheme.specs.sorting.Unsorted.{UnsortedData}
 use Rattle.hs_reader.specs.Raw.{File}
 use Rattle.hs_reader.specs.Faults.{IsFileWithin}
 use Rattle.hs_reader.specs.declared.fault.ReadFault.{ReadFault}

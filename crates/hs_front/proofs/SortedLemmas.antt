@@ -1,6 +1,6 @@
 -- From the scheme of a file to its sorted form, or to a refusal by its sorts.
 use Rattle.std.proofs.Common.{List, ℕ}
-use Rattle.hs_scheme.specs.Unsorted.{UnsortedData}
+use Rattle.hs_scheme.specs.sorting.Unsorted.{UnsortedData}
 use Rattle.hs_front.specs.declared.refusal.Refusal.{Refusal}
 use Rattle.hs_front.specs.declared.refusal.Refusal.TheVariants.{Usage, Source, FileTooLong, Syntax, Limit, Names, IllSorted, NotFirstOrder, SortTooLarge, RuleTooLong, PointLimit, FlowLimit, EntryLimit, Sink, OutOfMemory}
 use Rattle.hs_front.specs.Files.{IsSchemeOf}

@@ -4,8 +4,8 @@
 --     IsSortRefusal    a refusal of a scheme by its sorts
 --     IsFileFault      a refusal of bytes, by their text, their names or their sorts; want of memory says nothing
 use Rattle.std.specs.Prelude.{◌≡◌, ℕ, List, slice_get, Some}
-use Rattle.hs_scheme.specs.Unsorted.{UnsortedData}
-use Rattle.hs_scheme.specs.Sorted.{SortedData}
+use Rattle.hs_scheme.specs.sorting.Unsorted.{UnsortedData}
+use Rattle.hs_scheme.specs.sorting.Sorted.{SortedData}
 use Rattle.hs_reader.specs.Raw.{File}
 use Rattle.hs_reader.specs.Faults.{IsFileWithin, IsSyntaxFault, IsLimitFault}
 use Rattle.hs_resolve.specs.declared.fault.NameFault.{NameFault}

@@ -4,8 +4,8 @@
 --     IsSchemeOf                they are a file of this scheme, and nothing in it passes a limit of the text
 --     max_bytes                 the most bytes of a file
 use Rattle.std.specs.Prelude.{◌≡◌, ℕ, List}
-use Rattle.hs_scheme.specs.Unsorted.{UnsortedData}
-use Rattle.hs_scheme.specs.Run.{Accepts}
+use Rattle.hs_scheme.specs.sorting.Unsorted.{UnsortedData}
+use Rattle.hs_scheme.specs.acceptance.Run.{Accepts}
 use Rattle.hs_reader.specs.Raw.{File}
 use Rattle.hs_reader.specs.Tokens.{Placed, Lexes}
 use Rattle.hs_reader.specs.Grammar.{IsFile}

@@ -8,10 +8,10 @@
 --     IsPastLimits      why it has no problem
 use Rattle.std.specs.Prelude.{◌≡◌, ℕ, ◌+◌, ◌≤◌, ◌<◌, List, length}
 use Rattle.hs_scheme.specs.declared.flow.Pair.{Pair}
-use Rattle.hs_scheme.specs.Points.{points_of}
-use Rattle.hs_scheme.specs.Flow.{IsSupported, IsFlow, IsFlowTable}
-use Rattle.hs_scheme.specs.Unsorted.{UnsortedData, IsUnsorted}
-use Rattle.hs_scheme.specs.Sorted.{SortedData, IsSorted}
+use Rattle.hs_scheme.specs.flow.Points.{points_of}
+use Rattle.hs_scheme.specs.flow.Flow.{IsSupported, IsFlow, IsFlowTable}
+use Rattle.hs_scheme.specs.sorting.Unsorted.{UnsortedData, IsUnsorted}
+use Rattle.hs_scheme.specs.sorting.Sorted.{SortedData, IsSorted}
 use Rattle.hs_scheme.specs.Problem.{ProblemData}
 use Rattle.hs_sorts.specs.Inference.{IsInferred}
 use Rattle.hs_front.specs.declared.refusal.Refusal.{Refusal}

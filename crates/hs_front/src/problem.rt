@@ -2,7 +2,7 @@
 
 ghost use Rattle.std.specs.Prelude.{◌≡◌, ◌+◌, ◌<◌, ◌≤◌, ◌⊎◌, length, Ok, Err, IfOk, MatchResult};
 ghost use Rattle.hs_scheme.specs.Scheme.{AreRules};
-ghost use Rattle.hs_scheme.specs.Points.{points_of};
+ghost use Rattle.hs_scheme.specs.flow.Points.{points_of};
 ghost use Rattle.hs_scheme.specs.declared.flow.Pair.{Pair};
 ghost use Rattle.hs_front.specs.Problems.{IsProblemOf, IsPastLimits};
 ghost use Rattle.hs_front.specs.Yields.{Yields};

@@ -1,8 +1,8 @@
 //! From the bytes of a file to its scheme with sorts.
 
 ghost use Rattle.std.specs.Prelude.{◌≡◌, ◌≤◌, ◌<◌, length, slice_get, Some, IfOk, IfErr};
-ghost use Rattle.hs_scheme.specs.Unsorted.{UnsortedData, IsUnsorted};
-ghost use Rattle.hs_scheme.specs.Sorted.{IsSorted};
+ghost use Rattle.hs_scheme.specs.sorting.Unsorted.{UnsortedData, IsUnsorted};
+ghost use Rattle.hs_scheme.specs.sorting.Sorted.{IsSorted};
 ghost use Rattle.hs_sorts.specs.Inference.{IsSortFault};
 ghost use Rattle.hs_front.specs.Files.{IsSchemeOf};
 ghost use Rattle.hs_front.specs.Problems.{IsSortedFile};

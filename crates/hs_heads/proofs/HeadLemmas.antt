@@ -9,8 +9,8 @@ use Rattle.hs_scheme.proofs.Lists.{none_in}
 use Rattle.hs_scheme.specs.declared.term.Head.{Head}
 use Rattle.hs_scheme.specs.declared.term.Head.TheVariants.{Var, Nt, Tm}
 use Rattle.hs_scheme.specs.declared.term.Rule.{Rule}
-use Rattle.hs_scheme.specs.Parameters.{counts_of}
-use Rattle.hs_scheme.specs.Points.{PointData, PointsData, ParameterWithin}
+use Rattle.hs_scheme.specs.sorting.Parameters.{counts_of}
+use Rattle.hs_scheme.specs.flow.Points.{PointData, PointsData, ParameterWithin}
 use Rattle.hs_scheme.specs.Problem.{ProblemData}
 use Rattle.hs_table.specs.declared.support.HeadBy.{HeadBy}
 use Rattle.hs_table.specs.declared.support.HeadBy.TheVariants.{Terminal, Param}

@@ -7,7 +7,7 @@
 --     AreHeadTypes        just the types of the head that are so
 use Rattle.std.specs.Prelude.{◌≡◌, refl, ℕ, ◌<◌, List, length, map, Contains, All}
 use Rattle.std.specs.Coded.{Coded, code_by, coded×, coded_ℕ, coded_list}
-use Rattle.hs_scheme.specs.Points.{PointData}
+use Rattle.hs_scheme.specs.flow.Points.{PointData}
 use Rattle.hs_scheme.specs.Problem.{ProblemData}
 use Rattle.hs_table.specs.declared.support.HeadBy.{HeadBy}
 use Rattle.hs_table.specs.Types.{TypeTree, arrows}

@@ -3,7 +3,7 @@
 ghost use Rattle.std.specs.Prelude.{◌≡◌, ◌<◌, ◌&&◌, List, Some, filter, length, nat_eq, slice_get, slice_index, All, IfOk, OnOk};
 ghost use Rattle.std.specs.List.Sorted.{IsNonDecreasingBy};
 ghost use Rattle.hs_scheme.specs.declared.flow.FlowPair.{FlowPair as AnyFlow};
-ghost use Rattle.hs_scheme.specs.Points.{PointData, NonterminalWithin, point_at};
+ghost use Rattle.hs_scheme.specs.flow.Points.{PointData, NonterminalWithin, point_at};
 ghost use Rattle.hs_table.specs.Entries.{EntryData, params_of};
 ghost use Rattle.hs_types.specs.Interned.{RowData, IsRow, Grows};
 ghost use Rattle.hs_choices.specs.Numbered.{AreTableRows};
@@ -19,7 +19,7 @@ use hs_reads::Reads;
 use hs_scheme::{FlowPair, Head, OutOfMemory, Problem};
 use hs_table::parameters;
 use hs_types::{Row, TyId};
-use hs_verdict::is_sorted_problem;
+use hs_verdict::know_sorted_problem;
 use indexmap::IndexSet;
 use std::alloc::Global;
 
@@ -38,7 +38,7 @@ fn head_at(problem: &Problem, point: u32) -> Head
     ensures nonterminal { NonterminalWithin (length problem.now.points.bodies) result }
     ensures parameter { IsHeadWithin (params_of problem.now (point_at problem.now.points point).rule) result }
 {
-    is_sorted_problem(problem);
+    know_sorted_problem(problem);
     problem.points.head_of(point)
 }
 

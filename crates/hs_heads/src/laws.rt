@@ -1,7 +1,7 @@
 //! A law of head types.
 
 ghost use Rattle.std.specs.Prelude.{List, ℕ};
-ghost use Rattle.hs_scheme.specs.Points.{PointData};
+ghost use Rattle.hs_scheme.specs.flow.Points.{PointData};
 ghost use Rattle.hs_scheme.specs.Problem.{ProblemData};
 ghost use Rattle.hs_table.specs.Entries.{EntryData};
 ghost use Rattle.hs_types.specs.Interned.{InternerData, Grows};

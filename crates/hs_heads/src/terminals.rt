@@ -1,7 +1,7 @@
 //! The types of a terminal.
 
 ghost use Rattle.std.specs.Prelude.{◌≡◌, ◌<◌, [], List, ℕ, Some, length, option_copied, replicate, OnOk};
-ghost use Rattle.hs_scheme.specs.Automaton.{next};
+ghost use Rattle.hs_scheme.specs.acceptance.Automaton.{next};
 ghost use Rattle.hs_table.specs.Types as trees;
 ghost use Rattle.hs_table.specs.Types.{TypeTree};
 ghost use Rattle.hs_table.specs.Follows.{rank_of};

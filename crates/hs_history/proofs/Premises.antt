@@ -4,7 +4,7 @@ use Rattle.std.proofs.lemmas.Bool.{cases_lt}
 use Rattle.std.proofs.lemmas.List.Elements.{Contains-append_left, Contains-append_right, Contains-append_cases}
 use Rattle.hs_scheme.specs.declared.term.Head.{Head}
 use Rattle.hs_scheme.specs.declared.term.Head.TheVariants.{Var, Nt, Tm}
-use Rattle.hs_scheme.specs.Dependents.{HeadReads, IsDependent}
+use Rattle.hs_scheme.specs.flow.Dependents.{HeadReads, IsDependent}
 use Rattle.hs_scheme.specs.Problem.{ProblemData}
 use Rattle.hs_scheme.proofs.Lists.{none_in, here, later, uncons}
 use Rattle.hs_table.specs.declared.support.HeadBy.{HeadBy}

@@ -7,7 +7,7 @@
 --     after state step             what it leads to; each step changes only what it names
 use Rattle.std.specs.Prelude.{◌≡◌, ℕ, ◌+◌, ◌<◌, Bool, true, false, nat_eq, if◌then◌else◌, zero, suc, List, [], ◌∷◌, ◌++◌, length, take, slice_get, Option, Some, None, Contains}
 use Rattle.std.specs.Option.{option_map_or}
-use Rattle.hs_scheme.specs.Dependents.{IsDependent}
+use Rattle.hs_scheme.specs.flow.Dependents.{IsDependent}
 use Rattle.hs_scheme.specs.Problem.{ProblemData}
 use Rattle.hs_table.specs.Entries.{EntryData}
 use Rattle.hs_table.specs.Follows.{Support, FollowsBy, Follows, premises}

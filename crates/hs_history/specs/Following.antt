@@ -4,7 +4,7 @@
 --     HasPlace p log place Is     the same at each dependent of the point of that entry
 --     HasWork p log work Is       what follows by the work: of a seed or of a place
 use Rattle.std.specs.Prelude.{◌≡◌, ℕ, ◌+◌, List, [], take, slice_get, Some, Contains}
-use Rattle.hs_scheme.specs.Dependents.{IsDependent}
+use Rattle.hs_scheme.specs.flow.Dependents.{IsDependent}
 use Rattle.hs_scheme.specs.Problem.{ProblemData}
 use Rattle.hs_table.specs.Entries.{EntryData}
 use Rattle.hs_table.specs.Follows.{Support, FollowsBy, Follows, premises}

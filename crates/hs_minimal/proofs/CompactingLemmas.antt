@@ -12,7 +12,7 @@ use Rattle.std.proofs.lemmas.List.Quantifiers.{all_pairs_push}
 use Rattle.std.proofs.lemmas.List.Sorted.{IsPermutation-sym, Contains-permutation}
 use Rattle.std.proofs.lemmas.Bool.{cases_lt}
 use Rattle.std.proofs.lemmas.Option.{slice_get_read, slice_get-map}
-use Rattle.hs_scheme.specs.Flow.{IsAscending}
+use Rattle.hs_scheme.specs.flow.Flow.{IsAscending}
 use Rattle.hs_scheme.proofs.Lists.{none_in, here, Contains-at, read-slice_get}
 use Rattle.hs_scheme.proofs.Orderings.{ascends}
 use Rattle.hs_table.specs.Entries.{EntryData, InShape, entry_cmp}

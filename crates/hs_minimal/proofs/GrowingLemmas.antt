@@ -1,5 +1,5 @@
 -- A table that grows: while there come more numbers, and by one entry.
-use Rattle.std.proofs.Common.{◌≡◌, refl, sym, ◌∙◌, ap, subst, ℕ, ◌+◌, ◌≤◌, Bool, true, false, nat_eq, cond, List, [], ◌∷◌, ◌++◌, length, map, take, slice_get, Some, All, arith, Contains, ◌⊎◌, inl, inr}
+use Rattle.std.proofs.Common.{◌≡◌, refl, sym, ◌∙◌, ap, subst, ℕ, ◌+◌, ◌≤◌, Bool, true, false, nat_eq, cond, List, [], ◌∷◌, ◌++◌, length, map, take, slice_get, Some, All, arith, Contains, ◌⊎◌, ◌↔◌, inl, inr}
 use Rattle.std.proofs.lemmas.Bool.{eqb-true, eq-eqb}
 use Rattle.std.proofs.lemmas.List.{map_push, take-append-le}
 use Rattle.std.proofs.lemmas.List.Elements.{All-weaker, All-contains, All-push, Contains-append_left, Contains-append_right}
@@ -12,12 +12,18 @@ use Rattle.hs_table_laws.proofs.Shapes.{LeadsWithin}
 use Rattle.hs_weak.specs.Strength.{AsStrongAs, Covers}
 use Rattle.hs_weak.specs.Weak.{WeaklyFollows, EachWeaklyFollows}
 use Rattle.hs_weak.proofs.Strength.{covers_refl, covers_trans}
-use Rattle.hs_types.specs.Interned.{InternerData, RowData, IsRow, entry_of, Grows}
-use Rattle.hs_types.proofs.Numbers.{row_within, row_stays}
+use Rattle.hs_types.specs.Interned.{InternerData, RowData, IsRow, type_of_id, entry_of, Grows}
+use Rattle.hs_types.proofs.Numbers.{type_stays, row_within, row_stays}
+use Rattle.hs_weak.specs.Reads.{last_state}
+use Rattle.hs_scheme.specs.Key.{key_eq}
+use Rattle.hs_strength.specs.Remembered.{IsCovered}
 use Rattle.hs_choices.proofs.Growing.{all_members}
-use Rattle.hs_reads.specs.Lists.{list_of}
+use Rattle.hs_reads.specs.Lists.{list_of, IsPushed}
 use Rattle.hs_minimal.specs.Compact.{NoneIsCovered}
-use Rattle.hs_minimal.specs.Growing.{GrowingData, entries, IsCoveredAt, IsGrowing, AreLeft}
+use Rattle.hs_minimal.specs.Ends.{EndData, rows_ending}
+use Rattle.hs_minimal.specs.Growing.{GrowingData, entries, IsCoveredAt, AreEnding, IsGrowing, AreLeft, IsLeftBy}
+use Rattle.hs_minimal.proofs.CoverLemmas.{strong_last}
+use Rattle.hs_minimal.proofs.EndLemmas.{key_parts, same_key, gained, still, now_there}
 use Rattle.hs_minimal.proofs.Elsewhere.{weakly_more}
 use Rattle.hs_minimal.proofs.Shapes.{weakly_shape}
 
@@ -44,6 +50,29 @@ module _ (I : InternerData) (g : GrowingData) (h : IsGrowing I g) where
   pub kept_at : (u : ℕ) (rows : List RowData) → rows ≡ list_of g.rows u → All (λ (r : RowData). r.point ≡ u) rows
   kept_at u rows is = all_members (λ (r : RowData). r.point ≡ u) rows (λ r m. (h.taken u r (subst (λ (z : List RowData). Contains z r) is m)).0)
 
+  -- and those of them with a state at the end of their type
+  pub ending_rows : (u q : ℕ) (rows : List RowData) → rows ≡ rows_ending g.ends u q → All (IsRow I) rows
+  ending_rows u q rows is = all_members (IsRow I) rows (λ r m. kept_in_use u r ((h.ended u q r).0 (subst (λ (z : List RowData). Contains z r) is m)).0)
+
+  pub ending_at : (u q : ℕ) (rows : List RowData) → rows ≡ rows_ending g.ends u q → All (λ (r : RowData). r.point ≡ u) rows
+  ending_at u q rows is = all_members (λ (r : RowData). r.point ≡ u) rows (λ r m. (h.taken u r ((h.ended u q r).0 (subst (λ (z : List RowData). Contains z r) is m)).0).0)
+
+  -- those like a row are enough to see whether it is kept, and whether one covers it
+  pub alike_kept : (row : RowData) (rows : List RowData) → rows ≡ rows_ending g.ends row.point (last_state (type_of_id I row.ty)) → Contains rows row ↔ Contains (list_of g.rows row.point) row
+  alike_kept row rows is = (
+    λ m. ((h.ended row.point (last_state (type_of_id I row.ty)) row).0 (subst (λ (z : List RowData). Contains z row) is m)).0,
+    λ m. subst (λ (z : List RowData). Contains z row) (sym is) ((h.ended row.point (last_state (type_of_id I row.ty)) row).1 (m, refl)),
+  )
+
+  pub alike_known : (row : RowData) → Contains (list_of g.rows row.point) row → IsCoveredAt I g (entry_of I row)
+  alike_known row m = h.covering row (h.taken row.point row m).1
+
+  pub alike_covered : (row : RowData) (rows : List RowData) → rows ≡ rows_ending g.ends row.point (last_state (type_of_id I row.ty)) → IsCovered I row rows ↔ IsCoveredAt I g (entry_of I row)
+  alike_covered row rows is = (
+    λ c. (c.0, (((h.ended row.point (last_state (type_of_id I row.ty)) c.0).0 (subst (λ (z : List RowData). Contains z c.0) is c.1.0)).0, c.1.1)),
+    λ c. (c.0, (subst (λ (z : List RowData). Contains z c.0) (sym is) ((h.ended row.point (last_state (type_of_id I row.ty)) c.0).1 (c.1.0, strong_last c.1.1.ty)), c.1.1)),
+  )
+
   pub added_shape : LeadsWithin g.problem.sorted.automaton → (r : RowData) → Contains g.history r → InShape g.problem (entry_of I r)
   added_shape leads r m =
       let at = place_of (entries I g.history) (entry_of I r) (into_map (entry_of I) g.history r m) in
@@ -56,6 +85,9 @@ module _ (I : InternerData) (g : GrowingData) (h : IsGrowing I g) where
     same_entries : entries J g.history ≡ entries I g.history
     same_entries = entries_stay I J grows g.history added_in_use
 
+    same_last : (u : ℕ) (r : RowData) → Contains (list_of g.rows u) r → last_state (type_of_id J r.ty) ≡ last_state (type_of_id I r.ty)
+    same_last u r m = ap last_state (type_stays I J grows r.ty (kept_in_use u r m).1)
+
     pub growing_stays : IsGrowing J g
     growing_stays = record {
       in_use = All-weaker (IsRow I) (IsRow J) (row_within I J grows) g.history h.in_use;
@@ -63,6 +95,10 @@ module _ (I : InternerData) (g : GrowingData) (h : IsGrowing I g) where
       derived = subst (λ (T : List EntryData). EachWeaklyFollows AsStrongAs g.problem T) (sym same_entries) h.derived;
       uncovered = subst NoneIsCovered (sym same_entries) h.uncovered;
       long = h.long;
+      ended = λ u q r. (
+        λ m. let a = (h.ended u q r).0 m in (a.0, same_last u r a.0 ∙ a.1),
+        λ a. (h.ended u q r).1 (a.0, sym (same_last u r a.0) ∙ a.1),
+      );
       taken = h.taken;
       covering = λ r m.
           let c = h.covering r m in
@@ -137,9 +173,9 @@ module _ (I : InternerData) (g : GrowingData) (h : IsGrowing I g) (leads : Leads
   ]
 
   module _ (left : List RowData) (are : AreLeft I row (list_of g.rows row.point) left) (rows : List (List RowData)) (long : length rows ≡ length g.rows)
-      (each : (u : ℕ) → list_of rows u ≡ cond (nat_eq u row.point) (left ++ row ∷ []) (list_of g.rows u)) where
+      (each : (u : ℕ) → list_of rows u ≡ cond (nat_eq u row.point) (left ++ row ∷ []) (list_of g.rows u)) (ends : EndData) (ended : AreEnding I rows ends) where
     abbrev new : GrowingData
-    new = record { problem = g.problem; budget = g.budget; history = g.history ++ row ∷ []; rows = rows }
+    new = record { problem = g.problem; budget = g.budget; history = g.history ++ row ∷ []; rows = rows; ends = ends }
 
     itself : nat_eq row.point row.point ≡ true
     itself = eq-eqb row.point row.point refl
@@ -220,6 +256,7 @@ module _ (I : InternerData) (g : GrowingData) (h : IsGrowing I g) (leads : Leads
       derived = subst (λ (E : List EntryData). EachWeaklyFollows AsStrongAs g.problem E) (sym entries_more) derived_more;
       uncovered = subst NoneIsCovered (sym entries_more) uncovered_more;
       long = long ∙ h.long;
+      ended = ended;
       taken = taken_more;
       covering = covering_more;
       apart = apart_more;
@@ -232,15 +269,132 @@ module _ (I : InternerData) (g : GrowingData) (h : IsGrowing I g) (leads : Leads
             length_more [] = refl
             length_more (y ∷ ys) = let r = length_more ys in omega (arith, r)
 
+  -- where those that it covers have gone, and it has come to the others
+  module _ (mid : GrowingData) (left : IsLeftBy I row g mid) (rows : List (List RowData)) (pushed : IsPushed row.point row mid.rows rows) (end : ℕ) (end_is : end ≡ last_state (type_of_id I row.ty)) (ends : EndData)
+      (each : (u q : ℕ) → rows_ending ends u q ≡ cond (key_eq (row.point, end) (u, q)) (rows_ending mid.ends u q ++ row ∷ []) (rows_ending mid.ends u q)) where
+    each_point : (u : ℕ) → list_of rows u ≡ cond (nat_eq u row.point) (list_of mid.rows row.point ++ row ∷ []) (list_of g.rows u)
+    each_point u = pushed.each u ∙ by (nat_eq u row.point) refl
+      where
+        by : (t : Bool) → nat_eq u row.point ≡ t → cond t (list_of mid.rows u ++ row ∷ []) (list_of mid.rows u) ≡ cond t (list_of mid.rows row.point ++ row ∷ []) (list_of g.rows u)
+        by true e = ap (λ k. list_of mid.rows k ++ row ∷ []) (eqb-true u row.point e)
+        by false e = left.elsewhere u e
+
+    abbrev last_of : RowData → ℕ
+    last_of r = last_state (type_of_id I r.ty)
+
+    ended_added : AreEnding I rows ends
+    ended_added u q r = (
+      λ m. elim (gained (key_eq (row.point, end) (u, q)) (rows_ending mid.ends u q) (rows_ending ends u q) row r (each u q) m) [
+        | inl was ↦ let a = (left.ended u q r).0 was in (still (nat_eq u row.point) (list_of mid.rows u) (list_of rows u) row r (pushed.each u) a.0, a.1)
+        | inr own ↦
+            let k = key_parts row.point end u q own.0 in (
+              subst (λ (z : RowData). Contains (list_of rows u) z) (sym own.1) (now_there (nat_eq u row.point) (list_of mid.rows u) (list_of rows u) row (pushed.each u) (eq-eqb u row.point (sym k.0))),
+              ap last_of own.1 ∙ (sym end_is ∙ k.1),
+            )
+      ],
+      λ b. elim (gained (nat_eq u row.point) (list_of mid.rows u) (list_of rows u) row r (pushed.each u) b.0) [
+        | inl was ↦ still (key_eq (row.point, end) (u, q)) (rows_ending mid.ends u q) (rows_ending ends u q) row r (each u q) ((left.ended u q r).1 (was, b.1))
+        | inr own ↦ subst (λ (z : RowData). Contains (rows_ending ends u q) z) (sym own.1)
+            (now_there (key_eq (row.point, end) (u, q)) (rows_ending mid.ends u q) (rows_ending ends u q) row (each u q) (same_key row.point end u q (sym (eqb-true u row.point own.0)) (end_is ∙ (sym (ap last_of own.1) ∙ b.1))))
+      ],
+    )
+
+    pub growing_added : IsGrowing I (record { problem = g.problem; budget = g.budget; history = g.history ++ row ∷ []; rows = rows; ends = ends })
+    growing_added = growing_more (list_of mid.rows row.point) left.left rows (pushed.len ∙ left.long) each_point ends ended_added
+
+-- those that a row covers go
+module _ (I : InternerData) (g : GrowingData) (h : IsGrowing I g) (row : RowData) (end : ℕ) (end_is : end ≡ last_state (type_of_id I row.ty)) where
+  abbrev CoveredHere : RowData → Type 0
+  CoveredHere r = Covers AsStrongAs (entry_of I row) (entry_of I r)
+
+  last_here : (r : RowData) → CoveredHere r → last_state (type_of_id I r.ty) ≡ end
+  last_here r covers = sym (strong_last covers.ty) ∙ sym end_is
+
+  pub left_all : ((r : RowData) → Contains (rows_ending g.ends row.point end) r → CoveredHere r → ⊥) → IsLeftBy I row g g
+  left_all none = record {
+    problem = refl;
+    budget = refl;
+    history = refl;
+    long = refl;
+    left = record { come = λ r m. (m, λ covers. none r ((h.ended row.point end r).1 (m, last_here r covers)) covers); gone = λ r m. inl m };
+    elsewhere = λ u e. refl;
+    ended = h.ended;
+  }
+
+  module _ (left_rows left_ends : List RowData) (of_rows : AreLeft I row (list_of g.rows row.point) left_rows) (of_ends : AreLeft I row (rows_ending g.ends row.point end) left_ends) (rows : List (List RowData)) (long : length rows ≡ length g.rows)
+      (each : (u : ℕ) → list_of rows u ≡ cond (nat_eq u row.point) left_rows (list_of g.rows u)) (ends : EndData)
+      (each_end : (u q : ℕ) → rows_ending ends u q ≡ cond (key_eq (row.point, end) (u, q)) left_ends (rows_ending g.ends u q)) where
+    abbrev Stays : ℕ → RowData → Type 0
+    Stays u r = u ≡ row.point → CoveredHere r → ⊥
+
+    here_left : list_of rows row.point ≡ left_rows
+    here_left = each row.point ∙ ap (λ (t : Bool). cond t left_rows (list_of g.rows row.point)) (eq-eqb row.point row.point refl)
+
+    other_left : (u : ℕ) → nat_eq u row.point ≡ false → list_of rows u ≡ list_of g.rows u
+    other_left u e = each u ∙ ap (λ (t : Bool). cond t left_rows (list_of g.rows u)) e
+
+    points_stay : (u : ℕ) (r : RowData) → Contains (list_of rows u) r ↔ (Contains (list_of g.rows u) r × Stays u r)
+    points_stay u r = elim (same_or_not u row.point) [
+      | inl same ↦ subst (λ k. Contains (list_of rows k) r ↔ (Contains (list_of g.rows k) r × Stays k r)) (sym same) (
+        λ m. let c = of_rows.come r (subst (λ (z : List RowData). Contains z r) here_left m) in (c.0, λ _ covers. c.1 covers),
+        λ k. elim (of_rows.gone r k.0) [
+          | inl stays ↦ subst (λ (z : List RowData). Contains z r) (sym here_left) stays
+          | inr covers ↦ absurd (k.1 refl covers)
+        ],
+      )
+      | inr other ↦ (
+        λ m. (subst (λ (z : List RowData). Contains z r) (other_left u other) m, λ same covers. let yes = eq-eqb u row.point same in absurd (cc)),
+        λ k. subst (λ (z : List RowData). Contains z r) (sym (other_left u other)) k.0,
+      )
+    ]
+
+    ends_stay : (u q : ℕ) (r : RowData) → Contains (rows_ending ends u q) r ↔ (Contains (rows_ending g.ends u q) r × Stays u r)
+    ends_stay u q r = by (key_eq (row.point, end) (u, q)) refl
+      where
+        by : (t : Bool) → key_eq (row.point, end) (u, q) ≡ t → Contains (rows_ending ends u q) r ↔ (Contains (rows_ending g.ends u q) r × Stays u r)
+        by true e =
+            let k = key_parts row.point end u q e in
+            let here : rows_ending ends u q ≡ left_ends = each_end u q ∙ ap (λ (t : Bool). cond t left_ends (rows_ending g.ends u q)) e in
+            let was : rows_ending g.ends row.point end ≡ rows_ending g.ends u q = λ i. rows_ending g.ends (k.0 i) (k.1 i) in (
+              λ m. let c = of_ends.come r (subst (λ (z : List RowData). Contains z r) here m) in (subst (λ (z : List RowData). Contains z r) was c.0, λ _ covers. c.1 covers),
+              λ a. elim (of_ends.gone r (subst (λ (z : List RowData). Contains z r) (sym was) a.0)) [
+                | inl stays ↦ subst (λ (z : List RowData). Contains z r) (sym here) stays
+                | inr covers ↦ absurd (a.1 (sym k.0) covers)
+              ],
+            )
+        by false e =
+            let here : rows_ending ends u q ≡ rows_ending g.ends u q = each_end u q ∙ ap (λ (t : Bool). cond t left_ends (rows_ending g.ends u q)) e in (
+              λ m. let a = subst (λ (z : List RowData). Contains z r) here m in (a, λ same covers. let yes = same_key row.point end u q (sym same) (sym (last_here r covers) ∙ ((h.ended u q r).0 a).1) in absurd (cc)),
+              λ a. subst (λ (z : List RowData). Contains z r) (sym here) a.0,
+            )
+
+    pub left_some : (mid : GrowingData) → mid.problem ≡ g.problem → mid.budget ≡ g.budget → mid.history ≡ g.history → mid.rows ≡ rows → mid.ends ≡ ends → IsLeftBy I row g mid
+    left_some mid problem budget history rows_are ends_are = record {
+      problem = problem;
+      budget = budget;
+      history = history;
+      long = ap (λ (z : List (List RowData)). length z) rows_are ∙ long;
+      left = subst (λ (z : List (List RowData)). AreLeft I row (list_of g.rows row.point) (list_of z row.point)) (sym rows_are) (subst (λ (z : List RowData). AreLeft I row (list_of g.rows row.point) z) (sym here_left) of_rows);
+      elsewhere = λ u e. ap (λ (z : List (List RowData)). list_of z u) rows_are ∙ other_left u e;
+      ended = subst (λ (z : List (List RowData)). AreEnding I z mid.ends) (sym rows_are) (subst (λ (z : EndData). AreEnding I rows z) (sym ends_are) (λ u q r. (
+        λ m. let a = (ends_stay u q r).0 m in let b = (h.ended u q r).0 a.0 in ((points_stay u r).1 (b.0, a.1), b.1),
+        λ b. let a = (points_stay u r).0 b.0 in (ends_stay u q r).1 ((h.ended u q r).1 (a.0, b.1), a.1),
+      )));
+    }
+
 -- no entries
-pub growing_none : (I : InternerData) (p : ProblemData) (budget : ℕ) (history : List RowData) (rows : List (List RowData)) → history ≡ [] → length rows ≡ length p.points.points → ((u : ℕ) → list_of rows u ≡ [])
-    → IsGrowing I (record { problem = p; budget = budget; history = history; rows = rows })
-growing_none I p budget history rows none long empty = subst (λ (xs : List RowData). IsGrowing I (record { problem = p; budget = budget; history = xs; rows = rows })) (sym none) (record {
+pub growing_none : (I : InternerData) (p : ProblemData) (budget : ℕ) (history : List RowData) (rows : List (List RowData)) (ends : EndData) → history ≡ [] → length rows ≡ length p.points.points → ((u : ℕ) → list_of rows u ≡ []) → ends ≡ []
+    → IsGrowing I (record { problem = p; budget = budget; history = history; rows = rows; ends = ends })
+growing_none I p budget history rows ends none long empty no_ends = subst (λ (xs : List RowData). IsGrowing I (record { problem = p; budget = budget; history = xs; rows = rows; ends = ends })) (sym none) (record {
   in_use = λ i d lt. absurd (omega (arith, lt));
   few = omega arith;
   derived = λ i e at. absurd (no_place i e at);
   uncovered = λ i j a b lt at_i at_j. absurd (no_place i a at_i);
   long = long;
+  ended = λ u q r. (
+    λ m. absurd (none_in r (subst (λ (z : EndData). Contains (rows_ending z u q) r) no_ends m)),
+    λ b. absurd (none_in r (subst (λ (z : List RowData). Contains z r) (empty u) b.0)),
+  );
   taken = λ u r m. absurd (none_in r (subst (λ (z : List RowData). Contains z r) (empty u) m));
   covering = λ r m. absurd (none_in r m);
   apart = λ u a b in_a in_b covers. absurd (none_in a (subst (λ (z : List RowData). Contains z a) (empty u) in_a));

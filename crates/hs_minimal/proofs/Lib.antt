@@ -1,8 +1,10 @@
 pub mod Elsewhere
 pub mod Shapes
+pub mod EndLemmas
 pub mod CoverLemmas
 pub mod GrowingLemmas
 pub mod GatheringLemmas
 pub mod FollowingLemmas
 pub mod SettlingLemmas
 pub mod CompactingLemmas
+pub mod ChildLemmas

@@ -1,21 +1,23 @@
 -- What follows at a point, and what it means that nothing was added.
 use Rattle.std.proofs.Common.{◌≡◌, refl, sym, ◌∙◌, ap, subst, ℕ, ◌+◌, ◌<◌, ◌≤◌, List, [], ◌∷◌, ◌++◌, length, take, get_or, slice_get, Option, Some, All, arith, Contains, ◌⊎◌, inl, inr, ◌↔◌}
 use Rattle.std.proofs.lemmas.List.{take_all, length-map}
-use Rattle.std.proofs.lemmas.List.Elements.{Contains-append_left}
+use Rattle.std.specs.List.Sorted.{IsPermutation}
+use Rattle.std.proofs.lemmas.List.Sorted.{IsPermutation-sym, Contains-permutation}
+use Rattle.std.proofs.lemmas.List.Elements.{Contains-append_left, Contains-append_cases}
 use Rattle.std.proofs.lemmas.Bool.{cases_lt}
 use Rattle.std.proofs.lemmas.Option.{same_Some, slice_get-get_or, slice_get-map}
 use Rattle.std.specs.Prelude.{unwrap_or}
 use Rattle.std.specs.Option.{option_map}
 use Rattle.hs_flow.specs.Dependents.{HasDependents, list_of as dependents_of}
 use Rattle.hs_scheme.specs.declared.term.Head.TheVariants.{Tm}
-use Rattle.hs_scheme.specs.Points.{PointData, point_at}
+use Rattle.hs_scheme.specs.flow.Points.{PointData, point_at}
 use Rattle.hs_scheme.specs.Problem.{ProblemData}
 use Rattle.hs_scheme.proofs.Lists.{none_in}
 use Rattle.hs_table.specs.Types.{TypeTree, arrows}
 use Rattle.hs_table.specs.Entries.{Env, EntryData, Has, IsEnv, InShape, params_of}
 use Rattle.hs_table.specs.Follows.{IsHeadType, HeadHas, AnyHas}
 use Rattle.hs_table_laws.proofs.Members.{from_map, into_map, taken_next, pushed_cases}
-use Rattle.hs_table_laws.proofs.Places.{within_from}
+use Rattle.hs_table_laws.proofs.Places.{within_from, place_of}
 use Rattle.hs_verdict.specs.Premises.{IsSortedProblem}
 use Rattle.hs_weak.specs.Strength.{AsStrongAs, Covers}
 use Rattle.hs_weak.specs.Weak.{WeaklyChosen, WeaklyFollows}
@@ -29,8 +31,8 @@ use Rattle.hs_choices.proofs.Growing.{all_members}
 use Rattle.hs_heads.specs.HeadTypes.{HeadTypeData, IsHeadTypeAt, AreHeadTypes}
 use Rattle.hs_reads.specs.Lists.{list_of}
 use Rattle.hs_reads.specs.Own.{AreAllPairs}
-use Rattle.hs_minimal.specs.Growing.{GrowingData, entries, IsCoveredAt, IsGrowing, AreOfRows, CoversAllAt, CoversAll, IsGrownFrom, WhereNoneAdded}
-use Rattle.hs_minimal.specs.Following.{IsSource, IsGathered, IsSplitAtArgs, IsCoveredAmong, AreCoveredByType, IsFollowing, AddsFollowingAll, AreLeastFollowing}
+use Rattle.hs_minimal.specs.Growing.{GrowingData, entries, IsCoveredAt, IsGrowing, AreOfRows, CoversAllAt, CoversAll, AreAdded, IsGrownFrom, WhereNoneAdded}
+use Rattle.hs_minimal.specs.Following.{IsSource, AddsRowsOf, IsGathered, IsSplitAtArgs, IsCoveredAmong, AreCoveredByType, IsFollowing, AddsFollowingAll, AreFollowingFrom, AreLeastFollowing}
 use Rattle.hs_minimal.proofs.Elsewhere.{weakly_more, weakly_elsewhere}
 use Rattle.hs_minimal.proofs.Shapes.{weakly_shape, last_within}
 use Rattle.hs_minimal.proofs.GrowingLemmas.{added_in_use, added_shape, kept_in_use}
@@ -44,20 +46,45 @@ pub split_heads : (p : ProblemData) (C : List EntryData) (R : List (ℕ × ℕ))
 split_heads p C R point J heads are h m = record { row = are.rows h m; long = sym (length-map h.sets (set_of_id J)) ∙ (are.taken h m).long }
 
 -- the rows that are gathered for a point
-module _ (g : GrowingData) (given : IsSortedProblem g.problem) (I : InternerData) (h : IsGrowing I g) (point : ℕ) (T : List RowData) (is : IsGathered g point T) where
-  pub in_history : (r : RowData) → Contains T r → Contains g.history r
-  in_history r m = let k = (is r).0 m in (h.taken k.0 r k.1.1).1
+pub gathered_added : (g : GrowingData) (I : InternerData) → IsGrowing I g → (point : ℕ) (T : List RowData) → IsGathered g point T → AreAdded g T
+gathered_added g I h point T is r m = let k = (is r).0 m in (h.taken k.0 r k.1.1).1
 
-  pub gathered_in_use : All (IsRow I) T
-  gathered_in_use = all_members (IsRow I) T (λ r m. added_in_use I g h r (in_history r m))
+pub added_more : (g : GrowingData) (I : InternerData) → IsGrowing I g → (Of : ℕ → Type 0) (old new : List RowData) → AddsRowsOf g Of old new → AreAdded g old → AreAdded g new
+added_more g I h Of old new adds are r m = elim ((adds r).0 m) [
+  | inl was ↦ are r was
+  | inr k ↦ (h.taken k.0 r k.1.1).1
+]
 
-  pub gathered_shape : (r : RowData) → Contains T r → InShape g.problem (entry_of I r)
-  gathered_shape r m = added_shape I g h given.automaton.to r (in_history r m)
+pub added_none : (g : GrowingData) (rows : List RowData) → rows ≡ [] → AreAdded g rows
+added_none g rows is r m = absurd (none_in r (subst (λ (z : List RowData). Contains z r) is m))
 
-  pub gathered_rows : AreTableRows g.problem (entries I T) I T
-  gathered_rows = own_rows g.problem I T gathered_shape
+pub added_push : (g : GrowingData) (old new : List RowData) (row : RowData) → new ≡ old ++ row ∷ [] → AreAdded g old → Contains g.history row → AreAdded g new
+added_push g old new row is are there r m = elim (pushed_cases old row r (subst (λ (z : List RowData). Contains z r) is m)) [
+  | inl was ↦ are r was
+  | inr own ↦ subst (λ (z : RowData). Contains g.history z) (sym own) there
+]
 
-  module _ (J K : InternerData) (before : Grows I J) (then : Grows J K) (lt : point < length g.problem.points.points) (R : List (ℕ × ℕ)) (reads : AreAllPairs g.problem R) (heads : List HeadTypeData) (found : List RowData)
+pub added_both : (g : GrowingData) (old more new : List RowData) → new ≡ old ++ more → AreAdded g old → AreAdded g more → AreAdded g new
+added_both g old more new is are also r m = elim (Contains-append_cases old more r (subst (λ (z : List RowData). Contains z r) is m)) [
+  | inl was ↦ are r was
+  | inr own ↦ also r own
+]
+
+pub added_moved : (g : GrowingData) (rows new : List RowData) → IsPermutation rows new → AreAdded g rows → AreAdded g new
+added_moved g rows new moved are r m = are r (Contains-permutation new rows r (IsPermutation-sym rows new moved) m)
+
+-- rows that were added
+module _ (g : GrowingData) (given : IsSortedProblem g.problem) (I : InternerData) (h : IsGrowing I g) (T : List RowData) (in_history : AreAdded g T) where
+  pub rows_in_use : All (IsRow I) T
+  rows_in_use = all_members (IsRow I) T (λ r m. added_in_use I g h r (in_history r m))
+
+  pub rows_shape : (r : RowData) → Contains T r → InShape g.problem (entry_of I r)
+  rows_shape r m = added_shape I g h given.automaton.to r (in_history r m)
+
+  pub rows_stand : AreTableRows g.problem (entries I T) I T
+  rows_stand = own_rows g.problem I T rows_shape
+
+  module _ (point : ℕ) (J K : InternerData) (before : Grows I J) (then : Grows J K) (lt : point < length g.problem.points.points) (R : List (ℕ × ℕ)) (reads : AreAllPairs g.problem R) (heads : List HeadTypeData) (found : List RowData)
       (heads_are : AreHeadTypes g.problem (entries I T) R point (point_at g.problem.points point) J heads)
       (found_are : AddsFollowingAll g.problem (entries I T) point (point_at g.problem.points point) J K heads found) where
     abbrev p : ProblemData
@@ -87,8 +114,8 @@ module _ (g : GrowingData) (given : IsSortedProblem g.problem) (I : InternerData
     own_of : (e : EntryData) → e.point ≡ point → (d : PointData) → slice_get p.points.points e.point ≡ Some d → d ≡ of
     own_of e is_at d d_at = same_Some d of (sym d_at ∙ (ap (λ k. slice_get p.points.points k) is_at ∙ at))
 
-    by_gathered : (e : EntryData) → e.point ≡ point → WeaklyFollows AsStrongAs p C e → IsCoveredAmong K found e
-    by_gathered e is_at (s, f) =
+    by_rows : (e : EntryData) → e.point ≡ point → WeaklyFollows AsStrongAs p C e → IsCoveredAmong K found e
+    by_rows e is_at (s, f) =
         let of_is : f.of ≡ of = own_of e is_at f.of f.at in
         let shape : InShape p e = weakly_shape p C given.automaton.to e (s, f) in
         let own : IsHeadTypeAt p C R point of f.sets e.ty = record {
@@ -104,18 +131,30 @@ module _ (g : GrowingData) (given : IsSortedProblem g.problem) (I : InternerData
         (subst (λ (d : PointData). (j : ℕ) (a : TypeTree) → j < length e.env → Has e.env j a ↔ (HeadHas d.head (arrows f.sets e.ty) j a ⊎ AnyHas f.chosen j a)) of_is f.union) in
         subst (λ k. IsCoveredAmong K found (record { point = k; env = e.env; ty = e.ty })) (sym is_at) covered
 
-    covered : (D : List EntryData) → AreOfRows K g D → (e : EntryData) → e.point ≡ point → WeaklyFollows AsStrongAs p D e → IsCoveredAmong K found e
-    covered D of_rows e is_at (s, f) =
-        let of_is : f.of ≡ of = own_of e is_at f.of f.at in
-        by_gathered e is_at (weakly_elsewhere p D C s e f (λ d source m.
-        let r = of_rows d m in
-        let row_at : r.0.point ≡ d.point = ap (λ (x : EntryData). x.point) r.1.1 in
-        let own_source = subst (λ u. IsSource p of u) (sym row_at) (subst (λ (o : PointData). IsSource p o d.point) of_is source) in
-        let there = (is r.0).1 (r.0.point, (own_source, r.1.0)) in
-        subst (λ (x : EntryData). Contains C x) (sym (same_entry r.0 (in_history r.0 there)) ∙ r.1.1) (into_map (entry_of I) T r.0 there)))
+    pub are_from : AreFollowingFrom I K g point T found
+    are_from = record { all = all; covered = by_rows }
 
-    pub are_following : AreLeastFollowing K g point found
-    are_following = record { all = all; covered = covered }
+-- where they are all that is kept at the sources of a point
+module _ (g : GrowingData) (I : InternerData) (h : IsGrowing I g) (T : List RowData) (in_history : AreAdded g T) (point : ℕ) (is : IsGathered g point T) (K : InternerData) (grows : Grows I K) (lt : point < length g.problem.points.points) (found : List RowData) (from : AreFollowingFrom I K g point T found) where
+  abbrev q : ProblemData
+  q = g.problem
+
+  kept_entry : (r : RowData) → Contains g.history r → entry_of K r ≡ entry_of I r
+  kept_entry r m = row_stays I K grows r (added_in_use I g h r m)
+
+  covered : (D : List EntryData) → AreOfRows K g D → (e : EntryData) → e.point ≡ point → WeaklyFollows AsStrongAs q D e → IsCoveredAmong K found e
+  covered D of_rows e is_at (s, f) =
+      let own = own_point q point lt in
+      let of_is : f.of ≡ point_at q.points point = same_Some f.of (point_at q.points point) (sym f.at ∙ (ap (λ k. slice_get q.points.points k) is_at ∙ own)) in
+      from.covered e is_at (weakly_elsewhere q D (entries I T) s e f (λ d source m.
+      let r = of_rows d m in
+      let row_at : r.0.point ≡ d.point = ap (λ (x : EntryData). x.point) r.1.1 in
+      let own_source = subst (λ u. IsSource q (point_at q.points point) u) (sym row_at) (subst (λ (o : PointData). IsSource q o d.point) of_is source) in
+      let there = (is r.0).1 (r.0.point, (own_source, r.1.0)) in
+      subst (λ (x : EntryData). Contains (entries I T) x) (sym (kept_entry r.0 (in_history r.0 there)) ∙ r.1.1) (into_map (entry_of I) T r.0 there)))
+
+  pub are_following : AreLeastFollowing K g point found
+  are_following = record { all = from.all; covered = covered }
 
 -- where all that follows at a point is covered
 module _ (I : InternerData) (g : GrowingData) where
@@ -250,3 +289,11 @@ dependent_within p lists has u ds at d m =
     let own : Contains (dependents_of lists u) d = subst (λ (xs : List ℕ). Contains xs d) (sym (ap (λ (o : Option (List ℕ)). unwrap_or o []) at)) m in
     let is = (has.exact u d).0 own in
     within_from p.points.points d is.of is.at
+
+-- the points of rows that were added are the problem's
+pub points_within : (I : InternerData) (g : GrowingData) → IsGrowing I g → (rows : List RowData) → AreAdded g rows → (own : List RowData) → own ≡ rows → (points : List ℕ) → ((u : ℕ) → Contains points u → (r : RowData) × (Contains own r × (r.point ≡ u)))
+    → (us : List ℕ) → us ≡ points → (u : ℕ) → Contains us u → u < length g.problem.points.points
+points_within I g h rows added own own_is points of us us_is u m =
+    let r = of u (subst (λ (z : List ℕ). Contains z u) us_is m) in
+    let at = place_of g.history r.0 (added r.0 (subst (λ (z : List RowData). Contains z r.0) own_is r.1.0)) in
+    subst (λ k. k < length g.problem.points.points) r.1.1 (added_within I g h at.0 r.0 at.1)

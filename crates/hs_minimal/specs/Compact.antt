@@ -4,7 +4,7 @@
 --     IsOneTooMany             the list has one more, each of which weakly follows from those before it and is covered by none of them
 --     IsCompactAnswer    the answer holds such a list
 use Rattle.std.specs.Prelude.{◌≡◌, ℕ, ◌+◌, ◌<◌, ◌≤◌, List, length, slice_get, Some, All}
-use Rattle.hs_scheme.specs.Flow.{IsAscending}
+use Rattle.hs_scheme.specs.flow.Flow.{IsAscending}
 use Rattle.hs_scheme.specs.Problem.{ProblemData}
 use Rattle.hs_table.specs.Entries.{EntryData, InShape, entry_cmp}
 use Rattle.hs_weak.specs.Strength.{AsStrongAs, Covers}

@@ -8,13 +8,15 @@
 --     IsCoveredAmong      one of the rows covers the entry
 --     AreCoveredByType    whatever follows by a type of the head is covered by one of the rows
 --     IsFollowing         the row's entry weakly follows at the point
+--     AreFollowingAt      so the entries of rows, from those that were added
 --     AddsFollowing       what follows by a type of the head was added, as much as it takes
 --     AddsFollowingAll    so for each type of the head, and nothing else is there
---     AreLeastFollowing        rows that weakly follow at the point, one of which covers each entry that does
+--     AreFollowingFrom    rows that weakly follow at the point, one of which covers each entry that does so from some of the entries
+--     AreLeastFollowing   rows that weakly follow at the point, one of which covers each entry that does
 use Rattle.std.specs.Prelude.{◌≡◌, ℕ, ◌<◌, List, length, Contains, ◌⊎◌, ◌↔◌}
 use Rattle.hs_scheme.specs.declared.term.Head.{Head}
-use Rattle.hs_scheme.specs.Dependents.{HeadReads}
-use Rattle.hs_scheme.specs.Points.{PointData, point_at}
+use Rattle.hs_scheme.specs.flow.Dependents.{HeadReads}
+use Rattle.hs_scheme.specs.flow.Points.{PointData, point_at}
 use Rattle.hs_scheme.specs.Problem.{ProblemData}
 use Rattle.hs_table.specs.Types.{TypeTree, arrows}
 use Rattle.hs_table.specs.Entries.{Env, EntryData, Has, IsEnv, params_of}
@@ -58,6 +60,9 @@ pub record IsFollowing (p : ProblemData) (C : List EntryData) (point : ℕ) (J :
   pub at : r.point ≡ point
   pub follows : WeaklyFollows AsStrongAs p C (entry_of J r)
 
+abbrev pub AreFollowingAt : InternerData → GrowingData → ℕ → List RowData → Type 0
+AreFollowingAt J g point found = (r : RowData) → Contains found r → IsFollowing g.problem (entries J g.history) point J r
+
 pub record AddsFollowing (p : ProblemData) (C : List EntryData) (point : ℕ) (of : PointData) (J : InternerData) (sets : Env) (ty : TypeTree) (old new : List RowData) : Type 0 where
   pub keeps : (r : RowData) → Contains old r → Contains new r
   pub come : (r : RowData) → Contains new r → Contains old r ⊎ IsFollowing p C point J r
@@ -68,6 +73,11 @@ pub record AddsFollowingAll (p : ProblemData) (C : List EntryData) (point : ℕ)
   pub all : (r : RowData) → Contains found r → IsFollowing p C point J r
   pub covered : (h : HeadTypeData) → Contains heads h → AreCoveredByType p C point of J (sets_of I h) (type_of_id I h.ty) found
 
+-- the rows that it starts from are read in I, those that are found in J
+pub record AreFollowingFrom (I J : InternerData) (g : GrowingData) (point : ℕ) (rows found : List RowData) : Type 0 where
+  pub all : AreFollowingAt J g point found
+  pub covered : (e : EntryData) → e.point ≡ point → WeaklyFollows AsStrongAs g.problem (entries I rows) e → IsCoveredAmong J found e
+
 pub record AreLeastFollowing (I : InternerData) (g : GrowingData) (point : ℕ) (found : List RowData) : Type 0 where
-  pub all : (r : RowData) → Contains found r → IsFollowing g.problem (entries I g.history) point I r
+  pub all : AreFollowingAt I g point found
   pub covered : (C : List EntryData) → AreOfRows I g C → (e : EntryData) → e.point ≡ point → WeaklyFollows AsStrongAs g.problem C e → IsCoveredAmong I found e

@@ -1,3 +1,4 @@
 pub mod Compact
+pub mod Ends
 pub mod Growing
 pub mod Following

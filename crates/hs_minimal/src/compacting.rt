@@ -1,22 +1,22 @@
 //! The search for a compact table.
 
-ghost use Rattle.std.specs.Prelude.{◌≡◌, ◌≤◌, ◌↔◌, Contains, IfOk, IsTrue, length};
+ghost use Rattle.std.specs.Prelude.{◌≡◌, ◌≤◌, IfOk, length};
 ghost use Rattle.hs_flow.specs.Dependents.{HasDependents};
 ghost use Rattle.hs_reads.specs.Own.{AreAllPairs};
 ghost use Rattle.hs_minimal.specs.Compact.{IsTable, IsCompactAnswer};
 ghost use Rattle.hs_minimal.specs.Growing.{IsGrowing, CoversAll, AreKept, entries};
 
 use crate::answer::Compact;
+use crate::covered::has_row;
 use crate::growing::Growing;
 use crate::settling::fill;
-use crate::turns::Turns;
 use hs_choices::Known;
 use hs_flow::Dependents;
 use hs_reads::Reads;
 use hs_scheme::{OutOfMemory, Problem};
 use hs_table::Entry;
-use hs_types::{Interner, Row};
-use hs_verdict::is_sorted_problem;
+use hs_types::Interner;
+use hs_verdict::know_sorted_problem;
 use std::alloc::Global;
 
 /// All entries that were added, in their order.
@@ -31,27 +31,15 @@ fn added(types: &Known, growing: &Growing) -> Result<Vec<Entry>, OutOfMemory>
     Ok(all)
 }
 
-/// Whether the row is one of these.
-fn has_row(rows: &[Row], row: &Row) -> bool
-    ensures { IsTrue result ↔ Contains rows.now row.now }
-{
-    for own in rows {
-        if own == row {
-            return true;
-        }
-    }
-    false
-}
-
 /// The entries that are kept, in the order in which they were added.
 fn kept(types: &Known, growing: &Growing) -> Result<Vec<Entry>, OutOfMemory>
     requires { IsGrowing types.now growing.now }
     ensures { IfOk result (λ kept. AreKept types.now growing.now growing.now.history kept.items) }
 {
-    is_sorted_problem(growing.problem());
+    know_sorted_problem(growing.problem());
     let mut kept = Vec::new(growing.alloc);
     for row in growing.history() {
-        if !has_row(growing.rows_at(row.point), row) {
+        if !has_row(growing.alike(types.interner(), row), row) {
             continue;
         }
         kept.push(types.interner().tree(growing.alloc, *row)?)?;
@@ -66,7 +54,7 @@ fn table(types: &Known, growing: &Growing) -> Result<Vec<Entry>, OutOfMemory>
     requires room { length growing.now.history ≤ growing.now.budget }
     ensures { IfOk result (λ table. IsTable growing.now.problem growing.now.budget table.items) }
 {
-    is_sorted_problem(growing.problem());
+    know_sorted_problem(growing.problem());
     let mut table = kept(types, growing)?;
     table.sort_by(|a, b| a.compare(b))?;
     Ok(table)
@@ -78,7 +66,6 @@ fn answer(
     growing: &mut Growing,
     reads: &Reads,
     dependents: &Dependents,
-    turns: &mut Turns,
 ) -> Result<Compact, OutOfMemory>
     requires dependents { HasDependents growing.old.problem.points growing.old.problem.flow.pairs
         dependents.now }
@@ -86,7 +73,7 @@ fn answer(
     requires reads { AreAllPairs growing.old.problem reads.now }
     ensures { IfOk result (IsCompactAnswer growing.old.problem growing.old.budget) }
 {
-    fill(types, growing, reads, dependents, turns)?;
+    fill(types, growing, reads, dependents)?;
     if growing.is_full() {
         Ok(Compact::Over(added(types, growing)?))
     } else {
@@ -114,10 +101,9 @@ pub fn compact(alloc: Global, problem: &Problem, budget: u32) -> Result<Compact,
 {
     let dependents = Dependents::of(alloc, problem)?;
     let reads = Reads::all(alloc, problem)?;
-    let mut turns = Turns::new(alloc, problem.points.count() as usize)?;
     let mut growing = Growing::new(alloc, problem, budget)?;
     let mut types = Known::new(alloc, Interner::new(alloc));
-    let answer = answer(&mut types, &mut growing, &reads, &dependents, &mut turns);
+    let answer = answer(&mut types, &mut growing, &reads, &dependents);
     drop(types);
     drop(growing);
     drop(reads);

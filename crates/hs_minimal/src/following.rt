@@ -2,14 +2,14 @@
 
 ghost use Rattle.std.specs.Prelude.{◌≡◌, ◌<◌, ◌++◌, ℕ, List, Some, All, Contains, IfOk, OnOk, length, map, slice_get};
 ghost use Rattle.std.specs.List.Sorted.{IsNonDecreasingBy};
-ghost use Rattle.hs_scheme.specs.Points.{PointData, point_at};
+ghost use Rattle.hs_scheme.specs.flow.Points.{PointData, point_at};
 ghost use Rattle.hs_table.specs.Entries.{EntryData, InShape};
 ghost use Rattle.hs_types.specs.Interned.{InternerData, RowData, IsRow, type_of_id, entry_of, Grows};
 ghost use Rattle.hs_choices.specs.Numbered.{AreTableRows};
 ghost use Rattle.hs_heads.specs.HeadTypes.{HeadTypeData, sets_of, IsHeadTypeAt, AreHeadTypes};
 ghost use Rattle.hs_reads.specs.Own.{AreAllPairs};
-ghost use Rattle.hs_minimal.specs.Growing.{IsGrowing};
-ghost use Rattle.hs_minimal.specs.Following.{row_with, IsSplitAtArgs, AddsFollowing, AddsFollowingAll, AreLeastFollowing};
+ghost use Rattle.hs_minimal.specs.Growing.{IsGrowing, AreAdded};
+ghost use Rattle.hs_minimal.specs.Following.{row_with, IsSplitAtArgs, AddsFollowing, AddsFollowingAll, AreFollowingFrom, AreLeastFollowing};
 
 use crate::dropping::NoneDropped;
 use crate::gathering::{args_at, gathered};
@@ -19,7 +19,7 @@ use hs_heads::{HeadType, head_types};
 use hs_reads::Reads;
 use hs_scheme::{OutOfMemory, Problem};
 use hs_types::{EnvId, Row, TyId};
-use hs_verdict::is_sorted_problem;
+use hs_verdict::know_sorted_problem;
 use std::alloc::Global;
 
 /// Adds an entry at the point with this type for each of the environments.
@@ -61,7 +61,7 @@ fn add_following(
         (type_of_id types.old head.now.ty) found.old.items found.new.items) }
     ensures grows { Grows types.old types.new }
 {
-    is_sorted_problem(problem);
+    know_sorted_problem(problem);
     rows_of_arguments_are_of_one_rule();
     let args = args_at(problem, point);
     let slots = slots_for(alloc, types, rows, args, head.sets.as_slice())?;
@@ -106,9 +106,32 @@ fn following_by(
     Ok(found)
 }
 
-/// What weakly follows at the point from the entries that are kept: for each type of its head the entries
-/// with the least unions of what may be chosen for the type's sets. Each other that weakly follows is
-/// covered by one of these.
+/// What weakly follows at the point from these of the entries that were added, which are in the order of
+/// their points: for each type of its head the entries with the least unions of what may be chosen for the
+/// type's sets. Each other that weakly follows is covered by one of these.
+pub(crate) fn following_from(
+    types: &mut Known,
+    growing: &Growing,
+    reads: &Reads,
+    point: u32,
+    rows: &[Row],
+) -> Result<Vec<Row>, OutOfMemory>
+    requires point { point < length growing.now.problem.points.points }
+    requires growing { IsGrowing types.old growing.now }
+    requires reads { AreAllPairs growing.now.problem reads.now }
+    requires rows { AreAdded growing.now rows.now }
+    requires order { IsNonDecreasingBy (λ (r : RowData). r.point) rows.now }
+    ensures found { IfOk result (λ found. AreFollowingFrom types.old types.new growing.now point rows.now
+        found.items) }
+    ensures grows { OnOk result (Grows types.old types.new) }
+{
+    let problem = growing.problem();
+    know_sorted_problem(problem);
+    let heads = head_types(growing.alloc, types, problem, reads, rows, point)?;
+    following_by(growing.alloc, problem, types, rows, point, heads.as_slice())
+}
+
+/// What weakly follows at the point from the entries that are kept.
 pub(crate) fn following(
     types: &mut Known,
     growing: &Growing,
@@ -121,16 +144,6 @@ pub(crate) fn following(
     ensures found { IfOk result (λ found. AreLeastFollowing types.new growing.now point found.items) }
     ensures grows { OnOk result (Grows types.old types.new) }
 {
-    let problem = growing.problem();
-    is_sorted_problem(problem);
     let rows = gathered(growing, point)?;
-    let heads = head_types(growing.alloc, types, problem, reads, rows.as_slice(), point)?;
-    following_by(
-        growing.alloc,
-        problem,
-        types,
-        rows.as_slice(),
-        point,
-        heads.as_slice(),
-    )
+    following_from(types, growing, reads, point, rows.as_slice())
 }

@@ -3,7 +3,7 @@
 ghost use Rattle.std.specs.Prelude.{◌≡◌, ◌⊎◌, ◌<◌, ◌&&◌, ℕ, Contains, IfOk, OnOk, filter, length, nat_eq, slice_index};
 ghost use Rattle.std.specs.List.Sorted.{IsNonDecreasingBy};
 ghost use Rattle.hs_scheme.specs.declared.flow.FlowPair.{FlowPair as AnyFlow};
-ghost use Rattle.hs_scheme.specs.Points.{NonterminalWithin, point_at};
+ghost use Rattle.hs_scheme.specs.flow.Points.{NonterminalWithin, point_at};
 ghost use Rattle.hs_types.specs.Interned.{RowData};
 ghost use Rattle.hs_reads.specs.Lists.{list_of};
 ghost use Rattle.hs_minimal.specs.Following.{IsGathered, AddsRowsOf, IsHeadSource};
@@ -11,7 +11,7 @@ ghost use Rattle.hs_minimal.specs.Following.{IsGathered, AddsRowsOf, IsHeadSourc
 use crate::growing::Growing;
 use hs_scheme::{FlowPair, Head, OutOfMemory, Problem};
 use hs_types::Row;
-use hs_verdict::is_sorted_problem;
+use hs_verdict::know_sorted_problem;
 
 /// The rule in which the point stands.
 fn rule_at(problem: &Problem, point: u32) -> u32
@@ -22,12 +22,12 @@ fn rule_at(problem: &Problem, point: u32) -> u32
 }
 
 /// The head of the point.
-fn head_at(problem: &Problem, point: u32) -> Head
+pub(crate) fn head_at(problem: &Problem, point: u32) -> Head
     requires { point < length problem.now.points.points }
     ensures head { result ≡ (point_at problem.now.points point).head }
     ensures nonterminal { NonterminalWithin (length problem.now.points.bodies) result }
 {
-    is_sorted_problem(problem);
+    know_sorted_problem(problem);
     problem.points.head_of(point)
 }
 
@@ -56,7 +56,11 @@ fn flow_of(problem: &Problem, rule: u32, parameter: u32) -> &[FlowPair]
 }
 
 /// Adds the entries at the point.
-fn add_rows(growing: &Growing, point: u32, rows: &mut Vec<Row>) -> Result<(), OutOfMemory>
+pub(crate) fn add_rows(
+    growing: &Growing,
+    point: u32,
+    rows: &mut Vec<Row>,
+) -> Result<(), OutOfMemory>
     ensures { OnOk result (AddsRowsOf growing.now (λ u. u ≡ point) rows.old.items rows.new.items) }
 {
     rows.extend_from_slice(growing.rows_at(point))?;
@@ -85,7 +89,11 @@ fn add_args(growing: &Growing, args: &[u32], rows: &mut Vec<Row>) -> Result<(), 
 }
 
 /// Adds the entries that say something of the head of the point.
-fn add_head(growing: &Growing, point: u32, rows: &mut Vec<Row>) -> Result<(), OutOfMemory>
+pub(crate) fn add_head(
+    growing: &Growing,
+    point: u32,
+    rows: &mut Vec<Row>,
+) -> Result<(), OutOfMemory>
     requires { point < length growing.now.problem.points.points }
     ensures { OnOk result (AddsRowsOf growing.now (IsHeadSource growing.now.problem
         (point_at growing.now.problem.points point).rule

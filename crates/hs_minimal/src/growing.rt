@@ -1,23 +1,28 @@
 //! A table that grows by strong entries.
 
 ghost use Rattle.std.specs.Prelude.{◌≡◌, ◌∷◌, ◌++◌, ◌<◌, ◌≤◌, ◌↔◌, [], IfOk, IsTrue, OnOk, Some, length, slice_get};
+ghost use Rattle.std.specs.List.Sorted.{IsNonDecreasingBy};
 ghost use Rattle.hs_weak.specs.Strength.{AsStrongAs};
 ghost use Rattle.hs_weak.specs.Weak.{WeaklyFollows};
-ghost use Rattle.hs_types.specs.Interned.{InternerData, IsRow, entry_of};
+ghost use Rattle.hs_weak.specs.Reads.{last_state};
+ghost use Rattle.hs_types.specs.Interned.{InternerData, RowData, IsRow, entry_of, type_of_id};
 ghost use Rattle.hs_reads.specs.Lists.{list_of};
-ghost use Rattle.hs_minimal.specs.Growing.{entries, IsGrowing, IsCoveredAt};
+ghost use Rattle.hs_minimal.specs.Ends.{rows_ending};
+ghost use Rattle.hs_minimal.specs.Growing.{entries, IsGrowing, IsCoveredAt, AreAdded, IsLeftBy};
 
-use crate::covered::{is_covered, not_covered_by};
+use crate::covered::{covers_some, end_of, has_row, is_covered, not_covered_by};
+use crate::ends::EndRows;
 use crate::rows::PointRows;
 use hs_choices::Known;
 use hs_scheme::{OutOfMemory, Problem};
-use hs_types::Row;
-use hs_verdict::is_sorted_problem;
+use hs_types::{Interner, Row};
+use hs_verdict::know_sorted_problem;
 use std::alloc::Global;
 use std::marker::Model;
 
 /// The entries that were added, in their order, and those of them that nothing covers that came later, by
-/// point. Contracts see these, the problem and the budget.
+/// point, and by point and the state at the end of their type: an entry covers only such as have the same
+/// one. Contracts see these, the problem and the budget.
 #[derive(Drop)]
 pub(crate) struct Growing<'a> {
     pub(crate) alloc: Global,
@@ -25,6 +30,7 @@ pub(crate) struct Growing<'a> {
     budget: u32,
     history: Vec<Row>,
     rows: PointRows,
+    ends: EndRows,
 }
 
 impl<'a> Model for Growing<'a> {
@@ -39,6 +45,7 @@ impl<'a> Model for Growing<'a> {
       budget = a.budget;
       history = a.history.items;
       rows = a.rows;
+      ends = a.ends;
     } };
 }
 
@@ -60,6 +67,7 @@ impl<'a> Growing<'a> {
             budget,
             history: Vec::new(alloc),
             rows,
+            ends: EndRows::new(alloc),
         })
     }
 
@@ -78,11 +86,25 @@ impl<'a> Growing<'a> {
     }
 
     /// The entry at this place of those that were added, counted from 0.
-    pub(crate) fn row(&self, place: usize) -> Row
+    fn row(&self, place: usize) -> Row
         requires { place < length self.now.history }
         ensures { slice_get self.now.history place ≡ Some result }
     {
         self.history[place]
+    }
+
+    /// Those from this place on, counted from 0, in the order of their points.
+    pub(crate) fn rows_from(&self, place: usize) -> Result<Vec<Row>, OutOfMemory>
+        requires { place ≤ length self.now.history }
+        ensures added { IfOk result (λ rows. AreAdded self.now rows.items) }
+        ensures order { IfOk result (λ rows. IsNonDecreasingBy (λ (r : RowData). r.point) rows.items) }
+    {
+        let mut rows = Vec::new(self.alloc);
+        for own in place..self.history.len() {
+            rows.push(self.row(own))?;
+        }
+        rows.sort_unstable_by_key(|row| row.point);
+        Ok(rows)
     }
 
     /// All that were added.
@@ -106,6 +128,15 @@ impl<'a> Growing<'a> {
         self.history.len() > self.budget as usize
     }
 
+    /// Those that are kept at the point of this entry with the same state at the end of their type.
+    pub(crate) fn alike(&self, types: &Interner, row: &Row) -> &[Row]
+        requires { IsRow types.now row.now }
+        ensures { result.now ≡ rows_ending self.now.ends row.now.point
+            (last_state (type_of_id types.now row.now.ty)) }
+    {
+        self.ends.at(row.point, end_of(types, row.ty))
+    }
+
     /// Whether an entry that is kept covers this one.
     pub(crate) fn covers(&self, types: &mut Known, row: &Row) -> Result<bool, OutOfMemory>
         requires growing { IsGrowing types.old self.now }
@@ -114,7 +145,32 @@ impl<'a> Growing<'a> {
             ↔ IsCoveredAt types.old self.now (entry_of types.old row.now)) }
         ensures same { types.new ≡ types.old }
     {
-        is_covered(types, self.rows_at(row.point), row)
+        let kept = self.alike(types.interner(), row);
+        if has_row(kept, row) {
+            return Ok(true);
+        }
+        is_covered(types, kept, row)
+    }
+
+    /// Lets those of the kept entries go that this one covers.
+    fn let_covered_go(&mut self, types: &mut Known, row: &Row) -> Result<(), OutOfMemory>
+        requires growing { IsGrowing types.old self.old }
+        requires row { IsRow types.old row.now }
+        requires point { row.now.point < length self.old.rows }
+        ensures left { OnOk result (IsLeftBy types.old row.now self.old self.new) }
+        ensures problem { self.new.problem ≡ self.old.problem }
+        ensures budget { self.new.budget ≡ self.old.budget }
+        ensures same { types.new ≡ types.old }
+    {
+        let kept = self.alike(types.interner(), row);
+        if !covers_some(types, kept, row)? {
+            return Ok(());
+        }
+        let ends = not_covered_by(self.alloc, types, kept, row)?;
+        let rows = not_covered_by(self.alloc, types, self.rows.at(row.point), row)?;
+        self.rows.replace(row.point, rows);
+        let end = end_of(types.interner(), row.ty);
+        self.ends.replace(row.point, end, ends)
     }
 
     /// Adds an entry that weakly follows and that no other covers. Those that it covers aren't kept.
@@ -131,11 +187,12 @@ impl<'a> Growing<'a> {
         ensures budget { self.new.budget ≡ self.old.budget }
         ensures history { OnOk result (self.new.history ≡ self.old.history ++ row ∷ []) }
     {
-        is_sorted_problem(self.problem);
-        let mut rows = not_covered_by(self.alloc, types, self.rows.at(row.point), &row)?;
-        rows.push(row)?;
+        know_sorted_problem(self.problem);
+        self.let_covered_go(types, &row)?;
+        self.rows.push(row.point, row)?;
+        let end = end_of(types.interner(), row.ty);
+        self.ends.push(self.alloc, row.point, end, row)?;
         self.history.push(row)?;
-        self.rows.replace(row.point, rows);
         Ok(())
     }
 }

@@ -6,15 +6,18 @@
 #![tactic(auto)]
 
 mod answer;
+mod children;
 mod compacting;
 mod covered;
 mod dropping;
+mod ends;
 mod following;
 mod gathering;
 mod growing;
 mod rows;
+mod selecting;
 mod settling;
-mod turns;
+mod spreading;
 
 pub use answer::Compact;
 pub use compacting::compact;

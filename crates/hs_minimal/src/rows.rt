@@ -1,7 +1,7 @@
 //! Rows by their points.
 
-ghost use Rattle.std.specs.Prelude.{◌≡◌, ◌<◌, [], ℕ, length, cond, nat_eq, IfOk};
-ghost use Rattle.hs_reads.specs.Lists.{list_of};
+ghost use Rattle.std.specs.Prelude.{◌≡◌, ◌<◌, [], ℕ, length, cond, nat_eq, IfOk, OnOk};
+ghost use Rattle.hs_reads.specs.Lists.{list_of, IsPushed};
 
 use hs_scheme::OutOfMemory;
 use hs_types::Row;
@@ -54,5 +54,15 @@ impl PointRows {
             (list_of self.old u) }
     {
         self.points[point as usize] = rows;
+    }
+
+    /// Adds a row at the point.
+    pub(crate) fn push(&mut self, point: u32, row: Row) -> Result<(), OutOfMemory>
+        requires { point < length self.old }
+        ensures { OnOk result (IsPushed point row self.old self.new) }
+    {
+        let rows = &mut self.points[point as usize];
+        rows.push(row)?;
+        Ok(())
     }
 }

@@ -10,7 +10,7 @@ ghost use Rattle.hs_minimal.specs.Following.{IsFollowing};
 
 use crate::following::following;
 use crate::growing::Growing;
-use crate::turns::Turns;
+use crate::spreading::spread;
 use hs_choices::Known;
 use hs_flow::Dependents;
 use hs_reads::Reads;
@@ -19,7 +19,11 @@ use hs_types::Row;
 
 /// Adds those of the entries, which weakly follow, that aren't covered, one after another, up to one more
 /// than are allowed.
-fn add_rows(types: &mut Known, growing: &mut Growing, rows: &[Row]) -> Result<(), OutOfMemory>
+pub(crate) fn add_rows(
+    types: &mut Known,
+    growing: &mut Growing,
+    rows: &[Row],
+) -> Result<(), OutOfMemory>
     requires growing { IsGrowing types.old growing.old }
     requires rows { (r : RowData) → Contains rows.now r → IsFollowing growing.old.problem
         (entries types.old growing.old.history) r.point types.old r }
@@ -66,12 +70,7 @@ fn settle(
 }
 
 /// Settles each point once, in their order.
-fn settle_each(
-    types: &mut Known,
-    growing: &mut Growing,
-    reads: &Reads,
-    turns: &mut Turns,
-) -> Result<(), OutOfMemory>
+fn settle_each(types: &mut Known, growing: &mut Growing, reads: &Reads) -> Result<(), OutOfMemory>
     requires growing { IsGrowing types.old growing.old }
     requires reads { AreAllPairs growing.old.problem reads.now }
     ensures growing { OnOk result (IsGrowing types.new growing.new) }
@@ -80,60 +79,7 @@ fn settle_each(
         (CoversAll types.new growing.new)) }
 {
     for point in 0..growing.problem().points.count() {
-        turns.note(point, growing.len());
         settle(types, growing, reads, point)?;
-    }
-    Ok(())
-}
-
-/// Settles those of the points, which depend on the point of the entry at this place, that weren't looked
-/// at since it was added.
-fn settle_dependents(
-    types: &mut Known,
-    growing: &mut Growing,
-    reads: &Reads,
-    turns: &mut Turns,
-    points: &[u32],
-    place: usize,
-) -> Result<(), OutOfMemory>
-    requires points { (u : ℕ) → Contains points.now u → u < length growing.old.problem.points.points }
-    requires growing { IsGrowing types.old growing.old }
-    requires reads { AreAllPairs growing.old.problem reads.now }
-    ensures growing { OnOk result (IsGrowing types.new growing.new) }
-    ensures grown { OnOk result (IsGrownFrom types.old types.new growing.old growing.new) }
-{
-    for point in points {
-        if turns.has_seen(*point, place) {
-            continue;
-        }
-        turns.note(*point, growing.len());
-        settle(types, growing, reads, *point)?;
-    }
-    Ok(())
-}
-
-/// Settles what depends on the entries from this place on, and on those that are added thereby, until
-/// there are no more, or more than are allowed.
-fn spread(
-    types: &mut Known,
-    growing: &mut Growing,
-    reads: &Reads,
-    dependents: &Dependents,
-    turns: &mut Turns,
-    from: usize,
-) -> Result<(), OutOfMemory>
-    requires dependents { HasDependents growing.old.problem.points growing.old.problem.flow.pairs
-        dependents.now }
-    requires growing { IsGrowing types.old growing.old }
-    requires reads { AreAllPairs growing.old.problem reads.now }
-    ensures growing { OnOk result (IsGrowing types.new growing.new) }
-    ensures grown { OnOk result (IsGrownFrom types.old types.new growing.old growing.new) }
-{
-    let mut place = from;
-    while place < growing.len() && !growing.is_full() {
-        let points = dependents.list(growing.row(place).point);
-        settle_dependents(types, growing, reads, turns, points, place)?;
-        place += 1;
     }
     Ok(())
 }
@@ -141,14 +87,13 @@ fn spread(
 /// Adds what weakly follows and isn't covered, until nothing is left or there are more entries than are
 /// allowed.
 ///
-/// Each point is settled once, and then whenever a point on which it depends has got an entry. A last
-/// look at each shows that nothing is left.
+/// Each point is settled once, and then from each entry that came what follows with it at the points that
+/// depend on it. A last look at each point shows that nothing is left.
 pub(crate) fn fill(
     types: &mut Known,
     growing: &mut Growing,
     reads: &Reads,
     dependents: &Dependents,
-    turns: &mut Turns,
 ) -> Result<(), OutOfMemory>
     requires dependents { HasDependents growing.old.problem.points growing.old.problem.flow.pairs
         dependents.now }
@@ -161,11 +106,11 @@ pub(crate) fn fill(
 {
     while !growing.is_full() {
         let before = growing.len();
-        settle_each(types, growing, reads, turns)?;
+        settle_each(types, growing, reads)?;
         if growing.len() == before {
             return Ok(());
         }
-        spread(types, growing, reads, dependents, turns, before)?;
+        spread(types, growing, reads, dependents, before)?;
     }
     Ok(())
 }

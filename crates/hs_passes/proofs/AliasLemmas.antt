@@ -10,14 +10,14 @@ use Rattle.hs_scheme.specs.declared.term.Head.{Head}
 use Rattle.hs_scheme.specs.declared.term.Head.TheVariants.{Var, Nt, Tm}
 use Rattle.hs_scheme.specs.declared.term.Rule.{Rule}
 use Rattle.hs_scheme.specs.Tree.{Tree, Trees, node, none, more, join, children, forest, forest-children, forest-append}
-use Rattle.hs_scheme.specs.Replacement.{subst, applied}
-use Rattle.hs_scheme.specs.Cut.{body_of, unfolded}
-use Rattle.hs_scheme.specs.Run.{start}
-use Rattle.hs_scheme.specs.Steps.{Fails}
-use Rattle.hs_scheme.specs.Lengthening.{parameters}
+use Rattle.hs_scheme.specs.acceptance.Replacement.{subst, applied}
+use Rattle.hs_scheme.specs.acceptance.Cut.{body_of, unfolded}
+use Rattle.hs_scheme.specs.acceptance.Run.{start}
+use Rattle.hs_scheme.specs.acceptance.Steps.{Fails}
+use Rattle.hs_scheme.specs.sorting.Lengthening.{parameters}
 use Rattle.hs_scheme.specs.Scheme.{IsScheme, AreRules}
-use Rattle.hs_scheme.specs.Sorting.{SortTree, arrow, arrows, behind, arguments, heads, HasSort, Applied}
-use Rattle.hs_scheme.specs.Sorted.{SortedData, IsSorted, sort_at, sorts_of}
+use Rattle.hs_scheme.specs.sorting.Sorting.{SortTree, arrow, arrows, behind, arguments, heads, HasSort, Applied}
+use Rattle.hs_scheme.specs.sorting.Sorted.{SortedData, IsSorted, sort_at, sorts_of}
 use Rattle.hs_scheme.specs.SameTree.{HaveSameTree}
 use Rattle.hs_scheme.proofs.Lists.{not_equal}
 use Rattle.hs_steps.proofs.Terms.{substs-parameters, unfolding_of, unfolds}

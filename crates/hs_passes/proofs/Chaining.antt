@@ -5,7 +5,7 @@ use Rattle.std.proofs.Math.ListN.{set}
 use Rattle.std.proofs.Math.Seq.{drop-cons, take-suc, set-append_seam, get_or-append_seam}
 use Rattle.std.proofs.lemmas.List.{take-map, drop-map, map-append, length-map, take_all, drop_all, take-append-drop}
 use Rattle.std.proofs.lemmas.List.Sums.{sum_by-append}
-use Rattle.hs_scheme.specs.Sorted.{SortedData}
+use Rattle.hs_scheme.specs.sorting.Sorted.{SortedData}
 use Rattle.hs_scheme.specs.SameTree.{HaveSameTree}
 use Rattle.hs_passes.specs.Weight.{weight}
 use Rattle.hs_passes.specs.Passing.{KeepsRest, Image, composed, raised, RaisedUpTo}

@@ -5,7 +5,7 @@ use Rattle.std.proofs.lemmas.Bool.{or_left, or_right, eq-eqb, eqb-true, or_cases
 use Rattle.std.proofs.lemmas.Option.{same_Some}
 use Rattle.hs_scheme.specs.declared.term.Rule.{Rule}
 use Rattle.hs_scheme.specs.Scheme.{IsScheme}
-use Rattle.hs_scheme.specs.Sorted.{SortedData, IsSorted}
+use Rattle.hs_scheme.specs.sorting.Sorted.{SortedData, IsSorted}
 use Rattle.hs_scheme.specs.SameTree.{HaveSameTree}
 use Rattle.hs_passes.specs.Passing.{KeepsRest}
 use Rattle.hs_passes.specs.Weight.{weight}

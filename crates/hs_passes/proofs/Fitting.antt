@@ -5,7 +5,7 @@ use Rattle.std.proofs.lemmas.Option.{slice_get-map, slice_get-get_or}
 use Rattle.hs_scheme.specs.declared.term.Head.{Head}
 use Rattle.hs_scheme.specs.declared.term.Head.TheVariants.{Var, Nt, Tm}
 use Rattle.hs_scheme.specs.Tree.{Tree, Trees, node, none, more, join, children}
-use Rattle.hs_scheme.specs.Replacement.{subst, substs, replaced, applied}
+use Rattle.hs_scheme.specs.acceptance.Replacement.{subst, substs, replaced, applied}
 use Rattle.hs_scheme.specs.Scheme.{TermInRange, TermsInRange}
 use Rattle.hs_passes.specs.Selection.{place, chosen}
 use Rattle.hs_passes.specs.Leaving.{Keep, keeps, chosen_trees, head_left, term_left, terms_left}

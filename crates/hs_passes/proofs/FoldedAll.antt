@@ -8,7 +8,7 @@ use Rattle.hs_scheme.specs.declared.term.Head.{Head}
 use Rattle.hs_scheme.specs.declared.term.Head.TheVariants.{Var, Nt, Tm}
 use Rattle.hs_scheme.specs.declared.term.Rule.{Rule}
 use Rattle.hs_scheme.specs.Tree.{Tree, Trees, node, none, more}
-use Rattle.hs_scheme.specs.Sorted.{SortedData}
+use Rattle.hs_scheme.specs.sorting.Sorted.{SortedData}
 use Rattle.hs_scheme.proofs.Lists.{not_equal}
 use Rattle.hs_passes.specs.Selection.{place, renamed_head, renamed, renamed_all, renamed_rule, selected}
 use Rattle.hs_passes.specs.Aliases.{alias_target, first_alias, without_alias, folded_by, folded, without_aliases}

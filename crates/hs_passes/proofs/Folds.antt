@@ -6,7 +6,7 @@ use Rattle.std.proofs.lemmas.Option.{slice_get_within}
 use Rattle.std.proofs.lemmas.List.{length-map}
 use Rattle.hs_scheme.specs.declared.term.Rule.{Rule}
 use Rattle.hs_scheme.specs.Scheme.{IsScheme}
-use Rattle.hs_scheme.specs.Sorted.{SortedData, IsSorted, sort_at}
+use Rattle.hs_scheme.specs.sorting.Sorted.{SortedData, IsSorted, sort_at}
 use Rattle.hs_scheme.specs.SameTree.{HaveSameTree}
 use Rattle.hs_passes.specs.Weight.{weight}
 use Rattle.hs_passes.specs.Passing.{KeepsRest}

@@ -9,7 +9,7 @@ use Rattle.hs_scheme.specs.declared.term.Head.{Head}
 use Rattle.hs_scheme.specs.declared.term.Head.TheVariants.{Var, Nt, Tm}
 use Rattle.hs_scheme.specs.declared.term.Rule.{Rule}
 use Rattle.hs_scheme.specs.Tree.{Tree, node, forest}
-use Rattle.hs_scheme.specs.Parameters.{counts_of, IsParameter, parameter_of}
+use Rattle.hs_scheme.specs.sorting.Parameters.{counts_of, IsParameter, parameter_of}
 use Rattle.hs_scheme.proofs.ParameterLemmas.{number_within}
 use Rattle.hs_passes.specs.Leaving.{Keep, keeps}
 use Rattle.hs_passes.specs.Unused.{needs_at}

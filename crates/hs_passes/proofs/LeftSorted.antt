@@ -8,8 +8,8 @@ use Rattle.hs_scheme.specs.declared.term.Head.TheVariants.{Var, Nt, Tm}
 use Rattle.hs_scheme.specs.declared.term.Rule.{Rule}
 use Rattle.hs_scheme.specs.Tree.{Tree, Trees, node, none, more, children}
 use Rattle.hs_scheme.specs.Scheme.{IsScheme, HeadInRange, TermInRange, TermsInRange}
-use Rattle.hs_scheme.specs.Sorting.{SortTree, o, arrow, arrows, behind, without, arguments, Sorts, heads, HasSort, Applied, IsSorting}
-use Rattle.hs_scheme.specs.Sorted.{SortedData, IsSorted, sort_at, sorts_of, known}
+use Rattle.hs_scheme.specs.sorting.Sorting.{SortTree, o, arrow, arrows, behind, without, arguments, Sorts, heads, HasSort, Applied, IsSorting}
+use Rattle.hs_scheme.specs.sorting.Sorted.{SortedData, IsSorted, sort_at, sorts_of, known}
 use Rattle.hs_passes.specs.Selection.{place, chosen}
 use Rattle.hs_passes.specs.Weight.{params_of, weight}
 use Rattle.hs_passes.specs.Leaving.{Keep, keeps, chosen_trees, head_left, term_left, terms_left, rule_left, sort_left, by_number, with_parameters}

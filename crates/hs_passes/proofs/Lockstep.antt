@@ -5,19 +5,19 @@ use Rattle.std.proofs.lemmas.List.{length-map}
 use Rattle.hs_scheme.specs.declared.term.Head.{Head}
 use Rattle.hs_scheme.specs.declared.term.Head.TheVariants.{Var, Nt, Tm}
 use Rattle.hs_scheme.specs.declared.term.Rule.{Rule}
-use Rattle.hs_scheme.specs.Transition.{TransitionData}
+use Rattle.hs_scheme.specs.acceptance.Transition.{TransitionData}
 use Rattle.hs_scheme.specs.Tree.{Tree, Trees, node, children}
-use Rattle.hs_scheme.specs.Replacement.{subst as replacing}
-use Rattle.hs_scheme.specs.Cut.{body_with, unfolded}
-use Rattle.hs_scheme.specs.Run.{start}
+use Rattle.hs_scheme.specs.acceptance.Replacement.{subst as replacing}
+use Rattle.hs_scheme.specs.acceptance.Cut.{body_with, unfolded}
+use Rattle.hs_scheme.specs.acceptance.Run.{start}
 use Rattle.hs_scheme.specs.Scheme.{IsScheme, TermInRange}
-use Rattle.hs_scheme.specs.Sorting.{Sorts}
-use Rattle.hs_scheme.specs.Sorted.{SortedData, IsSorted, sorts_of, known}
+use Rattle.hs_scheme.specs.sorting.Sorting.{Sorts}
+use Rattle.hs_scheme.specs.sorting.Sorted.{SortedData, IsSorted, sorts_of, known}
 use Rattle.hs_scheme.specs.SameTree.{HaveSameTree}
-use Rattle.hs_scheme.specs.Steps.{Path, StepsTo, IsChild, HasNoTransition, Fails}
+use Rattle.hs_scheme.specs.acceptance.Steps.{Path, StepsTo, IsChild, HasNoTransition, Fails}
 use Rattle.hs_scheme.specs.TreeTerms.{IsTreeTerm, AreSortedBy}
 use Rattle.hs_scheme.specs.TreeTerms.{ground as ground_sorts}
-use Rattle.hs_scheme.specs.Unsorted.{AgreesWithRanks}
+use Rattle.hs_scheme.specs.sorting.Unsorted.{AgreesWithRanks}
 use Rattle.hs_steps.proofs.Terms.{unfolds_full}
 use Rattle.hs_steps.proofs.Sorted.{count, body_in_range, start_sorted, step_sorted}
 use Rattle.hs_passes.specs.Selection.{place, chosen}

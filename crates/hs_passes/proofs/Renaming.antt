@@ -8,10 +8,10 @@ use Rattle.hs_scheme.specs.declared.term.Head.{Head}
 use Rattle.hs_scheme.specs.declared.term.Head.TheVariants.{Var, Nt, Tm}
 use Rattle.hs_scheme.specs.declared.term.Rule.{Rule}
 use Rattle.hs_scheme.specs.Tree.{Tree, Trees, node, none, more, join, children, forest}
-use Rattle.hs_scheme.specs.Replacement.{subst, substs, replaced, applied}
-use Rattle.hs_scheme.specs.Cut.{body_of, body_with}
+use Rattle.hs_scheme.specs.acceptance.Replacement.{subst, substs, replaced, applied}
+use Rattle.hs_scheme.specs.acceptance.Cut.{body_of, body_with}
 use Rattle.hs_scheme.specs.Scheme.{HeadInRange, TermInRange, TermsInRange}
-use Rattle.hs_scheme.specs.Sorting.{SortTree, HasSort, Applied}
+use Rattle.hs_scheme.specs.sorting.Sorting.{SortTree, HasSort, Applied}
 use Rattle.hs_passes.specs.Occurrences.{is_nonterminal, mentions, mentioned_in}
 use Rattle.hs_passes.specs.Selection.{renamed_head, renamed, renamed_all, renamed_rule}
 

@@ -4,8 +4,8 @@ use Rattle.std.proofs.lemmas.Option.{slice_get-map, slice_get_within, slice_get_
 use Rattle.std.proofs.lemmas.List.{length-map}
 use Rattle.hs_scheme.specs.declared.term.Rule.{Rule}
 use Rattle.hs_scheme.specs.Scheme.{IsScheme, TermInRange}
-use Rattle.hs_scheme.specs.Sorting.{SortTree, o, arrows, behind, arguments, Sorts, heads, HasSort, IsSorting}
-use Rattle.hs_scheme.specs.Sorted.{SortedData, IsSorted, sort_at, sorts_of, known}
+use Rattle.hs_scheme.specs.sorting.Sorting.{SortTree, o, arrows, behind, arguments, Sorts, heads, HasSort, IsSorting}
+use Rattle.hs_scheme.specs.sorting.Sorted.{SortedData, IsSorted, sort_at, sorts_of, known}
 use Rattle.hs_passes.specs.Selection.{place, chosen, renamed, renamed_rule, selected, IsSelection}
 use Rattle.hs_passes.proofs.Choosing.{length-chosen, map-chosen, place-le, place-lt, chosen-at, origin}
 use Rattle.hs_passes.proofs.Renaming.{NamesIn, of_mentions, renamed_sort, renamed_in_range}

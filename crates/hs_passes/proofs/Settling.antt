@@ -5,7 +5,7 @@ use Rattle.std.proofs.lemmas.Bool.{and_from, lt-ltb, ltb-true, cases_lt, and_par
 use Rattle.std.proofs.lemmas.Option.{slice_get_cases}
 use Rattle.std.proofs.lemmas.List.{get_or-map, get_or_past, get_or-replicate, length-map}
 use Rattle.std.proofs.Math.Nat.{eq-or-lt_of_le}
-use Rattle.hs_scheme.specs.Parameters.{counts_of, IsParameter, parameter_of}
+use Rattle.hs_scheme.specs.sorting.Parameters.{counts_of, IsParameter, parameter_of}
 use Rattle.hs_scheme.proofs.ParameterLemmas.{sum_few, there, number_within}
 use Rattle.hs_scheme.specs.Scheme.{AreRules}
 use Rattle.hs_scheme.specs.declared.term.Rule.{Rule}

@@ -4,10 +4,10 @@ use Rattle.std.proofs.lemmas.Option.{slice_get-map, same_Some}
 use Rattle.hs_scheme.specs.declared.term.Head.{Head}
 use Rattle.hs_scheme.specs.declared.term.Head.TheVariants.{Var, Nt, Tm}
 use Rattle.hs_scheme.specs.declared.term.Rule.{Rule}
-use Rattle.hs_scheme.specs.Transition.{TransitionData}
+use Rattle.hs_scheme.specs.acceptance.Transition.{TransitionData}
 use Rattle.hs_scheme.specs.Tree.{Tree, Trees, node, children}
-use Rattle.hs_scheme.specs.Cut.{body_with, unfolded}
-use Rattle.hs_scheme.specs.Steps.{Path, IsChild, HasNoTransition, Fails}
+use Rattle.hs_scheme.specs.acceptance.Cut.{body_with, unfolded}
+use Rattle.hs_scheme.specs.acceptance.Steps.{Path, IsChild, HasNoTransition, Fails}
 use Rattle.hs_steps.proofs.Terms.{unfolding_of}
 use Rattle.hs_passes.specs.Selection.{renamed, renamed_all, renamed_rule}
 use Rattle.hs_passes.proofs.Renaming.{NamesIn, NamesAllIn, names-body, names-children, names-at, children-renamed, renamed-body_with}

@@ -3,9 +3,9 @@ use Rattle.std.proofs.Common.{◌≡◌, refl, sym, ◌∙◌, ap, subst, ℕ, s
 use Rattle.std.proofs.lemmas.Option.{slice_get_within, slice_get_cases}
 use Rattle.hs_scheme.specs.declared.term.Rule.{Rule}
 use Rattle.hs_scheme.specs.Scheme.{IsScheme}
-use Rattle.hs_scheme.specs.Sorted.{SortedData, IsSorted}
+use Rattle.hs_scheme.specs.sorting.Sorted.{SortedData, IsSorted}
 use Rattle.hs_scheme.specs.SameTree.{HaveSameTree}
-use Rattle.hs_scheme.specs.Run.{start}
+use Rattle.hs_scheme.specs.acceptance.Run.{start}
 use Rattle.hs_passes.specs.Occurrences.{mentions}
 use Rattle.hs_passes.specs.Selection.{stays, number_in, place, chosen, renamed, renamed_rule, selected, IsSelection}
 use Rattle.hs_passes.specs.Reachable.{from_start, from_body, is_reachable, without_unreachable}

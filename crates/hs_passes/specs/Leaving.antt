@@ -11,10 +11,10 @@ use Rattle.hs_scheme.specs.declared.term.Head.{Head}
 use Rattle.hs_scheme.specs.declared.term.Head.TheVariants.{Var, Nt, Tm}
 use Rattle.hs_scheme.specs.declared.term.Rule.{Rule}
 use Rattle.hs_scheme.specs.Tree.{Tree, Trees, node, none, more}
-use Rattle.hs_scheme.specs.Sorting.{SortTree}
+use Rattle.hs_scheme.specs.sorting.Sorting.{SortTree}
 use Rattle.hs_scheme.specs.Names.{NamesData}
 use Rattle.hs_scheme.specs.Scheme.{SchemeData}
-use Rattle.hs_scheme.specs.Sorted.{SortedData}
+use Rattle.hs_scheme.specs.sorting.Sorted.{SortedData}
 use Rattle.hs_passes.specs.Selection.{place, chosen}
 
 abbrev pub Keep : Type 0

@@ -9,7 +9,7 @@ use Rattle.std.specs.Prelude.{◌≡◌, ℕ, suc, ◌<◌, Bool, true, false, �
 use Rattle.hs_scheme.specs.declared.term.Head.{Head}
 use Rattle.hs_scheme.specs.declared.term.Rule.{Rule}
 use Rattle.hs_scheme.specs.Tree.{Tree, Trees, node, none, more, children}
-use Rattle.hs_scheme.specs.Parameters.{IsParameter, parameter_of}
+use Rattle.hs_scheme.specs.sorting.Parameters.{IsParameter, parameter_of}
 use Rattle.hs_passes.specs.Leaving.{Keep, keeps}
 use Rattle.hs_passes.specs.Unused.{needs_at, of_some}
 use Rattle.hs_passes.specs.Selection.{stays}

@@ -8,7 +8,7 @@ use Rattle.hs_scheme.specs.declared.term.Head.{Head}
 use Rattle.hs_scheme.specs.declared.term.Head.TheVariants.{Var, Nt, Tm}
 use Rattle.hs_scheme.specs.declared.term.Rule.{Rule}
 use Rattle.hs_scheme.specs.Tree.{Tree, Trees}
-use Rattle.hs_scheme.specs.Parameters.{parameter_of}
+use Rattle.hs_scheme.specs.sorting.Parameters.{parameter_of}
 use Rattle.hs_passes.specs.Leaving.{Keep, keeps}
 use Rattle.hs_passes.specs.Unused.{needs_at}
 use Rattle.hs_passes.specs.Needing.{live, live_in}

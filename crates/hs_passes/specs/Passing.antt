@@ -4,7 +4,7 @@
 --     raised        the tallies after that: each has risen by the weight that its pass takes off
 --     RaisedUpTo    those before one of the passes have risen so, and the others stay
 use Rattle.std.specs.Prelude.{◌≡◌, ℕ, ◌+◌, ◌-◌, ◌<◌, List, [], ◌∷◌, ◌++◌, length, take, drop}
-use Rattle.hs_scheme.specs.Sorted.{SortedData}
+use Rattle.hs_scheme.specs.sorting.Sorted.{SortedData}
 use Rattle.hs_passes.specs.Weight.{weight}
 
 pub record KeepsRest (s t : SortedData) : Type 0 where

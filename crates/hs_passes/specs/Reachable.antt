@@ -6,7 +6,7 @@
 --     without_unreachable     the scheme without the other rules
 use Rattle.std.specs.Prelude.{◌≡◌, ℕ, zero, suc, Bool, true, false, ◌||◌, ◌&&◌, nat_eq, List, [], ◌∷◌, length, slice_get, Some}
 use Rattle.hs_scheme.specs.declared.term.Rule.{Rule}
-use Rattle.hs_scheme.specs.Sorted.{SortedData}
+use Rattle.hs_scheme.specs.sorting.Sorted.{SortedData}
 use Rattle.hs_passes.specs.Occurrences.{mentions}
 use Rattle.hs_passes.specs.Selection.{place, selected}
 

@@ -13,7 +13,7 @@ use Rattle.hs_scheme.specs.declared.term.Rule.{Rule}
 use Rattle.hs_scheme.specs.Tree.{Tree, Trees, node, none, more}
 use Rattle.hs_scheme.specs.Names.{NamesData}
 use Rattle.hs_scheme.specs.Scheme.{SchemeData}
-use Rattle.hs_scheme.specs.Sorted.{SortedData, sort_at}
+use Rattle.hs_scheme.specs.sorting.Sorted.{SortedData, sort_at}
 use Rattle.hs_passes.specs.Occurrences.{mentions}
 
 abbrev pub stays : List Bool → ℕ → Bool

@@ -1,7 +1,7 @@
 //! The pass that drops parameters that aren't used.
 
 ghost use Rattle.std.specs.Prelude.{◌≡◌, IfOk};
-ghost use Rattle.hs_scheme.specs.Parameters.{counts_of};
+ghost use Rattle.hs_scheme.specs.sorting.Parameters.{counts_of};
 ghost use Rattle.hs_passes.specs.Needing.{kept, IsGreatest};
 ghost use Rattle.hs_passes.specs.Unused as definition;
 

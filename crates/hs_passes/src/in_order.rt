@@ -1,7 +1,7 @@
 //! Whether parameters can be dropped in an order, by one look at each body.
 
 ghost use Rattle.std.specs.Prelude.{◌≡◌, ◌≤◌, length, map, sum, true, nat_le, vec_len, IfOk};
-ghost use Rattle.hs_scheme.specs.Parameters.{counts_of};
+ghost use Rattle.hs_scheme.specs.sorting.Parameters.{counts_of};
 ghost use Rattle.hs_passes.specs.Needing.{kept, IsAbove};
 ghost use Rattle.hs_passes.specs.Order as definition;
 ghost use Rattle.hs_passes.specs.Order.{never, IsHeadInOrder, IsInOrder, AllInOrder};

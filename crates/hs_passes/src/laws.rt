@@ -3,7 +3,7 @@
 ghost use Rattle.std.specs.Prelude.{◌≡◌, ◌<◌, ◌↔◌, ℕ, List, None, length, true};
 ghost use Rattle.hs_scheme.specs.declared.term.Rule.{Rule};
 ghost use Rattle.hs_scheme.specs.Scheme.{AreRules};
-ghost use Rattle.hs_scheme.specs.Sorted.{SortedData};
+ghost use Rattle.hs_scheme.specs.sorting.Sorted.{SortedData};
 ghost use Rattle.hs_passes.specs.Aliases.{first_alias, without_aliases};
 ghost use Rattle.hs_passes.specs.Reachable.{IsReachable, is_reachable};
 ghost use Rattle.hs_passes.specs.Unused.{first_unused, without_unused};

@@ -1,7 +1,7 @@
 //! Which parameters are needed by what is left of the bodies.
 
 ghost use Rattle.std.specs.Prelude.{◌≡◌, ◌≤◌, ◌<◌, ℕ, ◌&&◌, ◌||◌, false, true, nat_eq, nat_le, length, sum, replicate, vec_len, IfOk, IsTrue};
-ghost use Rattle.hs_scheme.specs.Parameters.{counts_of, IsParameter, parameter_of};
+ghost use Rattle.hs_scheme.specs.sorting.Parameters.{counts_of, IsParameter, parameter_of};
 ghost use Rattle.hs_passes.specs.Unused.{needs_at};
 ghost use Rattle.hs_passes.specs.Needing.{live, is_live, kept, GainsFlags, IsAbove, IsGreatest};
 ghost use Rattle.hs_passes.specs.Narrowing.{count_true};

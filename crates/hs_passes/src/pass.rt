@@ -1,7 +1,7 @@
 //! What a pass is.
 
 ghost use Rattle.std.specs.Prelude.{◌≡◌, ◌+◌, ◌≤◌, ◌^◌, ℕ, IfOk, OnErr};
-ghost use Rattle.hs_scheme.specs.Sorted.{SortedData};
+ghost use Rattle.hs_scheme.specs.sorting.Sorted.{SortedData};
 ghost use Rattle.hs_scheme.specs.SameTree.{HaveSameTree};
 ghost use Rattle.hs_passes.specs.Weight.{weight};
 ghost use Rattle.hs_passes.specs.Passing.{KeepsRest, Image};

@@ -3,7 +3,7 @@
 ghost use Rattle.std.specs.Prelude.{◌≡◌, ◌<◌, ◌≤◌, ℕ, [], length, map, vec_len, IfOk, OnOk};
 ghost use Rattle.hs_scheme.specs.Copying.{MakesEqual};
 ghost use Rattle.hs_scheme.specs.Scheme.{IsScheme};
-ghost use Rattle.hs_scheme.specs.Sorted.{IsSorted};
+ghost use Rattle.hs_scheme.specs.sorting.Sorted.{IsSorted};
 ghost use Rattle.hs_passes.specs.Selection as definition;
 ghost use Rattle.hs_passes.specs.Selection.{stays, number_in, place, chosen, selected, IsSelection};
 

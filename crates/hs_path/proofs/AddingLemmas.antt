@@ -5,8 +5,8 @@ use Rattle.std.proofs.lemmas.Bool.{eq-eqb, cases_order}
 use Rattle.std.proofs.lemmas.Option.{get_or_from_slice_get}
 use Rattle.hs_table.specs.Types.{TypeTree}
 use Rattle.hs_table.specs.Entries.{Env, set_at}
-use Rattle.hs_naming.specs.Evidence.{Evidence, Packs, Pack, evidence, no_packs, put, also, stacked, pack_for, packs_for}
-use Rattle.hs_naming.specs.Naming.{chosen_pack, argument_packs}
+use Rattle.hs_verdict.specs.Evidence.{Evidence, Packs, Pack, evidence, no_packs, put, also, stacked, pack_for, packs_for}
+use Rattle.hs_verdict.specs.Naming.{chosen_pack, argument_packs}
 use Rattle.hs_path.specs.declared.evidence.Node.{Node}
 use Rattle.hs_path.specs.declared.evidence.Store.{Store}
 use Rattle.hs_path.specs.Stored.{Stands, Piled, Members, IsPack, GrowsStore, KnowsCurrent, ArePremises}

@@ -1,4 +1,4 @@
 pub mod StoredLemmas
 pub mod AddingLemmas
-pub mod TurningLemmas
+pub mod MovingLemmas
 pub mod WalkingLemmas

@@ -8,8 +8,8 @@ use Rattle.hs_scheme.proofs.Lists.{at_append, slice_get-push, back_at}
 use Rattle.hs_table.specs.Types.{TypeTree, type_cmp}
 use Rattle.hs_types.specs.Interned.{InternerData, IsInterner, type_of_id, Begins}
 use Rattle.hs_types.proofs.Numbers.{same_type}
-use Rattle.hs_naming.specs.Evidence.{Evidence, Packs, Pack, evidence, no_packs, put, empty, also, no_evidence, first, pack_at, pick}
-use Rattle.hs_naming.proofs.Realizing.{equal_same, same_equal}
+use Rattle.hs_verdict.specs.Evidence.{Evidence, Packs, Pack, evidence, no_packs, put, empty, also, no_evidence, first, pack_at, pick}
+use Rattle.hs_verdict.proofs.Realizing.{equal_same, same_equal}
 use Rattle.hs_path.specs.declared.evidence.Span.{Span}
 use Rattle.hs_path.specs.declared.evidence.Node.{Node}
 use Rattle.hs_path.specs.declared.evidence.Store.{Store}

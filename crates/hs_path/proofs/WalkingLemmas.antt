@@ -7,24 +7,24 @@ use Rattle.hs_scheme.specs.declared.term.Head.{Head}
 use Rattle.hs_scheme.specs.declared.term.Head.TheVariants.{Var, Nt, Tm}
 use Rattle.hs_scheme.specs.Tree.{Tree, Trees, node}
 use Rattle.hs_scheme.specs.Problem.{ProblemData}
-use Rattle.hs_scheme.specs.Run.{start}
-use Rattle.hs_scheme.specs.Steps.{Path, StepsTo, Reaches, HasNoTransition}
+use Rattle.hs_scheme.specs.acceptance.Run.{start}
+use Rattle.hs_scheme.specs.acceptance.Steps.{Path, StepsTo, Reaches, HasNoTransition}
 use Rattle.hs_steps.proofs.PathLemmas.{one_more}
 use Rattle.hs_table.specs.declared.support.HeadBy.{HeadBy}
 use Rattle.hs_table.specs.declared.support.HeadBy.TheVariants.{Terminal, Rule, Param}
 use Rattle.hs_table.specs.Entries.{EntryData}
 use Rattle.hs_table.specs.Follows.{Support}
 use Rattle.hs_table.specs.Tables.{HasSupports}
-use Rattle.hs_naming.specs.Evidence.{Evidence, Packs, evidence, no_packs, first, child_pack}
-use Rattle.hs_naming.specs.Naming.{support_at, Move, Named, IsFirstStart, NamesPath}
-use Rattle.hs_naming.specs.Leading.{LeadsBy as Led, Leads, StartLeads}
-use Rattle.hs_naming.proofs.Ending.{named_and_fails}
+use Rattle.hs_verdict.specs.Evidence.{Evidence, Packs, evidence, no_packs, first, child_pack}
+use Rattle.hs_verdict.specs.Naming.{support_at, Move, Named, IsFirstStart, NamesPath}
+use Rattle.hs_verdict.specs.Leading.{LeadsBy as Led, Leads, StartLeads}
+use Rattle.hs_verdict.proofs.Ending.{named_and_fails}
 use Rattle.hs_core.specs.Core.{StartsAt}
-use Rattle.hs_scheme.specs.FailingPath.{FailingPathData}
+use Rattle.hs_scheme.specs.acceptance.FailingPath.{FailingPathData}
 use Rattle.hs_path.specs.declared.evidence.Store.{Store}
-use Rattle.hs_path.specs.declared.evidence.Spot.{Spot}
+use Rattle.hs_path.specs.declared.evidence.Continuation.{Continuation}
 use Rattle.hs_path.specs.Stored.{Piled, GrowsStore, Nothing}
-use Rattle.hs_path.specs.Turned.{IsSpotAt, owns, stack_at, terminal_at, IsStepBy, IsSilentTo, IsStepTo}
+use Rattle.hs_path.specs.Moved.{IsContinuationAt, owns, stack_at, terminal_at, IsStepBy, IsSilentTo, IsStepTo}
 use Rattle.hs_path.specs.Walked.{IsNamedPath, IsLongerPath}
 use Rattle.hs_path.specs.Walking.{listed, IsWalking}
 use Rattle.hs_path.proofs.StoredLemmas.{stands_grow}
@@ -128,33 +128,33 @@ module _ (p : ProblemData) (T : List EntryData) (supports : List Support) where
   no_step q r (node (Nt f) us) u label s h = h
   no_step q r (node (Tm a) us) u label (qs, e, c) h = absurd (cc)
 
-  module _ (s : Store) (items : List ℕ) (spot : Spot) (trail : Path) (used : ℕ) (w : IsWalking p T supports s items spot trail used) where
+  module _ (s : Store) (items : List ℕ) (continuation : Continuation) (trail : Path) (used : ℕ) (w : IsWalking p T supports s items continuation trail used) where
     place : ℕ
-    place = spot.node.place
+    place = continuation.node.place
 
-    open_ : Opened (support_at supports spot.node.place).head (terminal_at p T spot.node.place) (owns T spot.node.place w.at.node.own) w.state w.term
-        (stack_at p T supports spot.node.place w.at.node.own w.packs) w.steps w.rest
-    open_ = opened w.moves w.state w.term spot.node.place w.at.node.own w.packs w.steps w.rest
+    open_ : Opened (support_at supports continuation.node.place).head (terminal_at p T continuation.node.place) (owns T continuation.node.place w.at.node.own) w.state w.term
+        (stack_at p T supports continuation.node.place w.at.node.own w.packs) w.steps w.rest
+    open_ = opened w.moves w.state w.term continuation.node.place w.at.node.own w.packs w.steps w.rest
         (along (λ (e : Evidence). Named p T supports w.moves e w.packs w.steps w.rest) w.at.node.is w.named)
         (along (λ (e : Evidence). Leads p T supports w.moves w.state w.term e w.packs) w.at.node.is w.leads)
 
     abbrev pub Here : HeadBy
-    Here = (support_at supports spot.node.place).head
+    Here = (support_at supports continuation.node.place).head
 
     abbrev pub Stack : Packs
-    Stack = stack_at p T supports spot.node.place w.at.node.own w.packs
+    Stack = stack_at p T supports continuation.node.place w.at.node.own w.packs
 
-    -- the evidence of the spot, as the moves from it want it
-    pub at_place : IsSpotAt (length T) s spot (evidence spot.node.place w.at.node.own)
-    at_place = along (λ (e : Evidence). IsSpotAt (length T) s spot e) w.at.node.is w.at
+    -- the evidence of the continuation, as the moves from it want it
+    pub at_place : IsContinuationAt (length T) s continuation (evidence continuation.node.place w.at.node.own)
+    at_place = along (λ (e : Evidence). IsContinuationAt (length T) s continuation e) w.at.node.is w.at
 
-    pub walk_silent : (new : Store) (others : List ℕ) (next : Spot) → GrowsStore s new
-        → IsSilentTo (length T) new spot.number Here (owns T spot.node.place w.at.node.own) Stack others next → IsWalking p T supports new others next trail used
+    pub walk_silent : (new : Store) (others : List ℕ) (next : Continuation) → GrowsStore s new
+        → IsSilentTo (length T) new continuation.number Here (owns T continuation.node.place w.at.node.own) Stack others next → IsWalking p T supports new others next trail used
     walk_silent new others next g is =
-        let k = silenced Here (terminal_at p T spot.node.place) (owns T spot.node.place w.at.node.own) w.state w.term Stack w.steps w.rest open_ is.x is.m is.is in
+        let k = silenced Here (terminal_at p T continuation.node.place) (owns T continuation.node.place w.at.node.own) w.state w.term Stack w.steps w.rest open_ is.x is.m is.is in
         record {
           nothing = stands_grow (length T) s new g 0 (evidence 0 no_packs) w.nothing;
-          evidence = owns T spot.node.place w.at.node.own is.x is.m;
+          evidence = owns T continuation.node.place w.at.node.own is.x is.m;
           at = is.at;
           packs = Stack;
           stack = is.stack;
@@ -173,10 +173,10 @@ module _ (p : ProblemData) (T : List EntryData) (supports : List Support) where
           leads = k.leads;
         }
 
-    module _ (new : Store) (others : List ℕ) (label : Option (ℕ × ℕ)) (next : Spot) (g : GrowsStore s new)
-        (is : IsStepTo (length T) new Here (terminal_at p T spot.node.place) Stack others label next) where
+    module _ (new : Store) (others : List ℕ) (label : Option (ℕ × ℕ)) (next : Continuation) (g : GrowsStore s new)
+        (is : IsStepTo (length T) new Here (terminal_at p T continuation.node.place) Stack others label next) where
       once : Stepped label w.state w.term is.e w.steps w.rest
-      once = stepped Here (terminal_at p T spot.node.place) (owns T spot.node.place w.at.node.own) w.state w.term Stack w.steps w.rest open_ label is.e is.is
+      once = stepped Here (terminal_at p T continuation.node.place) (owns T continuation.node.place w.at.node.own) w.state w.term Stack w.steps w.rest open_ label is.e is.is
 
       pub walk_step : (longer : Path) → longer ≡ trail ++ listed label → IsWalking p T supports new others next longer (used + 1)
       walk_step longer e =
@@ -217,10 +217,10 @@ module _ (p : ProblemData) (T : List EntryData) (supports : List Support) where
         goes_on = no_step w.state once.state w.term once.term (listed label) once.step;
       }
 
-    pub walk_end : (limit terminal state : ℕ) (path : FailingPathData) → used ≤ limit → terminal ≡ terminal_at p T spot.node.place → Here ≡ Terminal state None
+    pub walk_end : (limit terminal state : ℕ) (path : FailingPathData) → used ≤ limit → terminal ≡ terminal_at p T continuation.node.place → Here ≡ Terminal state None
         → path ≡ record { steps = trail; last = terminal; state = state; used = used } → IsNamedPath p T supports limit path
     walk_end limit terminal state path few one is e =
-        let k = ended Here (terminal_at p T spot.node.place) (owns T spot.node.place w.at.node.own) w.state w.term Stack w.steps w.rest open_ state is in
+        let k = ended Here (terminal_at p T continuation.node.place) (owns T continuation.node.place w.at.node.own) w.state w.term Stack w.steps w.rest open_ state is in
         let names : NamesPath p T supports used trail =
         along (λ (n : ℕ). NamesPath p T supports n trail) (let same : w.need ≡ used = omega (arith, w.counted, k.steps_none) in same)
         (along (λ (l : Path). NamesPath p T supports w.need l) (w.whole ∙ (ap (λ l. trail ++ l) k.rest_none ∙ append-nil trail)) w.names) in

@@ -1,4 +1,4 @@
 pub mod Walked
 pub mod Stored
-pub mod Turned
+pub mod Moved
 pub mod Walking

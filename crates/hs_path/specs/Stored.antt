@@ -13,7 +13,7 @@
 use Rattle.std.specs.Prelude.{◌≡◌, ℕ, ◌+◌, ◌<◌, List, slice_get, Some}
 use Rattle.hs_table.specs.Entries.{EntryData, entry_at}
 use Rattle.hs_types.specs.Interned.{Begins}
-use Rattle.hs_naming.specs.Evidence.{Evidence, Packs, Pack, evidence, no_packs, put, empty, also, no_evidence, own_evidence, packs_for}
+use Rattle.hs_verdict.specs.Evidence.{Evidence, Packs, Pack, evidence, no_packs, put, empty, also, no_evidence, own_evidence, packs_for}
 use Rattle.hs_path.specs.declared.evidence.Span.{Span}
 use Rattle.hs_path.specs.declared.evidence.Node.{Node}
 use Rattle.hs_path.specs.declared.evidence.Store.{Store}

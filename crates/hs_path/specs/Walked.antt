@@ -7,13 +7,13 @@ use Rattle.std.specs.Prelude.{◌≡◌, ℕ, ◌<◌, ◌≤◌, List, ◌++◌
 use Rattle.hs_scheme.specs.declared.term.Head.{Head}
 use Rattle.hs_scheme.specs.Tree.{Tree}
 use Rattle.hs_scheme.specs.Problem.{ProblemData}
-use Rattle.hs_scheme.specs.Run.{start}
-use Rattle.hs_scheme.specs.Steps.{Path, Reaches, HasNoTransition}
+use Rattle.hs_scheme.specs.acceptance.Run.{start}
+use Rattle.hs_scheme.specs.acceptance.Steps.{Path, Reaches, HasNoTransition}
 use Rattle.hs_table.specs.Entries.{EntryData}
 use Rattle.hs_table.specs.Follows.{Support}
-use Rattle.hs_naming.specs.Naming.{NamesPath}
-use Rattle.hs_scheme.specs.FailingPath.{FailingPathData}
-use Rattle.hs_scheme.specs.Failing.{IsFailingPath}
+use Rattle.hs_verdict.specs.Naming.{NamesPath}
+use Rattle.hs_scheme.specs.acceptance.FailingPath.{FailingPathData}
+use Rattle.hs_scheme.specs.acceptance.Failing.{IsFailingPath}
 use Rattle.hs_path.specs.declared.answer.Walk.{Walk}
 use Rattle.hs_path.specs.declared.answer.Walk.TheVariants.{Found, StepLimit}
 

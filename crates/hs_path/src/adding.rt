@@ -3,14 +3,14 @@
 ghost use Rattle.std.specs.Prelude.{◌≡◌, ◌+◌, ◌<◌, ◌≤◌, [], ℕ, length, All, IfOk, OnOk};
 ghost use Rattle.hs_table.specs.Entries.{set_at, entry_at};
 ghost use Rattle.hs_types.specs.Interned.{type_of_id};
-ghost use Rattle.hs_naming.specs.Evidence.{Evidence, Packs, evidence, stacked, own_evidence, pack_for};
-ghost use Rattle.hs_naming.specs.Naming.{chosen_pack, argument_packs};
+ghost use Rattle.hs_verdict.specs.Evidence.{Evidence, Packs, evidence, stacked, own_evidence, pack_for};
+ghost use Rattle.hs_verdict.specs.Naming.{chosen_pack, argument_packs};
 ghost use Rattle.hs_core.specs.Core.{log_of};
 ghost use Rattle.hs_path.specs.Stored.{Stands, Piled, IsPack, GrowsStore, Nothing, KnowsCurrent, premise, ArePremises};
-ghost use Rattle.hs_path.specs.Turned.{IsSpotAt};
+ghost use Rattle.hs_path.specs.Moved.{IsContinuationAt};
 
 use crate::asking::{asked, asked_params};
-use crate::evidence::{Node, Span, Spot, Store, number};
+use crate::evidence::{Continuation, Node, Span, Store, number};
 use hs_core::Core;
 use hs_scheme::OutOfMemory;
 use hs_types::TyId;
@@ -164,20 +164,20 @@ pub(crate) fn of_stack(
     store: &mut Store,
     stack: &mut Vec<u32>,
     place: u32,
-) -> Result<Spot, OutOfMemory>
-    ensures grows { IfOk result (λ spot. GrowsStore store.old store.new) }
-    ensures cleared { IfOk result (λ spot. stack.new.items ≡ []) }
-    ensures spot { IfOk result (λ spot. (bound : ℕ) (packs : Packs) →
+) -> Result<Continuation, OutOfMemory>
+    ensures grows { IfOk result (λ continuation. GrowsStore store.old store.new) }
+    ensures cleared { IfOk result (λ continuation. stack.new.items ≡ []) }
+    ensures continuation { IfOk result (λ continuation. (bound : ℕ) (packs : Packs) →
         Nothing bound store.old → place < bound →
         Piled bound store.old (length store.old.nodes.items)
         stack.old.items 0 (length stack.old.items) packs →
-        IsSpotAt bound store.new spot (evidence place packs)) }
+        IsContinuationAt bound store.new continuation (evidence place packs)) }
 {
     let from = number(store.owns.len())?;
     store.owns.extend_from_slice(stack.as_slice())?;
     stack.clear();
     let to = number(store.owns.len())?;
-    Ok(Spot {
+    Ok(Continuation {
         node: Node {
             place,
             own: Span { from, to },

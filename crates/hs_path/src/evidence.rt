@@ -2,7 +2,7 @@
 
 ghost use Rattle.std.specs.Prelude.{◌≡◌, ◌<◌, ◌++◌, ◌∷◌, [], ℕ, List, length, All, IfOk, map};
 ghost use Rattle.hs_types.specs.Interned.{type_of_id};
-ghost use Rattle.hs_naming.specs.Evidence.{Evidence, Packs, Pack, pack_at, pick, first};
+ghost use Rattle.hs_verdict.specs.Evidence.{Evidence, Packs, Pack, pack_at, pick, first};
 ghost use Rattle.hs_path.specs.Stored.{Stands, IsNode, Piled, Members, IsPack, GrowsStore, Nothing};
 
 use hs_scheme::OutOfMemory;
@@ -36,7 +36,7 @@ pub(crate) const NO_EVIDENCE: Node = Node {
 /// An evidence to go on at. The evidences of its packs have smaller numbers than it has; one that has
 /// no number yet is given the next.
 #[derive(Clone, Copy, Drop)]
-pub(crate) struct Spot {
+pub(crate) struct Continuation {
     pub(crate) node: Node,
     pub(crate) number: u32,
 }
@@ -139,7 +139,7 @@ impl Store {
             (result < below) × Stands bound self.now result
             (pick (map (type_of_id interner.now) types.now) p (type_of_id interner.now ty)) }
     {
-        interner.numbers_are_exact();
+        interner.know_numbers();
         let mut left = pack;
         for other in types {
             if *other == ty {

@@ -8,7 +8,7 @@ mod adding;
 mod answer;
 mod asking;
 mod evidence;
-mod turning;
+mod moving;
 mod walking;
 
 pub use answer::Walk;

@@ -2,19 +2,18 @@
 
 ghost use Rattle.std.specs.Prelude.{◌≡◌, ◌<◌, ◌≤◌, ℕ, slice_get, Some, IfOk};
 ghost use Rattle.hs_table.specs.Tables.{HasStart, HasSupports, IsStart};
-ghost use Rattle.hs_naming.specs.Leading.{StartLeads};
+ghost use Rattle.hs_verdict.specs.Leading.{StartLeads};
 ghost use Rattle.hs_core.specs.Core.{log_of, state_of, StartsAt};
 ghost use Rattle.hs_path.specs.Walked.{IsWalk};
 ghost use Rattle.hs_path.specs.Walking.{IsWalking};
 
 use crate::answer::Walk;
-use crate::evidence::{NOTHING, Node, Spot, Store};
-use crate::turning::{Turn, next_turn};
+use crate::evidence::{Continuation, NOTHING, Node, Store};
+use crate::moving::{NamingMove, next_move};
 use hs_core::Core;
 use hs_history::every_history_supported;
-use hs_naming::namings_lead_the_start;
 use hs_scheme::{FailingPath, OutOfMemory, Problem};
-use hs_verdict::is_sorted_problem;
+use hs_verdict::{know_sorted_problem, namings_lead_the_start};
 use std::alloc::Global;
 
 /// The walk from the start entry at this place on, once the start is replaced, where at least one step
@@ -36,7 +35,7 @@ fn walk_from(
     let mut stack = Vec::new(alloc);
     let mut trail = Vec::new(alloc);
     let mut used = 1;
-    let mut spot = Spot {
+    let mut continuation = Continuation {
         node: Node {
             place,
             own: NOTHING,
@@ -44,8 +43,8 @@ fn walk_from(
         number: 1,
     };
     loop {
-        match next_turn(problem, core, &mut store, &mut stack, spot)? {
-            Turn::End { terminal, state } => {
+        match next_move(problem, core, &mut store, &mut stack, continuation)? {
+            NamingMove::End { terminal, state } => {
                 return Ok(Walk::Found(FailingPath {
                     steps: trail,
                     last: terminal,
@@ -53,15 +52,15 @@ fn walk_from(
                     used,
                 }));
             }
-            Turn::Silent(next) => spot = next,
-            Turn::Step(label, next) => {
+            NamingMove::Silent(next) => continuation = next,
+            NamingMove::Step(label, next) => {
                 if used == steps {
                     return Ok(Walk::StepLimit(trail));
                 }
                 if let Some(label) = label {
                     trail.push(label)?;
                 }
-                spot = next;
+                continuation = next;
                 used += 1;
             }
         }
@@ -81,8 +80,8 @@ pub fn walk(alloc: Global, problem: &Problem, core: &Core, steps: u64) -> Result
     requires start { HasStart problem.now (log_of core.now) }
     ensures { IfOk result (IsWalk problem.now (log_of core.now) (state_of core.now).supports steps) }
 {
-    is_sorted_problem(problem);
-    core.is_core();
+    know_sorted_problem(problem);
+    core.know_core();
     every_history_supported();
     namings_lead_the_start();
     let place = core.start().unwrap();

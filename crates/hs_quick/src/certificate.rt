@@ -13,20 +13,31 @@ use std::alloc::Global;
 const MOST_TREES: u64 = 6_000_000;
 
 /// What is left to make types.
-#[derive(Clone, Copy)]
+#[derive(Drop)]
 pub(crate) struct Making {
     /// So many types may still be made.
     pub(crate) left: u64,
     /// Whether memory was refused.
     pub(crate) refused: bool,
+    /// How many types an environment has at each parameter.
+    counts: Vec<usize>,
 }
 
 impl Making {
-    /// Nothing is made yet.
-    pub(crate) fn new() -> Making {
+    /// Nothing is made yet. Takes no memory.
+    pub(crate) fn new(alloc: Global) -> Making {
         Making {
             left: MOST_TREES,
             refused: false,
+            counts: Vec::new(alloc),
+        }
+    }
+
+    /// How many types the environment has at the parameter.
+    fn count_at(&self, param: u32) -> usize {
+        match self.counts.get(param as usize) {
+            Some(count) => *count,
+            None => 0,
         }
     }
 }
@@ -88,39 +99,44 @@ fn room<T: Drop>(alloc: Global, count: usize, making: &mut Making) -> Vec<T> {
 }
 
 impl<'a> Search<'a> {
-    /// How many types the environment has at the parameter.
-    fn count_at(&self, env: u32, param: u32) -> usize {
-        let mut count: usize = 0;
+    /// Counts the types of the environment at each of so many parameters.
+    fn count(&self, making: &mut Making, env: u32, params: u32) {
+        making.counts.clear();
+        for _ in 0..params {
+            put(&mut making.counts, 0, &mut making.refused);
+        }
         for number in self.envs.atoms(env) {
-            if self.envs.atom(*number).param == param {
-                count = count.saturating_add(1);
+            let param = self.envs.atom(*number).param;
+            if let Some(count) = making.counts.get_mut(param as usize) {
+                *count = count.saturating_add(1);
             }
         }
-        count
     }
 
-    /// The set of the environment at the parameter.
-    fn types_at(&self, making: &mut Making, env: u32, param: u32) -> TypeSet {
-        let mut types = room(self.alloc, self.count_at(env, param), making);
+    /// Adds the environment's types to the sets of its parameters.
+    fn fill(&self, making: &mut Making, env: u32, sets: &mut Vec<TypeSet>) {
         for number in self.envs.atoms(env) {
             let atom = self.envs.atom(*number);
-            if atom.param == param {
+            if let Some(set) = sets.get_mut(atom.param as usize) {
                 let ty = tree(&self.envs.types, self.alloc, MOST_DEPTH, atom.ty, making);
-                put(&mut types, ty, &mut making.refused);
+                put(&mut set.types, ty, &mut making.refused);
             }
         }
-        sort(&mut types);
-        TypeSet { types }
+        for set in sets.iter_mut() {
+            sort(&mut set.types);
+        }
     }
 
     /// The environment, one set for each parameter of the rule.
     fn env_tree(&self, making: &mut Making, rule: u32, env: u32) -> Vec<TypeSet> {
         let params = params_of(self.problem, rule);
+        self.count(making, env, params);
         let mut sets = room(self.alloc, params as usize, making);
         for param in 0..params {
-            let set = self.types_at(making, env, param);
-            put(&mut sets, set, &mut making.refused);
+            let types = room(self.alloc, making.count_at(param), making);
+            put(&mut sets, TypeSet { types }, &mut making.refused);
         }
+        self.fill(making, env, &mut sets);
         sets
     }
 
@@ -145,17 +161,33 @@ impl<'a> Search<'a> {
         }
     }
 
+    /// Adds the entries of the point that none covers, in ascending order, by way of an empty list.
+    fn add_point(
+        &self,
+        making: &mut Making,
+        point: u32,
+        own: &mut Vec<Entry>,
+        table: &mut Vec<Entry>,
+    ) {
+        for kind in self.table.kinds.list(point) {
+            self.add_kind(making, kind.rows, own);
+        }
+        if own.len() > 1 {
+            own.sort_unstable_by(|a: &Entry, b: &Entry| a.compare(b));
+        }
+        if table.append(own).is_err() {
+            making.refused = true;
+        }
+    }
+
     /// The entries that none covers, in ascending order.
     pub(crate) fn entries(&self, making: &mut Making) -> Vec<Entry> {
-        let mut count: usize = 0;
-        for rows in 0..self.table.kind_count() {
-            count = count.saturating_add(self.table.rows.list(rows).len());
+        let mut table = room(self.alloc, self.table.kept(), making);
+        let mut own = Vec::new(self.alloc);
+        let problem = self.problem;
+        for point in 0..problem.points.count() {
+            self.add_point(making, point, &mut own, &mut table);
         }
-        let mut table = room(self.alloc, count, making);
-        for rows in 0..self.table.kind_count() {
-            self.add_kind(making, rows, &mut table);
-        }
-        table.sort_unstable_by(|a: &Entry, b: &Entry| a.compare(b));
         table
     }
 

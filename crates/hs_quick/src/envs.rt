@@ -84,9 +84,10 @@ fn atom_of(atoms: &IndexSet<Atom>, number: u32) -> Atom {
     }
 }
 
-/// Whether some atom of the list is of the same parameter as the atom, and its type is as strong.
+/// Whether some atom of the list, which ascends, is of the same parameter as the atom, and its type is as
+/// strong.
 fn has_as_strong(types: &mut Types, atoms: &IndexSet<Atom>, list: &[u32], weaker: u32) -> bool {
-    if list.contains(&weaker) {
+    if list.binary_search(&weaker).is_ok() {
         return true;
     }
     let least = atom_of(atoms, weaker);

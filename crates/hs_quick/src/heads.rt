@@ -7,6 +7,7 @@ use crate::search::{Demand, HeadBy, Instance, Search};
 use crate::table::Row;
 use crate::types::Shape;
 use hs_scheme::Head;
+use std::mem;
 
 impl<'a> Search<'a> {
     /// The type of a terminal that still takes the children from the one behind `given` to the last,
@@ -201,17 +202,23 @@ impl<'a> Search<'a> {
         }
     }
 
+    /// Whether the atom of this number was met before. It is, from now on.
+    fn is_met(&mut self, number: u32) -> bool {
+        for _ in self.met.len()..(number as usize).saturating_add(1) {
+            put(&mut self.met, false, &mut self.refused);
+        }
+        match self.met.get_mut(number as usize) {
+            Some(met) => mem::replace(met, true),
+            None => false,
+        }
+    }
+
     /// Adds the instances at the uses of a parameter for which something with this type may stand,
     /// unless they were added.
     fn add_uses(&mut self, atom: Atom) {
         let number = self.envs.number(atom);
-        match self.met.insert(number) {
-            Ok(true) => (),
-            Ok(false) => return,
-            Err(_) => {
-                self.refused = true;
-                return;
-            }
+        if self.is_met(number) {
+            return;
         }
         let env = self.envs.single(number);
         let last = self.envs.types.last_state(atom.ty);
@@ -235,6 +242,20 @@ impl<'a> Search<'a> {
         }
     }
 
+    /// The first entry of this type at the point: the parameters for which the point may stand have the
+    /// type.
+    fn add_flows(&mut self, point: u32, ty: u32) {
+        for number in 0..self.uses.flows.list(point).len() {
+            if let Some(parameter) = self.uses.flows.list(point).get(number).copied() {
+                self.add_uses(Atom {
+                    rule: parameter.rule,
+                    param: parameter.param,
+                    ty,
+                });
+            }
+        }
+    }
+
     /// Forms what comes of the new entry, which is the first of its type at its point or not.
     pub(crate) fn spread(&mut self, place: u32, row: Row, first: bool) {
         if first {
@@ -246,14 +267,8 @@ impl<'a> Search<'a> {
             self.add_terminals(row.point, row.ty);
         }
         self.add_calls(place, row);
-        for number in 0..self.uses.flows.list(row.point).len() {
-            if let Some(parameter) = self.uses.flows.list(row.point).get(number).copied() {
-                self.add_uses(Atom {
-                    rule: parameter.rule,
-                    param: parameter.param,
-                    ty: row.ty,
-                });
-            }
+        if first {
+            self.add_flows(row.point, row.ty);
         }
     }
 }

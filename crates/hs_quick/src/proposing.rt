@@ -64,7 +64,7 @@ pub fn propose(
     limits: Limits,
 ) -> Result<Proposal, OutOfMemory> {
     let mut search = Search::new(alloc, problem, reads, limits);
-    let mut making = Making::new();
+    let mut making = Making::new(alloc);
     let proposal = find(&mut search, &mut making, limits);
     let refused = match search.ended() {
         Some(Ended::OutOfMemory) => true,

@@ -11,7 +11,6 @@ use crate::table::Table;
 use crate::uses::Uses;
 use hs_reads::Reads;
 use hs_scheme::Problem;
-use indexmap::IndexSet;
 use std::alloc::Global;
 
 /// By what a point's head has its type.
@@ -54,8 +53,8 @@ pub(crate) struct Search<'a> {
     pub(crate) sites: Sites,
     pub(crate) queue: Queue,
     instances: Vec<Instance>,
-    /// The parameters' types that were met, by the numbers of their atoms.
-    pub(crate) met: IndexSet<u32>,
+    /// Which parameters' types were met, by the numbers of their atoms.
+    pub(crate) met: Vec<bool>,
     /// The works that wait until their environments aren't void.
     pub(crate) parked: Vec<Work>,
     /// The void environments of each rule.
@@ -90,7 +89,7 @@ impl<'a> Search<'a> {
             sites: Sites::new(alloc),
             queue: Queue::new(alloc),
             instances: Vec::new(alloc),
-            met: IndexSet::new(alloc),
+            met: Vec::new(alloc),
             parked: Vec::new(alloc),
             void: Lists::new(alloc),
             questions: 0,
@@ -109,6 +108,9 @@ impl<'a> Search<'a> {
         self.pools.cells.grow(points);
         self.sites.grow(problem);
         self.void.grow(problem.points.params().rules());
+        self.envs
+            .types
+            .add_states(problem.sorted.automaton.states());
         self.envs.add_empty();
     }
 

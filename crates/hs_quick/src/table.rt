@@ -62,9 +62,13 @@ impl Table {
         self.log.len()
     }
 
-    /// How many lists of places there are.
-    pub(crate) fn kind_count(&self) -> u32 {
-        numbered(self.count)
+    /// How many entries no other one covers.
+    pub(crate) fn kept(&self) -> usize {
+        let mut kept: usize = 0;
+        for rows in 0..numbered(self.count) {
+            kept = kept.saturating_add(self.rows.list(rows).len());
+        }
+        kept
     }
 
     /// The entry at the place.

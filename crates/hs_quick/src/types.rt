@@ -20,6 +20,8 @@ pub(crate) enum Shape {
 #[derive(Drop)]
 pub(crate) struct Types {
     shapes: IndexSet<Shape>,
+    /// How many states were added: the types of lower numbers are these.
+    states: u32,
     /// The state at the end of each type.
     last: Vec<u32>,
     sets: IndexSet<Vec<u32>>,
@@ -33,6 +35,7 @@ impl Types {
     pub(crate) fn new(alloc: Global) -> Types {
         Types {
             shapes: IndexSet::new(alloc),
+            states: 0,
             last: Vec::new(alloc),
             sets: IndexSet::new(alloc),
             strengths: IndexMap::new(alloc),
@@ -76,9 +79,17 @@ impl Types {
         }
     }
 
-    /// The state, as a type.
-    pub(crate) fn state(&mut self, state: u32) -> u32 {
-        self.add(Shape::State(state), state)
+    /// Adds so many states, as the first types: the number of each is its own.
+    pub(crate) fn add_states(&mut self, count: u32) {
+        for state in 0..count {
+            self.add(Shape::State(state), state);
+        }
+        self.states = count;
+    }
+
+    /// The state, which was added, as a type.
+    pub(crate) fn state(&self, state: u32) -> u32 {
+        state
     }
 
     /// The type with this set and this result.
@@ -108,6 +119,9 @@ impl Types {
     fn known_strength(&self, ty: u32, other: u32) -> Option<bool> {
         if ty == other {
             return Some(true);
+        }
+        if ty < self.states || other < self.states {
+            return Some(false);
         }
         if self.last_state(ty) != self.last_state(other) {
             return Some(false);

@@ -1,15 +1,15 @@
 -- A round that was gathered is added to the log.
-use Rattle.std.proofs.Common.{◌≡◌, ◌≢◌, sym, ◌∙◌, subst, ℕ, ◌<◌, ◌≤◌, List, [], ◌∷◌, ◌++◌, length, map, get_or, take, ◌+◌, arith, All, AllPairs, Contains, inl, inr, ◌↔◌}
+use Rattle.std.proofs.Common.{◌≡◌, ◌≢◌, sym, ◌∙◌, subst, ℕ, ◌<◌, ◌≤◌, List, [], ◌∷◌, ◌++◌, length, map, get_or, take, ◌+◌, arith, All, AllPairs, Contains, ◌⊎◌, inl, inr, ◌↔◌}
 use Rattle.std.proofs.Math.Nat.{le-max_right}
 use Rattle.std.specs.Prelude.{max}
 use Rattle.std.proofs.lemmas.Bool.{cases_lt}
 use Rattle.std.proofs.lemmas.List.{length-append, length-map, get_or-map}
 use Rattle.std.proofs.lemmas.List.Elements.{Contains-append_left, Contains-append_right, Contains-get_or}
-use Rattle.hs_scheme.specs.Flow.{IsAscending}
-use Rattle.hs_scheme.specs.Automaton.{IsAutomaton}
+use Rattle.hs_scheme.specs.flow.Flow.{IsAscending}
+use Rattle.hs_scheme.specs.acceptance.Automaton.{IsAutomaton}
 use Rattle.hs_scheme.specs.Problem.{ProblemData}
 use Rattle.hs_table.specs.Entries.{EntryData, InShape, entry_cmp}
-use Rattle.hs_table.specs.Follows.{Follows}
+use Rattle.hs_table.specs.Follows.{Support, FollowsBy, Follows}
 use Rattle.hs_table.specs.Tables.{IsSupportedTable, Exceeds}
 use Rattle.hs_table_laws.proofs.Members.{from_map, into_map}
 use Rattle.hs_table_laws.proofs.Places.{place_of}
@@ -18,11 +18,37 @@ use Rattle.hs_types.specs.Interned.{InternerData, RowData, IsRow, entry_of, IsIn
 use Rattle.hs_types.proofs.Numbers.{same_row}
 use Rattle.hs_replica.specs.Replica.{ReplicaData}
 use Rattle.hs_replica.specs.Extending.{CanExtend, extended}
-use Rattle.hs_rank.specs.Gathering.{AreNewRows, IsKnown}
+use Rattle.hs_rules.specs.Conclusions.{DeducedData}
+use Rattle.hs_rank.specs.Gathering.{AreNewDeduced, IsKnown}
 use Rattle.hs_rank.specs.Ranked.{HoldsRound, IsNextRound}
 use Rattle.hs_rank.proofs.Filling.{distinct_in_order, next_ranked}
 
-pub round_of : (p : ProblemData) (ids : InternerData) (log : List EntryData) (keys sorted : List RowData) → AreNewRows p ids log keys → ((e : EntryData) → Follows p log e → IsKnown ids log keys e)
+pub record IsNewRow (p : ProblemData) (ids : InternerData) (log : List EntryData) (r : RowData) : Type 0 where
+  pub row : IsRow ids r
+  pub follows : Follows p log (entry_of ids r)
+  pub new : Contains log (entry_of ids r) → ⊥
+
+abbrev pub AreNewRows : ProblemData → InternerData → List EntryData → List RowData → Type 0
+AreNewRows p ids log rows = (r : RowData) → Contains rows r → IsNewRow p ids log r
+
+abbrev pub HasRowOf : InternerData → List EntryData → List RowData → EntryData → Type 0
+HasRowOf ids log rows e = Contains log e ⊎ ((r : RowData) × (Contains rows r × (entry_of ids r ≡ e)))
+
+-- the rows of what was gathered
+pub rows_new : (p : ProblemData) (ids : InternerData) (log : List EntryData) (found : List DeducedData) → AreNewDeduced p ids log found → AreNewRows p ids log (map (λ (d : DeducedData). d.row) found)
+rows_new p ids log found new r c =
+    let d = from_map (λ (x : DeducedData). x.row) found r c in
+    let n = new d.item d.there in
+    subst (λ (q : RowData). IsNewRow p ids log q) (sym d.is) (record { row = n.deduced.row; follows = (d.item.support, n.deduced.follows); new = n.new })
+
+pub rows_have : (p : ProblemData) (ids : InternerData) (log : List EntryData) (found : List DeducedData) → ((s : Support) (e : EntryData) → FollowsBy p log s e → IsKnown ids log found s e)
+    → (e : EntryData) → Follows p log e → HasRowOf ids log (map (λ (d : DeducedData). d.row) found) e
+rows_have p ids log found all e (s, by) = elim (all s e by) [
+  | inl was ↦ inl was
+  | inr h ↦ inr (h.item.row, (into_map (λ (x : DeducedData). x.row) found h.item h.there, h.is))
+]
+
+pub round_of : (p : ProblemData) (ids : InternerData) (log : List EntryData) (keys sorted : List RowData) → AreNewRows p ids log keys → ((e : EntryData) → Follows p log e → HasRowOf ids log keys e)
     → IsAscending entry_cmp (map (entry_of ids) sorted) → ((r : RowData) → Contains sorted r ↔ Contains keys r) → IsNextRound p log (map (entry_of ids) sorted)
 round_of p ids log keys sorted fresh all up same = record {
   ascending = up;
@@ -74,17 +100,10 @@ distinct_entries ids (r ∷ rs) is known distinct i j d lt below same =
     distinct i j r lt j-in
     (same_row ids is (get_or rows i r) (get_or rows j r) (known i r i-in) (known j r j-in) (sym (get_or-map (entry_of ids) rows i r d i-in) ∙ (same ∙ get_or-map (entry_of ids) rows j r d j-in)))
 
--- the rows that were gathered, read in the same interner
-pub rows_of_fresh : (p : ProblemData) (r : ReplicaData) (ids : InternerData) (keys rows : List RowData) → ids ≡ r.ids → rows ≡ keys → AreNewRows p r.ids r.log keys → All (IsRow ids) rows
-rows_of_fresh p r ids keys rows same is fresh =
-    let own : All (IsRow r.ids) keys = λ k d lt. (fresh (get_or keys k d) (Contains-get_or keys k d lt)).row in
-    subst (λ (i : InternerData). All (IsRow i) rows) (sym same) (subst (λ xs. All (IsRow r.ids) xs) (sym is) own)
-
-pub sorted_round : (p : ProblemData) (r : ReplicaData) (ids : InternerData) (keys rows sorted : List RowData) → ids ≡ r.ids → rows ≡ keys → AreNewRows p r.ids r.log keys → ((e : EntryData) → Follows p r.log e → IsKnown r.ids r.log keys e)
-    → IsAscending entry_cmp (map (entry_of ids) sorted) → ((x : RowData) → Contains sorted x ↔ Contains rows x) → IsNextRound p r.log (map (entry_of r.ids) sorted)
-sorted_round p r ids keys rows sorted same is fresh all up members =
-    round_of p r.ids r.log keys sorted fresh all (subst (λ (i : InternerData). IsAscending entry_cmp (map (entry_of i) sorted)) same up)
-    (subst (λ xs. (x : RowData) → Contains sorted x ↔ Contains xs x) is members)
+-- the next round, sorted
+pub sorted_round : (p : ProblemData) (ids : InternerData) (log : List EntryData) (found : List DeducedData) (sorted : List RowData) → AreNewDeduced p ids log found → ((s : Support) (e : EntryData) → FollowsBy p log s e → IsKnown ids log found s e)
+    → IsAscending entry_cmp (map (entry_of ids) sorted) → ((x : RowData) → Contains sorted x ↔ Contains (map (λ (d : DeducedData). d.row) found) x) → IsNextRound p log (map (entry_of ids) sorted)
+sorted_round p ids log found sorted new all up members = round_of p ids log (map (λ (d : DeducedData). d.row) found) sorted (rows_new p ids log found new) (rows_have p ids log found all) up members
 
 pub can_extend_reserved : (p : ProblemData) (n k : ℕ) (r new : ReplicaData) (keys sorted : List RowData) → new ≡ record { ids = r.ids; log = r.log; spare = max r.spare k; indexed = r.indexed; by_type = r.by_type } → length sorted ≤ k
     → (Exceeds p 1000000 → ⊥) → HoldsRound p n r.log → AreNewRows p r.ids r.log keys → ((x : RowData) → Contains sorted x ↔ Contains keys x) → IsNextRound p r.log (map (entry_of r.ids) sorted) → CanExtend new sorted

@@ -6,13 +6,13 @@ use Rattle.std.proofs.lemmas.Bool.{cases_lt}
 use Rattle.hs_scheme.specs.Problem.{ProblemData}
 use Rattle.hs_scheme.proofs.Lists.{none_in, at_append, Contains-at, place-append, pairs_append}
 use Rattle.hs_table.specs.Entries.{EntryData}
-use Rattle.hs_table.specs.Follows.{Follows, premises}
+use Rattle.hs_table.specs.Follows.{Support, FollowsBy, Follows, premises}
 use Rattle.hs_table.specs.Tables.{IsLeastTable}
 use Rattle.hs_table_laws.proofs.Places.{place_of, to_take, within_from}
 use Rattle.hs_table_laws.proofs.Growing.{follows_found, by_take}
 use Rattle.hs_history.proofs.Premises.{greatest, by_none, by_greatest, premise_below}
 use Rattle.hs_rank.specs.Canonical.{IsRound, HasRank, IsBefore, IsByRank}
-use Rattle.hs_history.specs.Following.{HasSeed, HasPlace}
+use Rattle.hs_rank.specs.Following.{HasSeedBy, HasPlaceBy}
 use Rattle.hs_rank.specs.Ranked.{HoldsRound, IsNextRound, IsAtRound}
 use Rattle.hs_rank.proofs.Rounds.{round_same, round_later, not_both}
 
@@ -51,7 +51,7 @@ module _ (p : ProblemData) (n : ℕ) (log fresh : List EntryData) (a : HoldsRoun
     ),
   )
 
-  fresh_rank : (e : EntryData) → Contains fresh e → HasRank p (suc n) e
+  pub fresh_rank : (e : EntryData) → Contains fresh e → HasRank p (suc n) e
   fresh_rank e there = record {
     round = log ++ fresh;
     is = round;
@@ -118,21 +118,21 @@ module _ (p : ProblemData) (before : ℕ) (log : List EntryData) (a : IsAtRound 
       let r = a.ranked.round in
       (r.1.1 e).1 (inr (follows_found p (take before log) r.0 (round_same p a.number (take before log) r.0 a.past r.1.0) e follows))
 
-  pub all_follow : (Is : EntryData → Type 0) → ((e : EntryData) → Contains log e → Is e) → ((place : ℕ) → before ≤ place → place < length log → HasPlace p log place Is)
-      → (e : EntryData) → Follows p log e → Is e
-  all_follow Is was places e (s, follows) = elim (greatest (premises s)) [
-    | inl none ↦ was e (past_closed e (follows_found p [] (take before log) (λ x c. absurd (none_in x c)) e (s, by_none p log s e none follows)))
+  pub all_follow : (Is : Support → EntryData → Type 0) → ((s : Support) (e : EntryData) → Contains log e → Is s e) → ((place : ℕ) → before ≤ place → place < length log → HasPlaceBy p log place Is)
+      → (s : Support) (e : EntryData) → FollowsBy p log s e → Is s e
+  all_follow Is was places s e follows = elim (greatest (premises s)) [
+    | inl none ↦ was s e (past_closed e (follows_found p [] (take before log) (λ x c. absurd (none_in x c)) e (s, by_none p log s e none follows)))
     | inr (i, g) ↦
         let by = by_greatest p log s e i g follows in
         let at = premise_below p log s e i follows g.there in
         elim (cases_lt i before) [
-          | inl lt ↦ was e (past_closed e (s, by_take p log (i + 1) before s e (omega (arith, lt)) by))
+          | inl lt ↦ was s e (past_closed e (s, by_take p log (i + 1) before s e (omega (arith, lt)) by))
           | inr le ↦ places i le (within_from log i at.entry at.at) at.entry e s at.at at.depends by g.there
         ]
   ]
 
-pub seeds_follow : (p : ProblemData) (Is : EntryData → Type 0) → ((point : ℕ) → point < length p.points.points → HasSeed p point Is) → (e : EntryData) → Follows p [] e → Is e
-seeds_follow p Is seeds e (s, follows) = seeds e.point (within_from p.points.points e.point follows.of follows.at) e refl (s, follows)
+pub seeds_follow : (p : ProblemData) (Is : Support → EntryData → Type 0) → ((point : ℕ) → point < length p.points.points → HasSeedBy p point Is) → (s : Support) (e : EntryData) → FollowsBy p [] s e → Is s e
+seeds_follow p Is seeds s e follows = seeds e.point (within_from p.points.points e.point follows.of follows.at) s e refl follows
 
 pub least_at_end : (p : ProblemData) (before : ℕ) (log : List EntryData) → IsAtRound p before log → length log ≤ before → IsLeastTable p log
 least_at_end p before log a whole = record {

@@ -1,76 +1,61 @@
--- Rows that are added to a set.
-use Rattle.std.proofs.Common.{◌≡◌, sym, ◌∙◌, ap, subst, ℕ, ◌+◌, ◌<◌, Bool, List, [], ◌∷◌, ◌++◌, length, map, get_or, take, Contains, ◌⊎◌, inl, inr}
-use Rattle.std.specs.Bool.{Decides}
-use Rattle.std.specs.List.{list_any}
-use Rattle.std.proofs.lemmas.Bool.{cases_Bool, cond-true, cond-false}
-use Rattle.std.proofs.lemmas.List.{map-append}
+-- What was deduced is added to what was gathered.
+use Rattle.std.proofs.Common.{◌≡◌, sym, ◌∙◌, subst, ℕ, ◌+◌, ◌<◌, List, [], ◌∷◌, ◌++◌, length, get_or, take, Contains, ◌⊎◌, inl, inr}
 use Rattle.std.proofs.lemmas.List.Elements.{Contains-append_left, Contains-push}
-use Rattle.indexmap.proofs.CallerLemmas.{Contains-insert_key}
-use Rattle.indexmap.specs.IndexSet.{insert_key}
 use Rattle.hs_table.specs.Entries.{EntryData}
 use Rattle.hs_table_laws.proofs.Members.{taken_next, pushed_cases}
-use Rattle.hs_types.specs.Interned.{InternerData, RowData, entry_of}
+use Rattle.hs_types.specs.Interned.{InternerData, entry_of}
 use Rattle.hs_rules.specs.Conclusions.{DeducedData}
+use Rattle.hs_rules.specs.Found.{HasNoGreater, Lowers}
+use Rattle.hs_rules.proofs.FoundLemmas.{lowers_none, lower_then, lowers_then}
 use Rattle.hs_rank.specs.Gathering.{AddsNew}
 
-module _ {K : Type 0} (eq : K → K → Bool) (same : (a b : K) → Decides (eq a b) (a ≡ b)) (old new : List K) (b : K) (keys : new ≡ insert_key eq old b) where
-  pub inserted_keeps : (r : K) → Contains old r → Contains new r
-  inserted_keeps r c = elim (cases_Bool (list_any (eq b) old)) [
-    | inl there ↦ subst (λ xs. Contains xs r) (sym (keys ∙ cond-true (list_any (eq b) old) old (old ++ b ∷ []) there)) c
-    | inr absent ↦ subst (λ xs. Contains xs r) (sym (keys ∙ cond-false (list_any (eq b) old) old (old ++ b ∷ []) absent)) (Contains-append_left old (b ∷ []) r c)
-  ]
-
-  pub inserted_only : (r : K) → Contains new r → Contains old r ⊎ (r ≡ b)
-  inserted_only r c = elim (cases_Bool (list_any (eq b) old)) [
-    | inl there ↦ inl (subst (λ xs. Contains xs r) (keys ∙ cond-true (list_any (eq b) old) old (old ++ b ∷ []) there) c)
-    | inr absent ↦ pushed_cases old b r (subst (λ xs. Contains xs r) (keys ∙ cond-false (list_any (eq b) old) old (old ++ b ∷ []) absent) c)
-  ]
-
-  pub inserted_there : Contains new b
-  inserted_there = subst (λ xs. Contains xs b) (sym keys) (Contains-insert_key eq (λ x y e. (same x y).0 e) old b)
-
-module _ (ids : InternerData) (log : List EntryData) (old new : List RowData) (row : RowData) where
-  pub keeps_inserted : (eq : RowData → RowData → Bool) → ((a b : RowData) → Decides (eq a b) (a ≡ b)) → new ≡ insert_key eq old row → (Contains log (entry_of ids row) → ⊥) → AddsNew ids log (λ r. r ≡ row) old new
-  keeps_inserted eq same keys absent = record {
-    keeps = inserted_keeps eq same old new row keys;
-    only = λ r c. elim (inserted_only eq same old new row keys r c) [
+module _ (ids : InternerData) (log : List EntryData) (old new : List DeducedData) (d : DeducedData) where
+  pub adds_one : Lowers old new → ((x : DeducedData) → Contains new x → Contains old x ⊎ (x ≡ d)) → HasNoGreater new d.row d.support → (Contains log (entry_of ids d.row) → ⊥) → AddsNew ids log (λ x. x ≡ d) old new
+  adds_one lowers only there absent = record {
+    lowers = lowers;
+    only = λ x c. elim (only x c) [
       | inl was ↦ inl was
-      | inr is ↦ inr (is, λ there. absent (subst (λ (q : RowData). Contains log (entry_of ids q)) is there))
+      | inr is ↦ inr (is, λ k. absent (subst (λ (y : DeducedData). Contains log (entry_of ids y.row)) is k))
     ];
-    there = λ r is. inr (subst (λ (q : RowData). Contains new q) (sym is) (inserted_there eq same old new row keys));
+    there = λ x is. inr (subst (λ (y : DeducedData). HasNoGreater new y.row y.support) (sym is) there);
   }
 
-  pub keeps_known : Contains log (entry_of ids row) → AddsNew ids log (λ r. r ≡ row) old old
-  keeps_known known = record {
-    keeps = λ r c. c;
-    only = λ r c. inl c;
-    there = λ r is. inl (subst (λ (q : RowData). Contains log (entry_of ids q)) (sym is) known);
+  pub adds_known : Contains log (entry_of ids d.row) → AddsNew ids log (λ x. x ≡ d) old old
+  adds_known known = record {
+    lowers = lowers_none old;
+    only = λ x c. inl c;
+    there = λ x is. inl (subst (λ (y : DeducedData). Contains log (entry_of ids y.row)) (sym is) known);
   }
 
-abbrev pub rows_in : List DeducedData → List RowData
-rows_in found = map (λ (d : DeducedData). d.row) found
+-- the same of what equals it
+pub adds_given : (ids : InternerData) (log : List EntryData) (old new : List DeducedData) (d given : DeducedData) → given ≡ d → Lowers old new → ((x : DeducedData) → Contains new x → Contains old x ⊎ (x ≡ given)) → HasNoGreater new given.row given.support
+    → (Contains log (entry_of ids given.row) → ⊥) → AddsNew ids log (λ x. x ≡ d) old new
+adds_given ids log old new d given same lowers only there absent =
+    adds_one ids log old new d lowers (λ x c. elim (only x c) [ inl was ↦ inl was | inr is ↦ inr (is ∙ same) ]) (subst (λ (y : DeducedData). HasNoGreater new y.row y.support) same there)
+    (λ k. absent (subst (λ (y : DeducedData). Contains log (entry_of ids y.row)) (sym same) k))
 
-module _ (ids : InternerData) (log : List EntryData) (found : List DeducedData) (a b c : List RowData) where
-  pub keeps_next : (k : ℕ) (d : DeducedData) (row : RowData) → AddsNew ids log (Contains (rows_in (take k found))) a b → AddsNew ids log (λ r. r ≡ row) b c → row ≡ d.row → k < length found → d ≡ get_or found k d
-      → AddsNew ids log (Contains (rows_in (take (k + 1) found))) a c
-  keeps_next k d row before one row_is lt is =
-      let whole : rows_in (take (k + 1) found) ≡ rows_in (take k found) ++ d.row ∷ [] = ap rows_in (taken_next found k d lt is) ∙ map-append (λ (x : DeducedData). x.row) (take k found) (d ∷ []) in
-      let split : (r : RowData) → Contains (rows_in (take (k + 1) found)) r → Contains (rows_in (take k found)) r ⊎ (r ≡ d.row) = λ r h. pushed_cases (rows_in (take k found)) d.row r (subst (λ xs. Contains xs r) whole h) in
+pub adds_none : (ids : InternerData) (log : List EntryData) (Among : DeducedData → Type 0) (old : List DeducedData) → ((d : DeducedData) → Among d → ⊥) → AddsNew ids log Among old old
+adds_none ids log Among old never = record { lowers = lowers_none old; only = λ x c. inl c; there = λ x a. absurd (never x a) }
+
+module _ (ids : InternerData) (log : List EntryData) (found : List DeducedData) (a b c : List DeducedData) where
+  pub adds_next : (k : ℕ) (d kept : DeducedData) → AddsNew ids log (Contains (take k found)) a b → AddsNew ids log (λ x. x ≡ kept) b c → kept ≡ d → k < length found → d ≡ get_or found k d
+      → AddsNew ids log (Contains (take (k + 1) found)) a c
+  adds_next k d kept before one same lt is =
+      let whole : take (k + 1) found ≡ take k found ++ d ∷ [] = taken_next found k d lt is in
       record {
-        keeps = λ r h. one.keeps r (before.keeps r h);
-        only = λ r h. elim (one.only r h) [
-          | inl was ↦ elim (before.only r was) [
+        lowers = lowers_then a b c before.lowers one.lowers;
+        only = λ x h. elim (one.only x h) [
+          | inl was ↦ elim (before.only x was) [
             | inl older ↦ inl older
-            | inr (among, absent) ↦ inr (subst (λ xs. Contains xs r) (sym whole) (Contains-append_left (rows_in (take k found)) (d.row ∷ []) r among), absent)
+            | inr (among, absent) ↦ inr (subst (λ xs. Contains xs x) (sym whole) (Contains-append_left (take k found) (d ∷ []) x among), absent)
           ]
-          | inr (same, absent) ↦
-              inr (subst (λ xs. Contains xs r) (sym whole) (subst (λ (q : RowData). Contains (rows_in (take k found) ++ d.row ∷ []) q) (sym (same ∙ row_is)) (Contains-push (rows_in (take k found)) d.row)), absent)
+          | inr (x_is, absent) ↦ inr (subst (λ xs. Contains xs x) (sym whole) (subst (λ (y : DeducedData). Contains (take k found ++ d ∷ []) y) (sym (x_is ∙ same)) (Contains-push (take k found) d)), absent)
         ];
-        there = λ r h. elim (split r h) [
-          | inl was ↦ elim (before.there r was) [
+        there = λ x h. elim (pushed_cases (take k found) d x (subst (λ xs. Contains xs x) whole h)) [
+          | inl was ↦ elim (before.there x was) [
             | inl known ↦ inl known
-            | inr kept ↦ inr (one.keeps r kept)
+            | inr kept_there ↦ inr (lower_then b c x.row x.support kept_there one.lowers)
           ]
-          | inr same ↦ one.there r (same ∙ sym row_is)
+          | inr x_is ↦ one.there x (x_is ∙ sym same)
         ];
       }

@@ -1,9 +1,11 @@
 mod Rounds
 mod Order
-mod Places
+pub mod Places
+mod Supports
 mod Filling
 mod Adding
 mod Sorted
 mod Gathered
 mod Keeping
 mod Fronts
+mod Backing

@@ -5,12 +5,14 @@ use Rattle.std.specs.declared.cmp.Ordering.{Ordering}
 use Rattle.std.specs.List.Sorted.{IsSorted, IsSortedBy, IsPermutation}
 use Rattle.std.proofs.lemmas.List.{get_or-map, length-map, map-append}
 use Rattle.std.proofs.lemmas.List.Sorted.{IsPermutation-map, IsPermutation-sym, Contains-permutation}
-use Rattle.hs_scheme.specs.Flow.{IsAscending}
+use Rattle.hs_scheme.specs.flow.Flow.{IsAscending}
 use Rattle.hs_scheme.proofs.Orderings.{ascends}
 use Rattle.hs_table.specs.Entries.{EntryData, entry_cmp}
-use Rattle.hs_table_laws.proofs.Members.{taken_next}
+use Rattle.hs_table_laws.proofs.Members.{taken_next, from_map}
 use Rattle.hs_table_laws.proofs.Orders.{entry_cmp_total, entry_same}
-use Rattle.hs_types.specs.Interned.{InternerData, RowData, entry_of}
+use Rattle.hs_types.specs.Interned.{InternerData, RowData, IsRow, entry_of}
+use Rattle.hs_rules.specs.Conclusions.{DeducedData}
+use Rattle.hs_rules.proofs.Lists.{all_from}
 
 pub all_of : {X : Type 0} (P : X → Type 0) (xs : List X) (x : X) → All P xs → Contains xs x → P x
 all_of P xs x all c = subst P c.2 (all c.0 x c.1)
@@ -18,6 +20,12 @@ all_of P xs x all c = subst P c.2 (all c.0 x c.1)
 pub if_ok_more : {T E : Type 0} (r : Result T E) (P Q : T → Type 0) → ((x : T) → P x → Q x) → IfOk r P → IfOk r Q
 if_ok_more (Ok x) P Q f h = f x h
 if_ok_more (Err e) P Q f h = h
+
+-- rows of what was found
+pub rows_known : (ids : InternerData) (found : List DeducedData) → All (λ d. IsRow ids d.row) found → All (IsRow ids) (map (λ (d : DeducedData). d.row) found)
+rows_known ids found known =
+    all_from (IsRow ids) (map (λ (d : DeducedData). d.row) found)
+    (λ r c. let d = from_map (λ (x : DeducedData). x.row) found r c in subst (λ (q : RowData). IsRow ids q) (sym d.is) (all_of (λ (x : DeducedData). IsRow ids x.row) found d.item known d.there))
 
 -- what is sorted by an image has sorted images
 sorted_images : {X Y : Type 0} (f : X → Y) (cmp : Y → Y → Ordering) (xs : List X) → IsSortedBy (λ a b. is_lt (cmp (f a) (f b))) xs → IsSorted cmp (map f xs)

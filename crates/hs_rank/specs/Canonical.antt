@@ -5,18 +5,15 @@
 --     IsBefore p d e          d is of lower rank than e, or of the same rank and less
 --     IsByRank p T            each entry comes before those behind it
 --     IsOfLowerRank p T s e   the entry follows by this support, whose premises have lower rank
---     places_cmp              lists of places are compared place by place, a proper prefix first
 --     IsCanonicalSupport      such a support, and none has a lesser list of places
 --     IsCanonicalLog          a log with its supports is the canonical one
-use Rattle.std.specs.Prelude.{◌≡◌, ◌≢◌, ℕ, zero, suc, ◌<◌, List, length, slice_get, Some, Contains, AllPairs, ◌⊎◌, ◌↔◌}
-use Rattle.std.specs.Ordering.{nat_cmp}
-use Rattle.std.specs.Cmp.Lexicographic.{slice_cmp}
-use Rattle.std.specs.declared.cmp.Ordering.{Ordering}
-use Rattle.std.specs.declared.cmp.Ordering.TheVariants.{Less, Greater}
+use Rattle.std.specs.Prelude.{◌≡◌, ℕ, zero, suc, ◌<◌, List, length, slice_get, Some, Contains, AllPairs, ◌⊎◌, ◌↔◌}
+use Rattle.std.specs.declared.cmp.Ordering.TheVariants.{Less}
 use Rattle.hs_scheme.specs.Problem.{ProblemData}
 use Rattle.hs_table.specs.Entries.{EntryData, entry_cmp}
 use Rattle.hs_table.specs.Follows.{Support, FollowsBy, Follows, premises}
 use Rattle.hs_table.specs.Tables.{IsLeastTable}
+use Rattle.hs_rules.specs.Order.{IsNoGreater}
 
 abbrev pub IsRound : ProblemData → ℕ → List EntryData → Type 0
 IsRound p zero E = (e : EntryData) → Contains E e → ⊥
@@ -42,12 +39,9 @@ pub record IsOfLowerRank (p : ProblemData) (T : List EntryData) (s : Support) (e
   pub follows : FollowsBy p T s e
   pub lower : (place m n : ℕ) (d : EntryData) → Contains (premises s) place → slice_get T place ≡ Some d → HasRank p m d → HasRank p n e → m < n
 
-abbrev pub places_cmp : List ℕ → List ℕ → Ordering
-places_cmp xs ys = slice_cmp nat_cmp xs ys
-
 pub record IsCanonicalSupport (p : ProblemData) (T : List EntryData) (s : Support) (e : EntryData) : Type 0 where
   pub lower : IsOfLowerRank p T s e
-  pub least : (r : Support) → IsOfLowerRank p T r e → places_cmp (premises s) (premises r) ≢ Greater
+  pub least : (r : Support) → IsOfLowerRank p T r e → IsNoGreater (premises s) (premises r)
 
 pub record IsCanonicalLog (p : ProblemData) (T : List EntryData) (supports : List Support) : Type 0 where
   pub least : IsLeastTable p T

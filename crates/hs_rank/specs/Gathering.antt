@@ -1,33 +1,35 @@
--- What is gathered of a round: rows of entries that follow from the log and that it lacks.
---     IsNewRow, AreNewRows     so is a row; so are all of these
---     IsKnown                  an entry is in the log or among the rows
---     AddsNew                  to the rows those of a kind were added whose entries the log lacks
+-- What is gathered of a round: entries that follow from the log and that it lacks, with supports.
+--     IsNewDeduced, AreNewDeduced            so is one of these; so are all of them
+--     IsKnown                  an entry is in the log, or was gathered with no greater support
+--     AddsNew                  those of a kind whose entries the log lacks were added, with the lesser supports
 --     Gathered old xs new ys   xs became ys, and all else stayed but for what the interner gained
 use Rattle.std.specs.Prelude.{◌≡◌, List, Contains, ◌⊎◌}
 use Rattle.hs_scheme.specs.Problem.{ProblemData}
 use Rattle.hs_table.specs.Entries.{EntryData}
-use Rattle.hs_table.specs.Follows.{Follows}
-use Rattle.hs_types.specs.Interned.{InternerData, RowData, IsRow, entry_of, Grows}
+use Rattle.hs_table.specs.Follows.{Support}
+use Rattle.hs_types.specs.Interned.{InternerData, entry_of, Grows}
 use Rattle.hs_replica.specs.Replica.{ReplicaData}
+use Rattle.hs_rules.specs.Conclusions.{DeducedData, IsDeduced}
+use Rattle.hs_rules.specs.Found.{HasNoGreater, Lowers}
+use Rattle.hs_rules.specs.Parts.{HasRowFor}
 
-pub record IsNewRow (p : ProblemData) (ids : InternerData) (log : List EntryData) (r : RowData) : Type 0 where
-  pub row : IsRow ids r
-  pub follows : Follows p log (entry_of ids r)
-  pub new : Contains log (entry_of ids r) → ⊥
+pub record IsNewDeduced (p : ProblemData) (ids : InternerData) (log : List EntryData) (d : DeducedData) : Type 0 where
+  pub deduced : IsDeduced p ids log d
+  pub new : Contains log (entry_of ids d.row) → ⊥
 
-abbrev pub AreNewRows : ProblemData → InternerData → List EntryData → List RowData → Type 0
-AreNewRows p ids log rows = (r : RowData) → Contains rows r → IsNewRow p ids log r
+abbrev pub AreNewDeduced : ProblemData → InternerData → List EntryData → List DeducedData → Type 0
+AreNewDeduced p ids log found = (d : DeducedData) → Contains found d → IsNewDeduced p ids log d
 
-abbrev pub IsKnown : InternerData → List EntryData → List RowData → EntryData → Type 0
-IsKnown ids log rows e = Contains log e ⊎ ((r : RowData) × (Contains rows r × (entry_of ids r ≡ e)))
+abbrev pub IsKnown : InternerData → List EntryData → List DeducedData → Support → EntryData → Type 0
+IsKnown ids log found s e = Contains log e ⊎ HasRowFor ids found s e
 
-pub record AddsNew (ids : InternerData) (log : List EntryData) (Among : RowData → Type 0) (old new : List RowData) : Type 0 where
-  pub keeps : (r : RowData) → Contains old r → Contains new r
-  pub only : (r : RowData) → Contains new r → Contains old r ⊎ (Among r × (Contains log (entry_of ids r) → ⊥))
-  pub there : (r : RowData) → Among r → Contains log (entry_of ids r) ⊎ Contains new r
+pub record AddsNew (ids : InternerData) (log : List EntryData) (Among : DeducedData → Type 0) (old new : List DeducedData) : Type 0 where
+  pub lowers : Lowers old new
+  pub only : (d : DeducedData) → Contains new d → Contains old d ⊎ (Among d × (Contains log (entry_of ids d.row) → ⊥))
+  pub there : (d : DeducedData) → Among d → Contains log (entry_of ids d.row) ⊎ HasNoGreater new d.row d.support
 
-pub record Gathered (p : ProblemData) (old : ReplicaData) (xs : List RowData) (new : ReplicaData) (ys : List RowData) : Type 0 where
+pub record Gathered (p : ProblemData) (old : ReplicaData) (xs : List DeducedData) (new : ReplicaData) (ys : List DeducedData) : Type 0 where
   pub log : new.log ≡ old.log
   pub grows : Grows old.ids new.ids
-  pub fresh : AreNewRows p new.ids new.log ys
-  pub more : (e : EntryData) → IsKnown old.ids old.log xs e → IsKnown new.ids new.log ys e
+  pub fresh : AreNewDeduced p new.ids new.log ys
+  pub more : (s : Support) (e : EntryData) → IsKnown old.ids old.log xs s e → IsKnown new.ids new.log ys s e

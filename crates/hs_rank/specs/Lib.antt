@@ -1,5 +1,6 @@
 pub mod Canonical
 pub mod CanonicalExample
+pub mod Following
 pub mod Fronts
 pub mod Gathering
 pub mod Ranked

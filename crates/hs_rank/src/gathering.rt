@@ -1,45 +1,57 @@
 //! What is gathered of a round: all that follows by the entries of the round before and that the log
-//! lacks.
+//! lacks, each entry with its least support.
 
-ghost use Rattle.std.specs.Prelude.{◌≡◌, ◌<◌, ◌≤◌, ℕ, length, map, All, OnOk, IfOk, Contains};
+ghost use Rattle.std.specs.Prelude.{◌≡◌, ◌<◌, ◌≤◌, ℕ, length, All, OnOk, IfOk, Contains};
 ghost use Rattle.hs_flow.specs.Dependents.{HasDependents};
 ghost use Rattle.hs_table.specs.Entries.{InShape};
 ghost use Rattle.hs_types.specs.Interned.{IsRow};
-ghost use Rattle.hs_rank.specs.Gathering.{AreNewRows, IsKnown, AddsNew, Gathered};
-ghost use Rattle.hs_history.specs.Following.{HasSeed, HasAt, HasPlace};
+ghost use Rattle.hs_rules.specs.Found.{RowsAre};
+ghost use Rattle.hs_rank.specs.Gathering.{AreNewDeduced, IsKnown, AddsNew, Gathered};
+ghost use Rattle.hs_rank.specs.Following.{HasSeedBy, HasAtBy, HasPlaceBy};
 
 use hs_flow::Dependents;
-use hs_rules::{Deduced, Replica, conclusions_with, seed_conclusions};
+use hs_rules::{Deduced, Found, Replica, add_found, conclusions_with, seed_conclusions};
 use hs_scheme::{OutOfMemory, Problem};
 use hs_types::Row;
-use indexmap::IndexSet;
 use std::alloc::Global;
 
-/// Adds the row where the log lacks its entry.
-fn keep(replica: &Replica, row: &Row, fresh: &mut IndexSet<Row>) -> Result<(), OutOfMemory>
-    requires { IsRow replica.now.ids row.now }
-    ensures { OnOk result
-        (AddsNew replica.now.ids replica.now.log (λ r. r ≡ row.now) fresh.old.keys fresh.new.keys) }
+/// Adds what was deduced where the log lacks its entry.
+fn keep(
+    alloc: Global,
+    replica: &Replica,
+    deduced: &Deduced,
+    fresh: &mut Found,
+) -> Result<(), OutOfMemory>
+    requires row { IsRow replica.now.ids deduced.now.row }
+    requires rows { RowsAre fresh.old.rows.keys fresh.old.list.items }
+    ensures rows { OnOk result (RowsAre fresh.new.rows.keys fresh.new.list.items) }
+    ensures adds { OnOk result (AddsNew replica.now.ids replica.now.log (λ d. d ≡ deduced.now)
+        fresh.old.list.items fresh.new.list.items) }
 {
-    if let Some(_place) = replica.find(*row) {
+    if let Some(_place) = replica.find(deduced.row) {
         return Ok(());
     }
-    fresh.insert(*row)?;
-    Ok(())
+    let row = deduced.row;
+    let head = deduced.head;
+    let args = deduced.args.as_slice();
+    add_found(alloc, fresh, row, head, args)
 }
 
-/// Adds the rows of what was found of which the log lacks the entries.
+/// Adds of what was found that of which the log lacks the entries.
 fn keep_new(
+    alloc: Global,
     replica: &Replica,
     found: &[Deduced],
-    fresh: &mut IndexSet<Row>,
+    fresh: &mut Found,
 ) -> Result<(), OutOfMemory>
-    requires { All (λ d. IsRow replica.now.ids d.row) found.now }
-    ensures { OnOk result (AddsNew replica.now.ids replica.now.log
-        (Contains (map (λ d. d.row) found.now)) fresh.old.keys fresh.new.keys) }
+    requires known { All (λ d. IsRow replica.now.ids d.row) found.now }
+    requires rows { RowsAre fresh.old.rows.keys fresh.old.list.items }
+    ensures rows { OnOk result (RowsAre fresh.new.rows.keys fresh.new.list.items) }
+    ensures adds { OnOk result (AddsNew replica.now.ids replica.now.log (Contains found.now)
+        fresh.old.list.items fresh.new.list.items) }
 {
     for deduced in found {
-        keep(replica, &deduced.row, fresh)?;
+        keep(alloc, replica, deduced, fresh)?;
     }
     Ok(())
 }
@@ -50,17 +62,19 @@ fn gather_seed(
     problem: &Problem,
     replica: &mut Replica,
     point: u32,
-    fresh: &mut IndexSet<Row>,
+    fresh: &mut Found,
 ) -> Result<(), OutOfMemory>
     requires point { point < length problem.now.points.points }
-    requires fresh { AreNewRows problem.now replica.old.ids replica.old.log fresh.old.keys }
+    requires fresh { AreNewDeduced problem.now replica.old.ids replica.old.log fresh.old.list.items }
+    requires rows { RowsAre fresh.old.rows.keys fresh.old.list.items }
+    ensures rows { OnOk result (RowsAre fresh.new.rows.keys fresh.new.list.items) }
     ensures gathered { OnOk result
-        (Gathered problem.now replica.old fresh.old.keys replica.new fresh.new.keys) }
+        (Gathered problem.now replica.old fresh.old.list.items replica.new fresh.new.list.items) }
     ensures all { OnOk result
-        (HasSeed problem.now point (IsKnown replica.new.ids replica.new.log fresh.new.keys)) }
+        (HasSeedBy problem.now point (IsKnown replica.new.ids replica.new.log fresh.new.list.items)) }
 {
     let found = seed_conclusions(alloc, problem, replica, point)?;
-    keep_new(replica, found.as_slice(), fresh)
+    keep_new(alloc, replica, found.as_slice(), fresh)
 }
 
 /// Gathers what follows at the point from the entries up to the place, with the entry there.
@@ -70,19 +84,21 @@ fn gather_at(
     replica: &mut Replica,
     point: u32,
     place: u32,
-    fresh: &mut IndexSet<Row>,
+    fresh: &mut Found,
 ) -> Result<(), OutOfMemory>
     requires point { point < length problem.now.points.points }
     requires place { place < length replica.old.log }
     requires shape { All (InShape problem.now) replica.old.log }
-    requires fresh { AreNewRows problem.now replica.old.ids replica.old.log fresh.old.keys }
+    requires fresh { AreNewDeduced problem.now replica.old.ids replica.old.log fresh.old.list.items }
+    requires rows { RowsAre fresh.old.rows.keys fresh.old.list.items }
+    ensures rows { OnOk result (RowsAre fresh.new.rows.keys fresh.new.list.items) }
     ensures gathered { OnOk result
-        (Gathered problem.now replica.old fresh.old.keys replica.new fresh.new.keys) }
-    ensures all { OnOk result (HasAt problem.now replica.old.log place point
-        (IsKnown replica.new.ids replica.new.log fresh.new.keys)) }
+        (Gathered problem.now replica.old fresh.old.list.items replica.new fresh.new.list.items) }
+    ensures all { OnOk result (HasAtBy problem.now replica.old.log place point
+        (IsKnown replica.new.ids replica.new.log fresh.new.list.items)) }
 {
     let found = conclusions_with(alloc, problem, replica, point, place)?;
-    keep_new(replica, found.as_slice(), fresh)
+    keep_new(alloc, replica, found.as_slice(), fresh)
 }
 
 /// Gathers what follows from the entries up to the place, with the entry there.
@@ -92,16 +108,18 @@ fn gather_place(
     dependents: &Dependents,
     replica: &mut Replica,
     place: u32,
-    fresh: &mut IndexSet<Row>,
+    fresh: &mut Found,
 ) -> Result<(), OutOfMemory>
     requires dependents { HasDependents problem.now.points problem.now.flow.pairs dependents.now }
     requires place { place < length replica.old.log }
     requires shape { All (InShape problem.now) replica.old.log }
-    requires fresh { AreNewRows problem.now replica.old.ids replica.old.log fresh.old.keys }
+    requires fresh { AreNewDeduced problem.now replica.old.ids replica.old.log fresh.old.list.items }
+    requires rows { RowsAre fresh.old.rows.keys fresh.old.list.items }
+    ensures rows { OnOk result (RowsAre fresh.new.rows.keys fresh.new.list.items) }
     ensures gathered { OnOk result
-        (Gathered problem.now replica.old fresh.old.keys replica.new fresh.new.keys) }
-    ensures all { OnOk result (HasPlace problem.now replica.old.log place
-        (IsKnown replica.new.ids replica.new.log fresh.new.keys)) }
+        (Gathered problem.now replica.old fresh.old.list.items replica.new fresh.new.list.items) }
+    ensures all { OnOk result (HasPlaceBy problem.now replica.old.log place
+        (IsKnown replica.new.ids replica.new.log fresh.new.list.items)) }
 {
     let point = replica.row(place).point;
     for dependent in dependents.list(point) {
@@ -115,13 +133,15 @@ pub(crate) fn gather_seeds(
     alloc: Global,
     problem: &Problem,
     replica: &mut Replica,
-    fresh: &mut IndexSet<Row>,
+    fresh: &mut Found,
 ) -> Result<(), OutOfMemory>
-    requires fresh { AreNewRows problem.now replica.old.ids replica.old.log fresh.old.keys }
+    requires fresh { AreNewDeduced problem.now replica.old.ids replica.old.log fresh.old.list.items }
+    requires rows { RowsAre fresh.old.rows.keys fresh.old.list.items }
+    ensures rows { OnOk result (RowsAre fresh.new.rows.keys fresh.new.list.items) }
     ensures gathered { OnOk result
-        (Gathered problem.now replica.old fresh.old.keys replica.new fresh.new.keys) }
+        (Gathered problem.now replica.old fresh.old.list.items replica.new fresh.new.list.items) }
     ensures all { OnOk result ((point : ℕ) → point < length problem.now.points.points →
-        HasSeed problem.now point (IsKnown replica.new.ids replica.new.log fresh.new.keys)) }
+        HasSeedBy problem.now point (IsKnown replica.new.ids replica.new.log fresh.new.list.items)) }
 {
     for point in 0..problem.points.count() {
         gather_seed(alloc, problem, replica, point, fresh)?;
@@ -136,16 +156,18 @@ pub(crate) fn gather_places(
     dependents: &Dependents,
     replica: &mut Replica,
     from: u32,
-    fresh: &mut IndexSet<Row>,
+    fresh: &mut Found,
 ) -> Result<(), OutOfMemory>
     requires dependents { HasDependents problem.now.points problem.now.flow.pairs dependents.now }
     requires shape { All (InShape problem.now) replica.old.log }
-    requires fresh { AreNewRows problem.now replica.old.ids replica.old.log fresh.old.keys }
+    requires fresh { AreNewDeduced problem.now replica.old.ids replica.old.log fresh.old.list.items }
+    requires rows { RowsAre fresh.old.rows.keys fresh.old.list.items }
+    ensures rows { OnOk result (RowsAre fresh.new.rows.keys fresh.new.list.items) }
     ensures gathered { OnOk result
-        (Gathered problem.now replica.old fresh.old.keys replica.new fresh.new.keys) }
+        (Gathered problem.now replica.old fresh.old.list.items replica.new fresh.new.list.items) }
     ensures all { OnOk result ((place : ℕ) → from ≤ place → place < length replica.old.log →
-        HasPlace problem.now replica.old.log place
-        (IsKnown replica.new.ids replica.new.log fresh.new.keys)) }
+        HasPlaceBy problem.now replica.old.log place
+        (IsKnown replica.new.ids replica.new.log fresh.new.list.items)) }
 {
     for place in from..replica.len() {
         gather_place(alloc, problem, dependents, replica, place, fresh)?;

@@ -1,12 +1,13 @@
 //! The canonical log of a problem: the least table in an order, and with supports, that depend on
-//! nothing but the problem. Both are defined here; the order is made, the supports aren't yet.
+//! nothing but the problem.
 #![tactic(auto)]
 
 mod gathering;
 mod laws;
 mod ordering;
 mod ranking;
+mod supporting;
 
-pub use hs_rules::Replica;
+pub use hs_rules::{Deduced, Replica};
 pub use laws::{canonical_logs_are_equal, least_supports_are_canonical};
-pub use ranking::by_rank;
+pub use ranking::{RankedLog, ranked};

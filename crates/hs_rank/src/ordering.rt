@@ -1,10 +1,12 @@
 //! Rows in the order of their entries.
 
 ghost use Rattle.std.specs.Prelude.{◌≡◌, ◌≢◌, ◌↔◌, map, All, AllPairs, IfOk, Contains};
-ghost use Rattle.hs_scheme.specs.Flow.{IsAscending};
+ghost use Rattle.hs_scheme.specs.flow.Flow.{IsAscending};
 ghost use Rattle.hs_table.specs.Entries.{entry_cmp};
 ghost use Rattle.hs_types.specs.Interned.{IsRow, entry_of, RowData};
+ghost use Rattle.hs_rules.specs.Found.{RowsAre};
 
+use hs_rules::{Deduced, Found, Replica};
 use hs_scheme::OutOfMemory;
 use hs_table::Entry;
 use hs_types::{Interner, Row};
@@ -38,13 +40,20 @@ fn rows_of(alloc: Global, pairs: &[(Entry, Row)]) -> Result<Vec<Row>, OutOfMemor
     Ok(rows)
 }
 
+/// The rows of what was found.
+fn rows_found(alloc: Global, found: &[Deduced]) -> Result<Vec<Row>, OutOfMemory>
+    ensures { IfOk result (λ rows. rows.items ≡ map (λ d. d.row) found.now) }
+{
+    let mut rows = Vec::with_capacity(alloc, found.len())?;
+    for deduced in found {
+        rows.push_reserved(deduced.row);
+    }
+    Ok(rows)
+}
+
 /// The rows in ascending order of their entries, of which no two are equal. Each entry is made anew
 /// for it, and dropped.
-pub(crate) fn in_order(
-    alloc: Global,
-    interner: &Interner,
-    rows: &[Row],
-) -> Result<Vec<Row>, OutOfMemory>
+fn in_order(alloc: Global, interner: &Interner, rows: &[Row]) -> Result<Vec<Row>, OutOfMemory>
     requires rows { All (IsRow interner.now) rows.now }
     requires distinct { AllPairs (λ a b. a ≢ b) (map (entry_of interner.now) rows.now) }
     ensures ascending { IfOk result
@@ -54,4 +63,23 @@ pub(crate) fn in_order(
     let mut pairs = with_entries(alloc, interner, rows)?;
     pairs.sort_by(|a, b| a.0.compare(&b.0))?;
     rows_of(alloc, pairs.as_slice())
+}
+
+/// The rows of what was gathered, in ascending order of their entries.
+pub(crate) fn rows_in_order(
+    alloc: Global,
+    replica: &Replica,
+    fresh: &Found,
+) -> Result<Vec<Row>, OutOfMemory>
+    requires rows { RowsAre fresh.now.rows.keys fresh.now.list.items }
+    requires known { All (λ d. IsRow replica.now.ids d.row) fresh.now.list.items }
+    ensures ascending { IfOk result
+        (λ sorted. IsAscending entry_cmp (map (entry_of replica.now.ids) sorted.items)) }
+    ensures same { IfOk result (λ sorted. (r : RowData) → Contains sorted.items r
+        ↔ Contains (map (λ d. d.row) fresh.now.list.items) r) }
+{
+    let interner = replica.interner();
+    interner.know_numbers();
+    let rows = rows_found(alloc, fresh.list.as_slice())?;
+    in_order(alloc, interner, rows.as_slice())
 }

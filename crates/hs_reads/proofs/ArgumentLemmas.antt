@@ -4,7 +4,7 @@ use Rattle.std.proofs.lemmas.List.Elements.{Contains-append_cases}
 use Rattle.hs_scheme.specs.declared.term.Head.{Head}
 use Rattle.hs_scheme.specs.declared.term.Rule.{Rule}
 use Rattle.hs_scheme.specs.Tree.{Tree, Trees, node, none, more}
-use Rattle.hs_scheme.specs.Points.{PointData, PointsData, point_at, size, sizes, numbers, term_points, terms_points, rules_points}
+use Rattle.hs_scheme.specs.flow.Points.{PointData, PointsData, point_at, size, sizes, numbers, term_points, terms_points, rules_points}
 use Rattle.hs_scheme.specs.Problem.{ProblemData}
 use Rattle.hs_scheme.proofs.Lists.{none_in, uncons, some_at, Contains-at}
 use Rattle.hs_scheme.proofs.PointLemmas.{length-term_points, at_least_one}

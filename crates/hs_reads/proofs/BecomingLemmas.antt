@@ -3,13 +3,13 @@ use Rattle.std.proofs.Common.{◌≡◌, refl, sym, ◌∙◌, ap, subst, ℕ, �
 use Rattle.std.proofs.lemmas.Option.{slice_get-get_or, same_Some}
 use Rattle.hs_scheme.specs.declared.term.Head.{Head}
 use Rattle.hs_scheme.specs.declared.term.Head.TheVariants.{Var, Nt, Tm}
-use Rattle.hs_scheme.specs.Points.{PointData, PointsData, point_at}
+use Rattle.hs_scheme.specs.flow.Points.{PointData, PointsData, point_at}
 use Rattle.hs_scheme.specs.Problem.{ProblemData}
 use Rattle.hs_table_laws.proofs.Places.{within_from}
 use Rattle.hs_weak.specs.Reads.{PointIs, FlowsTo, Becomes, by_terminal, by_parameter}
 use Rattle.hs_reads.specs.declared.becoming.Becoming.{Becoming}
 use Rattle.hs_scheme.specs.declared.flow.FlowPair.{FlowPair}
-use Rattle.hs_scheme.specs.Parameters.{IsParameter, parameter_of}
+use Rattle.hs_scheme.specs.sorting.Parameters.{IsParameter, parameter_of}
 use Rattle.hs_scheme.proofs.ParameterLemmas.{number_once}
 use Rattle.hs_reads.specs.Growing.{AddsOnly, AreTooMany}
 use Rattle.hs_reads.specs.Lists.{list_of}

@@ -5,8 +5,8 @@ use Rattle.std.proofs.lemmas.Option.{get_or_from_slice_get}
 use Rattle.hs_scheme.specs.declared.term.Head.{Head}
 use Rattle.hs_scheme.specs.declared.term.Head.TheVariants.{Var, Nt, Tm}
 use Rattle.hs_scheme.specs.declared.flow.FlowPair.{FlowPair}
-use Rattle.hs_scheme.specs.Points.{PointsData, point_at}
-use Rattle.hs_scheme.specs.Automaton.{next}
+use Rattle.hs_scheme.specs.flow.Points.{PointsData, point_at}
+use Rattle.hs_scheme.specs.acceptance.Automaton.{next}
 use Rattle.hs_scheme.specs.Problem.{ProblemData}
 use Rattle.hs_scheme.proofs.Lists.{filter_keeps}
 use Rattle.hs_table_laws.proofs.Places.{place_of, within_from}

@@ -2,7 +2,7 @@
 use Rattle.std.proofs.Common.{◌≡◌, subst, ℕ, ◌+◌, ◌<◌, ◌≤◌, List, [], length, sum, get_or, take, Contains}
 use Rattle.hs_scheme.specs.declared.term.Head.TheVariants.{Var}
 use Rattle.hs_scheme.specs.declared.flow.FlowPair.{FlowPair}
-use Rattle.hs_scheme.specs.Parameters.{IsParameter, parameter_of}
+use Rattle.hs_scheme.specs.sorting.Parameters.{IsParameter, parameter_of}
 use Rattle.hs_scheme.specs.Problem.{ProblemData}
 use Rattle.hs_scheme.proofs.Lists.{none_in}
 use Rattle.hs_weak.specs.Reads.{PointIs}

@@ -6,8 +6,8 @@ use Rattle.std.proofs.lemmas.List.Elements.{All-contains, Contains-append_cases,
 use Rattle.hs_scheme.specs.declared.term.Head.TheVariants.{Var, Nt, Tm}
 use Rattle.hs_scheme.specs.declared.term.Rule.{Rule}
 use Rattle.hs_scheme.specs.declared.flow.FlowPair.{FlowPair}
-use Rattle.hs_scheme.specs.Points.{PointData, PointsData, size, term_points, rules_points, bodies}
-use Rattle.hs_scheme.specs.Automaton.{next}
+use Rattle.hs_scheme.specs.flow.Points.{PointData, PointsData, size, term_points, rules_points, bodies}
+use Rattle.hs_scheme.specs.acceptance.Automaton.{next}
 use Rattle.hs_scheme.specs.Problem.{ProblemData, FlowWithin}
 use Rattle.hs_scheme.proofs.Lists.{none_in, here, later, uncons, only, Contains-at}
 use Rattle.hs_scheme.proofs.PointLemmas.{length-term_points, at_least_one, args_within}

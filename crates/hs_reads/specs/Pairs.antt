@@ -5,8 +5,8 @@
 --     IsReadBehind ts state b args x   an argument with the state behind those of the arguments that are given to the terminal
 --     AreNeeded p pairs           the pairs are in each closed list
 use Rattle.std.specs.Prelude.{◌≡◌, ℕ, zero, suc, ◌+◌, List, [], ◌∷◌, ◌++◌, slice_get, Option, Some, None, Contains}
-use Rattle.hs_scheme.specs.Transition.{TransitionData}
-use Rattle.hs_scheme.specs.Automaton.{next}
+use Rattle.hs_scheme.specs.acceptance.Transition.{TransitionData}
+use Rattle.hs_scheme.specs.acceptance.Automaton.{next}
 use Rattle.hs_scheme.specs.Problem.{ProblemData}
 use Rattle.hs_weak.specs.Reads.{Read, IsClosedReads}
 use Rattle.hs_reads.specs.declared.becoming.Becoming.{Becoming}

@@ -4,8 +4,8 @@ ghost use Rattle.std.specs.Prelude.{◌≡◌, [], ◌+◌, ◌*◌, ◌<◌, �
 ghost use Rattle.hs_scheme.specs.declared.flow.FlowPair.{FlowPair as AnyFlow};
 ghost use Rattle.hs_scheme.specs.declared.term.Head.{Head as AnyHead};
 ghost use Rattle.hs_scheme.specs.declared.term.Head.TheVariants.{Var, Tm};
-ghost use Rattle.hs_scheme.specs.Points.{point_at};
-ghost use Rattle.hs_scheme.specs.Parameters.{IsParameter, parameter_of};
+ghost use Rattle.hs_scheme.specs.flow.Points.{point_at};
+ghost use Rattle.hs_scheme.specs.sorting.Parameters.{IsParameter, parameter_of};
 ghost use Rattle.hs_weak.specs.Reads.{PointIs};
 ghost use Rattle.hs_reads.specs.Lists.{list_of};
 ghost use Rattle.hs_reads.specs.declared.stop.Stop.TheVariants.{Limit};
@@ -16,7 +16,7 @@ ghost use Rattle.hs_reads.specs.Becomings.{AnyBecoming, HasTerminals, HasTermina
 use crate::lists::Lists;
 use crate::stop::Stop;
 use hs_scheme::{FlowPair, Head, OutOfMemory, Parameters, Problem};
-use hs_verdict::is_sorted_problem;
+use hs_verdict::know_sorted_problem;
 use indexmap::IndexSet;
 use std::alloc::Global;
 
@@ -54,7 +54,7 @@ fn given_at(problem: &Problem, point: u32) -> usize
     ensures len { result ≡ length (point_at problem.now.points point).args }
     ensures few { result ≤ 500000 }
 {
-    is_sorted_problem(problem);
+    know_sorted_problem(problem);
     problem.points.count();
     problem.points.args_of(point).len()
 }
@@ -118,7 +118,7 @@ fn add_terminals(problem: &Problem, found: &mut IndexSet<Becoming>) -> Result<()
     ensures short { AreShort found.old.keys → AreShort found.new.keys }
     ensures limit { IsErrOf result Limit → AreTooMany found.new.keys }
 {
-    is_sorted_problem(problem);
+    know_sorted_problem(problem);
     for pair in flow_pairs(problem) {
         add_terminal(problem, found, pair)?;
     }
@@ -157,7 +157,7 @@ fn add_by_head(
 fn by_head(alloc: Global, problem: &Problem) -> Result<Lists<FlowPair>, OutOfMemory>
     ensures { IfOk result (IsByHead problem.now problem.now.flow.pairs) }
 {
-    is_sorted_problem(problem);
+    know_sorted_problem(problem);
     let mut lists = Lists::empty(alloc, problem.points.params().count() as usize)?;
     for pair in flow_pairs(problem) {
         add_by_head(problem, &mut lists, *pair)?;

@@ -3,9 +3,9 @@
 ghost use Rattle.std.specs.Prelude.{◌≡◌, ◌+◌, ◌<◌, ℕ, List, Some, Contains, OnOk, IsErrOf, drop, length, option_copied, slice_get};
 ghost use Rattle.hs_scheme.specs.declared.flow.FlowPair.{FlowPair as AnyFlow};
 ghost use Rattle.hs_scheme.specs.declared.term.Head.TheVariants.{Var, Tm};
-ghost use Rattle.hs_scheme.specs.Points.{point_at};
-ghost use Rattle.hs_scheme.specs.Parameters.{IsParameter};
-ghost use Rattle.hs_scheme.specs.Automaton.{next};
+ghost use Rattle.hs_scheme.specs.flow.Points.{point_at};
+ghost use Rattle.hs_scheme.specs.sorting.Parameters.{IsParameter};
+ghost use Rattle.hs_scheme.specs.acceptance.Automaton.{next};
 ghost use Rattle.hs_reads.specs.declared.stop.Stop.TheVariants.{Limit};
 ghost use Rattle.hs_reads.specs.Growing.{Grows, AddsOnly, AreTooMany};
 ghost use Rattle.hs_reads.specs.Becomings.{AnyBecoming, HasTerminals, HasTerminalsOnly};

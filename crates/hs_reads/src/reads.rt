@@ -15,7 +15,7 @@ use crate::lists::Lists;
 use crate::reading::{Pairs, add_demanded, add_start};
 use crate::stop::Stop;
 use hs_scheme::{OutOfMemory, Problem, Sorted};
-use hs_verdict::is_sorted_problem;
+use hs_verdict::know_sorted_problem;
 use indexmap::IndexSet;
 use std::alloc::Global;
 use std::marker::Model;
@@ -175,7 +175,7 @@ impl Reads {
         ensures all { IfOk result (AreAllPairs problem.now) }
         ensures closed { IfOk result (IsClosedReads problem.now) }
     {
-        is_sorted_problem(problem);
+        know_sorted_problem(problem);
         let states = states_of(&problem.sorted);
         let by_point = Lists::empty(alloc, 0)?;
         let every = all_below(alloc, states)?;

@@ -8,21 +8,21 @@ use Rattle.std.proofs.lemmas.Option.{get_or_from_slice_get, slice_get-get_or, sl
 use Rattle.hs_scheme.specs.declared.term.Head.{Head}
 use Rattle.hs_scheme.specs.declared.term.Head.TheVariants.{Var, Nt, Tm}
 use Rattle.hs_scheme.specs.declared.term.Rule.{Rule}
-use Rattle.hs_scheme.specs.Transition.{TransitionData}
-use Rattle.hs_scheme.specs.Automaton.{next}
+use Rattle.hs_scheme.specs.acceptance.Transition.{TransitionData}
+use Rattle.hs_scheme.specs.acceptance.Automaton.{next}
 use Rattle.hs_scheme.specs.Tree.{Tree, Trees, node, children, forest, children-forest}
-use Rattle.hs_scheme.specs.Cut.{CutTree, undefined, cut, unfolded}
-use Rattle.hs_scheme.specs.Run.{run, runs}
-use Rattle.hs_scheme.specs.Sorting.{Sorts}
-use Rattle.hs_scheme.specs.Sorted.{SortedData, known, sorts_of}
-use Rattle.hs_scheme.specs.Steps.{Reaches, Fails, HasNoTransition}
+use Rattle.hs_scheme.specs.acceptance.Cut.{CutTree, undefined, cut, unfolded}
+use Rattle.hs_scheme.specs.acceptance.Run.{run, runs}
+use Rattle.hs_scheme.specs.sorting.Sorting.{Sorts}
+use Rattle.hs_scheme.specs.sorting.Sorted.{SortedData, known, sorts_of}
+use Rattle.hs_scheme.specs.acceptance.Steps.{Reaches, Fails, HasNoTransition}
 use Rattle.hs_scheme.specs.TreeTerms.{IsTreeTerm}
 use Rattle.hs_scheme.proofs.PlainLemmas.{cut-Var, cut-Nt_none, cut-Nt_some, cut-Tm}
 use Rattle.hs_steps.proofs.Sorted.{step_sorted}
 use Rattle.hs_steps.proofs.Failing.{within_refused}
 use Rattle.hs_steps.proofs.PathLemmas.{after_replacement, after_descent}
 use Rattle.hs_reduce.specs.Graph.{term_at, terms_at, head_of, arguments_of, NamesTerms}
-use Rattle.hs_scheme.specs.FailingPath.{FailingPathData}
+use Rattle.hs_scheme.specs.acceptance.FailingPath.{FailingPathData}
 use Rattle.hs_reduce.specs.Path.{IsErrorFrom}
 use Rattle.hs_reduce.specs.Advances.{HasKnownSorts}
 use Rattle.hs_reduce.specs.Bounds.{ReadsCut, IsErrorWithin}

@@ -8,8 +8,8 @@ use Rattle.hs_scheme.specs.declared.term.Head.{Head}
 use Rattle.hs_scheme.specs.declared.term.Head.TheVariants.{Var, Nt, Tm}
 use Rattle.hs_scheme.specs.declared.term.Rule.{Rule}
 use Rattle.hs_scheme.specs.Tree.{Tree, node, none, join, forest, children, forest-children, forest-append}
-use Rattle.hs_scheme.specs.Replacement.{replaced, subst, applied}
-use Rattle.hs_scheme.specs.Cut.{unfolded, body_of}
+use Rattle.hs_scheme.specs.acceptance.Replacement.{replaced, subst, applied}
+use Rattle.hs_scheme.specs.acceptance.Cut.{unfolded, body_of}
 use Rattle.hs_scheme.proofs.PlainLemmas.{subst-node}
 use Rattle.hs_steps.proofs.Terms.{applied-none, unfolds}
 use Rattle.hs_reduce.specs.Graph.{term_at, terms_at, head_of, arguments_of, GrowsTrees, AddsTerm, Unfolds}

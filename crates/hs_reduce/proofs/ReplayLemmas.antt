@@ -9,16 +9,16 @@ use Rattle.std.proofs.lemmas.Option.{unwrap_or-slice_get, slice_get_past, slice_
 use Rattle.hs_scheme.specs.declared.term.Head.{Head}
 use Rattle.hs_scheme.specs.declared.term.Head.TheVariants.{Nt, Tm}
 use Rattle.hs_scheme.specs.declared.term.Rule.{Rule}
-use Rattle.hs_scheme.specs.Transition.{TransitionData}
-use Rattle.hs_scheme.specs.Automaton.{next}
+use Rattle.hs_scheme.specs.acceptance.Transition.{TransitionData}
+use Rattle.hs_scheme.specs.acceptance.Automaton.{next}
 use Rattle.hs_scheme.specs.Tree.{Tree, Trees, node, children, forest, children-forest}
-use Rattle.hs_scheme.specs.Cut.{unfolded}
-use Rattle.hs_scheme.specs.Run.{start}
-use Rattle.hs_scheme.specs.Failing.{IsFailingPath}
+use Rattle.hs_scheme.specs.acceptance.Cut.{unfolded}
+use Rattle.hs_scheme.specs.acceptance.Run.{start}
+use Rattle.hs_scheme.specs.acceptance.Failing.{IsFailingPath}
 use Rattle.hs_scheme.specs.Scheme.{IsScheme}
-use Rattle.hs_scheme.specs.Sorting.{Sorts}
-use Rattle.hs_scheme.specs.Sorted.{SortedData, IsSorted, known, sorts_of}
-use Rattle.hs_scheme.specs.Steps.{Path, StepsTo, Reaches, ReachesByChildren, child_numbers}
+use Rattle.hs_scheme.specs.sorting.Sorting.{Sorts}
+use Rattle.hs_scheme.specs.sorting.Sorted.{SortedData, IsSorted, known, sorts_of}
+use Rattle.hs_scheme.specs.acceptance.Steps.{Path, StepsTo, Reaches, ReachesByChildren, child_numbers}
 use Rattle.hs_scheme.specs.TreeTerms.{IsTreeTerm, ground}
 use Rattle.hs_scheme.proofs.Sortings.{length-ranked}
 use Rattle.hs_steps.proofs.Sorted.{count, as_many, start_sorted, step_sorted}
@@ -26,9 +26,9 @@ use Rattle.hs_steps.proofs.PathLemmas.{one_more}
 use Rattle.hs_reduce.specs.declared.answers.Replay.{Replay}
 use Rattle.hs_reduce.specs.declared.answers.Replay.TheVariants.{Stuck, Ended, NoChild, Runs}
 use Rattle.hs_reduce.specs.Replays.{IsMet, HasTransition, IsNoChild, IsEndOfPath, IsOffPath, MeetsAlong, IsReplayAnswer}
-use Rattle.hs_reduce.specs.declared.replaying.Spot.{Spot}
+use Rattle.hs_reduce.specs.declared.replaying.Progress.{Progress}
 use Rattle.hs_reduce.specs.Graph.{term_at, head_of, arguments_of, NamesTerms}
-use Rattle.hs_reduce.specs.Advances.{HasKnownSorts, HasNoStep, IsReachedSpot}
+use Rattle.hs_reduce.specs.Advances.{HasKnownSorts, HasNoStep, IsReached}
 use Rattle.hs_reduce.proofs.ReplacementLemmas.{whole}
 use Rattle.hs_reduce.proofs.Walks.{Config, config, goes, after, walked, last, stops_without_transition, stops_without_child, stops_without_step}
 
@@ -231,56 +231,56 @@ module _ (s : SortedData) (sorted : HasKnownSorts s) where
     numbers_on at at' trail label numbers e =
         map-append (λ (x : ℕ × ℕ). x.1) trail label ∙ (ap (λ cs. cs ++ child_numbers label) numbers ∙ sym e)
 
-    pub by_children : (trail : Path) (spot : Spot) (t : Tree Head) → IsReachedSpot s path trail spot t → ReachesByChildren rules ts spot.used 0 start (take spot.at path) spot.state t
-    by_children trail spot t is = (trail, is.numbers, is.reached)
+    pub by_children : (trail : Path) (progress : Progress) (t : Tree Head) → IsReached s path trail progress t → ReachesByChildren rules ts progress.used 0 start (take progress.at path) progress.state t
+    by_children trail progress t is = (trail, is.numbers, is.reached)
 
-    -- what is met at a spot
-    module _ (trail : Path) (spot : Spot) (t : Tree Head) (a : ℕ) (is : IsReachedSpot s path trail spot t) (front : head_of t ≡ Tm a) where
+    -- what is met at a progress
+    module _ (trail : Path) (progress : Progress) (t : Tree Head) (a : ℕ) (is : IsReached s path trail progress t) (front : head_of t ≡ Tm a) where
       pub fronted : t ≡ node (Tm a) (forest (arguments_of t))
       fronted = sym (whole t) ∙ ap (λ h. node h (forest (arguments_of t))) front
 
-      reached_front : Reaches rules ts spot.used 0 start trail spot.state (node (Tm a) (forest (arguments_of t)))
-      reached_front = along (λ (u : Tree Head). Reaches rules ts spot.used 0 start trail spot.state u) fronted is.reached
+      reached_front : Reaches rules ts progress.used 0 start trail progress.state (node (Tm a) (forest (arguments_of t)))
+      reached_front = along (λ (u : Tree Head). Reaches rules ts progress.used 0 start trail progress.state u) fronted is.reached
 
-      in_front : ReachesByChildren rules ts spot.used 0 start (take spot.at path) spot.state (node (Tm a) (forest (arguments_of t)))
+      in_front : ReachesByChildren rules ts progress.used 0 start (take progress.at path) progress.state (node (Tm a) (forest (arguments_of t)))
       in_front = (trail, is.numbers, reached_front)
 
       -- without transition the path fails there
-      pub fails_at : next ts spot.state a ≡ None
-          → IsFailingPath rules ts (record { steps = trail; last = a; state = spot.state; used = spot.used }) × (child_numbers trail ≡ take spot.at path)
+      pub fails_at : next ts progress.state a ≡ None
+          → IsFailingPath rules ts (record { steps = trail; last = a; state = progress.state; used = progress.used }) × (child_numbers trail ≡ take progress.at path)
       fails_at e = (record { arguments = forest (arguments_of t); reaches = reached_front; stuck = e }, is.numbers)
 
-      met_at : (steps : ℕ) → spot.used ≤ steps → IsMet s path steps spot.at spot.used spot.state a
+      met_at : (steps : ℕ) → progress.used ≤ steps → IsMet s path steps progress.at progress.used progress.state a
       met_at steps le = record { in_time = le; on_path = is.on_path; arguments = forest (arguments_of t); reached = in_front }
 
-      pub stuck_at : next ts spot.state a ≡ None → (steps : ℕ) → spot.used ≤ steps → MeetsAlong s path steps (Stuck a spot.state spot.at spot.used)
+      pub stuck_at : next ts progress.state a ≡ None → (steps : ℕ) → progress.used ≤ steps → MeetsAlong s path steps (Stuck a progress.state progress.at progress.used)
       stuck_at e steps le = (met_at steps le, e)
 
-      pub ends_at : (steps : ℕ) (to : List ℕ) → spot.used ≤ steps → length path ≤ spot.at → next ts spot.state a ≡ Some to → IsEndOfPath s path steps spot.used
+      pub ends_at : (steps : ℕ) (to : List ℕ) → progress.used ≤ steps → length path ≤ progress.at → next ts progress.state a ≡ Some to → IsEndOfPath s path steps progress.used
       ends_at steps to le over e =
-          let all : spot.at ≡ length path = omega (arith, is.on_path) in
-          record { state = spot.state; terminal = a; met = along (λ i. IsMet s path steps i spot.used spot.state a) all (met_at steps le); goes_on = (to, e) }
+          let all : progress.at ≡ length path = omega (arith, is.on_path) in
+          record { state = progress.state; terminal = a; met = along (λ i. IsMet s path steps i progress.used progress.state a) all (met_at steps le); goes_on = (to, e) }
 
       front_sorted : IsTreeTerm sorts (node (Tm a) (forest (arguments_of t)))
-      front_sorted = met_sorted spot.used spot.state (node (Tm a) (forest (arguments_of t))) (take spot.at path) in_front
+      front_sorted = met_sorted progress.used progress.state (node (Tm a) (forest (arguments_of t))) (take progress.at path) in_front
 
       own_arguments : children (forest (arguments_of t)) ≡ arguments_of t
       own_arguments = children-forest (arguments_of t)
 
-      module _ (trees : List (Tree Head)) (places : List ℕ) (named : NamesTerms trees places (arguments_of t)) (to : List ℕ) (e : next ts spot.state a ≡ Some to) (c : ℕ) (at : slice_get path spot.at ≡ Some c) where
+      module _ (trees : List (Tree Head)) (places : List ℕ) (named : NamesTerms trees places (arguments_of t)) (to : List ℕ) (e : next ts progress.state a ≡ Some to) (c : ℕ) (at : slice_get path progress.at ≡ Some c) where
         as_many_places : length places ≡ length (arguments_of t)
         as_many_places = sym (length-map places (term_at trees)) ∙ ap length named.terms
 
-        pub off_at : (steps : ℕ) → spot.used ≤ steps → (c ≡ 0) ⊎ (length places < c) ⊎ (length to < c) → IsOffPath s path steps spot.at
+        pub off_at : (steps : ℕ) → progress.used ≤ steps → (c ≡ 0) ⊎ (length places < c) ⊎ (length to < c) → IsOffPath s path steps progress.at
         off_at steps le h = record {
-          used = spot.used;
-          state = spot.state;
+          used = progress.used;
+          state = progress.state;
           terminal = a;
           met = met_at steps le;
           goes_on = (to, e);
           number = c;
           next = at;
-          no_child = number_of_no_child spot.state a c (forest (arguments_of t)) to (length places) e front_sorted (as_many_places ∙ ap length (sym own_arguments)) h;
+          no_child = number_of_no_child progress.state a c (forest (arguments_of t)) to (length places) e front_sorted (as_many_places ∙ ap length (sym own_arguments)) h;
         }
 
         pub child_within : (i place : ℕ) → slice_get places i ≡ Some place → place < length trees
@@ -292,21 +292,21 @@ module _ (s : SortedData) (sorted : HasKnownSorts s) where
         child_term i place there =
             ap (λ us. slice_get us i) (own_arguments ∙ sym named.terms) ∙ (slice_get-map (term_at trees) places i ∙ ap (option_map (term_at trees)) there)
 
-        pub step_down : (i place q : ℕ) → c ≡ i + 1 → slice_get places i ≡ Some place → slice_get to i ≡ Some q → StepsTo rules ts spot.state t ((a, c) ∷ []) q (term_at trees place)
+        pub step_down : (i place q : ℕ) → c ≡ i + 1 → slice_get places i ≡ Some place → slice_get to i ≡ Some q → StepsTo rules ts progress.state t ((a, c) ∷ []) q (term_at trees place)
         step_down i place q is_number there in_state =
-            along (λ (u : Tree Head). StepsTo rules ts spot.state u ((a, c) ∷ []) q (term_at trees place)) (sym fronted)
+            along (λ (u : Tree Head). StepsTo rules ts progress.state u ((a, c) ∷ []) q (term_at trees place)) (sym fronted)
             (to, e, record { place = i; labelled = ap (λ k. (a, k) ∷ []) is_number; state = in_state; term = child_term i place there })
 
         pub goes_down : (i place q : ℕ) → c ≡ i + 1 → slice_get places i ≡ Some place → slice_get to i ≡ Some q
-            → IsReachedSpot s path (trail ++ (a, c) ∷ []) (record { place = place; state = q; at = spot.at + 1; used = spot.used + 1 }) (term_at trees place)
+            → IsReached s path (trail ++ (a, c) ∷ []) (record { place = place; state = q; at = progress.at + 1; used = progress.used + 1 }) (term_at trees place)
         goes_down i place q is_number there in_state =
-            let lt : spot.at < length path = slice_get_within path spot.at c at in
-            let numbers : take (spot.at + 1) path ≡ take spot.at path ++ c ∷ [] =
-            take_more path spot.at c lt ∙ ap (λ k. take spot.at path ++ k ∷ []) (get_or_from_slice_get path spot.at c c at) in
+            let lt : progress.at < length path = slice_get_within path progress.at c at in
+            let numbers : take (progress.at + 1) path ≡ take progress.at path ++ c ∷ [] =
+            take_more path progress.at c lt ∙ ap (λ k. take progress.at path ++ k ∷ []) (get_or_from_slice_get path progress.at c c at) in
             record {
               on_path = omega arith;
-              numbers = numbers_on spot.at (spot.at + 1) trail ((a, c) ∷ []) is.numbers numbers;
-              reached = one_more rules ts spot.used 0 spot.state q start t (term_at trees place) trail ((a, c) ∷ []) is.reached (step_down i place q is_number there in_state);
+              numbers = numbers_on progress.at (progress.at + 1) trail ((a, c) ∷ []) is.numbers numbers;
+              reached = one_more rules ts progress.used 0 progress.state q start t (term_at trees place) trail ((a, c) ∷ []) is.reached (step_down i place q is_number there in_state);
             }
 
     -- a replacement in front
@@ -316,11 +316,11 @@ module _ (s : SortedData) (sorted : HasKnownSorts s) where
         let goes_to : unfolded rules f (children (forest (arguments_of t))) ≡ Some u = ap (unfolded rules f) (children-forest (arguments_of t)) ∙ e in
         along (λ (v : Tree Head). StepsTo rules ts q v [] q u) fronted (refl, refl, goes_to)
 
-    pub replaces : (trail : Path) (spot : Spot) (t u : Tree Head) (f place : ℕ) → IsReachedSpot s path trail spot t → head_of t ≡ Nt f → unfolded rules f (arguments_of t) ≡ Some u
-        → IsReachedSpot s path (trail ++ []) (record { place = place; state = spot.state; at = spot.at; used = spot.used + 1 }) u
-    replaces trail spot t u f place is front e =
+    pub replaces : (trail : Path) (progress : Progress) (t u : Tree Head) (f place : ℕ) → IsReached s path trail progress t → head_of t ≡ Nt f → unfolded rules f (arguments_of t) ≡ Some u
+        → IsReached s path (trail ++ []) (record { place = place; state = progress.state; at = progress.at; used = progress.used + 1 }) u
+    replaces trail progress t u f place is front e =
         record {
           on_path = is.on_path;
-          numbers = numbers_on spot.at spot.at trail [] is.numbers (sym (append-nil (take spot.at path)));
-          reached = one_more rules ts spot.used 0 spot.state spot.state start t u trail [] is.reached (step_replaced spot.state f t u front e);
+          numbers = numbers_on progress.at progress.at trail [] is.numbers (sym (append-nil (take progress.at path)));
+          reached = one_more rules ts progress.used 0 progress.state progress.state start t u trail [] is.reached (step_replaced progress.state f t u front e);
         }

@@ -6,24 +6,24 @@ use Rattle.std.proofs.lemmas.Grind.{flat_map-append}
 use Rattle.hs_scheme.specs.declared.term.Head.{Head}
 use Rattle.hs_scheme.specs.declared.term.Head.TheVariants.{Nt, Tm}
 use Rattle.hs_scheme.specs.declared.term.Rule.{Rule}
-use Rattle.hs_scheme.specs.Transition.{TransitionData}
-use Rattle.hs_scheme.specs.Automaton.{next}
+use Rattle.hs_scheme.specs.acceptance.Transition.{TransitionData}
+use Rattle.hs_scheme.specs.acceptance.Automaton.{next}
 use Rattle.hs_scheme.specs.Tree.{Tree, forest}
-use Rattle.hs_scheme.specs.Cut.{unfolded}
-use Rattle.hs_scheme.specs.Run.{start}
-use Rattle.hs_scheme.specs.Steps.{Path, child_numbers}
-use Rattle.hs_scheme.specs.Failing.{IsFailingPath}
-use Rattle.hs_scheme.specs.Sorted.{SortedData}
+use Rattle.hs_scheme.specs.acceptance.Cut.{unfolded}
+use Rattle.hs_scheme.specs.acceptance.Run.{start}
+use Rattle.hs_scheme.specs.acceptance.Steps.{Path, child_numbers}
+use Rattle.hs_scheme.specs.acceptance.Failing.{IsFailingPath}
+use Rattle.hs_scheme.specs.sorting.Sorted.{SortedData}
 use Rattle.hs_reduce.specs.declared.answers.Replay.{Replay}
 use Rattle.hs_reduce.specs.declared.answers.Replay.TheVariants.{Stuck}
 use Rattle.hs_reduce.specs.declared.answers.ReductionStep.{ReductionStep}
 use Rattle.hs_reduce.specs.declared.answers.ReductionStep.TheVariants.{Call, Descent}
-use Rattle.hs_reduce.specs.declared.replaying.Spot.{Spot}
+use Rattle.hs_reduce.specs.declared.replaying.Progress.{Progress}
 use Rattle.hs_reduce.specs.declared.trail.Trail.{Trail}
 use Rattle.hs_reduce.specs.Graph.{term_at, head_of, arguments_of, NamesTerms}
 use Rattle.hs_reduce.specs.Replays.{IsReplayAnswer}
 use Rattle.hs_reduce.specs.Trace.{label_of, labels_of, IsStepOf, Traces, IsFailingTrace, IsTraceAlong}
-use Rattle.hs_reduce.specs.Advances.{HasKnownSorts, IsReachedSpot, IsTracedSpot, Keeps, EndsTrail}
+use Rattle.hs_reduce.specs.Advances.{HasKnownSorts, IsReached, IsTraced, Keeps, EndsTrail}
 use Rattle.hs_reduce.proofs.ReplayLemmas.{fails_at, fronted, step_down, goes_down, step_replaced, replaces}
 
 pub labels_push : (all : List ReductionStep) (step : ReductionStep) → labels_of (all ++ step ∷ []) ≡ labels_of all ++ label_of step
@@ -36,40 +36,40 @@ module _ (rules : List Rule) (ts : List TransitionData) where
       (r, v, along (λ (x : ℕ). IsStepOf rules ts step x t r v) (sym is) (along (λ (x : Tree Head). IsStepOf rules ts step p x r v) (sym are) s), (refl, refl))
   traces_push (x ∷ xs) step q p r t u v (m, w, first, rest) s = (m, w, first, traces_push xs step m p r w u v rest s)
 
-module _ (s : SortedData) (path : List ℕ) (all : List ReductionStep) (spot : Spot) (t : Tree Head) (is : IsTracedSpot s path all spot t) where
+module _ (s : SortedData) (path : List ℕ) (all : List ReductionStep) (progress : Progress) (t : Tree Head) (is : IsTraced s path all progress t) where
   -- one more step
-  stepped : (step : ReductionStep) (further : Spot) (u : Tree Head) → IsReachedSpot s path (labels_of all ++ label_of step) further u
-      → IsStepOf s.scheme.rules s.automaton.transitions step spot.state t further.state u → further.used ≡ spot.used + 1 → IsTracedSpot s path (all ++ step ∷ []) further u
+  stepped : (step : ReductionStep) (further : Progress) (u : Tree Head) → IsReached s path (labels_of all ++ label_of step) further u
+      → IsStepOf s.scheme.rules s.automaton.transitions step progress.state t further.state u → further.used ≡ progress.used + 1 → IsTraced s path (all ++ step ∷ []) further u
   stepped step further u reached made one = record {
-    at = along (λ (labels : Path). IsReachedSpot s path labels further u) (sym (labels_push all step)) reached;
-    traces = traces_push s.scheme.rules s.automaton.transitions all step 0 spot.state further.state start t u is.traces made;
+    at = along (λ (labels : Path). IsReached s path labels further u) (sym (labels_push all step)) reached;
+    traces = traces_push s.scheme.rules s.automaton.transitions all step 0 progress.state further.state start t u is.traces made;
     count = length_push all step ∙ (ap (λ n. n + 1) is.count ∙ sym one);
   }
 
   module _ (sorted : HasKnownSorts s) where
     pub traced_replaced : (u : Tree Head) (f place : ℕ) → head_of t ≡ Nt f → unfolded s.scheme.rules f (arguments_of t) ≡ Some u
-        → IsTracedSpot s path (all ++ Call f ∷ []) (record { place = place; state = spot.state; at = spot.at; used = spot.used + 1 }) u
+        → IsTraced s path (all ++ Call f ∷ []) (record { place = place; state = progress.state; at = progress.at; used = progress.used + 1 }) u
     traced_replaced u f place front e =
-        stepped (Call f) (record { place = place; state = spot.state; at = spot.at; used = spot.used + 1 }) u (replaces s sorted path (labels_of all) spot t u f place is.at front e)
-        (record { steps = step_replaced s sorted path spot.state f t u front e; names = front }) refl
+        stepped (Call f) (record { place = place; state = progress.state; at = progress.at; used = progress.used + 1 }) u (replaces s sorted path (labels_of all) progress t u f place is.at front e)
+        (record { steps = step_replaced s sorted path progress.state f t u front e; names = front }) refl
 
     module _ (a : ℕ) (front : head_of t ≡ Tm a) where
-      pub traced_end : next s.automaton.transitions spot.state a ≡ None → EndsTrail s path all (Stuck a spot.state spot.at spot.used)
+      pub traced_end : next s.automaton.transitions progress.state a ≡ None → EndsTrail s path all (Stuck a progress.state progress.at progress.used)
       traced_end e =
-          let ends = fails_at s sorted path (labels_of all) spot t a is.at front e in
-          let there = along (λ (u : Tree Head). Traces s.scheme.rules s.automaton.transitions all 0 start spot.state u) (fronted s sorted path (labels_of all) spot t a is.at front) is.traces in (
+          let ends = fails_at s sorted path (labels_of all) progress t a is.at front e in
+          let there = along (λ (u : Tree Head). Traces s.scheme.rules s.automaton.transitions all 0 start progress.state u) (fronted s sorted path (labels_of all) progress t a is.at front) is.traces in (
             ends.0,
             ends.1,
             record { arguments = forest (arguments_of t); traces = there; stuck = e; labels = refl; count = is.count },
           )
 
-      pub traced_down : (trees : List (Tree Head)) (places : List ℕ) → NamesTerms trees places (arguments_of t) → (to : List ℕ) → next s.automaton.transitions spot.state a ≡ Some to
-          → (c : ℕ) → slice_get path spot.at ≡ Some c → (i place q : ℕ) → c ≡ i + 1 → slice_get places i ≡ Some place → slice_get to i ≡ Some q
-          → IsTracedSpot s path (all ++ Descent a c spot.state q ∷ []) (record { place = place; state = q; at = spot.at + 1; used = spot.used + 1 }) (term_at trees place)
+      pub traced_down : (trees : List (Tree Head)) (places : List ℕ) → NamesTerms trees places (arguments_of t) → (to : List ℕ) → next s.automaton.transitions progress.state a ≡ Some to
+          → (c : ℕ) → slice_get path progress.at ≡ Some c → (i place q : ℕ) → c ≡ i + 1 → slice_get places i ≡ Some place → slice_get to i ≡ Some q
+          → IsTraced s path (all ++ Descent a c progress.state q ∷ []) (record { place = place; state = q; at = progress.at + 1; used = progress.used + 1 }) (term_at trees place)
       traced_down trees places named to e c at i place q is_number there in_state =
-          stepped (Descent a c spot.state q) (record { place = place; state = q; at = spot.at + 1; used = spot.used + 1 }) (term_at trees place)
-          (goes_down s sorted path (labels_of all) spot t a is.at front trees places named to e c at i place q is_number there in_state)
-          (record { steps = step_down s sorted path (labels_of all) spot t a is.at front trees places named to e c at i place q is_number there in_state; names = (front, refl, refl) }) refl
+          stepped (Descent a c progress.state q) (record { place = place; state = q; at = progress.at + 1; used = progress.used + 1 }) (term_at trees place)
+          (goes_down s sorted path (labels_of all) progress t a is.at front trees places named to e c at i place q is_number there in_state)
+          (record { steps = step_down s sorted path (labels_of all) progress t a is.at front trees places named to e c at i place q is_number there in_state; names = (front, refl, refl) }) refl
 
 -- the answer with what was kept, as a trace
 pub traced : (s : SortedData) (path : List ℕ) (steps most a q at used : ℕ) (all : List ReductionStep) (trail : Trail) → Keeps most all trail → EndsTrail s path all (Stuck a q at used)

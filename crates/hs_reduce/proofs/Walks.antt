@@ -7,11 +7,11 @@ use Rattle.std.proofs.lemmas.Option.{same_Some}
 use Rattle.hs_scheme.specs.declared.term.Head.{Head}
 use Rattle.hs_scheme.specs.declared.term.Head.TheVariants.{Var, Nt, Tm}
 use Rattle.hs_scheme.specs.declared.term.Rule.{Rule}
-use Rattle.hs_scheme.specs.Transition.{TransitionData}
-use Rattle.hs_scheme.specs.Automaton.{next}
+use Rattle.hs_scheme.specs.acceptance.Transition.{TransitionData}
+use Rattle.hs_scheme.specs.acceptance.Automaton.{next}
 use Rattle.hs_scheme.specs.Tree.{Tree, Trees, node, children}
-use Rattle.hs_scheme.specs.Cut.{unfolded}
-use Rattle.hs_scheme.specs.Steps.{Path, StepsTo, Reaches, ReachesByChildren, child_numbers}
+use Rattle.hs_scheme.specs.acceptance.Cut.{unfolded}
+use Rattle.hs_scheme.specs.acceptance.Steps.{Path, StepsTo, Reaches, ReachesByChildren, child_numbers}
 
 -- a state, a term and the child numbers that are left
 pub record Config : Type 0 where

@@ -5,12 +5,12 @@
 use Rattle.std.specs.Prelude.{◌≡◌, ℕ, ◌<◌, false, IsTrue, Option, Some, None}
 use Rattle.hs_scheme.specs.declared.term.Head.{Head}
 use Rattle.hs_scheme.specs.Tree.{Tree}
-use Rattle.hs_scheme.specs.Cut.{cut}
-use Rattle.hs_scheme.specs.Run.{run, start}
-use Rattle.hs_scheme.specs.Sorted.{SortedData}
+use Rattle.hs_scheme.specs.acceptance.Cut.{cut}
+use Rattle.hs_scheme.specs.acceptance.Run.{run, start}
+use Rattle.hs_scheme.specs.sorting.Sorted.{SortedData}
 use Rattle.hs_reduce.specs.declared.answers.Bounded.{Bounded}
 use Rattle.hs_reduce.specs.declared.answers.Bounded.TheVariants.{NoError, Error}
-use Rattle.hs_scheme.specs.FailingPath.{FailingPathData}
+use Rattle.hs_scheme.specs.acceptance.FailingPath.{FailingPathData}
 use Rattle.hs_reduce.specs.Path.{IsErrorFrom}
 
 -- the automaton reads the tree of t, cut at n, to its end

@@ -5,10 +5,10 @@ use Rattle.std.specs.Prelude.{ℕ, List}
 use Rattle.hs_scheme.specs.declared.term.Head.{Head}
 use Rattle.hs_scheme.specs.declared.term.Head.TheVariants.{Tm}
 use Rattle.hs_scheme.specs.declared.term.Rule.{Rule}
-use Rattle.hs_scheme.specs.Transition.{TransitionData}
+use Rattle.hs_scheme.specs.acceptance.Transition.{TransitionData}
 use Rattle.hs_scheme.specs.Tree.{Tree, Trees, node}
-use Rattle.hs_scheme.specs.Steps.{Reaches, Fails}
-use Rattle.hs_scheme.specs.FailingPath.{FailingPathData}
+use Rattle.hs_scheme.specs.acceptance.Steps.{Reaches, Fails}
+use Rattle.hs_scheme.specs.acceptance.FailingPath.{FailingPathData}
 
 pub record IsErrorFrom (rules : List Rule) (ts : List TransitionData) (q : ℕ) (t : Tree Head) (path : FailingPathData) : Type 0 where
   pub fails : Fails rules ts path.used q t path.steps

@@ -6,14 +6,14 @@
 use Rattle.std.specs.Prelude.{◌≡◌, ℕ, ◌<◌, ◌≤◌, ◌⊎◌, List, length, take, slice_get, slice_index, Option, Some, None}
 use Rattle.hs_scheme.specs.declared.term.Head.{Head}
 use Rattle.hs_scheme.specs.declared.term.Head.TheVariants.{Tm}
-use Rattle.hs_scheme.specs.Transition.{TransitionData}
-use Rattle.hs_scheme.specs.Automaton.{next}
+use Rattle.hs_scheme.specs.acceptance.Transition.{TransitionData}
+use Rattle.hs_scheme.specs.acceptance.Automaton.{next}
 use Rattle.hs_scheme.specs.Tree.{Trees, node}
-use Rattle.hs_scheme.specs.Run.{start}
-use Rattle.hs_scheme.specs.Steps.{ReachesByChildren, child_numbers}
-use Rattle.hs_scheme.specs.FailingPath.{FailingPathData}
-use Rattle.hs_scheme.specs.Failing.{IsFailingPath}
-use Rattle.hs_scheme.specs.Sorted.{SortedData}
+use Rattle.hs_scheme.specs.acceptance.Run.{start}
+use Rattle.hs_scheme.specs.acceptance.Steps.{ReachesByChildren, child_numbers}
+use Rattle.hs_scheme.specs.acceptance.FailingPath.{FailingPathData}
+use Rattle.hs_scheme.specs.acceptance.Failing.{IsFailingPath}
+use Rattle.hs_scheme.specs.sorting.Sorted.{SortedData}
 use Rattle.hs_reduce.specs.declared.answers.Replay.{Replay}
 use Rattle.hs_reduce.specs.declared.answers.Replay.TheVariants.{Stuck, Ended, NoChild, Runs}
 

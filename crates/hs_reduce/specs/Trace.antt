@@ -12,13 +12,13 @@ use Rattle.std.specs.List.{flat_map}
 use Rattle.hs_scheme.specs.declared.term.Head.{Head}
 use Rattle.hs_scheme.specs.declared.term.Head.TheVariants.{Nt, Tm}
 use Rattle.hs_scheme.specs.declared.term.Rule.{Rule}
-use Rattle.hs_scheme.specs.Transition.{TransitionData}
-use Rattle.hs_scheme.specs.Automaton.{next}
+use Rattle.hs_scheme.specs.acceptance.Transition.{TransitionData}
+use Rattle.hs_scheme.specs.acceptance.Automaton.{next}
 use Rattle.hs_scheme.specs.Tree.{Tree, Trees, node}
-use Rattle.hs_scheme.specs.Run.{start}
-use Rattle.hs_scheme.specs.Steps.{Path, StepsTo}
-use Rattle.hs_scheme.specs.FailingPath.{FailingPathData}
-use Rattle.hs_scheme.specs.Sorted.{SortedData}
+use Rattle.hs_scheme.specs.acceptance.Run.{start}
+use Rattle.hs_scheme.specs.acceptance.Steps.{Path, StepsTo}
+use Rattle.hs_scheme.specs.acceptance.FailingPath.{FailingPathData}
+use Rattle.hs_scheme.specs.sorting.Sorted.{SortedData}
 use Rattle.hs_reduce.specs.declared.answers.Replay.TheVariants.{Stuck}
 use Rattle.hs_reduce.specs.declared.answers.ReductionStep.{ReductionStep}
 use Rattle.hs_reduce.specs.declared.answers.ReductionStep.TheVariants.{Call, Descent}

@@ -2,8 +2,8 @@
 
 ghost use Rattle.std.specs.Prelude.{◌≡◌, ◌<◌, ◌≤◌, ◌+◌, ◌∷◌, length, slice_index, IfOk, OnOk};
 ghost use Rattle.hs_scheme.specs.TreeTerms.{IsTreeTerm};
-ghost use Rattle.hs_scheme.specs.Sorted.{sorts_of};
-ghost use Rattle.hs_scheme.specs.FailingPath.{FailingPathData};
+ghost use Rattle.hs_scheme.specs.sorting.Sorted.{sorts_of};
+ghost use Rattle.hs_scheme.specs.acceptance.FailingPath.{FailingPathData};
 ghost use Rattle.hs_reduce.specs.Graph.{term_at, GrowsTrees};
 ghost use Rattle.hs_reduce.specs.Advances.{HasKnownSorts};
 ghost use Rattle.hs_reduce.specs.Bounds.{IsFoundWithin, IsBoundedAnswer};

@@ -3,8 +3,8 @@
 ghost use Rattle.std.specs.Prelude.{◌≡◌, ◌<◌, ℕ, All, length, slice_get, Some, IfOk, IfSome};
 ghost use Rattle.hs_scheme.specs.declared.term.Head.TheVariants.{Var};
 ghost use Rattle.hs_scheme.specs.Tree.{node, none, forest};
-ghost use Rattle.hs_scheme.specs.Replacement.{replaced, subst, applied};
-ghost use Rattle.hs_scheme.specs.Cut.{unfolded};
+ghost use Rattle.hs_scheme.specs.acceptance.Replacement.{replaced, subst, applied};
+ghost use Rattle.hs_scheme.specs.acceptance.Cut.{unfolded};
 ghost use Rattle.hs_reduce.specs.Graph.{term_at, terms_at, arguments_of, AddsTerm, Unfolds};
 
 use crate::graph::Graph;

@@ -7,7 +7,7 @@ ghost use Rattle.hs_reduce.specs.declared.answers.ReductionStep.{ReductionStep a
 ghost use Rattle.hs_reduce.specs.Graph.{term_at, head_of};
 ghost use Rattle.hs_reduce.specs.Replays.{IsReplayAnswer, IsFailureAlong};
 ghost use Rattle.hs_reduce.specs.Trace.{IsTraceAlong};
-ghost use Rattle.hs_reduce.specs.Advances.{HasKnownSorts, IsTracedSpot, Keeps, EndsTrail, Advances};
+ghost use Rattle.hs_reduce.specs.Advances.{HasKnownSorts, IsTraced, Keeps, EndsTrail, Advances};
 
 use crate::answers::{ReductionStep, Replay, Trace};
 use crate::graph::Graph;
@@ -20,19 +20,19 @@ use std::alloc::Global;
 /// How far a reduction has come: the place of the term, the state, and how many children were
 /// followed and steps made.
 #[derive(Clone, Copy, Drop)]
-pub(crate) struct Spot {
+pub(crate) struct Progress {
     pub(crate) place: usize,
     pub(crate) state: u32,
     pub(crate) at: usize,
     pub(crate) used: u64,
 }
 
-/// What comes of a spot: what is met there, nothing, or one step.
+/// What comes of going on from there: what is met, nothing, or one step.
 #[derive(Drop)]
 pub(crate) enum Advance {
     Met(Replay),
     Stays,
-    Moved(ReductionStep, Spot),
+    Moved(ReductionStep, Progress),
 }
 
 /// The place and the state of the child with this number, counted from 1.
@@ -52,42 +52,50 @@ fn child_at(to: &[u32], args: &[usize], number: u32) -> Option<(usize, u32)>
 }
 
 /// From a terminal: what is met there, or the descent to the path's next child.
-fn descend(sorted: &Sorted, graph: &Graph, spot: Spot, path: &[u32], terminal: u32) -> Advance
+fn descend(
+    sorted: &Sorted,
+    graph: &Graph,
+    progress: Progress,
+    path: &[u32],
+    terminal: u32,
+) -> Advance
     requires sorted { HasKnownSorts sorted.now }
-    requires place { spot.place < length graph.now }
-    requires on_path { spot.at ≤ length path.now }
-    requires few { spot.used ≤ MAX_STEPS }
+    requires place { progress.place < length graph.now }
+    requires on_path { progress.at ≤ length path.now }
+    requires few { progress.used ≤ MAX_STEPS }
     requires short { length path.now ≤ MAX_STEPS }
-    requires head { head_of (term_at graph.now spot.place) ≡ Tm terminal }
-    ensures { (all : List AnyStep) → IsTracedSpot sorted.now path.now all spot (term_at graph.now spot.place)
-        → Advances sorted.now path.now all spot (term_at graph.now spot.place) graph.now result }
+    requires head { head_of (term_at graph.now progress.place) ≡ Tm terminal }
+    ensures { (all : List AnyStep) → IsTraced sorted.now path.now all progress (term_at graph.now progress.place)
+        → Advances sorted.now path.now all progress (term_at graph.now progress.place) graph.now result }
 {
-    let at = spot.at as u32;
-    let Some(to) = sorted.automaton.next(spot.state, terminal) else {
+    let at = progress.at as u32;
+    let Some(to) = sorted.automaton.next(progress.state, terminal) else {
         return Advance::Met(Replay::Stuck {
             terminal,
-            state: spot.state,
+            state: progress.state,
             at,
-            used: spot.used,
+            used: progress.used,
         });
     };
-    let Some(number) = path.get(spot.at) else {
-        return Advance::Met(Replay::Ended { used: spot.used });
+    let Some(number) = path.get(progress.at) else {
+        return Advance::Met(Replay::Ended {
+            used: progress.used,
+        });
     };
-    match child_at(to, graph.arguments(spot.place), *number) {
+    match child_at(to, graph.arguments(progress.place), *number) {
         None => Advance::Met(Replay::NoChild { at }),
         Some((place, state)) => Advance::Moved(
             ReductionStep::Descent {
                 terminal,
                 child: *number,
-                from: spot.state,
+                from: progress.state,
                 to: state,
             },
-            Spot {
+            Progress {
                 place,
                 state,
-                at: spot.at + 1,
-                used: spot.used + 1,
+                at: progress.at + 1,
+                used: progress.used + 1,
             },
         ),
     }
@@ -98,33 +106,33 @@ fn next_step(
     alloc: Global,
     sorted: &Sorted,
     graph: &mut Graph,
-    spot: Spot,
+    progress: Progress,
     path: &[u32],
 ) -> Result<Advance, OutOfMemory>
     requires sorted { HasKnownSorts sorted.now }
-    requires place { spot.place < length graph.old }
-    requires on_path { spot.at ≤ length path.now }
-    requires few { spot.used ≤ MAX_STEPS }
+    requires place { progress.place < length graph.old }
+    requires on_path { progress.at ≤ length path.now }
+    requires few { progress.used ≤ MAX_STEPS }
     requires short { length path.now ≤ MAX_STEPS }
     ensures { IfOk result (λ advance. (all : List AnyStep)
-        → IsTracedSpot sorted.now path.now all spot (term_at graph.old spot.place)
-        → Advances sorted.now path.now all spot (term_at graph.old spot.place) graph.new advance) }
+        → IsTraced sorted.now path.now all progress (term_at graph.old progress.place)
+        → Advances sorted.now path.now all progress (term_at graph.old progress.place) graph.new advance) }
 {
-    match graph.head(spot.place) {
+    match graph.head(progress.place) {
         Head::Var(_) => Ok(Advance::Stays),
-        Head::Nt(number) => match replace(alloc, sorted, graph, spot.place, number)? {
+        Head::Nt(number) => match replace(alloc, sorted, graph, progress.place, number)? {
             None => Ok(Advance::Stays),
             Some(place) => Ok(Advance::Moved(
                 ReductionStep::Call { rule: number },
-                Spot {
+                Progress {
                     place,
-                    state: spot.state,
-                    at: spot.at,
-                    used: spot.used + 1,
+                    state: progress.state,
+                    at: progress.at,
+                    used: progress.used + 1,
                 },
             )),
         },
-        Head::Tm(terminal) => Ok(descend(sorted, graph, spot, path, terminal)),
+        Head::Tm(terminal) => Ok(descend(sorted, graph, progress, path, terminal)),
     }
 }
 
@@ -150,22 +158,22 @@ fn follow(
     let scheme = &sorted.scheme;
     let _rules = &scheme.rules;
     let mut graph = Graph::new(alloc);
-    let mut spot = Spot {
+    let mut progress = Progress {
         place: graph.add(Head::Nt(0), &[])?,
         state: 0,
         at: 0,
         used: 0,
     };
     loop {
-        match next_step(alloc, sorted, &mut graph, spot, path)? {
+        match next_step(alloc, sorted, &mut graph, progress, path)? {
             Advance::Met(answer) => return Ok(answer),
             Advance::Stays => return Ok(Replay::Runs),
             Advance::Moved(step, further) => {
-                if spot.used == steps {
+                if progress.used == steps {
                     return Ok(Replay::Runs);
                 }
                 trail.push(most, step)?;
-                spot = further;
+                progress = further;
             }
         }
     }

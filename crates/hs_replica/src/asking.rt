@@ -95,7 +95,7 @@ pub(crate) fn add_asks(
     ensures ok { OnOk result (HasAsked interner.now (log_of interner.now rows.now) indexed point
         (list_at lists.new)) }
 {
-    interner.numbers_are_exact();
+    interner.know_numbers();
     lengthen(asked, point)?;
     while let Some(place) = next_at(lists, point, asked[point as usize], indexed) {
         asked[point as usize] = place;

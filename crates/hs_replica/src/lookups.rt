@@ -30,7 +30,7 @@ impl Replica {
     pub fn at_point(&self, point: u32) -> &[u32]
         ensures { ArePlaces self.now.log self.now.indexed (here point) result.now }
     {
-        self.interner.numbers_are_exact();
+        self.interner.know_numbers();
         below(list_of(&self.lists, Key::At(point)), self.indexed)
     }
 
@@ -63,7 +63,7 @@ impl Replica {
         requires by_type { IsByType point key }
         ensures { ArePlaces self.now.log (typed_to self.now point) (question self.now.ids key) result.now }
     {
-        self.interner.numbers_are_exact();
+        self.interner.know_numbers();
         let end = number_of(self.by_type.as_slice(), point);
         below(list_of(&self.lists, key), end)
     }
@@ -103,7 +103,7 @@ impl Replica {
             (asks point param (type_of_id self.old.ids ty)) places.items) }
         ensures kept { self.new ≡ self.old }
     {
-        self.interner.numbers_are_exact();
+        self.interner.know_numbers();
         add_asks(
             &mut self.lists,
             &mut self.asked,

@@ -112,7 +112,7 @@ impl Replica {
             (entry_of self.now.ids row)) }
         ensures absent { IfNone result (Contains self.now.log (entry_of self.now.ids row) → ⊥) }
     {
-        self.interner.numbers_are_exact();
+        self.interner.know_numbers();
         match self.rows.get_index_of(&row) {
             Some(place) => Some(place as u32),
             None => None,

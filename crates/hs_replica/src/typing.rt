@@ -97,7 +97,7 @@ fn add_typed(
     ensures all { OnOk result (ListsAll interner.now (OfTypes (log_of interner.now rows.now) place) place
         (list_at lists.new)) }
 {
-    interner.numbers_are_exact();
+    interner.know_numbers();
     let row = rows[place as usize];
     let first = add_once(lists, Key::Typed(row.point, row.ty), place)?;
     add_first(lists, interner, row, place, first)
@@ -123,7 +123,7 @@ pub(crate) fn add_types(
     ensures ok { OnOk result (slice_index_or by_type.new.items point 0 ≡ indexed) }
     ensures more { (p : ℕ) → slice_index_or by_type.old.items p 0 ≤ slice_index_or by_type.new.items p 0 }
 {
-    interner.numbers_are_exact();
+    interner.know_numbers();
     lengthen(by_type, point)?;
     if by_type[point as usize] == indexed {
         return Ok(());

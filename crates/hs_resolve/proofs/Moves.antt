@@ -1,7 +1,7 @@
 -- The numbers of transitions, one after another, which later names don't change.
 use Rattle.std.proofs.Common.{◌≡◌, sym, ◌∙◌, ap, ℕ, ◌+◌, List, [], ◌∷◌, ◌++◌, take, map, slice_get, Some}
 use Rattle.std.proofs.lemmas.List.{append-nil}
-use Rattle.hs_scheme.specs.Transition.{TransitionData}
+use Rattle.hs_scheme.specs.acceptance.Transition.{TransitionData}
 use Rattle.hs_reader.specs.declared.raw.RawName.{RawName}
 use Rattle.hs_reader.specs.Raw.{Transition}
 use Rattle.hs_resolve.specs.Names.{number, with_names}

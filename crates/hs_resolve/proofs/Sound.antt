@@ -12,9 +12,9 @@ use Rattle.hs_scheme.specs.declared.term.Head.{Head}
 use Rattle.hs_scheme.specs.declared.term.Head.TheVariants.{Var, Nt, Tm}
 use Rattle.hs_scheme.specs.declared.term.Rule.{Rule as NumberedRule}
 use Rattle.hs_scheme.specs.Tree.{Tree, Trees, node, none, more, children}
-use Rattle.hs_scheme.specs.Automaton.{IsAutomaton, IsDeterministic}
+use Rattle.hs_scheme.specs.acceptance.Automaton.{IsAutomaton, IsDeterministic}
 use Rattle.hs_scheme.specs.Scheme.{HeadInRange, TermInRange, TermsInRange, AreRules}
-use Rattle.hs_scheme.specs.Unsorted.{UnsortedData, IsUnsorted, HasNames, AgreesWithRanks}
+use Rattle.hs_scheme.specs.sorting.Unsorted.{UnsortedData, IsUnsorted, HasNames, AgreesWithRanks}
 use Rattle.hs_scheme.proofs.TransitionLemmas.{mapped}
 use Rattle.hs_scheme.proofs.Lists.{some_at}
 use Rattle.hs_reader.specs.declared.raw.RawName.{RawName}
@@ -244,8 +244,8 @@ module _ (raw : File) (inside : IsRaw raw) (clean : IsFaultless raw) where
       go [] h = absurd (omega arith)
       go (t ∷ ts) h = omega arith
 
-  pub is_automaton : IsAutomaton (unsorted_of raw).automaton
-  is_automaton =
+  pub know_automaton : IsAutomaton (unsorted_of raw).automaton
+  know_automaton =
       let make = transition_of (state_names raw) (terminal_names raw) in
       record {
         initial = has_state;

@@ -3,7 +3,7 @@
 --     IsAnswered       the first fault: on the least line, and on that line the first in the list of the line faults
 --     Decides          the answer to a file: its scheme or its first fault, or want of memory
 use Rattle.std.specs.Prelude.{◌≡◌, ◌⊎◌, ℕ, ◌<◌, ◌≤◌, length, Result, IfOk, OnOk, IfErr, IsErrAnd}
-use Rattle.hs_scheme.specs.Unsorted.{UnsortedData}
+use Rattle.hs_scheme.specs.sorting.Unsorted.{UnsortedData}
 use Rattle.hs_reader.specs.Raw.{File}
 use Rattle.hs_resolve.specs.declared.fault.NameFault.{NameFault}
 use Rattle.hs_resolve.specs.declared.fault.NameFault.TheVariants as fault

@@ -2,7 +2,7 @@
 --     AreNumbers         the numbers of names, whatever names are met later
 --     IsMove, AreMoves   the transition, and several, whatever states and terminals are met later
 use Rattle.std.specs.Prelude.{◌≡◌, ℕ, List, ◌++◌, map}
-use Rattle.hs_scheme.specs.Transition.{TransitionData}
+use Rattle.hs_scheme.specs.acceptance.Transition.{TransitionData}
 use Rattle.hs_reader.specs.declared.raw.RawName.{RawName}
 use Rattle.hs_reader.specs.Raw.{Transition}
 use Rattle.hs_resolve.specs.Names.{number}

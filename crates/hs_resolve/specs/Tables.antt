@@ -14,10 +14,10 @@ use Rattle.std.specs.Prelude.{◌≡◌, ℕ, ◌<◌, ◌^◌, List, [], None, 
 use Rattle.hs_reader.specs.Raw.{File, Rule}
 use Rattle.hs_reader.specs.Limits.{IsRaw}
 use Rattle.hs_scheme.specs.declared.term.Rule.{Rule as NumberedRule}
-use Rattle.hs_scheme.specs.Transition.{TransitionData}
-use Rattle.hs_scheme.specs.Automaton.{AutomatonData}
+use Rattle.hs_scheme.specs.acceptance.Transition.{TransitionData}
+use Rattle.hs_scheme.specs.acceptance.Automaton.{AutomatonData}
 use Rattle.hs_scheme.specs.Names.{NamesData}
-use Rattle.hs_scheme.specs.Unsorted.{UnsortedData}
+use Rattle.hs_scheme.specs.sorting.Unsorted.{UnsortedData}
 use Rattle.hs_resolve.specs.declared.line.FaultLines.{FaultLines}
 use Rattle.hs_resolve.specs.declared.resolving.Tables.{Tables}
 use Rattle.hs_resolve.specs.declared.resolving.Numbered.{Numbered}

@@ -1,8 +1,8 @@
 //! From a file to the scheme that it stands for.
 
 ghost use Rattle.std.specs.Prelude.{◌≡◌, ◌⊎◌, ◌≤◌, [], map, length, IfOk, OnOk, IfErr, IsErrAnd, IfSome, IfNone};
-ghost use Rattle.hs_scheme.specs.Automaton.{IsAutomaton};
-ghost use Rattle.hs_scheme.specs.Unsorted.{IsUnsorted};
+ghost use Rattle.hs_scheme.specs.acceptance.Automaton.{IsAutomaton};
+ghost use Rattle.hs_scheme.specs.sorting.Unsorted.{IsUnsorted};
 ghost use Rattle.hs_reader.specs.Raw.{File};
 ghost use Rattle.hs_resolve.specs.Least.{IsLeast};
 ghost use Rattle.hs_resolve.specs.LineFaults.{StartHasParams};

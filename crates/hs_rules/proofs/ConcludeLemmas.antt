@@ -4,7 +4,7 @@ use Rattle.std.proofs.lemmas.List.{length-map}
 use Rattle.std.proofs.lemmas.List.Elements.{Contains-append_right}
 use Rattle.std.proofs.lemmas.Option.{same_Some, get_or_from_slice_get}
 use Rattle.hs_scheme.specs.declared.term.Head.TheVariants.{Tm}
-use Rattle.hs_scheme.specs.Points.{PointData, IsArgument}
+use Rattle.hs_scheme.specs.flow.Points.{PointData, IsArgument}
 use Rattle.hs_scheme.specs.Problem.{ProblemData}
 use Rattle.hs_scheme.proofs.Lists.{here}
 use Rattle.hs_table.specs.declared.support.HeadBy.{HeadBy}
@@ -16,12 +16,14 @@ use Rattle.hs_table_laws.proofs.Sets.{no_set}
 use Rattle.hs_types.specs.Interned.{InternerData, type_of_id, set_of_id, env_of_id, RowData, entry_of, IsInterner, Grows}
 use Rattle.hs_types.proofs.Numbers.{type_within, type_stays, row_stays, row_within, Grows-trans}
 use Rattle.hs_rules.specs.declared.search.Fixed.{Fixed}
+use Rattle.hs_rules.specs.Order.{IsNoGreater}
 use Rattle.hs_rules.specs.Conclusions.{DeducedData, IsDeduced}
 use Rattle.hs_rules.specs.Slots.{SlotData, slots, FixedData, IsCandidate, Picked, IsOwn, Concludes}
 use Rattle.hs_rules.specs.Filling.{fixed_of}
 use Rattle.hs_rules.specs.Found.{SearchData, HeadData, HaveEnvs, RowsAre, HeadLeadsTo, IsDeducedBy, HasEnvFound}
 use Rattle.hs_rules.specs.Parts.{ArePart, HasRowFor, HasAll, UsesArgument, IsOnlyPlaceOf}
 use Rattle.hs_rules.specs.Heads.{head_type, IsHeadAt, AreHeads}
+use Rattle.hs_rules.proofs.OrderLemmas.{no_greater_then}
 use Rattle.hs_rules.proofs.SlotLemmas.{filled_by, used_fixed, fixed_used, slot_of, into_slots, slots_differ}
 use Rattle.hs_rules.proofs.FollowLemmas.{chosen_picked, chosen_long, concludes_follows, follows_concludes}
 
@@ -64,16 +66,17 @@ module _ (p : ProblemData) (log : List EntryData) (s : SearchData) (of : PointDa
 
     -- what follows by a wanted type is found
     pub reached : (Wanted : HeadBy → Env → Type 0) (heads : List HeadData) (found : List DeducedData) → AreHeads p E of J Wanted heads
-        → ((h : HeadData) → Contains heads h → (args : List (ℕ × ℕ)) (env : Env) → HeadLeadsTo J log s h args env → HasEnvFound K s h env found)
+        → ((h : HeadData) → Contains heads h → (args : List (ℕ × ℕ)) (env : Env) → HeadLeadsTo J log s h args env → HasEnvFound K s h args env found)
         → (sup : Support) (e : EntryData) (f : FollowsBy p E sup e) → e.point ≡ s.point → Wanted sup.head f.sets
         → ((ids : List ℕ) → map (set_of_id J) ids ≡ f.sets → Picked (λ (x : SlotData). x.arg) (IsCandidate E None) (slots 0 f.of.args f.sets) sup.args f.chosen
         → Picked (λ (x : SlotData). x.arg) (IsCandidate E (fixed_of log s.fixed)) (slots 0 f.of.args f.sets) sup.args f.chosen)
-        → HasRowFor K found e
+        → HasRowFor K found sup e
     reached Wanted heads found are all sup e f here_is want to =
         let same : f.of ≡ of = same_Some f.of of (sym f.at ∙ (ap (λ k. slice_get p.points.points k) here_is ∙ at)) in
         let head = subst (λ (o : PointData). IsHeadType p E o.rule o.head sup.head (arrows f.sets e.ty)) same f.head in
         let long : length f.sets ≡ length of.args = sym (chosen_long p E f.are) ∙ ap (λ (o : PointData). length o.args) same in
-        let t = are.all sup.head f.sets e.ty long head want in
+        let any = are.all sup.head f.sets e.ty long head want in
+        let t = any.1.1 in
         let item = (are.sound t.item t.there).0 in
         let type_is : head_type J t.item ≡ arrows f.sets e.ty = λ i. arrows (t.sets_are i) (t.rest_is i) in
         let own = subst (λ (y : TypeTree). IsOwn (params_of p f.of.rule) f.of.head y (env_of_id J t.item.own)) type_is
@@ -83,7 +86,14 @@ module _ (p : ProblemData) (log : List EntryData) (s : SearchData) (of : PointDa
         let c_ids = subst (λ (ss : Env). Concludes E (fixed_of log s.fixed) (params_of p of.rule) of.args (env_of_id J t.item.own) ss sup.args e.env) (sym t.sets_are) c_of in
         let r = all t.item t.there sup.args e.env (from_rule J t.item sup.args e.env item c_ids) in
         let ty_is : type_of_id K r.item.row.ty ≡ e.ty = ap (type_of_id K) r.ty ∙ (type_stays J K g t.item.rest item.known.rest ∙ t.rest_is) in
-        record { item = r.item; there = r.there; is = λ i. record { point = (r.point ∙ sym here_is) i; env = r.is i; ty = ty_is i } }
+        let own_places = map (λ (a : ℕ × ℕ). a.1) sup.args in
+        let by_least = subst (λ (by : HeadBy). IsNoGreater (head_premise by ++ own_places) (premises sup)) (sym t.by_is) (any.1.0 own_places) in
+        record {
+          item = r.item;
+          there = r.there;
+          is = λ i. record { point = (r.point ∙ sym here_is) i; env = r.is i; ty = ty_is i };
+          least = no_greater_then (premises r.item.support) (head_premise t.item.by ++ own_places) (premises sup) r.least by_least;
+        }
 
     -- what is found stays deduced, and what is added is
     pub part_more : (I : InternerData) → Grows I J → (Counts : Support → Type 0) (Wanted : HeadBy → Env → Type 0) (heads : List HeadData) (rows more : List RowData) (old new : List DeducedData) → AreHeads p E of J Wanted heads
@@ -99,7 +109,7 @@ module _ (p : ProblemData) (log : List EntryData) (s : SearchData) (of : PointDa
     }
 
     pub all_reached : (Wanted : HeadBy → Env → Type 0) (Kind : Support → Type 0) (heads : List HeadData) (found : List DeducedData) → AreHeads p E of J Wanted heads
-        → ((h : HeadData) → Contains heads h → (args : List (ℕ × ℕ)) (env : Env) → HeadLeadsTo J log s h args env → HasEnvFound K s h env found)
+        → ((h : HeadData) → Contains heads h → (args : List (ℕ × ℕ)) (env : Env) → HeadLeadsTo J log s h args env → HasEnvFound K s h args env found)
         → ((sup : Support) (e : EntryData) (f : FollowsBy p E sup e) → e.point ≡ s.point → Kind sup → Wanted sup.head f.sets × ((ids : List ℕ) → map (set_of_id J) ids ≡ f.sets
         → Picked (λ (x : SlotData). x.arg) (IsCandidate E None) (slots 0 f.of.args f.sets) sup.args f.chosen → Picked (λ (x : SlotData). x.arg) (IsCandidate E (fixed_of log s.fixed)) (slots 0 f.of.args f.sets) sup.args f.chosen))
         → HasAll p K E s.point Kind found

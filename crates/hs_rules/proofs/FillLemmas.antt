@@ -4,7 +4,7 @@ use Rattle.std.specs.List.Sorted.{IsStrictlyIncreasing, IsPartitionPoint}
 use Rattle.std.proofs.lemmas.List.Kept.{AllPairs-from_increasing}
 use Rattle.std.proofs.lemmas.List.{map-append, append-nil, length-take-le, length-map, get_or-map}
 use Rattle.std.proofs.lemmas.Bool.{cases_lt, cases_order, ltb-true, ltb-false}
-use Rattle.std.proofs.lemmas.Option.{get_or_from_slice_get, same_Some}
+use Rattle.std.proofs.lemmas.Option.{get_or_from_slice_get, slice_get-get_or, same_Some}
 use Rattle.hs_scheme.proofs.Lists.{none_in, here, later, uncons, Contains-at, only}
 use Rattle.hs_table.specs.Types.{TypeTree, state}
 use Rattle.hs_table.specs.Entries.{Env, EntryData, set_at, entry_at}
@@ -39,6 +39,21 @@ module _ (places : List ℕ) (limit k : ℕ) (point : IsPartitionPoint (λ y. lt
 
   pub begin_is : (place : ℕ) → Contains (take k places) place ↔ (Contains places place × (place < limit))
   begin_is place = (from_begin place, into_begin place)
+
+-- a list that begins an ascending one ascends, and so does a list of one
+pub begin_ascends : (k : ℕ) (xs : List ℕ) → IsStrictlyIncreasing xs → IsStrictlyIncreasing (take k xs)
+begin_ascends k xs rises = λ i lt.
+    let a = slice_get-get_or (take k xs) i 0 (omega (arith, lt)) in
+    let b = slice_get-get_or (take k xs) (i + 1) 0 lt in
+    let p = at_take k xs i (get_or (take k xs) i 0) a in
+    let q = at_take k xs (i + 1) (get_or (take k xs) (i + 1) 0) b in
+    let x = get_or_from_slice_get xs i (get_or (take k xs) i 0) 0 p.1 in
+    let y = get_or_from_slice_get xs (i + 1) (get_or (take k xs) (i + 1) 0) 0 q.1 in
+    let up = rises i (within_from xs (i + 1) (get_or (take k xs) (i + 1) 0) q.1) in
+    omega (arith, x, y, up)
+
+pub one_ascends : (x : ℕ) → IsStrictlyIncreasing (x ∷ [])
+one_ascends x i lt = absurd (omega (arith, lt))
 
 -- nothing fixed stands in the way
 module _ (log : List EntryData) (o : Option Fixed) (arg point : ℕ) (ty : TypeTree) (place : ℕ) where

@@ -1,6 +1,6 @@
 -- What follows is what slots and their candidates lead to.
 use Rattle.std.proofs.Common.{◌≡◌, refl, sym, ap, subst, ℕ, suc, ◌<◌, List, [], ◌∷◌, length, slice_get, Option, Some, None, arith, Contains, inl, inr}
-use Rattle.hs_scheme.specs.Points.{PointData}
+use Rattle.hs_scheme.specs.flow.Points.{PointData}
 use Rattle.hs_scheme.specs.Problem.{ProblemData}
 use Rattle.hs_scheme.proofs.Lists.{Contains-at}
 use Rattle.hs_table.specs.declared.support.HeadBy.{HeadBy}

@@ -1,27 +1,33 @@
 -- What the types of a head lead to.
-use Rattle.std.proofs.Common.{◌≡◌, ◌≢◌, refl, sym, ◌∙◌, ap, subst, ℕ, zero, suc, ◌+◌, ◌<◌, Bool, true, false, List, [], ◌∷◌, ◌++◌, length, map, take, drop, get_or, Option, arith, All, AllPairs, Contains, ◌≤◌, ◌||◌, ◌⊎◌, ◌↔◌, inl, inr}
-use Rattle.std.proofs.lemmas.Bool.{cases_order}
-use Rattle.std.proofs.lemmas.List.{map-append, take-map, take-append-drop, drop_all, drop-append-le, length-map, length-append}
+use Rattle.std.proofs.Common.{◌≡◌, ◌≢◌, refl, sym, ◌∙◌, ap, subst, ℕ, zero, suc, ◌+◌, ◌<◌, List, [], ◌∷◌, ◌++◌, length, map, set, take, drop, get_or, slice_get, Option, None, Some, MatchOption, arith, All, AllPairs, Contains, ◌≤◌, ◌⊎◌, inl, inr}
+use Rattle.std.specs.List.Sorted.{IsStrictlyIncreasing}
+use Rattle.std.proofs.lemmas.Bool.{cases_eq, cases_order}
+use Rattle.std.proofs.lemmas.List.{map-append, take-map, take-append-drop, drop_all, drop-append-le, length-map, length-append, length-set, get_or-set_same, get_or-set_other}
+use Rattle.std.proofs.Math.Seq.{map-set_same}
 use Rattle.std.proofs.lemmas.List.Elements.{Contains-push, Contains-append_left, Contains-append_right, Contains-append_cases, All-contains}
 use Rattle.std.proofs.lemmas.List.Quantifiers.{all_pairs_push}
-use Rattle.std.proofs.lemmas.Option.{same_Some}
+use Rattle.std.proofs.lemmas.Option.{get_or_from_slice_get, slice_get-get_or, slice_get_within, same_Some}
 use Rattle.hs_scheme.proofs.Lists.{none_in, here, later, uncons, Contains-at}
+use Rattle.hs_table.specs.declared.support.HeadBy.{HeadBy}
 use Rattle.hs_table.specs.Entries.{Env, EntryData, IsEnv}
+use Rattle.hs_table.specs.Follows.{Support, head_premise, premises}
 use Rattle.hs_table_laws.proofs.Places.{at_take}
 use Rattle.hs_table_laws.proofs.Sets.{envs_same}
 use Rattle.hs_table_laws.proofs.Members.{from_map, into_map, pushed_cases}
 use Rattle.hs_types.specs.Interned.{InternerData, set_of_id, env_of_id, RowData, Grows}
 use Rattle.hs_types.proofs.Numbers.{env_within, env_stays, set_within, set_stays, type_within}
+use Rattle.hs_rules.specs.Order.{chosen_places, IsNoGreater}
 use Rattle.hs_rules.specs.Conclusions.{DeducedData}
 use Rattle.hs_rules.specs.Slots.{SlotData, slots, FixedData, FilledData, IsCandidate, Picked, none_left, pick, Concludes}
 use Rattle.hs_rules.specs.Filling.{fixed_of, IsFilled, AreFilled}
 use Rattle.hs_rules.specs.Joins.{PartialData, FillsBy, ArePlaced, AreJoined}
-use Rattle.hs_rules.specs.Found.{SearchData, HeadData, HasKnownNumbers, HaveEnvs, RowsAre, IsRowOf, HasRow, HeadLeadsTo, IsDeducedBy, HasEnvFound}
+use Rattle.hs_rules.specs.Found.{SearchData, HeadData, HasKnownNumbers, HaveEnvs, RowsAre, HasRowAt, HasNoGreater, Lowers, IsRowOf, HasRow, HeadLeadsTo, IsDeducedBy, HasEnvFound}
 use Rattle.hs_rules.specs.declared.joining.TheConstants.{FEW}
 use Rattle.hs_rules.proofs.Lists.{taken_cases}
+use Rattle.hs_rules.proofs.OrderLemmas.{no_greater_itself, no_greater_same, no_greater_then, no_greater_behind}
 use Rattle.hs_rules.proofs.SlotLemmas.{slot_of}
 
-abbrev rows_of : List DeducedData → List RowData
+abbrev pub rows_of : List DeducedData → List RowData
 rows_of found = map (λ (d : DeducedData). d.row) found
 
 -- the row is that of something found
@@ -34,10 +40,6 @@ row_among rows found row h c =
     subst (λ (rs : List RowData). Contains rs row) (take-append-drop FEW (rows_of found))
     (Contains-append_right (take FEW (rows_of found)) (drop FEW (rows_of found)) row (subst (λ (rs : List RowData). Contains rs row) h.same c))
 
--- the row at the place is there
-pub row_at : (found : List DeducedData) (k : ℕ) (d : DeducedData) (row : RowData) → k < length found → d ≡ get_or found k d → d.row ≡ row → Contains (rows_of found) row
-row_at found k d row lt is e = subst (λ (r : RowData). Contains (rows_of found) r) e (into_map (λ (x : DeducedData). x.row) found d (k, lt, sym is))
-
 -- a row that isn't among those so far and isn't the next one
 pub row_nowhere : (found : List DeducedData) (k : ℕ) (d : DeducedData) (row : RowData) → k < length found → d ≡ get_or found k d → (Contains (rows_of (take k found)) row → ⊥) → (d.row ≡ row → ⊥)
     → Contains (rows_of (take (k + 1) found)) row → ⊥
@@ -48,8 +50,117 @@ row_nowhere found k d row lt is none differs c =
       | inr e ↦ differs (sym (ap (λ (x : DeducedData). x.row) e) ∙ r.2)
     ]
 
-pub row_pushed : (found pushed : List DeducedData) (d : DeducedData) → pushed ≡ found ++ d ∷ [] → (x : DeducedData) × Contains pushed x × (x.row ≡ d.row)
-row_pushed found pushed d is = (d, subst (λ (ds : List DeducedData). Contains ds d) (sym is) (Contains-push found d), refl)
+-- what is read at a place
+pub found_at : (found : List DeducedData) (k : ℕ) (d : DeducedData) (row : RowData) → k < length found → d ≡ get_or found k d → d.row ≡ row → HasRowAt found k row
+found_at found k d row lt is e = record { item = d; at = slice_get-get_or found k d lt ∙ ap (λ (x : DeducedData). Some x) (sym is); is = e }
+
+-- what stands at a place of the first few stands there
+pub first_at : (n : ℕ) (list found : List DeducedData) (place : ℕ) (row : RowData) → list ≡ found → HasRowAt (take n list) place row → HasRowAt found place row
+first_at n list found place row is h = record { item = h.item; at = ap (λ (ds : List DeducedData). slice_get ds place) (sym is) ∙ (at_take n list place h.item h.at).1; is = h.is }
+
+-- what stands behind the first few
+pub behind_at : (rows : List RowData) (found : List DeducedData) (k : ℕ) (row : RowData) → RowsAre rows found → slice_get rows k ≡ Some row → HasRowAt found (FEW + k) row
+behind_at rows found k row h at =
+    let there : slice_get (drop FEW (rows_of found)) k ≡ Some row = ap (λ (rs : List RowData). slice_get rs k) (sym h.same) ∙ at in
+    let m = mapped found (FEW + k) row (read_behind FEW (rows_of found) k ∙ there) in
+    record { item = m.0; at = m.1; is = m.2 }
+  where
+    read_behind : (n : ℕ) (rs : List RowData) (i : ℕ) → slice_get rs (n + i) ≡ slice_get (drop n rs) i
+    read_behind zero rs i = let e : 0 + i ≡ i = omega arith in ap (λ (k : ℕ). slice_get rs k) e
+    read_behind (suc n) [] i = refl
+    read_behind (suc n) (r ∷ rs) i = let e : suc n + i ≡ suc (n + i) = omega arith in ap (λ (k : ℕ). slice_get (r ∷ rs) k) e ∙ read_behind n rs i
+
+    mapped : (ds : List DeducedData) (n : ℕ) (r : RowData) → slice_get (rows_of ds) n ≡ Some r → (d : DeducedData) × (slice_get ds n ≡ Some d) × (d.row ≡ r)
+    mapped [] n r e = absurd (let f : None ≡ Some r = e in cc)
+    mapped (d ∷ ds) zero r e = (d, refl, same_Some d.row r e)
+    mapped (d ∷ ds) (suc n) r e = mapped ds n r e
+
+pub match_none : {X : Type 0} (o : Option X) (P Q : Type 0) (S : X → Type 0) → (P → Q) → MatchOption o P S → MatchOption o Q S
+match_none None P Q S f h = f h
+match_none (Some x) P Q S f h = h
+
+-- a row that is neither among the first few nor behind them
+pub row_absent : (rows : List RowData) (found few : List DeducedData) (row : RowData) → RowsAre rows found → few ≡ take FEW found → (Contains (rows_of few) row → ⊥) → (Contains rows row → ⊥) → Contains (rows_of found) row → ⊥
+row_absent rows found few row h is first rest c = elim (Contains-append_cases (rows_of few) rows row (subst (λ (rs : List RowData). Contains rs row) (sym whole) c)) [ inl f ↦ first f | inr m ↦ rest m ]
+  where
+    whole : rows_of few ++ rows ≡ rows_of found
+    whole = ap (λ (ds : List DeducedData). rows_of ds ++ rows) is ∙ (ap (λ (rs : List RowData). rs ++ rows) (sym (take-map (λ (d : DeducedData). d.row) FEW found))
+        ∙ (ap (λ (rs : List RowData). take FEW (rows_of found) ++ rs) h.same ∙ take-append-drop FEW (rows_of found)))
+
+-- what was found is there, by no greater supports
+pub lowers_none : (found : List DeducedData) → Lowers found found
+lowers_none found d c = record { item = d; there = c; is = refl; least = no_greater_itself (premises d.support) }
+
+pub lowers_keeps : (old new : List DeducedData) → ((d : DeducedData) → Contains old d → Contains new d) → Lowers old new
+lowers_keeps old new keeps d c = record { item = d; there = keeps d c; is = refl; least = no_greater_itself (premises d.support) }
+
+pub lower_then : (mid new : List DeducedData) (row : RowData) (s : Support) → HasNoGreater mid row s → Lowers mid new → HasNoGreater new row s
+lower_then mid new row s h lowers =
+    let low = lowers h.item h.there in
+    record { item = low.item; there = low.there; is = low.is ∙ h.is; least = no_greater_then (premises low.item.support) (premises h.item.support) (premises s) low.least h.least }
+
+pub lowers_then : (old mid new : List DeducedData) → Lowers old mid → Lowers mid new → Lowers old new
+lowers_then old mid new g h d c = lower_then mid new d.row d.support (g d c) h
+
+-- a lesser support was put in the place of another
+module _ (rows : List RowData) (old new : List DeducedData) (k : ℕ) (d : DeducedData) (row : RowData) (at : HasRowAt old k row) (is : new ≡ set old k d) (same : d.row ≡ at.item.row) where
+  within : k < length old
+  within = slice_get_within old k at.item at.at
+
+  read : get_or old k d ≡ at.item
+  read = get_or_from_slice_get old k at.item d at.at
+
+  rows_same : rows_of new ≡ rows_of old
+  rows_same = ap rows_of is ∙ map-set_same (λ (x : DeducedData). x.row) old k d d (same ∙ sym (ap (λ (x : DeducedData). x.row) read))
+
+  d_there : Contains new d
+  d_there = subst (λ (ds : List DeducedData). Contains ds d) (sym is) (k, omega (arith, within, length-set old k d), get_or-set_same old k d d within)
+
+  pub lowered_rows : RowsAre rows old → RowsAre rows new
+  lowered_rows h = record {
+    same = h.same ∙ sym (ap (drop FEW) rows_same);
+    once = subst (λ (rs : List RowData). AllPairs (λ a b. a ≢ b) rs) (sym rows_same) h.once;
+  }
+
+  pub lowered_lowers : IsNoGreater (premises d.support) (premises at.item.support) → Lowers old new
+  lowered_lowers least x (j, lt, e) = elim (cases_eq j k) [
+    | inl here_is ↦
+        let x_is : at.item ≡ x = sym (get_or_from_slice_get old k at.item x at.at) ∙ (ap (λ (n : ℕ). get_or old n x) (sym here_is) ∙ e) in
+        record { item = d; there = d_there; is = same ∙ ap (λ (y : DeducedData). y.row) x_is; least = subst (λ (y : DeducedData). IsNoGreater (premises d.support) (premises y.support)) x_is least }
+    | inr other ↦ record {
+      item = x;
+      there = subst (λ (ds : List DeducedData). Contains ds x) (sym is) (j, omega (arith, lt, length-set old k d), get_or-set_other old k j d x other ∙ e);
+      is = refl;
+      least = no_greater_itself (premises x.support);
+    }
+  ]
+
+  pub lowered_only : (s : Support) → (d ≡ at.item) ⊎ (d.support ≡ s) → (x : DeducedData) → Contains new x → Contains old x ⊎ (x ≡ record { row = row; support = s })
+  lowered_only s which x c =
+      let c_ = subst (λ (ds : List DeducedData). Contains ds x) is c in
+      elim (cases_eq c_.0 k) [
+        | inl here_is ↦
+            let x_is : d ≡ x = sym (get_or-set_same old k d x within) ∙ (ap (λ (n : ℕ). get_or (set old k d) n x) (sym here_is) ∙ c_.2) in
+            elim which [
+              | inl was ↦ inl (subst (λ (y : DeducedData). Contains old y) (sym was ∙ x_is) (Contains-at old k at.item at.at))
+              | inr new_is ↦ inr (sym x_is ∙ (λ i. record { row = (same ∙ at.is) i; support = new_is i }))
+            ]
+        | inr other ↦ inl (c_.0, omega (arith, c_.1, length-set old k d), sym (get_or-set_other old k c_.0 d x other) ∙ c_.2)
+      ]
+
+  pub lowered_there : (s : Support) → IsNoGreater (premises d.support) (premises s) → HasNoGreater new row s
+  lowered_there s least = record { item = d; there = d_there; is = same ∙ at.is; least = least }
+
+pub row_pushed : (found pushed : List DeducedData) (row : RowData) (head : HeadBy) (args given : List (ℕ × ℕ)) → given ≡ args → (let d : DeducedData = record { row = row; support = record { head = head; args = given } } in pushed ≡ found ++ d ∷ [])
+    → HasNoGreater pushed row (record { head = head; args = args })
+row_pushed found pushed row head args given same is =
+    let d : DeducedData = record { row = row; support = record { head = head; args = given } } in
+    record {
+      item = d;
+      there = subst (λ (ds : List DeducedData). Contains ds d) (sym is) (Contains-push found d);
+      is = refl;
+      least = no_greater_same (premises d.support) (premises (record { head = head; args = args })) (ap (λ (a : List (ℕ × ℕ)). premises (record { head = head; args = a })) same);
+    }
 
 -- with one more found, what was there stays, and nothing else comes
 pub found_keeps : (found pushed : List DeducedData) (d : DeducedData) → pushed ≡ found ++ d ∷ [] → (x : DeducedData) → Contains found x → Contains pushed x
@@ -57,43 +168,6 @@ found_keeps found pushed d is x there = subst (λ (ds : List DeducedData). Conta
 
 pub found_only : (found pushed : List DeducedData) (d : DeducedData) → pushed ≡ found ++ d ∷ [] → (x : DeducedData) → Contains pushed x → Contains found x ⊎ (x ≡ d)
 found_only found pushed d is x there = pushed_cases found d x (subst (λ (ds : List DeducedData). Contains ds x) is there)
-
--- a row among the first few
-pub row_first : (found few : List DeducedData) (row : RowData) → few ≡ take FEW found → Contains (rows_of few) row → Contains (rows_of found) row
-row_first found few row is c =
-    subst (λ (rs : List RowData). Contains rs row) (take-append-drop FEW (rows_of found))
-    (Contains-append_left (take FEW (rows_of found)) (drop FEW (rows_of found)) row (subst (λ (rs : List RowData). Contains rs row) (ap (λ (ds : List DeducedData). rows_of ds) is ∙ sym (take-map (λ (d : DeducedData). d.row) FEW found)) c))
-
--- a row among the first few or behind them
-pub few_or_more : (rows : List RowData) (found few : List DeducedData) (row : RowData) → RowsAre rows found → few ≡ take FEW found → (r b c : Bool) → (b ≡ true ↔ Contains (rows_of few) row) → (c ≡ true ↔ Contains rows row)
-    → r ≡ b || c → r ≡ true ↔ Contains (rows_of found) row
-few_or_more rows found few row h is r b c first rest or = (λ t. into (either b c (sym or ∙ t)), λ k. or ∙ out_of k)
-  where
-    whole : rows_of few ++ rows ≡ rows_of found
-    whole = ap (λ (ds : List DeducedData). rows_of ds ++ rows) is ∙ (ap (λ (rs : List RowData). rs ++ rows) (sym (take-map (λ (d : DeducedData). d.row) FEW found))
-        ∙ (ap (λ (rs : List RowData). take FEW (rows_of found) ++ rs) h.same ∙ take-append-drop FEW (rows_of found)))
-
-    either : (x y : Bool) → x || y ≡ true → (x ≡ true) ⊎ (y ≡ true)
-    either true y e = inl refl
-    either false y e = inr e
-
-    into : (b ≡ true) ⊎ (c ≡ true) → Contains (rows_of found) row
-    into (inl e) = subst (λ (rs : List RowData). Contains rs row) whole (Contains-append_left (rows_of few) rows row (first.0 e))
-    into (inr e) = subst (λ (rs : List RowData). Contains rs row) whole (Contains-append_right (rows_of few) rows row (rest.0 e))
-
-    left_true : (x y : Bool) → x ≡ true → x || y ≡ true
-    left_true true y e = refl
-    left_true false y e = absurd (cc)
-
-    right_true : (x y : Bool) → y ≡ true → x || y ≡ true
-    right_true true y e = refl
-    right_true false y e = e
-
-    out_of : Contains (rows_of found) row → b || c ≡ true
-    out_of k = elim (Contains-append_cases (rows_of few) rows row (subst (λ (rs : List RowData). Contains rs row) (sym whole) k)) [
-      | inl f ↦ left_true b c (first.1 f)
-      | inr m ↦ right_true b c (rest.1 m)
-    ]
 
 -- one more row
 pub rows_pushed : (rows more : List RowData) (found pushed : List DeducedData) (d : DeducedData) → RowsAre rows found → (length found < FEW → more ≡ rows) → (FEW ≤ length found → more ≡ rows ++ d.row ∷ []) → (Contains (rows_of found) d.row → ⊥)
@@ -165,6 +239,10 @@ module _ (log : List EntryData) (limit : ℕ) (fixed : Option FixedData) where
     | inr there ↦ let r = source_of ss fs f h.1 there in record { slot = r.slot; there = later s r.slot ss r.there; filled = r.filled }
   ]
 
+  -- candidates' places ascend
+  pub filled_rise : (ss : List SlotData) (fs : List FilledData) → AreFilled E fixed ss fs → (f : FilledData) → Contains fs f → IsStrictlyIncreasing f.places
+  filled_rise ss fs h f c = (source_of ss fs f h c).filled.ascending
+
   -- candidates' environments are as long as asked
   pub filled_placed : (us : List ℕ) (sets : Env) (fs : List FilledData) (n : ℕ) → AreFilled E fixed (slots 0 us sets) fs → HaveEnvs E us n → (f : FilledData) → Contains fs f → ArePlaced log n f
   filled_placed us sets fs n h have f c = λ place among.
@@ -198,7 +276,7 @@ module _ (I K : InternerData) (log : List EntryData) (s : SearchData) (h : HeadD
         };
       })
 
-  pub conclude_rows : (found : List DeducedData) → ((x : PartialData) → Contains partials x → HasRow s.point h x found) → (args : List (ℕ × ℕ)) (env : Env) → HeadLeadsTo I log s h args env → HasEnvFound K s h env found
+  pub conclude_rows : (found : List DeducedData) → ((x : PartialData) → Contains partials x → HasRow s.point h x found) → (args : List (ℕ × ℕ)) (env : Env) → HeadLeadsTo I log s h args env → HasEnvFound K s h args env found
   conclude_rows found all args env c =
       let n = length (env_of_id I h.own) in
       let r = joined.all args c.chosen (to_filled log s.limit (fixed_of log s.fixed) (slots 0 s.args (map (set_of_id I) h.sets)) fs filled c.picked) in
@@ -213,6 +291,7 @@ module _ (I K : InternerData) (log : List EntryData) (s : SearchData) (h : HeadD
         ty = ap (λ (q : RowData). q.ty) row.is;
         within = subst (λ (k : ℕ). k < length K.envs) (sym env_is) known;
         is = ap (env_of_id K) env_is ∙ same;
+        least = no_greater_then (premises row.item.support) (head_premise h.by ++ chosen_places r.item.args) (head_premise h.by ++ chosen_places args) row.least (no_greater_behind (head_premise h.by) (chosen_places r.item.args) (chosen_places args) r.least);
       }
 
 -- while the interner grows
@@ -276,12 +355,16 @@ conclusion_later I J K log s h g d c = record {
   leads = subst (λ (e : Env). HeadLeadsTo I log s h d.support.args e) (sym (env_stays J K g d.row.env c.within)) c.leads;
 }
 
-pub found_later : (J K : InternerData) (s : SearchData) (h : HeadData) (env : Env) (old new : List DeducedData) → Grows J K → ((d : DeducedData) → Contains old d → Contains new d) → HasEnvFound J s h env old → HasEnvFound K s h env new
-found_later J K s h env old new g keeps f = record {
-  item = f.item;
-  there = keeps f.item f.there;
-  point = f.point;
-  ty = f.ty;
-  within = env_within J K g f.item.row.env f.within;
-  is = env_stays J K g f.item.row.env f.within ∙ f.is;
-}
+pub found_later : (J K : InternerData) (s : SearchData) (h : HeadData) (args : List (ℕ × ℕ)) (env : Env) (old new : List DeducedData) → Grows J K → Lowers old new → HasEnvFound J s h args env old → HasEnvFound K s h args env new
+found_later J K s h args env old new g lowers f =
+    let low = lowers f.item f.there in
+    let env_is : low.item.row.env ≡ f.item.row.env = ap (λ (q : RowData). q.env) low.is in
+    record {
+      item = low.item;
+      there = low.there;
+      point = ap (λ (q : RowData). q.point) low.is ∙ f.point;
+      ty = ap (λ (q : RowData). q.ty) low.is ∙ f.ty;
+      within = subst (λ (k : ℕ). k < length K.envs) (sym env_is) (env_within J K g f.item.row.env f.within);
+      is = ap (env_of_id K) env_is ∙ (env_stays J K g f.item.row.env f.within ∙ f.is);
+      least = no_greater_then (premises low.item.support) (premises f.item.support) (premises (record { head = h.by; args = args })) low.least f.least;
+    }

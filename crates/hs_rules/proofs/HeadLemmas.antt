@@ -31,10 +31,11 @@ whole_later I J count h g w = record {
 pub type_later : (I J : InternerData) (count : ℕ) (h : HeadData) → Grows I J → IsWholeHead I count h → head_type J h ≡ head_type I h
 type_later I J count h g w = λ i. arrows (sets_stay I J h.sets g w.sets i) (type_stays I J g h.rest w.rest i)
 
-pub has_later : (I J : InternerData) (count : ℕ) (sets : Env) (rest : TypeTree) (old new : List HeadData) → Grows I J → ((h : HeadData) → Contains old h → Contains new h) → HasTypeAmong I count sets rest old → HasTypeAmong J count sets rest new
-has_later I J count sets rest old new g keeps t = record {
+pub has_later : (I J : InternerData) (count : ℕ) (by : HeadBy) (sets : Env) (rest : TypeTree) (old new : List HeadData) → Grows I J → ((h : HeadData) → Contains old h → Contains new h) → HasTypeAmong I count by sets rest old → HasTypeAmong J count by sets rest new
+has_later I J count by sets rest old new g keeps t = record {
   item = t.item;
   there = keeps t.item t.there;
+  by_is = t.by_is;
   whole = whole_later I J count t.item g t.whole;
   sets_are = sets_stay I J t.item.sets g t.whole.sets ∙ t.sets_are;
   rest_is = type_stays I J g t.item.rest t.whole.rest ∙ t.rest_is;
@@ -51,7 +52,7 @@ heads_none ids count From heads never = record {
 
 -- one more
 pub heads_one : (ids : InternerData) (count : ℕ) (From : HeadBy → Env → TypeTree → Type 0) (old new : List HeadData) (h : HeadData) → new ≡ old ++ h ∷ [] → IsWholeHead ids count h
-    → From h.by (env_of_id ids h.own) (head_type ids h) → ((by : HeadBy) (own : Env) (ty : TypeTree) → From by own ty → ty ≡ head_type ids h) → GainsHeads ids count From old new
+    → From h.by (env_of_id ids h.own) (head_type ids h) → ((by : HeadBy) (own : Env) (ty : TypeTree) → From by own ty → (by ≡ h.by) × (ty ≡ head_type ids h)) → GainsHeads ids count From old new
 heads_one ids count From old new h is whole from only = record {
   sound = λ x c. elim (pushed_cases old h x (subst (λ (hs : List HeadData). Contains hs x) is c)) [
     | inl was ↦ inl was
@@ -59,11 +60,12 @@ heads_one ids count From old new h is whole from only = record {
   ];
   keeps = λ x c. subst (λ (hs : List HeadData). Contains hs x) (sym is) (Contains-append_left old (h ∷ []) x c);
   all = λ by own ty f sets rest long eq.
-      let same = arrows_first count (map (set_of_id ids) h.sets) sets (type_of_id ids h.rest) rest (omega (arith, whole.long, length-map h.sets (set_of_id ids))) long (sym (only by own ty f) ∙ eq) in
+      let same = arrows_first count (map (set_of_id ids) h.sets) sets (type_of_id ids h.rest) rest (omega (arith, whole.long, length-map h.sets (set_of_id ids))) long (sym (only by own ty f).1 ∙ eq) in
       let few : length (map (set_of_id ids) h.sets) ≤ count = omega (arith, whole.long, length-map h.sets (set_of_id ids)) in
       record {
         item = h;
         there = subst (λ (hs : List HeadData). Contains hs h) (sym is) (Contains-push old h);
+        by_is = sym (only by own ty f).0;
         whole = whole;
         sets_are = sym (take_all count (map (set_of_id ids) h.sets) few) ∙ same.0;
         rest_is = ap (λ (xs : Env). arrows xs (type_of_id ids h.rest)) (sym (drop_all count (map (set_of_id ids) h.sets) few)) ∙ same.1;
@@ -88,7 +90,7 @@ heads_then I J count F G H old mid new g fh gh split f k = record {
   ];
   keeps = λ h c. k.keeps h (f.keeps h c);
   all = λ by own ty from sets rest long is. elim (split by own ty from) [
-    | inl first ↦ has_later I J count sets rest mid new g k.keeps (f.all by own ty first sets rest long is)
+    | inl first ↦ has_later I J count by sets rest mid new g k.keeps (f.all by own ty first sets rest long is)
     | inr last ↦ k.all by own ty last sets rest long is
   ];
 }

@@ -1,19 +1,25 @@
 -- Environments joined slot by slot.
-use Rattle.std.proofs.Common.{◌≡◌, refl, sym, ◌∙◌, ap, subst, ℕ, ◌<◌, ◌≤◌, Bool, true, false, List, [], ◌∷◌, ◌++◌, length, take, get_or, slice_get, slice_index_or, Some, arith, ◌⊎◌, inl, inr, Contains}
+use Rattle.std.proofs.Common.{◌≡◌, refl, sym, ◌∙◌, ap, subst, ℕ, suc, ◌+◌, ◌<◌, ◌≤◌, Bool, true, false, List, [], ◌∷◌, ◌++◌, length, take, get_or, slice_get, slice_index_or, Some, arith, ◌⊎◌, inl, inr, Contains}
+use Rattle.std.specs.List.Sorted.{IsStrictlyIncreasing}
 use Rattle.std.specs.Bool.{OnTrue}
 use Rattle.std.specs.List.{list_any}
 use Rattle.std.proofs.lemmas.Map.Made.{is_member-Decides}
 use Rattle.std.proofs.lemmas.List.Elements.{Contains-append_left, Contains-push, Contains-get_or}
-use Rattle.std.proofs.lemmas.Option.{same_Some}
+use Rattle.std.proofs.lemmas.List.{length-map}
+use Rattle.std.proofs.lemmas.List.Kept.{AllPairs-from_increasing}
+use Rattle.std.proofs.lemmas.List.Quantifiers.{all_pairs_push}
+use Rattle.std.proofs.lemmas.Option.{get_or_from_slice_get, slice_get-get_or, same_Some}
 use Rattle.hs_scheme.proofs.Lists.{here, Contains-at, only}
 use Rattle.hs_table.specs.Entries.{Env, EntryData, IsEnv}
 use Rattle.hs_types.specs.Interned.{InternerData, env_of_id, RowData, entry_of, Grows, IsUnionEnv}
 use Rattle.hs_types.specs.contracts.ids.EnvIdPartialEq.TheImpl.{eq-value}
 use Rattle.hs_types.proofs.Numbers.{env_within, env_stays}
 use Rattle.hs_table_laws.proofs.Places.{within_from, place_of, at_take}
+use Rattle.hs_rules.specs.Order.{chosen_places, IsLess, IsNoGreater}
 use Rattle.hs_rules.specs.Slots.{FilledData, Picked, none_left, pick, IsJoin}
-use Rattle.hs_rules.specs.Joins.{PartialData, FillsBy, IsPlaced, ArePlaced, SeenAre, IsMade, IsMadeOf, IsCovered, CanFill, AreJoined}
+use Rattle.hs_rules.specs.Joins.{PartialData, FillsBy, IsPlaced, ArePlaced, SeenAre, HasLesserPlaces, AreAscending, ComeBefore, AreAsLong, IsMade, IsMadeOf, IsCovered, CanFill, AreJoined}
 use Rattle.hs_rules.proofs.Lists.{read_other}
+use Rattle.hs_rules.proofs.OrderLemmas.{less_no_greater, no_greater_same, no_greater_then, less_append, less_last, no_greater_push, places_push}
 use Rattle.hs_rules.proofs.SetLemmas.{env_same}
 use Rattle.hs_rules.proofs.SlotLemmas.{picked_append, last_of, none_of, join_none, join_more}
 
@@ -36,8 +42,66 @@ pub seen_there : (seen : List ℕ) (list : List PartialData) (env : ℕ) (r : Bo
 seen_there seen list env true h is = h env ((is_member-Decides env_same seen env).0 (sym is))
 seen_there seen list env false h is = tt
 
-pub pushed_there : (list pushed : List PartialData) (x : PartialData) → pushed ≡ list ++ x ∷ [] → (y : PartialData) × Contains pushed y × (y.env ≡ x.env)
-pushed_there list pushed x is = (x, subst (λ (ys : List PartialData). Contains ys x) (sym is) (Contains-push list x), refl)
+-- the environment is there, by no greater choice
+abbrev pub IsThere : List PartialData → ℕ → List (ℕ × ℕ) → ℕ → Type 0
+IsThere list env from place = (x : PartialData) × Contains list x × (x.env ≡ env) × IsNoGreater (chosen_places x.args) (chosen_places from ++ place ∷ [])
+
+pub pushed_there : (list pushed : List PartialData) (env arg place : ℕ) (from args : List (ℕ × ℕ)) → args ≡ from ++ (arg, place) ∷ [] → (let x : PartialData = record { env = env; args = args } in pushed ≡ list ++ x ∷ [])
+    → IsThere pushed env from place
+pushed_there list pushed env arg place from args are is =
+    let x : PartialData = record { env = env; args = args } in (
+      x,
+      subst (λ (ys : List PartialData). Contains ys x) (sym is) (Contains-push list x),
+      refl,
+      no_greater_same (chosen_places args) (chosen_places from ++ place ∷ []) (ap chosen_places are ∙ places_push from arg place),
+    )
+
+pub among_there : (list : List PartialData) (env place : ℕ) (from : List (ℕ × ℕ)) → ((x : PartialData) × Contains list x × (x.env ≡ env)) → ComeBefore list from place → IsThere list env from place
+among_there list env place from (x, there, is) before = (x, there, is, less_no_greater (chosen_places x.args) (chosen_places from ++ place ∷ []) (before x there))
+
+pub pushed_ascends : (list pushed : List PartialData) (env arg place : ℕ) (from args : List (ℕ × ℕ)) → args ≡ from ++ (arg, place) ∷ [] → (let x : PartialData = record { env = env; args = args } in pushed ≡ list ++ x ∷ [])
+    → AreAscending list → ComeBefore list from place → AreAscending pushed
+pushed_ascends list pushed env arg place from args are is up before =
+    let x : PartialData = record { env = env; args = args } in
+    let places : chosen_places args ≡ chosen_places from ++ place ∷ [] = ap chosen_places are ∙ places_push from arg place in
+    subst (λ (ys : List PartialData). AreAscending ys) (sym is) (all_pairs_push HasLesserPlaces list x up
+    (λ k d lt. subst (λ (ps : List ℕ). IsLess (chosen_places (get_or list k d).args) ps) (sym places) (before (get_or list k d) (Contains-get_or list k d lt))))
+
+-- what is chosen with the candidates so far comes before what is chosen with those that are left
+abbrev pub ComeBeforeFrom : List PartialData → List (ℕ × ℕ) → List ℕ → ℕ → Type 0
+ComeBeforeFrom list from items index = (x : PartialData) → Contains list x → (k : ℕ) → index ≤ k → k < length items → IsLess (chosen_places x.args) (chosen_places from ++ get_or items k 0 ∷ [])
+
+pub before_next : (old new : List PartialData) (from given : List (ℕ × ℕ)) (items : List ℕ) (env arg index : ℕ) → given ≡ from → IsStrictlyIncreasing items → index < length items → ComeBeforeFrom old from items index
+    → ((x : PartialData) → Contains new x → Contains old x ⊎ (x ≡ record { env = env; args = given ++ (arg, get_or items index 0) ∷ [] })) → ComeBeforeFrom new from items (index + 1)
+before_next old new from given items env arg index same rises within before only x there k le lt = elim (only x there) [
+  | inl was ↦ before x was k (omega (arith, le)) lt
+  | inr is ↦
+      let place = get_or items index 0 in
+      let places : chosen_places x.args ≡ chosen_places from ++ place ∷ [] = ap (λ (y : PartialData). chosen_places y.args) is ∙ (places_push given arg place ∙ ap (λ (a : List (ℕ × ℕ)). chosen_places a ++ place ∷ []) same) in
+      subst (λ (ps : List ℕ). IsLess ps (chosen_places from ++ get_or items k 0 ∷ [])) (sym places)
+      (less_last (chosen_places from) place (get_or items k 0) (AllPairs-from_increasing items rises index k 0 (omega (arith, le)) lt))
+]
+
+pub item_at : (partials : List PartialData) (index : ℕ) (item : PartialData) → index < length partials → item ≡ get_or partials index item → slice_get partials index ≡ Some item
+item_at partials index item lt is = slice_get-get_or partials index item lt ∙ ap (λ (x : PartialData). Some x) (sym is)
+
+-- what is chosen from the environments so far comes before what is chosen from those that are left
+abbrev pub ComeBeforeOf : List PartialData → List PartialData → ℕ → Type 0
+ComeBeforeOf list partials index = (x : PartialData) → Contains list x → (j : ℕ) (y : PartialData) → index ≤ j → slice_get partials j ≡ Some y → (k : ℕ) → IsLess (chosen_places x.args) (chosen_places y.args ++ k ∷ [])
+
+pub before_more : (I K : InternerData) (log : List EntryData) (old new partials : List PartialData) (f : FilledData) (index : ℕ) (item : PartialData) → slice_get partials index ≡ Some item → AreAscending partials → AreAsLong partials → ComeBeforeOf old partials index
+    → ((x : PartialData) → Contains new x → Contains old x ⊎ IsMade I K log item f x) → ComeBeforeOf new partials (index + 1)
+before_more I K log old new partials f index item at up long before only x there j y le is k = elim (only x there) [
+  | inl was ↦ before x was j y (omega (arith, le)) is k
+  | inr m ↦
+      let places : chosen_places x.args ≡ chosen_places item.args ++ m.place ∷ [] = ap chosen_places m.args ∙ places_push item.args f.arg m.place in
+      let first = get_or_from_slice_get partials index item item at in
+      let second = get_or_from_slice_get partials j y item is in
+      let less : HasLesserPlaces item y = subst (λ (z : PartialData). HasLesserPlaces item z) second (subst (λ (z : PartialData). HasLesserPlaces z (get_or partials j item)) first (up index j item (omega (arith, le)) (within_from partials j y is))) in
+      let same = long item y (Contains-at partials index item at) (Contains-at partials j y is) in
+      let many : length (chosen_places item.args) ≡ length (chosen_places y.args) = length-map item.args (λ (a : ℕ × ℕ). a.1) ∙ (same ∙ sym (length-map y.args (λ (a : ℕ × ℕ). a.1))) in
+      subst (λ (ps : List ℕ). IsLess ps (chosen_places y.args ++ k ∷ [])) (sym places) (less_append (chosen_places item.args) (chosen_places y.args) (m.place ∷ []) (k ∷ []) many less)
+]
 
 -- one more candidate for a slot
 module _ (I J K : InternerData) (log : List EntryData) (from : PartialData) (f : FilledData) (g : Grows I J) (h : Grows J K) (known : from.env < length I.envs) where
@@ -51,12 +115,13 @@ module _ (I J K : InternerData) (log : List EntryData) (from : PartialData) (f :
     union = subst (λ (e : Env). IsUnionEnv (env_of_id I from.env) m.entry.env e) (sym (env_stays J K h x.env m.within)) m.union;
   }
 
-  pub covered_stays : (entry : EntryData) (old new : List PartialData) → ((x : PartialData) → Contains old x → Contains new x) → IsCovered I J from entry old → IsCovered I K from entry new
-  covered_stays entry old new keeps c = record {
+  pub covered_stays : (place : ℕ) (entry : EntryData) (old new : List PartialData) → ((x : PartialData) → Contains old x → Contains new x) → IsCovered I J from place entry old → IsCovered I K from place entry new
+  covered_stays place entry old new keeps c = record {
     item = c.item;
     there = keeps c.item c.there;
     within = env_within J K h c.item.env c.within;
     union = subst (λ (e : Env). IsUnionEnv (env_of_id I from.env) entry.env e) (sym (env_stays J K h c.item.env c.within)) c.union;
+    least = c.least;
   }
 
   module _ (row : RowData) (place id : ℕ) (at : slice_get log place ≡ Some (entry_of J row)) (there : Contains f.places place) (within : id < length K.envs)
@@ -82,12 +147,13 @@ module _ (I J K : InternerData) (log : List EntryData) (from : PartialData) (f :
       }))
     ]
 
-    pub covered_next : (new : List PartialData) → ((x : PartialData) × Contains new x × (x.env ≡ id)) → (e : EntryData) → slice_get log place ≡ Some e → IsCovered I K from e new
-    covered_next new found e is = subst (λ (y : EntryData). IsCovered I K from y new) (same_Some (entry_of J row) e (sym at ∙ is)) (record {
+    pub covered_next : (new : List PartialData) → IsThere new id from.args place → (e : EntryData) → slice_get log place ≡ Some e → IsCovered I K from place e new
+    covered_next new found e is = subst (λ (y : EntryData). IsCovered I K from place y new) (same_Some (entry_of J row) e (sym at ∙ is)) (record {
       item = found.0;
       there = found.1;
       within = subst (λ (n : ℕ). n < length K.envs) (sym found.2) within;
       union = subst (λ (n : ℕ). IsUnionEnv (env_of_id I from.env) (env_of_id J row.env) (env_of_id K n)) (sym found.2) union_here;
+      least = found.3;
     })
 
 -- the environments are of one length
@@ -96,10 +162,21 @@ pub same_length : (I J : InternerData) (log : List EntryData) (env place : ℕ) 
 same_length I J log env place row g known placed at =
     ap (λ (e : Env). length e) (env_stays I J g env known) ∙ (sym placed.env.long ∙ ap (λ (e : EntryData). length e.env) (same_Some placed.entry (entry_of J row) (sym placed.at ∙ at)))
 
+-- a choice has a place for each slot
+pub picked_long : (log : List EntryData) {fs : List FilledData} {args : List (ℕ × ℕ)} {es : List EntryData} → Picked (λ (f : FilledData). f.arg) (FillsBy log) fs args es → length (chosen_places args) ≡ length fs
+picked_long log none_left = refl
+picked_long log (pick c k) = ap suc (picked_long log k)
+
+pub joined_as_long : (I : InternerData) (log : List EntryData) (n : ℕ) (own : Env) (fs : List FilledData) (found : List PartialData) → AreJoined I log n own fs found → AreAsLong found
+joined_as_long I log n own fs found joined x y cx cy =
+    let a = picked_long log (joined.sound x cx).picked in
+    let b = picked_long log (joined.sound y cy).picked in
+    omega (arith, a, b, length-map x.args (λ (z : ℕ × ℕ). z.1), length-map y.args (λ (z : ℕ × ℕ). z.1))
+
 -- one more slot
 module _ (I K : InternerData) (log : List EntryData) (n : ℕ) (own : Env) (fs : List FilledData) (f : FilledData) (old new : List PartialData) (joined : AreJoined I log n own fs old)
     (some : (x : PartialData) → Contains new x → IsMadeOf I K log old f x)
-    (all : (from : PartialData) → Contains old from → (place : ℕ) (e : EntryData) → FillsBy log f place e → IsCovered I K from e new) where
+    (all : (from : PartialData) → Contains old from → (place : ℕ) (e : EntryData) → FillsBy log f place e → IsCovered I K from place e new) (up : AreAscending new) where
   next_join : (env : Env) (e : EntryData) (union : Env) (chosen : List EntryData) → IsUnionEnv env e.env union → IsJoin n own chosen env → IsJoin n own (chosen ++ e ∷ []) union
   next_join env e union chosen u j =
       join_more n own env union chosen e j (record { long = u.long ∙ j.is_env.long; sets = λ k. (u.sets k).ascends }) (λ k a. (u.sets k).exact a)
@@ -124,8 +201,19 @@ module _ (I K : InternerData) (log : List EntryData) (n : ℕ) (own : Env) (fs :
           item = c.item;
           there = c.there;
           join = subst (λ (es : List EntryData). IsJoin n own es (env_of_id K c.item.env)) (sym l.entries_are) (next_join (env_of_id I before.item.env) l.entry (env_of_id K c.item.env) l.entries c.union before.join);
+          least =
+              let these = chosen_places before.item.args in
+              let long : length these ≡ length (chosen_places l.before) = picked_long log (joined.sound before.item before.there).picked ∙ sym (picked_long log l.picked) in
+              let places : chosen_places args ≡ chosen_places l.before ++ l.place ∷ [] = ap chosen_places l.args_are ∙ places_push l.before f.arg l.place in
+              subst (λ (ps : List ℕ). IsNoGreater (chosen_places c.item.args) ps) (sym places)
+              (no_greater_then (chosen_places c.item.args) (these ++ l.place ∷ []) (chosen_places l.before ++ l.place ∷ []) c.least (no_greater_push these (chosen_places l.before) l.place long before.least));
         };
+    ascending = up;
   }
+
+-- a list of one ascends
+pub one_ascending : (x : PartialData) → AreAscending (x ∷ [])
+one_ascending x i j d lt below = absurd (omega (arith, lt, below))
 
 -- a list of one
 pub single : (xs : List ℕ) → length xs ≡ 1 → xs ≡ slice_index_or xs 0 0 ∷ []
@@ -154,12 +242,14 @@ joined_more I K log n own fs f old new joined place entry is at args within unio
     (λ from there k e fills.
     let place_is = only place k (subst (λ (ps : List ℕ). Contains ps k) is fills.among) in
     let same : entry ≡ e = same_Some entry e (sym at ∙ (ap (λ (i : ℕ). slice_get log i) (sym place_is) ∙ fills.at)) in
-    subst (λ (y : PartialData). IsCovered I K y e (new ∷ [])) (sym (only old from there)) (record {
+    subst (λ (y : PartialData). IsCovered I K y k e (new ∷ [])) (sym (only old from there)) (record {
       item = new;
       there = here new [];
       within = within;
       union = subst (λ (x : EntryData). IsUnionEnv (env_of_id I old.env) x.env (env_of_id K new.env)) same union;
+      least = no_greater_same (chosen_places new.args) (chosen_places old.args ++ k ∷ []) (ap chosen_places args ∙ (places_push old.args f.arg place ∙ ap (λ (i : ℕ). chosen_places old.args ++ i ∷ []) (sym place_is)));
     }))
+    (one_ascending new)
 
 -- no slots
 pub joined_none : (I : InternerData) (log : List EntryData) (own : ℕ) (found : List PartialData) (x : PartialData) → own < length I.envs → IsEnv (length (env_of_id I own)) (env_of_id I own)
@@ -182,7 +272,9 @@ joined_none I log own found x known is_env is env args = record {
         there = subst (λ (ys : List PartialData). Contains ys x) (sym is) (here x []);
         join = subst (λ (es : List EntryData). IsJoin (length (env_of_id I own)) (env_of_id I own) es (env_of_id I x.env)) (sym n.1)
             (subst (λ (k : ℕ). IsJoin (length (env_of_id I own)) (env_of_id I own) [] (env_of_id I k)) (sym env) (join_none (length (env_of_id I own)) (env_of_id I own) is_env));
+        least = no_greater_same (chosen_places x.args) (chosen_places bs) (ap chosen_places args ∙ ap chosen_places (sym n.0));
       };
+  ascending = subst (λ (ys : List PartialData). AreAscending ys) (sym is) (one_ascending x);
 }
 
 -- a place of a slot is in the log
@@ -194,15 +286,17 @@ place_within first log f n k items same is lt placed =
 pub place_placed : (first : List EntryData) (f : FilledData) (n k : ℕ) (items : List ℕ) → items ≡ f.places → k < length items → ArePlaced first n f → IsPlaced first n (get_or items k 0)
 place_placed first f n k items is lt placed = placed (get_or items k 0) (subst (λ (xs : List ℕ). Contains xs (get_or items k 0)) is (Contains-get_or items k 0 lt))
 
-pub record Reached (log : List EntryData) (items : List ℕ) (index : ℕ) (e : EntryData) : Type 0 where
+pub record Reached (log : List EntryData) (items : List ℕ) (index place : ℕ) (e : EntryData) : Type 0 where
   pub k : ℕ
   pub lt : k < index
   pub at : slice_get log (get_or items k 0) ≡ Some e
+  pub is : get_or items k 0 ≡ place
 
-pub reached : (log : List EntryData) (f : FilledData) (items : List ℕ) (index place : ℕ) (e : EntryData) → items ≡ f.places → length items ≤ index → FillsBy log f place e → Reached log items index e
+pub reached : (log : List EntryData) (f : FilledData) (items : List ℕ) (index place : ℕ) (e : EntryData) → items ≡ f.places → length items ≤ index → FillsBy log f place e → Reached log items index place e
 reached log f items index place e is all h =
     let c = subst (λ (xs : List ℕ). Contains xs place) (sym is) h.among in
-    record { k = c.0; lt = omega (arith, c.1, all); at = ap (λ n. slice_get log n) (read_other items c.0 place 0 c.1 c.2) ∙ h.at }
+    let is = read_other items c.0 place 0 c.1 c.2 in
+    record { k = c.0; lt = omega (arith, c.1, all); at = ap (λ n. slice_get log n) is ∙ h.at; is = is }
 
 -- read in an earlier interner
 module _ (I J K : InternerData) (log later : List EntryData) (from : PartialData) (f : FilledData) (g : Grows I J) (known : from.env < length I.envs) (same : later ≡ log) where
@@ -216,12 +310,13 @@ module _ (I J K : InternerData) (log later : List EntryData) (from : PartialData
     union = subst (λ (e : Env). IsUnionEnv e m.entry.env (env_of_id K x.env)) (env_stays I J g from.env known) m.union;
   }
 
-  pub covered_earlier : (entry : EntryData) (found : List PartialData) → IsCovered J K from entry found → IsCovered I K from entry found
-  covered_earlier entry found c = record {
+  pub covered_earlier : (place : ℕ) (entry : EntryData) (found : List PartialData) → IsCovered J K from place entry found → IsCovered I K from place entry found
+  covered_earlier place entry found c = record {
     item = c.item;
     there = c.there;
     within = c.within;
     union = subst (λ (e : Env). IsUnionEnv e entry.env (env_of_id K c.item.env)) (env_stays I J g from.env known) c.union;
+    least = c.least;
   }
 
   -- what extending one environment requires

@@ -1,3 +1,4 @@
+pub mod OrderLemmas
 pub mod Lists
 pub mod SlotLemmas
 pub mod FollowLemmas
@@ -17,3 +18,4 @@ pub mod SeedLemmas
 pub mod ConcludeLemmas
 pub mod ShutLemmas
 pub mod PartLemmas
+mod ListedLemmas

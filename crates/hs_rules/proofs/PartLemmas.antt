@@ -1,29 +1,32 @@
 -- Conclusions as they are gathered.
 use Rattle.std.proofs.Common.{◌≡◌, ◌≢◌, refl, sym, ◌∙◌, ap, subst, ℕ, zero, suc, ◌<◌, List, [], ◌∷◌, length, map, drop, get_or, slice_get, slice_index, Option, Some, arith, AllPairs, Contains, ◌⊎◌, inl, inr, ◌↔◌}
 use Rattle.std.proofs.lemmas.Option.{slice_get-get_or, same_Some}
-use Rattle.std.proofs.lemmas.List.{length-map}
+use Rattle.std.proofs.lemmas.Bool.{cases_order}
+use Rattle.std.proofs.lemmas.List.{length-map, get_or_default}
 use Rattle.std.proofs.lemmas.List.Elements.{Contains-append_cases}
 use Rattle.hs_scheme.specs.declared.term.Head.{Head}
 use Rattle.hs_scheme.specs.declared.term.Head.TheVariants.{Var, Nt, Tm}
-use Rattle.hs_scheme.specs.Points.{PointData, PointsData, NonterminalWithin, ParameterWithin, point_at, points_of, IsArgument}
+use Rattle.hs_scheme.specs.flow.Points.{PointData, PointsData, NonterminalWithin, ParameterWithin, point_at, points_of, IsArgument}
 use Rattle.hs_scheme.specs.Problem.{ProblemData}
 use Rattle.hs_scheme.proofs.Lists.{none_in, only}
 use Rattle.hs_table.specs.declared.support.HeadBy.{HeadBy}
 use Rattle.hs_table.specs.declared.support.HeadBy.TheVariants.{Terminal, Rule, Param}
 use Rattle.hs_table.specs.Entries.{EntryData, InShape, IsEnv, params_of}
-use Rattle.hs_table.specs.Follows.{Support, head_premise}
+use Rattle.hs_table.specs.Follows.{Support, head_premise, premises}
 use Rattle.hs_table_laws.proofs.Places.{place_of}
 use Rattle.hs_table_laws.proofs.Members.{into_map}
-use Rattle.hs_types.specs.Interned.{InternerData, RowData, entry_of, Grows}
-use Rattle.hs_types.proofs.Numbers.{row_stays}
+use Rattle.hs_types.specs.Interned.{InternerData, RowData, entry_of, IsInterner, Grows}
+use Rattle.hs_types.proofs.Numbers.{row_stays, same_row}
 use Rattle.hs_replica.specs.Replica.{ReplicaData, KeepsLog}
 use Rattle.hs_rules.specs.declared.search.Fixed.{Fixed}
-use Rattle.hs_rules.specs.Conclusions.{DeducedData, IsDeduced, Uses, AreConclusions}
+use Rattle.hs_rules.specs.Order.{IsNoGreater}
+use Rattle.hs_rules.specs.Conclusions.{DeducedData, IsDeduced, IsLeastOf, Uses, AreConclusions}
 use Rattle.hs_rules.specs.declared.joining.TheConstants.{FEW}
 use Rattle.hs_rules.specs.Filling.{CanSearch, IsWithin}
-use Rattle.hs_rules.specs.Found.{HaveEnvs, RowsAre}
+use Rattle.hs_rules.specs.Found.{HaveEnvs, RowsAre, Lowers}
 use Rattle.hs_rules.specs.Parts.{ArePart, HasAll, UsesArgument, IsInRule, IsOnlyPlaceOf}
 use Rattle.hs_rules.proofs.Lists.{all_from}
+use Rattle.hs_rules.proofs.OrderLemmas.{no_greater_then}
 use Rattle.hs_rules.specs.Heads.{IsHeadWithin}
 use Rattle.hs_rules.proofs.PointLemmas.{params_are}
 use Rattle.hs_scheme.specs.declared.points.Argument.{Argument}
@@ -39,9 +42,17 @@ rows_once rows found h = λ i j d lt below e.
     let long = length-map found (λ (x : DeducedData). x.row) in
     h.once i j d.row lt (omega (arith, below, long)) (read_map found i d ∙ (e ∙ sym (read_map found j d)))
 
-pub part_conclusions : (p : ProblemData) (ids : InternerData) (E : List EntryData) (point : ℕ) (Counts : Support → Type 0) (rows : List RowData) (found : List DeducedData) → ArePart p ids E point Counts rows found → HasAll p ids E point Counts found
+-- a row is found at one place
+pub one_of_row : (rows : List RowData) (found : List DeducedData) → RowsAre rows found → (c d : DeducedData) → Contains found c → Contains found d → c.row ≡ d.row → c ≡ d
+one_of_row rows found h c d (i, lt, at) (j, below, other) same = elim (cases_order i j) [
+  | inl is ↦ sym at ∙ (get_or_default found i c d lt ∙ (ap (λ (k : ℕ). get_or found k d) is ∙ other))
+  | inr (inl less) ↦ absurd (rows_once rows found h i j d less below (ap (λ (x : DeducedData). x.row) (sym (get_or_default found i c d lt) ∙ at) ∙ (same ∙ sym (ap (λ (x : DeducedData). x.row) other))))
+  | inr (inr more) ↦ absurd (rows_once rows found h j i d more lt (ap (λ (x : DeducedData). x.row) other ∙ (sym same ∙ sym (ap (λ (x : DeducedData). x.row) (sym (get_or_default found i c d lt) ∙ at)))))
+]
+
+pub part_conclusions : (p : ProblemData) (ids : InternerData) (E : List EntryData) (point : ℕ) (Counts : Support → Type 0) (rows : List RowData) (found : List DeducedData) → IsInterner ids → ArePart p ids E point Counts rows found → HasAll p ids E point Counts found
     → AreConclusions p ids E point Counts found
-part_conclusions p ids E point Counts rows found part all = record {
+part_conclusions p ids E point Counts rows found numbers part all = record {
   deduced = all_from (IsDeduced p ids E) found (λ d c. (part.each d c).0);
   count = all_from (λ d. Counts d.support) found (λ d c. (part.each d c).1);
   at = all_from (λ d. d.row.point ≡ point) found (λ d c. (part.each d c).2);
@@ -49,6 +60,12 @@ part_conclusions p ids E point Counts rows found part all = record {
       let h = all s e here_is f counts in
       subst (λ (x : EntryData). Contains (map (λ (d : DeducedData). entry_of ids d.row) found) x) h.is (into_map (λ (d : DeducedData). entry_of ids d.row) found h.item h.there);
   once = rows_once rows found part.once;
+  least = all_from (λ d. IsLeastOf p E Counts d.support (entry_of ids d.row)) found (λ d c r f counts.
+      let own = part.each d c in
+      let h = all r (entry_of ids d.row) own.2 f counts in
+      let row_is = same_row ids numbers h.item.row d.row (part.each h.item h.there).0.row own.0.row h.is in
+      let same = one_of_row rows found part.once h.item d h.there c row_is in
+      subst (λ (x : DeducedData). IsNoGreater (premises x.support) (premises r)) same h.least);
 }
 
 -- nothing found
@@ -71,12 +88,18 @@ pub uses_cases : (s : Support) (place : ℕ) → Uses place s → (head_premise 
 uses_cases s place c = elim (Contains-append_cases (head_premise s.head) (map (λ a. a.1) s.args) place c) [ inl h ↦ inl (head_used s.head place h) | inr a ↦ inr a ]
 
 -- what was found by the one kind and then by the other
-pub both_kinds : (p : ProblemData) (J K : InternerData) (E : List EntryData) (point place : ℕ) (rows : List RowData) (old new : List DeducedData) → Grows J K → ArePart p J E point (Uses place) rows old → ((d : DeducedData) → Contains old d → Contains new d)
+pub both_kinds : (p : ProblemData) (J K : InternerData) (E : List EntryData) (point place : ℕ) (rows : List RowData) (old new : List DeducedData) → Grows J K → ArePart p J E point (Uses place) rows old → Lowers old new
     → HasAll p J E point (λ s. head_premise s.head ≡ place ∷ []) old → HasAll p K E point (UsesArgument place) new → HasAll p K E point (Uses place) new
-both_kinds p J K E point place rows old new g part keeps by_head by_argument = λ s e here_is f uses. elim (uses_cases s place uses) [
+both_kinds p J K E point place rows old new g part lowers by_head by_argument = λ s e here_is f uses. elim (uses_cases s place uses) [
   | inl head ↦
       let h = by_head s e here_is f head in
-      record { item = h.item; there = keeps h.item h.there; is = row_stays J K g h.item.row (part.each h.item h.there).0.row ∙ h.is }
+      let low = lowers h.item h.there in
+      record {
+        item = low.item;
+        there = low.there;
+        is = ap (entry_of K) low.is ∙ (row_stays J K g h.item.row (part.each h.item h.there).0.row ∙ h.is);
+        least = no_greater_then (premises low.item.support) (premises h.item.support) (premises s) low.least h.least;
+      }
   | inr argument ↦ by_argument s e here_is f argument
 ]
 

@@ -7,8 +7,8 @@ use Rattle.std.specs.Option.{option_map_or}
 use Rattle.hs_scheme.specs.declared.term.Head.{Head}
 use Rattle.hs_scheme.specs.declared.term.Rule.{Rule}
 use Rattle.hs_scheme.specs.Tree.{Tree, Trees, node, none, more}
-use Rattle.hs_scheme.specs.Points.{PointData, IsArgument, size, numbers, term_points, terms_points, rules_points, points_of}
-use Rattle.hs_scheme.specs.Parameters.{counts_of}
+use Rattle.hs_scheme.specs.flow.Points.{PointData, IsArgument, size, numbers, term_points, terms_points, rules_points, points_of}
+use Rattle.hs_scheme.specs.sorting.Parameters.{counts_of}
 use Rattle.hs_scheme.proofs.PointLemmas.{length-term_points}
 use Rattle.hs_scheme.proofs.PlaceLemmas.{once}
 use Rattle.hs_scheme.proofs.Lists.{here, later, place-append}

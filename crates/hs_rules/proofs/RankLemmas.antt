@@ -3,9 +3,9 @@ use Rattle.std.proofs.Common.{◌≡◌, refl, sym, ◌∙◌, ap, ℕ, true, fa
 use Rattle.std.proofs.lemmas.Bool.{eqb-true, and_parts}
 use Rattle.std.proofs.lemmas.List.Elements.{All-contains}
 use Rattle.std.proofs.lemmas.Option.{same_Some}
-use Rattle.hs_scheme.specs.Transition.{TransitionData}
-use Rattle.hs_scheme.specs.Automaton.{next, is_of}
-use Rattle.hs_scheme.specs.Sorted.{SortedData, IsSorted, known}
+use Rattle.hs_scheme.specs.acceptance.Transition.{TransitionData}
+use Rattle.hs_scheme.specs.acceptance.Automaton.{next, is_of}
+use Rattle.hs_scheme.specs.sorting.Sorted.{SortedData, IsSorted, known}
 use Rattle.hs_scheme.proofs.Lists.{here, later}
 use Rattle.hs_scheme.proofs.Sortings.{known_at}
 

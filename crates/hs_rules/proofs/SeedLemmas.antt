@@ -3,8 +3,8 @@ use Rattle.std.proofs.Common.{◌≡◌, refl, sym, ◌∙◌, ap, subst, slice_
 use Rattle.std.proofs.lemmas.Bool.{cases_lt}
 use Rattle.std.proofs.lemmas.Option.{same_Some}
 use Rattle.hs_scheme.specs.declared.term.Head.TheVariants.{Var, Nt, Tm}
-use Rattle.hs_scheme.specs.Automaton.{next}
-use Rattle.hs_scheme.specs.Points.{PointData}
+use Rattle.hs_scheme.specs.acceptance.Automaton.{next}
+use Rattle.hs_scheme.specs.flow.Points.{PointData}
 use Rattle.hs_scheme.specs.Problem.{ProblemData}
 use Rattle.hs_scheme.proofs.Lists.{none_in}
 use Rattle.hs_table.specs.declared.support.HeadBy.{HeadBy}
@@ -14,13 +14,14 @@ use Rattle.hs_table.specs.Entries.{Env, EntryData, Has, InShape, params_of}
 use Rattle.hs_table.specs.Follows.{rank_of, IsHeadType, Support, FollowsBy, Chosen, done, next_argument, choose, HasMove}
 use Rattle.hs_table_laws.proofs.Places.{within_from}
 use Rattle.hs_table_laws.proofs.Arrows.{empties_has, one_long, one_has, has_within}
-use Rattle.hs_types.specs.Interned.{InternerData}
+use Rattle.hs_types.specs.Interned.{InternerData, IsInterner}
 use Rattle.hs_rules.specs.Found.{HeadData}
-use Rattle.hs_rules.specs.Heads.{HasTypeAmong, GainsHeads, AtRange, InState, AreHeads, AsksNothing}
+use Rattle.hs_rules.specs.Heads.{IsNoGreaterHead, HasNoGreaterType, GainsHeads, AtRange, InState, AreHeads, AsksNothing}
 use Rattle.hs_rules.specs.Conclusions.{DeducedData, AnySupport, AreConclusions}
 use Rattle.hs_rules.specs.Parts.{HasRowFor}
 use Rattle.hs_rules.proofs.ArrowLemmas.{arrows_long, takes_has}
 use Rattle.hs_rules.proofs.SourceLemmas.{gained_are, lacking_type, child_type}
+use Rattle.hs_rules.proofs.OrderLemmas.{head_itself}
 use Rattle.hs_rules.proofs.FollowLemmas.{chosen_long}
 use Rattle.hs_rules.proofs.PartLemmas.{part_none, part_conclusions}
 
@@ -36,7 +37,7 @@ module _ (p : ProblemData) (log : List EntryData) (rule : ℕ) (args : List ℕ)
   pub bodies_nothing : (f : ℕ) → heads ≡ [] → AreHeads p [] (record { rule = rule; head = Nt f; args = args }) ids AsksNothing heads
   bodies_nothing f none = record { sound = λ h c. absurd (none_in h (subst (λ (hs : List HeadData). Contains hs h) none c)); all = all }
     where
-      all : (by : HeadBy) (sets : Env) (rest : TypeTree) → length sets ≡ length args → IsHeadType p [] rule (Nt f) by (arrows sets rest) → AsksNothing by sets → HasTypeAmong ids (length args) sets rest heads
+      all : (by : HeadBy) (sets : Env) (rest : TypeTree) → length sets ≡ length args → IsHeadType p [] rule (Nt f) by (arrows sets rest) → AsksNothing by sets → HasNoGreaterType ids (length args) by sets rest heads
       all (Terminal q child) sets rest long h want = absurd h
       all (Rule k) sets rest long h want = absurd (let e = h.holds.at in cc)
       all (Param y k) sets rest long h want = absurd h
@@ -44,7 +45,7 @@ module _ (p : ProblemData) (log : List EntryData) (rule : ℕ) (args : List ℕ)
   pub params_nothing : (x : ℕ) → heads ≡ [] → AreHeads p [] (record { rule = rule; head = Var x; args = args }) ids AsksNothing heads
   params_nothing x none = record { sound = λ h c. absurd (none_in h (subst (λ (hs : List HeadData). Contains hs h) none c)); all = all }
     where
-      all : (by : HeadBy) (sets : Env) (rest : TypeTree) → length sets ≡ length args → IsHeadType p [] rule (Var x) by (arrows sets rest) → AsksNothing by sets → HasTypeAmong ids (length args) sets rest heads
+      all : (by : HeadBy) (sets : Env) (rest : TypeTree) → length sets ≡ length args → IsHeadType p [] rule (Var x) by (arrows sets rest) → AsksNothing by sets → HasNoGreaterType ids (length args) by sets rest heads
       all (Terminal q child) sets rest long h want = absurd h
       all (Rule k) sets rest long h want = absurd h
       all (Param y k) sets rest long h want = absurd (let e = h.1.holds.at in cc)
@@ -87,8 +88,8 @@ module _ (p : ProblemData) (log : List EntryData) (rule : ℕ) (args : List ℕ)
         no_shapes : (e : EntryData) → Contains [] e → InShape p e
         no_shapes e c = absurd (none_in e c)
 
-        into : (by : HeadBy) (sets : Env) (rest : TypeTree) → length sets ≡ length args → IsHeadType p [] rule (Tm a) by (arrows sets rest) → AsksNothing by sets → (b : HeadBy) × (o : Env) × Seeds b o (arrows sets rest)
-        into (Terminal q None) sets rest long h want = (Terminal q None, own, record { place = q; least = omega arith; most = h.0; source = inl (record { moves = h.1.moves; just = (refl, refl, h.1.is) }) })
+        into : (by : HeadBy) (sets : Env) (rest : TypeTree) → length sets ≡ length args → IsHeadType p [] rule (Tm a) by (arrows sets rest) → AsksNothing by sets → (b : HeadBy) × (o : Env) × Seeds b o (arrows sets rest) × IsNoGreaterHead b by
+        into (Terminal q None) sets rest long h want = (Terminal q None, own, record { place = q; least = omega arith; most = h.0; source = inl (record { moves = h.1.moves; just = (refl, refl, h.1.is) }) }, head_itself (Terminal q None))
         into (Terminal q (Some child)) sets rest long h want =
             let k = h.1 in
             let below = within_from k.qs k.place k.r k.at in
@@ -111,6 +112,7 @@ module _ (p : ProblemData) (log : List EntryData) (rule : ℕ) (args : List ℕ)
                     source = record { to = k.qs; moves = k.moves; child = record { r = k.r; at = k.at; just = (refl, refl, k.is) } };
                   });
                 },
+                head_itself (Terminal q (Some (k.place + 1))),
               )
             ]
         into (Rule k) sets rest long h want = absurd h
@@ -142,13 +144,13 @@ module _ (p : ProblemData) (log : List EntryData) (rule : ℕ) (args : List ℕ)
 
 -- without such a head nothing follows at a point
 pub nothing_follows : (p : ProblemData) (ids : InternerData) (point : ℕ) (of : PointData) (found : List DeducedData) → found ≡ [] → slice_get p.points.points point ≡ Some of
-    → AreHeads p [] of ids AsksNothing [] → AreConclusions p ids [] point AnySupport found
-nothing_follows p ids point of found none at are = part_conclusions p ids [] point AnySupport [] found (part_none p ids [] point AnySupport [] found refl none) all
+    → IsInterner ids → AreHeads p [] of ids AsksNothing [] → AreConclusions p ids [] point AnySupport found
+nothing_follows p ids point of found none at numbers are = part_conclusions p ids [] point AnySupport [] found numbers (part_none p ids [] point AnySupport [] found refl none) all
   where
-    all : (s : Support) (e : EntryData) → e.point ≡ point → FollowsBy p [] s e → AnySupport s → HasRowFor ids found e
+    all : (s : Support) (e : EntryData) → e.point ≡ point → FollowsBy p [] s e → AnySupport s → HasRowFor ids found s e
     all s e here_is f counts =
         let same : f.of ≡ of = same_Some f.of of (sym f.at ∙ (ap (λ k. slice_get p.points.points k) here_is ∙ at)) in
         let long : length f.sets ≡ length of.args = sym (chosen_long p [] f.are) ∙ ap (λ (o : PointData). length o.args) same in
         let head = subst (λ (o : PointData). IsHeadType p [] o.rule o.head s.head (arrows f.sets e.ty)) same f.head in
         let has = are.all s.head f.sets e.ty long head (λ j t h. chosen_nothing p f.are j t h) in
-        absurd (none_in has.item has.there)
+        absurd (none_in has.1.1.item has.1.1.there)

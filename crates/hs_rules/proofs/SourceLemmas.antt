@@ -5,9 +5,9 @@ use Rattle.std.proofs.lemmas.List.{length-map}
 use Rattle.std.proofs.lemmas.Option.{same_Some}
 use Rattle.hs_scheme.specs.declared.term.Head.TheVariants.{Var, Nt, Tm}
 use Rattle.hs_scheme.specs.declared.flow.FlowPair.{FlowPair}
-use Rattle.hs_scheme.specs.Points.{PointData}
-use Rattle.hs_scheme.specs.Automaton.{next}
-use Rattle.hs_scheme.specs.Transitions.{Reads}
+use Rattle.hs_scheme.specs.flow.Points.{PointData}
+use Rattle.hs_scheme.specs.acceptance.Automaton.{next}
+use Rattle.hs_scheme.specs.acceptance.Transitions.{Reads}
 use Rattle.hs_scheme.specs.Problem.{ProblemData}
 use Rattle.hs_scheme.proofs.Lists.{none_in, Contains-at, filter_keeps, filter_has, filter_passes}
 use Rattle.hs_table.specs.declared.support.HeadBy.{HeadBy}
@@ -22,15 +22,16 @@ use Rattle.hs_replica.specs.Places.{here as entries_at, takes, asks, HasArgument
 use Rattle.hs_replica.proofs.Firsts.{first_like}
 use Rattle.hs_rules.specs.Slots.{IsOwn}
 use Rattle.hs_rules.specs.Found.{HeadData}
-use Rattle.hs_rules.specs.Heads.{head_type, HasTypeAmong, GainsHeads, BodyAt, ParamAt, AtSome, AtRange, ChildIn, ReadIn, StopsIn, InState, AtFlow, AreHeads, Asks, ComesFrom, AnyHead}
+use Rattle.hs_rules.specs.Heads.{head_type, IsNoGreaterHead, HasNoGreaterType, GainsHeads, BodyAt, ParamAt, AtSome, AtRange, ChildIn, ReadIn, StopsIn, InState, AtFlow, AreHeads, Asks, ComesFrom, AnyHead}
 use Rattle.hs_rules.proofs.ArrowLemmas.{arrows_long, takes_has}
 use Rattle.hs_rules.proofs.OwnLemmas.{own_body, own_terminal, own_param}
+use Rattle.hs_rules.proofs.OrderLemmas.{no_greater_same, no_greater_first, head_itself}
 
 -- from a source of types to the wanted types
 module _ (p : ProblemData) (E : List EntryData) (of : PointData) (ids : InternerData) (Wanted : HeadBy → Env → Type 0) (S : HeadBy → Env → TypeTree → Type 0) (heads : List HeadData)
     (from : (by : HeadBy) (o : Env) (t : TypeTree) → S by o t → IsHeadType p E of.rule of.head by t × IsOwn (params_of p of.rule) of.head t o)
     (wanted : (by : HeadBy) (o : Env) (sets : Env) (rest : TypeTree) → S by o (arrows sets rest) → length sets ≡ length of.args → Wanted by sets)
-    (into : (by : HeadBy) (sets : Env) (rest : TypeTree) → length sets ≡ length of.args → IsHeadType p E of.rule of.head by (arrows sets rest) → Wanted by sets → (b : HeadBy) × (o : Env) × S b o (arrows sets rest)) where
+    (into : (by : HeadBy) (sets : Env) (rest : TypeTree) → length sets ≡ length of.args → IsHeadType p E of.rule of.head by (arrows sets rest) → Wanted by sets → (b : HeadBy) × (o : Env) × S b o (arrows sets rest) × IsNoGreaterHead b by) where
   pub gained_are : GainsHeads ids (length of.args) S [] heads → AreHeads p E of ids Wanted heads
   gained_are g = record {
     sound = λ h c. elim (g.sound h c) [
@@ -45,7 +46,7 @@ module _ (p : ProblemData) (E : List EntryData) (of : PointData) (ids : Interner
             wanted h.by (env_of_id ids h.own) (map (set_of_id ids) h.sets) (type_of_id ids h.rest) s (length-map h.sets (set_of_id ids) ∙ w.long),
           )
     ];
-    all = λ by sets rest long type want. let s = into by sets rest long type want in g.all s.0 s.1 (arrows sets rest) s.2 sets rest long refl;
+    all = λ by sets rest long type want. let s = into by sets rest long type want in (s.0, (s.3, g.all s.0 s.1 (arrows sets rest) s.2 sets rest long refl));
   }
 
 module _ (p : ProblemData) (log : List EntryData) (limit rule : ℕ) (args : List ℕ) (shapes : (e : EntryData) → Contains (take limit log) e → InShape p e) where
@@ -89,7 +90,7 @@ module _ (p : ProblemData) (log : List EntryData) (limit rule : ℕ) (args : Lis
       bodies_wanted by o sets rest s long =
           subst (λ (b : HeadBy). Wanted b sets) (sym s.from.just.0) (wanted s.place s.from.entry sets rest s.among s.from.at s.from.just.2 long)
 
-      bodies_into : (by : HeadBy) (sets : Env) (rest : TypeTree) → length sets ≡ length args → IsHeadType p E rule (Nt f) by (arrows sets rest) → Wanted by sets → (b : HeadBy) × (o : Env) × Bodies b o (arrows sets rest)
+      bodies_into : (by : HeadBy) (sets : Env) (rest : TypeTree) → length sets ≡ length args → IsHeadType p E rule (Nt f) by (arrows sets rest) → Wanted by sets → (b : HeadBy) × (o : Env) × Bodies b o (arrows sets rest) × IsNoGreaterHead b by
       bodies_into (Terminal q child) sets rest long x want = absurd x
       bodies_into (Rule place) sets rest long x want =
           let t = at_take limit log place x.entry x.holds.at in
@@ -101,6 +102,7 @@ module _ (p : ProblemData) (log : List EntryData) (limit rule : ℕ) (args : Lis
               among = into place x.q x.entry sets rest t.0 t.1 point x.is_state x.is long want;
               from = record { entry = x.entry; at = t.1; is_state = (x.q, x.is_state); just = (refl, refl, x.is ∙ ap (arrows x.entry.env) (sym x.is_state)) };
             },
+            head_itself (Rule place),
           )
       bodies_into (Param y place) sets rest long x want = absurd x
 
@@ -189,7 +191,7 @@ module _ (p : ProblemData) (log : List EntryData) (limit rule : ℕ) (args : Lis
         takes_has sets rest arg a (subst (λ (t : TypeTree). HasArgumentType t arg a) ty s.answers.meets.1.0) (omega (arith, lt, long)))
         into
       where
-        into : (by : HeadBy) (sets : Env) (rest : TypeTree) → length sets ≡ length args → IsHeadType p E rule (Var x) by (arrows sets rest) → Asks arg a by sets → (b : HeadBy) × (o : Env) × AtFlow log n x limit (λ u. takes u arg a) pairs b o (arrows sets rest)
+        into : (by : HeadBy) (sets : Env) (rest : TypeTree) → length sets ≡ length args → IsHeadType p E rule (Var x) by (arrows sets rest) → Asks arg a by sets → (b : HeadBy) × (o : Env) × AtFlow log n x limit (λ u. takes u arg a) pairs b o (arrows sets rest) × IsNoGreaterHead b by
         into (Terminal q child) sets rest long h want = absurd h
         into (Rule place) sets rest long h want = absurd h
         into (Param y place) sets rest long h want =
@@ -207,6 +209,7 @@ module _ (p : ProblemData) (log : List EntryData) (limit rule : ℕ) (args : Lis
                 answers = record { entry = f.entry; at = f.at; meets = (f.point, (takes_it, f.first)) };
                 source = record { entry = f.entry; at = f.at; just = (refl, refl, k.is ∙ sym f.ty) };
               },
+              λ ps. no_greater_first f.place place ps f.before,
             )
 
     pub params_all : GainsHeads ids (length args) (AtFlow log n x limit entries_at pairs) [] heads → AreHeads p E at_parameter ids AnyHead heads
@@ -218,7 +221,7 @@ module _ (p : ProblemData) (log : List EntryData) (limit rule : ℕ) (args : Lis
         param_type s.place by o t s.source s.within (subst (λ (u : ℕ). Contains p.flow.pairs (record { rule = rule; param = x; point = u })) (sym point) (flow_in s.pair s.among)))
         (λ by o sets rest s long. tt) into
       where
-        into : (by : HeadBy) (sets : Env) (rest : TypeTree) → length sets ≡ length args → IsHeadType p E rule (Var x) by (arrows sets rest) → AnyHead by sets → (b : HeadBy) × (o : Env) × AtFlow log n x limit entries_at pairs b o (arrows sets rest)
+        into : (by : HeadBy) (sets : Env) (rest : TypeTree) → length sets ≡ length args → IsHeadType p E rule (Var x) by (arrows sets rest) → AnyHead by sets → (b : HeadBy) × (o : Env) × AtFlow log n x limit entries_at pairs b o (arrows sets rest) × IsNoGreaterHead b by
         into (Terminal q child) sets rest long h want = absurd h
         into (Rule place) sets rest long h want = absurd h
         into (Param y place) sets rest long h want =
@@ -234,6 +237,7 @@ module _ (p : ProblemData) (log : List EntryData) (limit rule : ℕ) (args : Lis
                 answers = record { entry = k.entry; at = t.1; meets = refl };
                 source = record { entry = k.entry; at = t.1; just = (refl, refl, k.is) };
               },
+              head_itself (Param x place),
             )
 
     -- that of one place
@@ -246,15 +250,19 @@ module _ (p : ProblemData) (log : List EntryData) (limit rule : ℕ) (args : Lis
         (λ by o t s. let w = within s.place s.from.entry s.among s.from.at in param_type s.place by o t s.from w.1 w.2)
         (λ by o sets rest s long. ap head_premise s.from.just.0 ∙ ap (λ (k : ℕ). k ∷ []) (within s.place s.from.entry s.among s.from.at).0) into
       where
-        into : (by : HeadBy) (sets : Env) (rest : TypeTree) → length sets ≡ length args → IsHeadType p E rule (Var x) by (arrows sets rest) → ComesFrom only_place by sets → (b : HeadBy) × (o : Env) × AtSome (ParamAt log n x) places b o (arrows sets rest)
+        into : (by : HeadBy) (sets : Env) (rest : TypeTree) → length sets ≡ length args → IsHeadType p E rule (Var x) by (arrows sets rest) → ComesFrom only_place by sets → (b : HeadBy) × (o : Env) × AtSome (ParamAt log n x) places b o (arrows sets rest) × IsNoGreaterHead b by
         into (Terminal q child) sets rest long h want = absurd h
         into (Rule place) sets rest long h want = absurd h
         into (Param y place) sets rest long h want =
             let k = h.1 in
             let same : place ≡ only_place = cc in
             let t = at_take limit log place k.entry k.holds.at in
-            let at : slice_get log only_place ≡ Some k.entry = ap (λ m. slice_get log m) (sym same) ∙ t.1 in
-            (Param x only_place, set (replicate n []) x (k.entry.ty ∷ []), record { place = only_place; among = there k.entry at k.flows; from = record { entry = k.entry; at = at; just = (refl, refl, k.is) } })
+            let at : slice_get log only_place ≡ Some k.entry = ap (λ m. slice_get log m) (sym same) ∙ t.1 in (
+              Param x only_place,
+              set (replicate n []) x (k.entry.ty ∷ []),
+              record { place = only_place; among = there k.entry at k.flows; from = record { entry = k.entry; at = at; just = (refl, refl, k.is) } },
+              λ ps. no_greater_same (only_place ∷ ps) (place ∷ ps) (ap (λ (m : ℕ). m ∷ ps) (sym same)),
+            )
 
   -- a terminal at the head
   module _ (a : ℕ) (ids : InternerData) (heads : List HeadData) where
@@ -305,7 +313,7 @@ module _ (p : ProblemData) (log : List EntryData) (limit rule : ℕ) (args : Lis
           takes_has sets rest arg (state r) (record { sets = full; rest = state s.place; is = c.child.just.2; has = has }) (omega (arith, arg_lt, long)))
           into
         where
-          into : (by : HeadBy) (sets : Env) (rest : TypeTree) → length sets ≡ length args → IsHeadType p E rule (Tm a) by (arrows sets rest) → Asks arg (state r) by sets → (b : HeadBy) × (o : Env) × Reading states b o (arrows sets rest)
+          into : (by : HeadBy) (sets : Env) (rest : TypeTree) → length sets ≡ length args → IsHeadType p E rule (Tm a) by (arrows sets rest) → Asks arg (state r) by sets → (b : HeadBy) × (o : Env) × Reading states b o (arrows sets rest) × IsNoGreaterHead b by
           into (Terminal q None) sets rest long h want =
               let more = arrows_long (replicate (rank_of p a) []) sets q rest (sym h.1.is) in
               absurd (empties_has (rank_of p a) arg (state r) (takes_has (replicate (rank_of p a) []) (state q) arg (state r) (record { sets = sets; rest = rest; is = sym h.1.is; has = want }) (omega (arith, arg_lt, long, more))))
@@ -328,6 +336,7 @@ module _ (p : ProblemData) (log : List EntryData) (limit rule : ℕ) (args : Lis
                     },
                   );
                 },
+                head_itself (Terminal q (Some (arg + 1))),
               )
           into (Rule place) sets rest long h want = absurd h
           into (Param y place) sets rest long h want = absurd h
@@ -339,7 +348,7 @@ module _ (p : ProblemData) (log : List EntryData) (limit rule : ℕ) (args : Lis
         all = all;
       }
         where
-          all : (by : HeadBy) (sets : Env) (rest : TypeTree) → length sets ≡ length args → IsHeadType p E rule (Tm a) by (arrows sets rest) → Asks arg t by sets → HasTypeAmong ids (length args) sets rest heads
+          all : (by : HeadBy) (sets : Env) (rest : TypeTree) → length sets ≡ length args → IsHeadType p E rule (Tm a) by (arrows sets rest) → Asks arg t by sets → HasNoGreaterType ids (length args) by sets rest heads
           all (Terminal q None) sets rest long h want =
               let more = arrows_long (replicate (rank_of p a) []) sets q rest (sym h.1.is) in
               absurd (empties_has (rank_of p a) arg t (takes_has (replicate (rank_of p a) []) (state q) arg t (record { sets = sets; rest = rest; is = sym h.1.is; has = want }) (omega (arith, arg_lt, long, more))))
@@ -357,8 +366,8 @@ module _ (p : ProblemData) (log : List EntryData) (limit rule : ℕ) (args : Lis
         ]) (λ by o sets rest s long. tt) into g
       where
         into : (by : HeadBy) (sets : Env) (rest : TypeTree) → length sets ≡ length args → IsHeadType p E rule (Tm a) by (arrows sets rest) → AnyHead by sets
-            → (b : HeadBy) × (o : Env) × AtRange (InState p.sorted.automaton.transitions a (rank_of p a) 0 own) 0 p.sorted.automaton.states b o (arrows sets rest)
-        into (Terminal q None) sets rest long h want = (Terminal q None, own, record { place = q; least = omega arith; most = h.0; source = inl (record { moves = h.1.moves; just = (refl, refl, h.1.is) }) })
+            → (b : HeadBy) × (o : Env) × AtRange (InState p.sorted.automaton.transitions a (rank_of p a) 0 own) 0 p.sorted.automaton.states b o (arrows sets rest) × IsNoGreaterHead b by
+        into (Terminal q None) sets rest long h want = (Terminal q None, own, record { place = q; least = omega arith; most = h.0; source = inl (record { moves = h.1.moves; just = (refl, refl, h.1.is) }) }, head_itself (Terminal q None))
         into (Terminal q (Some child)) sets rest long h want =
             let k = h.1 in (
               Terminal q (Some (k.place + 1)),
@@ -374,6 +383,7 @@ module _ (p : ProblemData) (log : List EntryData) (limit rule : ℕ) (args : Lis
                   source = record { to = k.qs; moves = k.moves; child = record { r = k.r; at = k.at; just = (refl, refl, k.is) } };
                 });
               },
+              head_itself (Terminal q (Some (k.place + 1))),
             )
         into (Rule k) sets rest long h want = absurd h
         into (Param y k) sets rest long h want = absurd h

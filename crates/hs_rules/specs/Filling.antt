@@ -1,12 +1,13 @@
 -- The candidates for slots, found in a log.
 --     fixed_of        what has to fill the slot of its type
 --     CanSearch       the look-ups tell of the whole log, and what is fixed is in it
---     IsFilled        the places are those of the slot's candidates
+--     IsFilled        the places are those of the slot's candidates, ascending
 --     AreFilled       so it is for slots, one by one
 --     GainsFilled     so it is for what was added
 --     LacksCandidate  for a type of a set the log has nothing at the point
 --     LacksSlot       the slot of a type of a set has no candidates
 use Rattle.std.specs.Prelude.{◌≡◌, ℕ, ◌^◌, ◌<◌, ◌≤◌, List, [], ◌∷◌, ◌++◌, length, slice_get, Option, Some, None, Contains, ◌↔◌}
+use Rattle.std.specs.List.Sorted.{IsStrictlyIncreasing}
 use Rattle.hs_table.specs.Types.{TypeTree}
 use Rattle.hs_table.specs.Entries.{EntryData, entry_at}
 use Rattle.hs_replica.specs.Replica.{ReplicaData}
@@ -31,6 +32,7 @@ pub record CanSearch (r : ReplicaData) (args : List ℕ) (limit : ℕ) (fixed : 
 pub record IsFilled (E : List EntryData) (fixed : Option FixedData) (s : SlotData) (f : FilledData) : Type 0 where
   pub arg : f.arg ≡ s.arg
   pub places : (place : ℕ) → Contains f.places place ↔ ((e : EntryData) × IsCandidate E fixed s place e)
+  pub ascending : IsStrictlyIncreasing f.places
 
 -- the slots are filled one by one
 abbrev pub AreFilled : List EntryData → Option FixedData → List SlotData → List FilledData → Type 0

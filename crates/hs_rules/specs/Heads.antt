@@ -12,14 +12,14 @@
 --     IsHeadAt, AreHeads                          a type of the point's head; just those that are wanted
 --     IsParameterSpot, IsHeadWithin               what the searches for types rely on
 --     Asks, ComesFrom, AsksNothing, AnyHead       what is wanted: a type in the set of an argument; that they come from a place; anything
-use Rattle.std.specs.Prelude.{◌≡◌, ℕ, ◌+◌, ◌<◌, ◌≤◌, List, [], ◌∷◌, length, map, replicate, set, slice_get, None, Some, All, Contains, ◌⊎◌}
+use Rattle.std.specs.Prelude.{◌≡◌, ℕ, ◌+◌, ◌<◌, ◌≤◌, List, [], ◌∷◌, ◌++◌, length, map, replicate, set, slice_get, None, Some, All, Contains, ◌⊎◌}
 use Rattle.hs_scheme.specs.declared.term.Head.{Head}
 use Rattle.hs_scheme.specs.declared.term.Head.TheVariants.{Var, Nt, Tm}
 use Rattle.hs_scheme.specs.declared.flow.FlowPair.{FlowPair}
-use Rattle.hs_scheme.specs.Points.{PointData}
+use Rattle.hs_scheme.specs.flow.Points.{PointData}
 use Rattle.hs_scheme.specs.Problem.{ProblemData}
-use Rattle.hs_scheme.specs.Transition.{TransitionData}
-use Rattle.hs_scheme.specs.Automaton.{next}
+use Rattle.hs_scheme.specs.acceptance.Transition.{TransitionData}
+use Rattle.hs_scheme.specs.acceptance.Automaton.{next}
 use Rattle.hs_table.specs.declared.support.HeadBy.{HeadBy}
 use Rattle.hs_table.specs.declared.support.HeadBy.TheVariants.{Terminal, Rule, Param}
 use Rattle.hs_table.specs.Types.{TypeTree, state, arrows}
@@ -27,6 +27,7 @@ use Rattle.hs_table.specs.Entries.{Env, EntryData, Has, InShape, params_of}
 use Rattle.hs_types.specs.Interned.{InternerData, type_of_id, set_of_id, env_of_id}
 use Rattle.hs_table.specs.Follows.{IsHeadType, head_premise}
 use Rattle.hs_replica.specs.Places.{Question, IsState, Answers}
+use Rattle.hs_rules.specs.Order.{IsNoGreater}
 use Rattle.hs_rules.specs.Slots.{IsOwn}
 use Rattle.hs_rules.specs.Found.{HeadData, HasKnownNumbers}
 
@@ -39,9 +40,10 @@ pub record IsWholeHead (ids : InternerData) (count : ℕ) (h : HeadData) : Type 
   pub rest : h.rest < length ids.types
   pub long : length h.sets ≡ count
 
-pub record HasTypeAmong (ids : InternerData) (count : ℕ) (sets : Env) (rest : TypeTree) (heads : List HeadData) : Type 0 where
+pub record HasTypeAmong (ids : InternerData) (count : ℕ) (by : HeadBy) (sets : Env) (rest : TypeTree) (heads : List HeadData) : Type 0 where
   pub item : HeadData
   pub there : Contains heads item
+  pub by_is : item.by ≡ by
   pub whole : IsWholeHead ids count item
   pub sets_are : map (set_of_id ids) item.sets ≡ sets
   pub rest_is : type_of_id ids item.rest ≡ rest
@@ -49,7 +51,7 @@ pub record HasTypeAmong (ids : InternerData) (count : ℕ) (sets : Env) (rest : 
 pub record GainsHeads (ids : InternerData) (count : ℕ) (From : HeadBy → Env → TypeTree → Type 0) (old new : List HeadData) : Type 0 where
   pub sound : (h : HeadData) → Contains new h → Contains old h ⊎ (IsWholeHead ids count h × From h.by (env_of_id ids h.own) (head_type ids h))
   pub keeps : (h : HeadData) → Contains old h → Contains new h
-  pub all : (by : HeadBy) (own : Env) (ty : TypeTree) → From by own ty → (sets : Env) (rest : TypeTree) → length sets ≡ count → ty ≡ arrows sets rest → HasTypeAmong ids count sets rest new
+  pub all : (by : HeadBy) (own : Env) (ty : TypeTree) → From by own ty → (sets : Env) (rest : TypeTree) → length sets ≡ count → ty ≡ arrows sets rest → HasTypeAmong ids count by sets rest new
 
 abbrev pub Just : HeadBy → Env → TypeTree → HeadBy → Env → TypeTree → Type 0
 Just by own ty b o t = (b ≡ by) × (o ≡ own) × (t ≡ ty)
@@ -117,6 +119,13 @@ pub record IsSplit (ids : InternerData) (ty count : ℕ) (sets : List ℕ) (rest
   pub long : length sets ≡ count
   pub is : type_of_id ids ty ≡ arrows (map (set_of_id ids) sets) (type_of_id ids rest)
 
+-- what comes from the one has no greater premises than what comes from the other
+abbrev pub IsNoGreaterHead : HeadBy → HeadBy → Type 0
+IsNoGreaterHead b by = (places : List ℕ) → IsNoGreater (head_premise b ++ places) (head_premise by ++ places)
+
+abbrev pub HasNoGreaterType : InternerData → ℕ → HeadBy → Env → TypeTree → List HeadData → Type 0
+HasNoGreaterType ids count by sets rest heads = (b : HeadBy) × (IsNoGreaterHead b by × HasTypeAmong ids count b sets rest heads)
+
 pub record IsHeadAt (p : ProblemData) (E : List EntryData) (of : PointData) (ids : InternerData) (h : HeadData) : Type 0 where
   pub known : HasKnownNumbers ids of.args h
   pub type : IsHeadType p E of.rule of.head h.by (head_type ids h)
@@ -125,7 +134,7 @@ pub record IsHeadAt (p : ProblemData) (E : List EntryData) (of : PointData) (ids
 -- just the types of the head that are wanted
 pub record AreHeads (p : ProblemData) (E : List EntryData) (of : PointData) (ids : InternerData) (Wanted : HeadBy → Env → Type 0) (heads : List HeadData) : Type 0 where
   pub sound : (h : HeadData) → Contains heads h → IsHeadAt p E of ids h × Wanted h.by (map (set_of_id ids) h.sets)
-  pub all : (by : HeadBy) (sets : Env) (rest : TypeTree) → length sets ≡ length of.args → IsHeadType p E of.rule of.head by (arrows sets rest) → Wanted by sets → HasTypeAmong ids (length of.args) sets rest heads
+  pub all : (by : HeadBy) (sets : Env) (rest : TypeTree) → length sets ≡ length of.args → IsHeadType p E of.rule of.head by (arrows sets rest) → Wanted by sets → HasNoGreaterType ids (length of.args) by sets rest heads
 
 -- the ones with this type in the set of this argument
 abbrev pub Asks : ℕ → TypeTree → HeadBy → Env → Type 0

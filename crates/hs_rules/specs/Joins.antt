@@ -2,11 +2,15 @@
 --     FillsBy                  a place is one of them
 --     PartialData              a joined environment by number, with the places that it comes from
 --     IsPlaced, ArePlaced      candidates' environments are for n parameters
+--     HasLesserPlaces, AreAscending   a choice of places comes before another one; each before those behind it
+--     ComeBefore               each choice comes before one with one more place
+--     AreAsLong                they are for the same number of slots
 --     IsMade, IsCovered        what comes of one joined environment and a candidate for one more slot
 --     IsJoined, AreJoined      the environments that slots lead to
-use Rattle.std.specs.Prelude.{◌≡◌, ℕ, ◌<◌, List, [], ◌∷◌, ◌++◌, length, slice_get, Some, Contains}
+use Rattle.std.specs.Prelude.{◌≡◌, ℕ, ◌<◌, List, [], ◌∷◌, ◌++◌, length, slice_get, Some, AllPairs, Contains}
 use Rattle.hs_table.specs.Entries.{Env, EntryData, IsEnv}
 use Rattle.hs_types.specs.Interned.{InternerData, env_of_id, IsUnionEnv}
+use Rattle.hs_rules.specs.Order.{chosen_places, IsLess, IsNoGreater}
 use Rattle.hs_rules.specs.Slots.{FilledData, Picked, IsJoin}
 
 pub record PartialData : Type 0 where
@@ -29,6 +33,18 @@ ArePlaced log n f = (place : ℕ) → Contains f.places place → IsPlaced log n
 abbrev pub SeenAre : List ℕ → List PartialData → Type 0
 SeenAre seen list = (env : ℕ) → Contains seen env → (x : PartialData) × Contains list x × (x.env ≡ env)
 
+abbrev pub HasLesserPlaces : PartialData → PartialData → Type 0
+HasLesserPlaces x y = IsLess (chosen_places x.args) (chosen_places y.args)
+
+abbrev pub AreAscending : List PartialData → Type 0
+AreAscending list = AllPairs HasLesserPlaces list
+
+abbrev pub ComeBefore : List PartialData → List (ℕ × ℕ) → ℕ → Type 0
+ComeBefore list from place = (x : PartialData) → Contains list x → IsLess (chosen_places x.args) (chosen_places from ++ place ∷ [])
+
+abbrev pub AreAsLong : List PartialData → Type 0
+AreAsLong list = (x y : PartialData) → Contains list x → Contains list y → length x.args ≡ length y.args
+
 -- The new environment comes of an old one, whose number is read in `old`, and a candidate.
 pub record IsMade (old new : InternerData) (log : List EntryData) (from : PartialData) (f : FilledData) (x : PartialData) : Type 0 where
   pub place : ℕ
@@ -48,12 +64,13 @@ pub record IsMadeOf (old new : InternerData) (log : List EntryData) (partials : 
 abbrev pub CanFill : InternerData → List EntryData → List PartialData → FilledData → Type 0
 CanFill ids log partials f = (x : PartialData) → Contains partials x → (x.env < length ids.envs) × ArePlaced log (length (env_of_id ids x.env)) f
 
--- the environment that comes of the old one and the entry is there
-pub record IsCovered (old new : InternerData) (from : PartialData) (entry : EntryData) (found : List PartialData) : Type 0 where
+-- the environment that comes of the old one and the entry at the place is there, by no greater choice
+pub record IsCovered (old new : InternerData) (from : PartialData) (place : ℕ) (entry : EntryData) (found : List PartialData) : Type 0 where
   pub item : PartialData
   pub there : Contains found item
   pub within : item.env < length new.envs
   pub union : IsUnionEnv (env_of_id old from.env) entry.env (env_of_id new item.env)
+  pub least : IsNoGreater (chosen_places item.args) (chosen_places from.args ++ place ∷ [])
 
 pub record IsJoined (ids : InternerData) (log : List EntryData) (n : ℕ) (own : Env) (fs : List FilledData) (x : PartialData) : Type 0 where
   pub within : x.env < length ids.envs
@@ -61,11 +78,14 @@ pub record IsJoined (ids : InternerData) (log : List EntryData) (n : ℕ) (own :
   pub picked : Picked (λ f. f.arg) (FillsBy log) fs x.args chosen
   pub join : IsJoin n own chosen (env_of_id ids x.env)
 
-pub record HasJoined (ids : InternerData) (n : ℕ) (own : Env) (chosen : List EntryData) (found : List PartialData) : Type 0 where
+-- what the choice leads to is there, by no greater one
+pub record HasJoined (ids : InternerData) (n : ℕ) (own : Env) (args : List (ℕ × ℕ)) (chosen : List EntryData) (found : List PartialData) : Type 0 where
   pub item : PartialData
   pub there : Contains found item
   pub join : IsJoin n own chosen (env_of_id ids item.env)
+  pub least : IsNoGreater (chosen_places item.args) (chosen_places args)
 
 pub record AreJoined (ids : InternerData) (log : List EntryData) (n : ℕ) (own : Env) (fs : List FilledData) (found : List PartialData) : Type 0 where
   pub sound : (x : PartialData) → Contains found x → IsJoined ids log n own fs x
-  pub all : (args : List (ℕ × ℕ)) (chosen : List EntryData) → Picked (λ f. f.arg) (FillsBy log) fs args chosen → HasJoined ids n own chosen found
+  pub all : (args : List (ℕ × ℕ)) (chosen : List EntryData) → Picked (λ f. f.arg) (FillsBy log) fs args chosen → HasJoined ids n own args chosen found
+  pub ascending : AreAscending found

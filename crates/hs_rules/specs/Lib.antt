@@ -1,3 +1,4 @@
+pub mod Order
 pub mod Conclusions
 pub mod Slots
 pub mod Filling
@@ -6,3 +7,4 @@ pub mod Found
 pub mod Heads
 pub mod Shut
 pub mod Parts
+pub mod Listed

@@ -1,7 +1,7 @@
 //! What is deduced.
 
 ghost use Rattle.std.specs.Prelude.{List, All};
-ghost use Rattle.hs_scheme.specs.Automaton.{IsAutomaton};
+ghost use Rattle.hs_scheme.specs.acceptance.Automaton.{IsAutomaton};
 ghost use Rattle.hs_table.specs.Entries.{EntryData};
 ghost use Rattle.hs_rules.specs.Conclusions.{IsDeduced, IsShaped};
 
@@ -37,7 +37,7 @@ fn know(problem: &Problem)
     ensures { IsAutomaton problem.now.sorted.automaton }
 {
     let sorted = &problem.sorted;
-    sorted.automaton.is_automaton();
+    sorted.automaton.know_automaton();
 }
 
 /// Entries that follow from others, in the numbers of the replica's interner, are in shape, so they may

@@ -1,14 +1,15 @@
 //! What follows at a point.
 
-ghost use Rattle.std.specs.Prelude.{◌≡◌, ◌+◌, ◌^◌, ◌<◌, [], ℕ, length, slice_get, take, Some, All, IfOk};
-ghost use Rattle.hs_scheme.specs.Points.{point_at};
+ghost use Rattle.std.specs.Prelude.{◌≡◌, ◌+◌, ◌^◌, ◌<◌, [], ℕ, length, slice_get, take, Some, All, IfOk, OnOk};
+ghost use Rattle.hs_scheme.specs.flow.Points.{point_at};
 ghost use Rattle.hs_table.specs.Entries.{InShape};
 ghost use Rattle.hs_types.specs.Interned.{Grows};
 ghost use Rattle.hs_rules.specs.Conclusions.{AnySupport, Uses, AreConclusions};
+ghost use Rattle.hs_rules.specs.Listed.{TellsAsMuch};
 ghost use Rattle.hs_rules.specs.Parts.{IsInRule};
 
 use crate::deduced::Deduced;
-use crate::found::Found;
+use crate::found::none_found;
 use crate::gathering::{add_all, add_seeds, add_with};
 use crate::search::Search;
 use crate::seeds::starts_nothing;
@@ -16,7 +17,6 @@ use crate::spot::Spot;
 use hs_replica::Replica;
 use hs_scheme::{OutOfMemory, Problem};
 use hs_table::parameters;
-use indexmap::IndexSet;
 use std::alloc::Global;
 
 /// The points of the arguments of this point, which stand in its rule.
@@ -32,22 +32,13 @@ fn arguments(problem: &Problem, point: u32) -> &[u32]
     points.args_of(point)
 }
 
-/// Nothing found.
-fn none_found(alloc: Global) -> Found
-    ensures list { result.list.items ≡ [] }
-    ensures rows { result.rows.keys ≡ [] }
-{
-    Found {
-        list: Vec::new(alloc),
-        rows: IndexSet::new(alloc),
-    }
-}
-
-/// Every entry at the point that follows from the log, each once. The point is in range, and the
-/// entries of the log are in shape.
+/// Every entry at the point that follows from the log, each once, with the support whose list of
+/// places is the least: the head's first, where there is one, then those of the arguments, compared
+/// place by place. The point is in range, and the entries of the log are in shape.
 ///
 /// For each type of the point's head the entries for its sets are joined slot by slot, each
-/// environment that comes of it once. The log stays; the interner gains the environments.
+/// environment that comes of it once. The log stays; the interner gains the environments. The
+/// look-ups then tell of the whole log, and after a refusal of memory of as much as before or of more.
 pub fn conclusions(
     alloc: Global,
     problem: &Problem,
@@ -61,6 +52,8 @@ pub fn conclusions(
     ensures log { replica.new.log ≡ replica.old.log }
     ensures spare { replica.new.spare ≡ replica.old.spare }
     ensures grows { Grows replica.old.ids replica.new.ids }
+    ensures whole { OnOk result (replica.new.indexed ≡ length replica.new.log) }
+    ensures listed { TellsAsMuch replica.old replica.new }
 {
     replica.index()?;
     let limit = replica.len();
@@ -80,6 +73,7 @@ pub fn conclusions(
     };
     let mut found = none_found(alloc);
     add_all(alloc, &spot, replica, &search, head, &mut found)?;
+    replica.interner().know_numbers();
     Ok(found.list)
 }
 
@@ -102,11 +96,13 @@ pub fn seed_conclusions(
     ensures log { replica.new.log ≡ replica.old.log }
     ensures spare { replica.new.spare ≡ replica.old.spare }
     ensures grows { Grows replica.old.ids replica.new.ids }
+    ensures listed { TellsAsMuch replica.old replica.new }
 {
     let points = &problem.points;
     let rule = points.rule_of(point);
     let head = points.head_of(point);
     let args = arguments(problem, point);
+    replica.interner().know_numbers();
     if starts_nothing(problem, head, args) {
         return Ok(Vec::new(alloc));
     }
@@ -118,12 +114,13 @@ pub fn seed_conclusions(
     };
     let mut found = none_found(alloc);
     add_seeds(alloc, &spot, replica, point, args, head, &mut found)?;
+    replica.interner().know_numbers();
     Ok(found.list)
 }
 
 /// Every entry at the point that follows from the log up to and with this place with the entry at
-/// the place as a premise, each once. The point is in range, the place is in the log, and the
-/// entries of the log are in shape.
+/// the place as a premise, each once, with the support of this kind whose list of places is the least.
+/// The point is in range, the place is in the log, and the entries of the log are in shape.
 ///
 /// Only the types of the point's head that want this entry are looked at: the entry is an argument
 /// of the point, a body of the nonterminal at its head, or one that may stand for the parameter
@@ -144,6 +141,8 @@ pub fn conclusions_with(
     ensures log { replica.new.log ≡ replica.old.log }
     ensures spare { replica.new.spare ≡ replica.old.spare }
     ensures grows { Grows replica.old.ids replica.new.ids }
+    ensures whole { OnOk result (replica.new.indexed ≡ length replica.new.log) }
+    ensures listed { TellsAsMuch replica.old replica.new }
 {
     replica.index()?;
     let _ = replica.len();
@@ -163,5 +162,6 @@ pub fn conclusions_with(
     };
     let mut found = none_found(alloc);
     add_with(alloc, &spot, replica, &search, head, place, &mut found)?;
+    replica.interner().know_numbers();
     Ok(found.list)
 }

@@ -1,16 +1,19 @@
 //! What is found, and what the types of a head lead to.
 
-ghost use Rattle.std.specs.Prelude.{◌≡◌, ◌<◌, ◌≤◌, ◌↔◌, ◌++◌, ◌∷◌, ◌⊎◌, [], ℕ, List, length, map, take, Contains, IsTrue, OnOk};
+ghost use Rattle.std.specs.Prelude.{◌≡◌, ◌<◌, ◌≤◌, ◌++◌, ◌∷◌, ◌⊎◌, [], ℕ, List, length, map, take, Contains, MatchOption, OnOk};
 ghost use Rattle.hs_table.specs.Entries.{Env};
+ghost use Rattle.hs_table.specs.Follows.{premises};
 ghost use Rattle.hs_types.specs.Interned.{env_of_id};
 ghost use Rattle.hs_replica.specs.Replica.{KeepsLog};
+ghost use Rattle.hs_rules.specs.Order.{IsNoGreater};
 ghost use Rattle.hs_rules.specs.Conclusions.{DeducedData};
 ghost use Rattle.hs_rules.specs.Filling.{CanSearch};
 ghost use Rattle.hs_rules.specs.Joins.{PartialData};
-ghost use Rattle.hs_rules.specs.Found.{HeadData, seek, HasKnownNumbers, HaveEnvs, RowsAre, IsRowOf, HasRow, HeadLeadsTo, IsDeducedBy, HasEnvFound};
+ghost use Rattle.hs_rules.specs.Found.{HeadData, seek, HasKnownNumbers, HaveEnvs, RowsAre, HasRowAt, HasNoGreater, Lowers, IsRowOf, HasRow, HeadLeadsTo, IsDeducedBy, HasEnvFound};
 
 use crate::deduced::Deduced;
 use crate::joining::{FEW, Partial, PartialList, joined};
+use crate::order::compare;
 use crate::search::{Search, Slots, fill};
 use hs_replica::Replica;
 use hs_scheme::OutOfMemory;
@@ -19,6 +22,7 @@ use hs_types::{EnvId, Row, SetId, TyId};
 use indexmap::IndexSet;
 use smallvec::SmallVec;
 use std::alloc::Global;
+use std::cmp::Ordering;
 use std::default::MadeWith;
 use std::marker::Model;
 
@@ -57,36 +61,93 @@ impl MadeWith<Global> for HeadType {
 /// Types of a head. Two of them lie in the value itself.
 pub(crate) type HeadTypes = SmallVec<HeadType, 2>;
 
-/// What is found, each row once. The first few rows are looked through one by one.
+/// What is found, each row once, with the least support by which it was. The first few rows are looked
+/// through one by one.
 #[derive(Drop)]
-pub(crate) struct Found {
-    pub(crate) list: Vec<Deduced>,
-    /// The rows behind the first `FEW`.
-    pub(crate) rows: IndexSet<Row>,
+pub struct Found {
+    /// What is found, in the order in which the rows came.
+    pub list: Vec<Deduced>,
+    /// The rows behind the first `FEW`, in the same order.
+    pub rows: IndexSet<Row>,
 }
 
-/// Whether one of these has the row.
-fn is_among(list: &[Deduced], row: &Row) -> bool
-    ensures { IsTrue result ↔ Contains (map (λ d. d.row) list.now) row.now }
+/// Nothing found.
+pub fn none_found(alloc: Global) -> Found
+    ensures list { result.list.items ≡ [] }
+    ensures rows { result.rows.keys ≡ [] }
 {
-    for deduced in list {
+    Found {
+        list: Vec::new(alloc),
+        rows: IndexSet::new(alloc),
+    }
+}
+
+/// Where one of these has the row.
+fn position(list: &[Deduced], row: &Row) -> Option<usize>
+    ensures { MatchOption result
+        (Contains (map (λ d. d.row) list.now) row.now → ⊥)
+        (λ place. HasRowAt list.now place row.now) }
+{
+    for (place, deduced) in list.iter().enumerate() {
         if deduced.row == *row {
-            return true;
+            return Some(place);
         }
     }
-    false
+    None
 }
 
-/// Whether the row is found.
-fn has(found: &Found, row: &Row) -> bool
+/// Where the row is found behind the first `FEW`.
+fn find_behind(found: &Found, row: &Row) -> Option<usize>
     requires { RowsAre found.now.rows.keys found.now.list.items }
-    ensures { IsTrue result ↔ Contains (map (λ d. d.row) found.now.list.items) row.now }
+    ensures { MatchOption result
+        (Contains found.now.rows.keys row.now → ⊥)
+        (λ place. HasRowAt found.now.list.items place row.now) }
+{
+    match found.rows.get_index_of(row) {
+        Some(place) => Some(FEW + place),
+        None => None,
+    }
+}
+
+/// Where what is found has this row, counted from 0. Takes constant time on average.
+pub fn find_deduced(found: &Found, row: &Row) -> Option<usize>
+    requires { RowsAre found.now.rows.keys found.now.list.items }
+    ensures { MatchOption result
+        (Contains (map (λ d. d.row) found.now.list.items) row.now → ⊥)
+        (λ place. HasRowAt found.now.list.items place row.now) }
 {
     let list = found.list.as_slice();
     if list.len() <= FEW {
-        return is_among(list, row);
+        return position(list, row);
     }
-    is_among(&list[..FEW], row) || found.rows.contains(row)
+    if let Some(place) = position(&list[..FEW], row) {
+        return Some(place);
+    }
+    find_behind(found, row)
+}
+
+/// Keeps the lesser one of what it is deduced by and this support.
+fn lower(
+    alloc: Global,
+    deduced: &mut Deduced,
+    head: HeadBy,
+    args: &[(u32, u32)],
+) -> Result<(), OutOfMemory>
+    ensures row { deduced.new.row ≡ deduced.old.row }
+    ensures one { OnOk result ((deduced.new ≡ deduced.old)
+        ⊎ (deduced.new.support ≡ record { head = head; args = args.now })) }
+    ensures least { OnOk result (IsNoGreater (premises deduced.new.support) (premises deduced.old.support)) }
+    ensures new_least { OnOk result (IsNoGreater (premises deduced.new.support)
+        (premises (record { head = head; args = args.now }))) }
+{
+    let order = compare(head, args, deduced.head, deduced.args.as_slice());
+    if order != Ordering::Less {
+        return Ok(());
+    }
+    let lesser = args.to_vec(alloc)?;
+    deduced.args = lesser;
+    deduced.head = head;
+    Ok(())
 }
 
 /// Keeps the row of what is found at this place, unless it is among the first few.
@@ -102,8 +163,10 @@ fn keep(rows: &mut IndexSet<Row>, place: usize, row: Row) -> Result<(), OutOfMem
     Ok(())
 }
 
-/// Adds the row with its support, unless the row is there.
-fn add(
+/// Adds the row with its support; where the row is there, with the lesser one.
+///
+/// Takes constant time on average, and a comparison of two supports where the row is there.
+pub fn add_found(
     alloc: Global,
     found: &mut Found,
     row: Row,
@@ -112,20 +175,21 @@ fn add(
 ) -> Result<(), OutOfMemory>
     requires { RowsAre found.old.rows.keys found.old.list.items }
     ensures rows { OnOk result (RowsAre found.new.rows.keys found.new.list.items) }
-    ensures keeps { OnOk result ((d : DeducedData) → Contains found.old.list.items d
-        → Contains found.new.list.items d) }
+    ensures lowers { OnOk result (Lowers found.old.list.items found.new.list.items) }
     ensures only { OnOk result ((d : DeducedData) → Contains found.new.list.items d
         → Contains found.old.list.items d
         ⊎ (d ≡ record { row = row; support = record { head = head; args = args.now } })) }
-    ensures there { OnOk result ((d : DeducedData) × Contains found.new.list.items d × (d.row ≡ row)) }
+    ensures there { OnOk result (HasNoGreater found.new.list.items row
+        (record { head = head; args = args.now })) }
 {
     let key = Row {
         point: row.point,
         env: row.env,
         ty: row.ty,
     };
-    if has(found, &key) {
-        return Ok(());
+    if let Some(place) = find_deduced(found, &key) {
+        let there = &mut found.list[place];
+        return lower(alloc, there, head, args);
     }
     keep(&mut found.rows, found.list.len(), key)?;
     found.list.reserve(1)?;
@@ -144,8 +208,7 @@ fn add_all(
 ) -> Result<(), OutOfMemory>
     requires { RowsAre found.old.rows.keys found.old.list.items }
     ensures rows { OnOk result (RowsAre found.new.rows.keys found.new.list.items) }
-    ensures keeps { OnOk result ((d : DeducedData) → Contains found.old.list.items d
-        → Contains found.new.list.items d) }
+    ensures lowers { OnOk result (Lowers found.old.list.items found.new.list.items) }
     ensures only { OnOk result ((d : DeducedData) → Contains found.new.list.items d
         → Contains found.old.list.items d
         ⊎ IsRowOf point head.now partials.now d) }
@@ -160,7 +223,7 @@ fn add_all(
             env: partial.env,
             ty,
         };
-        add(alloc, found, row, by, partial.args.as_slice())?;
+        add_found(alloc, found, row, by, partial.args.as_slice())?;
     }
     Ok(())
 }
@@ -182,14 +245,13 @@ fn conclude(
         (length (env_of_id replica.old.ids head.now.own)) }
     requires rows { RowsAre found.old.rows.keys found.old.list.items }
     ensures rows { OnOk result (RowsAre found.new.rows.keys found.new.list.items) }
-    ensures keeps { OnOk result ((d : DeducedData) → Contains found.old.list.items d
-        → Contains found.new.list.items d) }
+    ensures lowers { OnOk result (Lowers found.old.list.items found.new.list.items) }
     ensures only { OnOk result ((d : DeducedData) → Contains found.new.list.items d
         → Contains found.old.list.items d
         ⊎ IsDeducedBy replica.old.ids replica.new.ids replica.old.log (seek search.now) head.now d) }
     ensures all { OnOk result ((args : List (ℕ × ℕ)) (env : Env)
         → HeadLeadsTo replica.old.ids replica.old.log (seek search.now) head.now args env →
-        HasEnvFound replica.new.ids (seek search.now) head.now env found.new.list.items) }
+        HasEnvFound replica.new.ids (seek search.now) head.now args env found.new.list.items) }
     ensures kept { KeepsLog replica.old replica.new }
 {
     slots.clear();
@@ -221,15 +283,14 @@ pub(crate) fn conclude_all(
         (length (env_of_id replica.old.ids h.own)) }
     requires rows { RowsAre found.old.rows.keys found.old.list.items }
     ensures rows { OnOk result (RowsAre found.new.rows.keys found.new.list.items) }
-    ensures keeps { OnOk result ((d : DeducedData) → Contains found.old.list.items d
-        → Contains found.new.list.items d) }
+    ensures lowers { OnOk result (Lowers found.old.list.items found.new.list.items) }
     ensures only { OnOk result ((d : DeducedData) → Contains found.new.list.items d
         → Contains found.old.list.items d
         ⊎ ((h : HeadData) × Contains heads.now h
         × IsDeducedBy replica.old.ids replica.new.ids replica.old.log (seek search.now) h d)) }
     ensures all { OnOk result ((h : HeadData) → Contains heads.now h → (args : List (ℕ × ℕ)) (env : Env) →
         HeadLeadsTo replica.old.ids replica.old.log (seek search.now) h args env →
-        HasEnvFound replica.new.ids (seek search.now) h env found.new.list.items) }
+        HasEnvFound replica.new.ids (seek search.now) h args env found.new.list.items) }
     ensures kept { KeepsLog replica.old replica.new }
 {
     let mut slots = SmallVec::new(alloc);

@@ -2,13 +2,13 @@
 
 ghost use Rattle.std.specs.Prelude.{◌≡◌, ◌^◌, ◌<◌, ◌∷◌, [], ℕ, IfOk, MatchOption, OnOk, Some, None, length, slice_get, take, Contains};
 ghost use Rattle.std.specs.Bool.{OnFalse};
-ghost use Rattle.hs_scheme.specs.Points.{IsArgument};
+ghost use Rattle.hs_scheme.specs.flow.Points.{IsArgument};
 ghost use Rattle.hs_table.specs.Entries.{EntryData, params_of};
 ghost use Rattle.hs_table.specs.Follows.{head_premise, Support, FollowsBy};
 ghost use Rattle.hs_replica.specs.Replica.{ListsMore, KeepsLog};
-ghost use Rattle.hs_rules.specs.Conclusions.{DeducedData, AnySupport, Uses};
+ghost use Rattle.hs_rules.specs.Conclusions.{AnySupport, Uses};
 ghost use Rattle.hs_rules.specs.Filling.{CanSearch};
-ghost use Rattle.hs_rules.specs.Found.{HaveEnvs};
+ghost use Rattle.hs_rules.specs.Found.{HaveEnvs, Lowers};
 ghost use Rattle.hs_rules.specs.Heads.{IsParameterSpot, IsHeadWithin};
 ghost use Rattle.hs_rules.specs.Parts.{ArePart, HasAll, UsesArgument, IsOnlyPlaceOf};
 
@@ -59,8 +59,7 @@ fn add_by_argument(
     ensures part { OnOk result (ArePart spot.now.problem.now replica.new.ids
         (take search.now.limit replica.old.log) search.now.point
         (Uses place) found.new.rows.keys found.new.list.items) }
-    ensures keeps { OnOk result ((d : DeducedData) → Contains found.old.list.items d
-        → Contains found.new.list.items d) }
+    ensures lowers { OnOk result (Lowers found.old.list.items found.new.list.items) }
     ensures all { OnOk result (HasAll spot.now.problem.now replica.new.ids
         (take search.now.limit replica.old.log) search.now.point (UsesArgument place) found.new.list.items) }
     ensures kept { KeepsLog replica.old replica.new }
@@ -78,7 +77,7 @@ fn add_by_argument(
     };
     let mut heads = SmallVec::new(alloc);
     heads_asking(alloc, spot, replica, &search, head, arg, row.ty, &mut heads)?;
-    replica.interner().numbers_are_exact();
+    replica.interner().know_numbers();
     conclude_all(alloc, replica, &search, heads.as_slice(), found)
 }
 
@@ -135,8 +134,7 @@ fn add_from_head(
     ensures part { OnOk result (ArePart spot.now.problem.now replica.new.ids
         (take search.now.limit replica.old.log) search.now.point
         (Uses place) found.new.rows.keys found.new.list.items) }
-    ensures keeps { OnOk result ((d : DeducedData) → Contains found.old.list.items d
-        → Contains found.new.list.items d) }
+    ensures lowers { OnOk result (Lowers found.old.list.items found.new.list.items) }
     ensures all { OnOk result (HasAll spot.now.problem.now replica.new.ids
         (take search.now.limit replica.old.log) search.now.point
         (λ s. head_premise s.head ≡ place ∷ []) found.new.list.items) }
@@ -172,8 +170,7 @@ fn add_by_head(
     ensures part { OnOk result (ArePart spot.now.problem.now replica.new.ids
         (take search.now.limit replica.old.log) search.now.point
         (Uses place) found.new.rows.keys found.new.list.items) }
-    ensures keeps { OnOk result ((d : DeducedData) → Contains found.old.list.items d
-        → Contains found.new.list.items d) }
+    ensures lowers { OnOk result (Lowers found.old.list.items found.new.list.items) }
     ensures all { OnOk result (HasAll spot.now.problem.now replica.new.ids
         (take search.now.limit replica.old.log) search.now.point
         (λ s. head_premise s.head ≡ place ∷ []) found.new.list.items) }

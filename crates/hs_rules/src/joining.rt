@@ -1,12 +1,14 @@
 //! Environments joined slot by slot.
 
 ghost use Rattle.std.specs.Prelude.{◌≡◌, ◌<◌, ◌++◌, ◌∷◌, ◌⊎◌, [], ℕ, length, Contains, IfOk, IfSome, OnOk};
+ghost use Rattle.std.specs.List.Sorted.{IsStrictlyIncreasing};
 ghost use Rattle.hs_table.specs.Entries.{EntryData, IsEnv};
 ghost use Rattle.hs_types.specs.Interned.{env_of_id};
 ghost use Rattle.hs_replica.specs.Replica.{KeepsLog};
 ghost use Rattle.hs_rules.specs.Slots.{FilledData};
 ghost use Rattle.std.specs.Bool.{OnFalse, OnTrue};
-ghost use Rattle.hs_rules.specs.Joins.{PartialData, FillsBy, ArePlaced, SeenAre, IsMade, IsMadeOf, IsCovered, CanFill, AreJoined};
+ghost use Rattle.hs_rules.specs.Order.{chosen_places, IsNoGreater};
+ghost use Rattle.hs_rules.specs.Joins.{PartialData, FillsBy, ArePlaced, SeenAre, AreAscending, ComeBefore, AreAsLong, IsMade, IsMadeOf, IsCovered, CanFill, AreJoined};
 
 use crate::search::Filled;
 use hs_replica::Replica;
@@ -96,7 +98,8 @@ fn keep(seen: &mut IndexSet<EnvId>, place: usize, env: EnvId) -> Result<(), OutO
     Ok(())
 }
 
-/// Adds the environment, unless it is there.
+/// Adds the environment with its choice, unless it is there. What is there was chosen before, so it
+/// has lesser places.
 fn add(
     alloc: Global,
     out: &mut Partials,
@@ -105,13 +108,17 @@ fn add(
     arg: u32,
     place: u32,
 ) -> Result<(), OutOfMemory>
-    requires { SeenAre out.old.seen.keys out.old.list.items }
+    requires seen { SeenAre out.old.seen.keys out.old.list.items }
+    requires ascending { AreAscending out.old.list.items }
+    requires before { ComeBefore out.old.list.items from.now place }
     ensures seen { OnOk result (SeenAre out.new.seen.keys out.new.list.items) }
+    ensures ascending { OnOk result (AreAscending out.new.list.items) }
     ensures keeps { OnOk result ((x : PartialData) → Contains out.old.list.items x
         → Contains out.new.list.items x) }
     ensures only { OnOk result ((x : PartialData) → Contains out.new.list.items x →
         Contains out.old.list.items x ⊎ (x ≡ record { env = env; args = from.now ++ (arg, place) ∷ [] })) }
-    ensures there { OnOk result ((x : PartialData) × Contains out.new.list.items x × (x.env ≡ env)) }
+    ensures there { OnOk result ((x : PartialData) × Contains out.new.list.items x × (x.env ≡ env)
+        × IsNoGreater (chosen_places x.args) (chosen_places from.now ++ place ∷ [])) }
 {
     if has(out, env) {
         return Ok(());
@@ -135,15 +142,19 @@ fn extend(
     requires env { partial.now.env < length replica.old.ids.envs }
     requires placed { ArePlaced replica.old.log
         (length (env_of_id replica.old.ids partial.now.env)) slot.now }
+    requires rises { IsStrictlyIncreasing slot.now.places }
     requires seen { SeenAre out.old.seen.keys out.old.list.items }
+    requires ascending { AreAscending out.old.list.items }
+    requires before { (place : ℕ) → ComeBefore out.old.list.items partial.now.args place }
     ensures seen { OnOk result (SeenAre out.new.seen.keys out.new.list.items) }
+    ensures ascending { OnOk result (AreAscending out.new.list.items) }
     ensures keeps { OnOk result ((x : PartialData) → Contains out.old.list.items x
         → Contains out.new.list.items x) }
     ensures only { OnOk result ((x : PartialData) → Contains out.new.list.items x →
         Contains out.old.list.items x ⊎ IsMade replica.old.ids replica.new.ids replica.old.log partial.now
         slot.now x) }
     ensures all { OnOk result ((place : ℕ) (e : EntryData) → FillsBy replica.old.log slot.now place e →
-        IsCovered replica.old.ids replica.new.ids partial.now e out.new.list.items) }
+        IsCovered replica.old.ids replica.new.ids partial.now place e out.new.list.items) }
     ensures kept { KeepsLog replica.old replica.new }
 {
     let env = partial.env;
@@ -166,13 +177,17 @@ fn extend_all(
     out: &mut Partials,
 ) -> Result<(), OutOfMemory>
     requires can { CanFill replica.old.ids replica.old.log partials.now slot.now }
+    requires rises { IsStrictlyIncreasing slot.now.places }
+    requires ascending { AreAscending partials.now }
+    requires long { AreAsLong partials.now }
     requires none { out.old.list.items ≡ [] }
     requires unseen { out.old.seen.keys ≡ [] }
+    ensures ascending { OnOk result (AreAscending out.new.list.items) }
     ensures only { OnOk result ((x : PartialData) → Contains out.new.list.items x →
         IsMadeOf replica.old.ids replica.new.ids replica.old.log partials.now slot.now x) }
     ensures all { OnOk result ((from : PartialData) → Contains partials.now from →
         (place : ℕ) (e : EntryData) → FillsBy replica.old.log slot.now place e →
-        IsCovered replica.old.ids replica.new.ids from e out.new.list.items) }
+        IsCovered replica.old.ids replica.new.ids from place e out.new.list.items) }
     ensures kept { KeepsLog replica.old replica.new }
 {
     for partial in partials {
@@ -188,12 +203,16 @@ fn extended(
     slot: &Filled,
     partials: &mut PartialList,
 ) -> Result<(), OutOfMemory>
-    requires { CanFill replica.old.ids replica.old.log partials.old.items slot.now }
+    requires can { CanFill replica.old.ids replica.old.log partials.old.items slot.now }
+    requires rises { IsStrictlyIncreasing slot.now.places }
+    requires ascending { AreAscending partials.old.items }
+    requires long { AreAsLong partials.old.items }
+    ensures ascending { OnOk result (AreAscending partials.new.items) }
     ensures only { OnOk result ((x : PartialData) → Contains partials.new.items x →
         IsMadeOf replica.old.ids replica.new.ids replica.old.log partials.old.items slot.now x) }
     ensures all { OnOk result ((from : PartialData) → Contains partials.old.items from →
         (place : ℕ) (e : EntryData) → FillsBy replica.old.log slot.now place e →
-        IsCovered replica.old.ids replica.new.ids from e partials.new.items) }
+        IsCovered replica.old.ids replica.new.ids from place e partials.new.items) }
     ensures kept { KeepsLog replica.old replica.new }
 {
     let mut out = Partials {
@@ -264,11 +283,12 @@ fn joined_only(
     Ok(true)
 }
 
-/// Adds the environments that the slots lead to from the head's own, each once, with one choice of
-/// candidates for each.
+/// Adds the environments that the slots lead to from the head's own, each once, with the choice of
+/// candidates that has the least list of places.
 ///
 /// Slot by slot, so that time is in the number of distinct environments and the candidates, and not
-/// in the number of choices.
+/// in the number of choices. The choices are met in ascending order, so the first one that leads to
+/// an environment is its least one.
 pub(crate) fn joined(
     alloc: Global,
     replica: &mut Replica,
@@ -280,6 +300,7 @@ pub(crate) fn joined(
     requires is_env { IsEnv (length (env_of_id replica.old.ids own)) (env_of_id replica.old.ids own) }
     requires placed { (f : FilledData) → Contains slots.now f
         → ArePlaced replica.old.log (length (env_of_id replica.old.ids own)) f }
+    requires rise { (f : FilledData) → Contains slots.now f → IsStrictlyIncreasing f.places }
     requires none { out.old.items ≡ [] }
     ensures joined { OnOk result (AreJoined replica.new.ids replica.old.log
         (length (env_of_id replica.old.ids own)) (env_of_id replica.old.ids own) slots.now out.new.items) }

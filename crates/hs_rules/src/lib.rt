@@ -9,6 +9,7 @@ mod gathering;
 mod heads;
 mod joining;
 mod nonterminals;
+mod order;
 mod parameters;
 mod search;
 mod seeds;
@@ -18,4 +19,5 @@ mod terminals;
 
 pub use deduced::{Deduced, deduced_entries_are_in_shape};
 pub use following::{conclusions, conclusions_with, seed_conclusions};
+pub use found::{Found, add_found, find_deduced, none_found};
 pub use hs_replica::Replica;

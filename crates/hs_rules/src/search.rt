@@ -64,7 +64,9 @@ pub(crate) type Slots = SmallVec<Filled, 2>;
 /// The places below the limit, which begin the list.
 pub(crate) fn begin_below(places: &[u32], limit: u32) -> &[u32]
     requires { IsStrictlyIncreasing places.now }
-    ensures { (place : ℕ) → Contains result.now place ↔ (Contains places.now place × (place < limit)) }
+    ensures places { (place : ℕ) → Contains result.now place
+        ↔ (Contains places.now place × (place < limit)) }
+    ensures ascending { IsStrictlyIncreasing result.now }
 {
     let count = places.partition_point(|place| *place < limit);
     &places[..count]
@@ -73,8 +75,9 @@ pub(crate) fn begin_below(places: &[u32], limit: u32) -> &[u32]
 /// A list of the places below the limit.
 pub(crate) fn below(alloc: Global, places: &[u32], limit: u32) -> Result<Places, OutOfMemory>
     requires { IsStrictlyIncreasing places.now }
-    ensures { IfOk result (λ out. (place : ℕ) → Contains out.items place
+    ensures places { IfOk result (λ out. (place : ℕ) → Contains out.items place
         ↔ (Contains places.now place × (place < limit))) }
+    ensures ascending { IfOk result (λ out. IsStrictlyIncreasing out.items) }
 {
     let begin = begin_below(places, limit);
     let out = SmallVec::from_slice(alloc, begin)?;
@@ -96,9 +99,10 @@ fn places_for(
     ensures candidates { IfOk result (λ places. (place : ℕ) → Contains places.items place ↔ ((e : EntryData) ×
         IsCandidate (take search.now.limit replica.old.log) (fixed_of replica.old.log search.now.fixed)
         (record { arg = arg; point = point; ty = type_of_id replica.old.ids ty }) place e)) }
+    ensures ascending { IfOk result (λ places. IsStrictlyIncreasing places.items) }
     ensures kept { ListsMore replica.old replica.new }
 {
-    replica.interner().numbers_are_exact();
+    replica.interner().know_numbers();
     if let Some(fixed) = search.fixed {
         if fixed.arg == arg && replica.row(fixed.place).ty == ty {
             let mut only = SmallVec::new(alloc);

@@ -1,7 +1,7 @@
 //! Heads of which nothing comes without entries.
 
 ghost use Rattle.std.specs.Prelude.{◌≡◌, ◌<◌, [], ℕ, IsTrue};
-ghost use Rattle.hs_scheme.specs.Transitions.{IsPlaceOf};
+ghost use Rattle.hs_scheme.specs.acceptance.Transitions.{IsPlaceOf};
 ghost use Rattle.hs_types.specs.Interned.{InternerData};
 ghost use Rattle.hs_table.specs.Follows.{HasMove};
 ghost use Rattle.hs_rules.specs.Heads.{AreHeads, AsksNothing};
@@ -13,7 +13,7 @@ fn moves_by(automaton: &Automaton, terminal: u32, place: usize, q: u32, count: u
     requires { IsPlaceOf automaton.now.transitions terminal place }
     ensures { IsTrue result → HasMove automaton.now.transitions terminal count q }
 {
-    automaton.is_automaton();
+    automaton.know_automaton();
     match automaton.transitions().get(place) {
         None => false,
         Some(transition) => transition.from == q && transition.to.as_slice().len() <= count,

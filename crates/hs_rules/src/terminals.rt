@@ -2,7 +2,7 @@
 
 ghost use Rattle.std.specs.Prelude.{◌≡◌, ◌<◌, ◌^◌, ◌∷◌, [], ℕ, List, All, IfOk, OnOk, None, Some, length, map, replicate, set, slice_index, take};
 ghost use Rattle.hs_scheme.specs.declared.term.Head.TheVariants.{Tm};
-ghost use Rattle.hs_scheme.specs.Automaton.{next as next_states};
+ghost use Rattle.hs_scheme.specs.acceptance.Automaton.{next as next_states};
 ghost use Rattle.hs_table.specs.declared.support.HeadBy.TheVariants.{Terminal};
 ghost use Rattle.hs_table.specs.Types as types;
 ghost use Rattle.hs_table.specs.Entries.{params_of};

@@ -15,7 +15,7 @@ use Rattle.hs_scheme.specs.declared.flow.HeadPair.{HeadPair}
 use Rattle.hs_scheme.specs.declared.flow.Pair.{Pair}
 use Rattle.hs_scheme.specs.declared.flow.Pair.TheVariants.{OfFlow, OfHead}
 use Rattle.hs_scheme.specs.contracts.flow.PairPartialEq.TheImpl.{eq-value}
-use Rattle.hs_scheme.specs.Flow.{IsBase, Demands, IsClosed, IsSupported, IsFlow, pairs_of}
+use Rattle.hs_scheme.specs.flow.Flow.{IsBase, Demands, IsClosed, IsSupported, IsFlow, pairs_of}
 use Rattle.hs_scheme.proofs.Lists.{slice_get-read}
 
 -- ---- flow pairs and head pairs in one list

@@ -10,7 +10,7 @@ use Rattle.std.proofs.lemmas.Cmp.{then_total, on_total, nat_cmp_total, tied_itse
 use Rattle.std.proofs.lemmas.List.Sorted.{searchable_from_sorted}
 use Rattle.hs_scheme.specs.declared.flow.FlowPair.{FlowPair}
 use Rattle.hs_scheme.specs.declared.flow.HeadPair.{HeadPair}
-use Rattle.hs_scheme.specs.Flow.{flow_cmp, head_cmp, IsAscending}
+use Rattle.hs_scheme.specs.flow.Flow.{flow_cmp, head_cmp, IsAscending}
 use Rattle.hs_scheme.proofs.Orderings.{nat_equal, then_equal}
 
 -- the elements from the a-th to the b-th, where these pass and no others

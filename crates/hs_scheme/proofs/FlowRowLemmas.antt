@@ -6,9 +6,9 @@ use Rattle.std.proofs.lemmas.Bool.Decides.{nat_tests}
 use Rattle.std.proofs.lemmas.List.{get_or_default}
 use Rattle.std.specs.declared.cmp.Ordering.TheVariants.{Less}
 use Rattle.hs_scheme.specs.declared.flow.FlowPair.{FlowPair}
-use Rattle.hs_scheme.specs.Parameters.{IsParameter, parameter_of}
-use Rattle.hs_scheme.specs.Flow.{flow_cmp, IsAscending}
-use Rattle.hs_scheme.specs.FlowRows.{number_of, AreOfParameters, StartsSoFar, AreStarts}
+use Rattle.hs_scheme.specs.sorting.Parameters.{IsParameter, parameter_of}
+use Rattle.hs_scheme.specs.flow.Flow.{flow_cmp, IsAscending}
+use Rattle.hs_scheme.specs.flow.FlowRows.{number_of, AreOfParameters, StartsSoFar, AreStarts}
 use Rattle.hs_scheme.proofs.ParameterLemmas.{number_less, number_once}
 use Rattle.hs_scheme.proofs.FlowLemmas.{filter-middle, is_of}
 

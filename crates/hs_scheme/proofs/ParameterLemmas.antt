@@ -5,7 +5,7 @@ use Rattle.std.proofs.lemmas.Bool.{cases_lt}
 use Rattle.std.proofs.lemmas.List.{get_or_at, get_or_append_left, get_or_past, get_or-map, length-map, take_more}
 use Rattle.std.proofs.lemmas.List.Sums.{sum_by-cons, sum_by_more, sum_by_more_le, sum_by-le, sum-map}
 use Rattle.hs_scheme.specs.declared.term.Rule.{Rule}
-use Rattle.hs_scheme.specs.Parameters.{counts_of, IsParameter, parameter_of}
+use Rattle.hs_scheme.specs.sorting.Parameters.{counts_of, IsParameter, parameter_of}
 
 -- the next of the rules
 module _ (rules : List Rule) (i : ℕ) (r : Rule) (lt : i < length rules) (is : r ≡ get_or rules i r) where

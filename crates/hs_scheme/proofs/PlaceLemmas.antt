@@ -8,8 +8,8 @@ use Rattle.hs_scheme.specs.declared.term.Head.TheVariants.{Tm}
 use Rattle.hs_scheme.specs.declared.term.Rule.{Rule}
 use Rattle.hs_scheme.specs.declared.points.Argument.{Argument}
 use Rattle.hs_scheme.specs.Tree.{Tree, Trees, node, none, more}
-use Rattle.hs_scheme.specs.Points.{PointData, PointsData, size, sizes, numbers, term_points, terms_points, rules_points, points_of, IsArgument, point_at}
-use Rattle.hs_scheme.specs.Rows.{ArePlacesOfArguments, term_places, terms_places, rules_places}
+use Rattle.hs_scheme.specs.flow.Points.{PointData, PointsData, size, sizes, numbers, term_points, terms_points, rules_points, points_of, IsArgument, point_at}
+use Rattle.hs_scheme.specs.flow.Rows.{ArePlacesOfArguments, term_places, terms_places, rules_places}
 use Rattle.hs_scheme.proofs.PointLemmas.{length-term_points}
 
 -- the item of number m, where the items are numbered from n, and P holds of it

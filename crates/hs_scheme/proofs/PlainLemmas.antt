@@ -5,12 +5,12 @@ use Rattle.std.proofs.Math.Bool.{and-false}
 use Rattle.hs_scheme.specs.declared.term.Head.TheVariants.{Var, Nt, Tm}
 use Rattle.hs_scheme.specs.declared.term.Head.{Head}
 use Rattle.hs_scheme.specs.declared.term.Rule.{Rule}
-use Rattle.hs_scheme.specs.Transition.{TransitionData}
-use Rattle.hs_scheme.specs.Automaton.{next}
+use Rattle.hs_scheme.specs.acceptance.Transition.{TransitionData}
+use Rattle.hs_scheme.specs.acceptance.Automaton.{next}
 use Rattle.hs_scheme.specs.Tree.{Tree, Trees, node, more, join, forest, forest-append, children-forest, each-forest}
-use Rattle.hs_scheme.specs.Replacement.{subst, substs, applied, replaced}
-use Rattle.hs_scheme.specs.Cut.{CutTree, undefined, unfolded, cut}
-use Rattle.hs_scheme.specs.Run.{run, runs}
+use Rattle.hs_scheme.specs.acceptance.Replacement.{subst, substs, applied, replaced}
+use Rattle.hs_scheme.specs.acceptance.Cut.{CutTree, undefined, unfolded, cut}
+use Rattle.hs_scheme.specs.acceptance.Run.{run, runs}
 
 pub substs-forest : (us ws : List (Tree Head)) → substs (forest us) ws ≡ forest (map (λ t. subst t ws) us)
 substs-forest [] ws = refl

@@ -6,8 +6,8 @@ use Rattle.hs_scheme.specs.declared.term.Head.{Head}
 use Rattle.hs_scheme.specs.declared.term.Head.TheVariants.{Var, Nt, Tm}
 use Rattle.hs_scheme.specs.declared.term.Rule.{Rule}
 use Rattle.hs_scheme.specs.Tree.{Tree, Trees, node, none, more, forest}
-use Rattle.hs_scheme.specs.Points.{PointData, size, sizes, numbers, term_points, terms_points, rules_points, bodies, points_of, NonterminalWithin, ParameterWithin, IsArgument, IsPoints}
-use Rattle.hs_scheme.specs.Parameters.{counts_of}
+use Rattle.hs_scheme.specs.flow.Points.{PointData, size, sizes, numbers, term_points, terms_points, rules_points, bodies, points_of, NonterminalWithin, ParameterWithin, IsArgument, IsPoints}
+use Rattle.hs_scheme.specs.sorting.Parameters.{counts_of}
 use Rattle.hs_scheme.specs.Scheme.{HeadInRange, TermInRange, TermsInRange, AreRules}
 
 mutual

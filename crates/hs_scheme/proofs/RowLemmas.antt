@@ -13,8 +13,8 @@ use Rattle.hs_scheme.specs.declared.term.Rule.{Rule}
 use Rattle.hs_scheme.specs.declared.points.Argument.{Argument}
 use Rattle.hs_scheme.specs.declared.points.Row.{Row}
 use Rattle.hs_scheme.specs.Tree.{Tree, node, forest}
-use Rattle.hs_scheme.specs.Points.{PointData, size, sizes, numbers}
-use Rattle.hs_scheme.specs.Rows.{point_of, points_in, places_in, Fits, term_places, terms_places, rules_places}
+use Rattle.hs_scheme.specs.flow.Points.{PointData, size, sizes, numbers}
+use Rattle.hs_scheme.specs.flow.Rows.{point_of, points_in, places_in, Fits, term_places, terms_places, rules_places}
 
 -- a range of a list stays as it is where the list grows
 fits_grown : (args added : List ℕ) (row : Row) → Fits args row → Fits (args ++ added) row

@@ -5,9 +5,9 @@ use Rattle.hs_scheme.specs.declared.term.Head.{Head}
 use Rattle.hs_scheme.specs.declared.term.Head.TheVariants.{Var, Nt, Tm}
 use Rattle.hs_scheme.specs.declared.term.Rule.{Rule}
 use Rattle.hs_scheme.specs.Tree.{Tree, Trees, node, none, more, children}
-use Rattle.hs_scheme.specs.Sorting.{SortTree, o, arrow, arrows, arguments, ranked, without, behind, size, sizes, Sorts, heads, HasSort, Applied, IsSorting, IsLeastSorting, AreEqual, IsFirstOrder, AreFirstOrder, IsWellSorted}
-use Rattle.hs_scheme.specs.Sorted.{known}
-use Rattle.hs_scheme.specs.Lengthening.{lengthening}
+use Rattle.hs_scheme.specs.sorting.Sorting.{SortTree, o, arrow, arrows, arguments, ranked, without, behind, size, sizes, Sorts, heads, HasSort, Applied, IsSorting, IsLeastSorting, AreEqual, IsFirstOrder, AreFirstOrder, IsWellSorted}
+use Rattle.hs_scheme.specs.sorting.Sorted.{known}
+use Rattle.hs_scheme.specs.sorting.Lengthening.{lengthening}
 
 pub known_at : (ranks : List ℕ) (a n : ℕ) → slice_get (known ranks) a ≡ Some (Some n) → slice_get ranks a ≡ Some n
 known_at [] a n e = absurd (cc)

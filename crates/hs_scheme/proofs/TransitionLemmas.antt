@@ -5,9 +5,9 @@ use Rattle.std.proofs.lemmas.Bool.{eqb-true, eq-eqb}
 use Rattle.std.proofs.lemmas.Option.{slice_get_within, same_Some}
 use Rattle.std.proofs.lemmas.List.Elements.{Contains-append_left, Contains-push, Contains-push_cases}
 use Rattle.hs_scheme.specs.Key.{triple_eq}
-use Rattle.hs_scheme.specs.Transition.{TransitionData}
-use Rattle.hs_scheme.specs.Automaton.{is_of, IsDeterministic}
-use Rattle.hs_scheme.specs.Transitions.{items_of, IsPlaceOf, Reads, IsByTerminal, IsRead, IsByChild, GainsReads}
+use Rattle.hs_scheme.specs.acceptance.Transition.{TransitionData}
+use Rattle.hs_scheme.specs.acceptance.Automaton.{is_of, IsDeterministic}
+use Rattle.hs_scheme.specs.acceptance.Transitions.{items_of, IsPlaceOf, Reads, IsByTerminal, IsRead, IsByChild, GainsReads}
 use Rattle.hs_scheme.proofs.TransitionIndex.{is_of-true, find-only, le_last}
 
 items_or : (o : Option (Vec ℕ Global)) (fresh : Vec ℕ Global) → fresh.items ≡ [] → (unwrap_or o fresh).items ≡ items_of o

@@ -4,9 +4,9 @@ use Rattle.std.specs.Coded.{Coded, code_by, coded×}
 use Rattle.hs_scheme.specs.declared.term.Rule.{Rule}
 use Rattle.hs_scheme.specs.declared.flow.FlowPair.{FlowPair}
 use Rattle.hs_scheme.specs.declared.flow.HeadPair.{HeadPair}
-use Rattle.hs_scheme.specs.Sorted.{SortedData, coded_sorted}
-use Rattle.hs_scheme.specs.Points.{PointsData, coded_points, points_of}
-use Rattle.hs_scheme.specs.Flow.{FlowData, coded_flow, HasParameter}
+use Rattle.hs_scheme.specs.sorting.Sorted.{SortedData, coded_sorted}
+use Rattle.hs_scheme.specs.flow.Points.{PointsData, coded_points, points_of}
+use Rattle.hs_scheme.specs.flow.Flow.{FlowData, coded_flow, HasParameter}
 
 pub record ProblemData : Type 0 where
   pub sorted : SortedData

@@ -2,11 +2,11 @@
 --     HaveSameTree     any automaton over the terminals, from any state, comes along the same paths to a terminal without transition
 use Rattle.std.specs.Prelude.{ℕ, List, ◌↔◌}
 use Rattle.hs_scheme.specs.declared.term.Rule.{Rule}
-use Rattle.hs_scheme.specs.Transition.{TransitionData}
-use Rattle.hs_scheme.specs.Run.{start}
-use Rattle.hs_scheme.specs.Steps.{Path, Fails}
-use Rattle.hs_scheme.specs.Unsorted.{AgreesWithRanks}
-use Rattle.hs_scheme.specs.Sorted.{known}
+use Rattle.hs_scheme.specs.acceptance.Transition.{TransitionData}
+use Rattle.hs_scheme.specs.acceptance.Run.{start}
+use Rattle.hs_scheme.specs.acceptance.Steps.{Path, Fails}
+use Rattle.hs_scheme.specs.sorting.Unsorted.{AgreesWithRanks}
+use Rattle.hs_scheme.specs.sorting.Sorted.{known}
 
 -- the path from the start in this state leads to such a terminal, after some number of steps
 abbrev pub FailsFromStart : List Rule → List TransitionData → ℕ → Path → Type 0

@@ -5,11 +5,11 @@ use Rattle.std.specs.Prelude.{ℕ, List, length, Option}
 use Rattle.hs_scheme.specs.declared.term.Head.{Head}
 use Rattle.hs_scheme.specs.declared.term.Head.TheVariants.{Var, Nt, Tm}
 use Rattle.hs_scheme.specs.declared.term.Rule.{Rule}
-use Rattle.hs_scheme.specs.Transition.{TransitionData}
+use Rattle.hs_scheme.specs.acceptance.Transition.{TransitionData}
 use Rattle.hs_scheme.specs.Tree.{Tree}
 use Rattle.hs_scheme.specs.Scheme.{AreRules}
-use Rattle.hs_scheme.specs.Sorting.{SortTree, o, Sorts, HasSort, IsSorting}
-use Rattle.hs_scheme.specs.Unsorted.{AgreesWithRanks}
+use Rattle.hs_scheme.specs.sorting.Sorting.{SortTree, o, Sorts, HasSort, IsSorting}
+use Rattle.hs_scheme.specs.sorting.Unsorted.{AgreesWithRanks}
 
 -- the sorts of heads outside of rules, where a parameter has no meaning
 abbrev pub ground : Sorts → Head → SortTree

@@ -1,8 +1,8 @@
 //! Deterministic trivial automata.
 
 ghost use Rattle.std.specs.Prelude.{◌≡◌, ◌↔◌, ℕ, Contains, IfOk, option_copied};
-ghost use Rattle.hs_scheme.specs.Automaton.{AutomatonData, IsAutomaton, next};
-ghost use Rattle.hs_scheme.specs.Transitions.{IsPlaceOf, Reads};
+ghost use Rattle.hs_scheme.specs.acceptance.Automaton.{AutomatonData, IsAutomaton, next};
+ghost use Rattle.hs_scheme.specs.acceptance.Transitions.{IsPlaceOf, Reads};
 
 use crate::copying::copied;
 use crate::memory::OutOfMemory;
@@ -21,7 +21,7 @@ pub struct Transition {
 }
 
 impl Model for Transition {
-    ghost use Rattle.hs_scheme.specs.Transition.{TransitionData, coded_transition};
+    ghost use Rattle.hs_scheme.specs.acceptance.Transition.{TransitionData, coded_transition};
 
     ghost Value = { TransitionData };
 
@@ -56,11 +56,11 @@ pub struct Automaton {
 }
 
 impl Model for Automaton {
-    ghost use Rattle.hs_scheme.specs.Automaton.{AutomatonData, coded_automaton, IsAutomaton, IsTransitionIndex};
+    ghost use Rattle.hs_scheme.specs.acceptance.Automaton.{AutomatonData, coded_automaton, IsAutomaton, IsTransitionIndex};
     ghost use Rattle.std.specs.HashMap.{get};
     ghost use Rattle.std.specs.Prelude.{length, nat_eq};
     ghost use Rattle.hs_scheme.specs.Key.{key_eq, triple_eq};
-    ghost use Rattle.hs_scheme.specs.Transitions.{items_of, IsByTerminal, IsByChild};
+    ghost use Rattle.hs_scheme.specs.acceptance.Transitions.{items_of, IsByTerminal, IsByChild};
 
     ghost Value = { AutomatonData };
 
@@ -136,7 +136,7 @@ impl Automaton {
     }
 
     /// What holds of each automaton. Takes no memory and no time.
-    pub fn is_automaton(&self)
+    pub fn know_automaton(&self)
         ensures { IsAutomaton self.now }
     {
         let _ = &self.states;

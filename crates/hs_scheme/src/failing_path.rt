@@ -16,7 +16,7 @@ pub struct FailingPath {
 }
 
 impl Model for FailingPath {
-    ghost use Rattle.hs_scheme.specs.FailingPath.{FailingPathData, coded_failing_path};
+    ghost use Rattle.hs_scheme.specs.acceptance.FailingPath.{FailingPathData, coded_failing_path};
 
     ghost Value = { FailingPathData };
 

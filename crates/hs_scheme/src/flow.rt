@@ -1,8 +1,8 @@
 //! The result of the flow analysis: which points may stand for which parameters.
 
 ghost use Rattle.std.specs.Prelude.{◌≡◌, ◌↔◌, ℕ, ◌<◌, ◌≤◌, max, ◌&&◌, IsTrue, Contains, IfOk, length, filter, nat_eq, slice_index, vec_capacity};
-ghost use Rattle.hs_scheme.specs.Flow.{IsAscending, flow_cmp, IsFlowTable};
-ghost use Rattle.hs_scheme.specs.FlowRows.{AreOfParameters, AreStarts};
+ghost use Rattle.hs_scheme.specs.flow.Flow.{IsAscending, flow_cmp, IsFlowTable};
+ghost use Rattle.hs_scheme.specs.flow.FlowRows.{AreOfParameters, AreStarts};
 
 use crate::memory::OutOfMemory;
 use crate::parameters::Parameters;
@@ -45,8 +45,8 @@ pub struct FlowTable {
 }
 
 impl Model for FlowTable {
-    ghost use Rattle.hs_scheme.specs.Flow.{FlowData, coded_flow, IsFlowTable};
-    ghost use Rattle.hs_scheme.specs.FlowRows.{AreStarts};
+    ghost use Rattle.hs_scheme.specs.flow.Flow.{FlowData, coded_flow, IsFlowTable};
+    ghost use Rattle.hs_scheme.specs.flow.FlowRows.{AreStarts};
 
     ghost Value = { FlowData };
 

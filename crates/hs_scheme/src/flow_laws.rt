@@ -5,7 +5,7 @@ ghost use Rattle.hs_scheme.specs.declared.term.Rule.{Rule};
 ghost use Rattle.hs_scheme.specs.declared.flow.FlowPair.{FlowPair};
 ghost use Rattle.hs_scheme.specs.declared.flow.HeadPair.{HeadPair};
 ghost use Rattle.hs_scheme.specs.declared.flow.Pair.{Pair};
-ghost use Rattle.hs_scheme.specs.Flow.{IsClosed, IsSupported, IsFlow, pairs_of};
+ghost use Rattle.hs_scheme.specs.flow.Flow.{IsClosed, IsSupported, IsFlow, pairs_of};
 
 /// As a set the flow is unique, and no supported list has more pairs than it.
 pub fn flow_is_unique()

@@ -1,7 +1,7 @@
 //! One numbering of the parameters of all rules.
 
 ghost use Rattle.std.specs.Prelude.{◌≡◌, ◌↔◌, ◌^◌, ◌<◌, ◌≤◌, length, sum, slice_index, IfOk, IfSome, SomeIff};
-ghost use Rattle.hs_scheme.specs.Parameters.{counts_of, IsParameter, parameter_of};
+ghost use Rattle.hs_scheme.specs.sorting.Parameters.{counts_of, IsParameter, parameter_of};
 
 use crate::memory::OutOfMemory;
 use crate::term::Rule;
@@ -20,7 +20,7 @@ pub struct Parameters {
 
 impl Model for Parameters {
     ghost use Rattle.std.specs.Prelude.{List, ℕ};
-    ghost use Rattle.hs_scheme.specs.Parameters.{IsNumbering};
+    ghost use Rattle.hs_scheme.specs.sorting.Parameters.{IsNumbering};
 
     ghost Value = { List ℕ };
 

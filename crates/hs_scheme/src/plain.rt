@@ -4,9 +4,9 @@
 //! scheme of high order many more. They serve to compare the fast ways to a verdict with.
 
 ghost use Rattle.std.specs.Prelude.{◌≡◌, IfOk};
-ghost use Rattle.hs_scheme.specs.Replacement as replacement;
-ghost use Rattle.hs_scheme.specs.Cut as definition;
-ghost use Rattle.hs_scheme.specs.Run as acceptance;
+ghost use Rattle.hs_scheme.specs.acceptance.Replacement as replacement;
+ghost use Rattle.hs_scheme.specs.acceptance.Cut as definition;
+ghost use Rattle.hs_scheme.specs.acceptance.Run as acceptance;
 ghost use Rattle.hs_scheme.specs.Tree.{forest};
 
 use crate::automaton::Automaton;

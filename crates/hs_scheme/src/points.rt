@@ -2,8 +2,8 @@
 
 ghost use Rattle.std.specs.Prelude.{◌≡◌, ◌↔◌, ℕ, ◌+◌, ◌<◌, ◌≤◌, ◌++◌, length, All, slice_index, Some, IfOk, OnOk, IsErrOf};
 ghost use Rattle.hs_scheme.specs.declared.points.PointsFault.TheVariants.{TooMany, OutOfMemory};
-ghost use Rattle.hs_scheme.specs.Points.{NonterminalWithin, ParameterWithin, IsArgument, point_at, size, term_points, points_of};
-ghost use Rattle.hs_scheme.specs.Rows.{points_in, places_in, Fits, term_places};
+ghost use Rattle.hs_scheme.specs.flow.Points.{NonterminalWithin, ParameterWithin, IsArgument, point_at, size, term_points, points_of};
+ghost use Rattle.hs_scheme.specs.flow.Rows.{points_in, places_in, Fits, term_places};
 
 use crate::parameters::Parameters;
 use crate::scheme::Scheme;
@@ -97,8 +97,8 @@ pub struct Points {
 }
 
 impl Model for Points {
-    ghost use Rattle.hs_scheme.specs.Points.{PointsData, coded_points};
-    ghost use Rattle.hs_scheme.specs.Rows.{points_in, AreRows};
+    ghost use Rattle.hs_scheme.specs.flow.Points.{PointsData, coded_points};
+    ghost use Rattle.hs_scheme.specs.flow.Rows.{points_in, AreRows};
 
     ghost Value = { PointsData };
 

@@ -107,7 +107,7 @@ pub struct Unsorted {
 }
 
 impl Model for Unsorted {
-    ghost use Rattle.hs_scheme.specs.Unsorted.{UnsortedData, coded_unsorted, IsUnsorted};
+    ghost use Rattle.hs_scheme.specs.sorting.Unsorted.{UnsortedData, coded_unsorted, IsUnsorted};
 
     ghost Value = { UnsortedData };
 

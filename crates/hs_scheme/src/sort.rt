@@ -2,7 +2,7 @@
 
 ghost use Rattle.std.specs.Prelude.{◌≡◌, ℕ, List, Option, IfOk};
 ghost use Rattle.hs_scheme.specs.declared.term.Rule.{Rule};
-ghost use Rattle.hs_scheme.specs.Sorting.{Sorts, IsLeastSorting, IsWellSorted, AreEqual, AreFirstOrder};
+ghost use Rattle.hs_scheme.specs.sorting.Sorting.{Sorts, IsLeastSorting, IsWellSorted, AreEqual, AreFirstOrder};
 
 use crate::memory::OutOfMemory;
 use std::alloc::Global;
@@ -20,7 +20,7 @@ pub struct Sort {
 
 impl Model for Sort {
     ghost use Rattle.hs_scheme.specs.Tree.{node, forest, height, most_le-heights};
-    ghost use Rattle.hs_scheme.specs.Sorting.{SortTree, coded_sort};
+    ghost use Rattle.hs_scheme.specs.sorting.Sorting.{SortTree, coded_sort};
 
     ghost Value = { SortTree };
 

@@ -27,7 +27,7 @@ pub struct Sorted {
 }
 
 impl Model for Sorted {
-    ghost use Rattle.hs_scheme.specs.Sorted.{SortedData, coded_sorted, IsSorted};
+    ghost use Rattle.hs_scheme.specs.sorting.Sorted.{SortedData, coded_sorted, IsSorted};
 
     ghost Value = { SortedData };
 

@@ -3,7 +3,7 @@
 ghost use Rattle.std.specs.Prelude.{◌≡◌, ◌++◌, ◌∷◌, [], ℕ, length, IfOk, OnOk, if◌then◌else◌, nat_eq};
 ghost use Rattle.std.specs.HashMap.{get};
 ghost use Rattle.hs_scheme.specs.Key.{triple_eq};
-ghost use Rattle.hs_scheme.specs.Transitions.{items_of, IsByTerminal, IsByChild, GainsReads};
+ghost use Rattle.hs_scheme.specs.acceptance.Transitions.{items_of, IsByTerminal, IsByChild, GainsReads};
 
 use crate::automaton::Transition;
 use crate::memory::OutOfMemory;

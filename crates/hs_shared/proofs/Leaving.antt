@@ -69,18 +69,18 @@ module _ (old held mid new : SeatData) (core left : CoreData) (is_held : held �
 
   pub does_by : (does : CoreData → CoreData → Type 0) (found : CoreData) → IsCore found → found.base ≡ core.base → found.story ≡ core.story
       → does found left → Does does old new
-  does_by does found is_core base story done = record {
+  does_by does found know_core base story done = record {
     found = found;
     finds = record {
       base = f.base ∙ ap (λ b. Some b) (sym base);
       begins = subst (λ (xs : Story). IsPrefix old.known.seen xs) (sym story) f.begins;
       own = ap (told_by worker_of old.known.number) story ∙ f.own;
       seen_own = f.seen_own;
-      is_core = is_core;
+      know_core = know_core;
     };
     left = left;
     done = done;
-    is_core = left_core;
+    know_core = left_core;
     steps = t.0;
     grown = grown ∙ ap (λ (xs : Story). xs ++ t.0) (sym story);
     seat = seat;

@@ -45,7 +45,7 @@ module _ (s : SeatData) (core : CoreData) (f : Finds s core) where
   sees P h = let Q : _ = λ o. IfSome o (λ base. P base (state_after base s.known.seen)) in subst Q f.base h
 
   pub legal_seen : IsLegal core.base s.known.seen
-  legal_seen = legal_front core.base (opening core.base) s.known.seen f.begins.0 (subst (IsLegal core.base) (sym f.begins.1) f.is_core.legal)
+  legal_seen = legal_front core.base (opening core.base) s.known.seen f.begins.0 (subst (IsLegal core.base) (sym f.begins.1) f.know_core.legal)
 
   later : state_after core.base (s.known.seen ++ f.begins.0) ≡ state_of core
   later = ap (state_after core.base) f.begins.1
@@ -76,7 +76,7 @@ module _ (s : SeatData) (core : CoreData) (f : Finds s core) where
   pub still_holds : (ticket : ℕ) → Sees s (λ base state. Holds state s.known.number ticket) → Holds (state_of core) s.known.number ticket
   still_holds ticket h =
       let t = sees (λ base state. Holds state s.known.number ticket) h in
-      (t.0, ap (λ (x : State). x.flight ticket) (sym later) ∙ tickets_after core.base s.known.seen f.begins.0 s.known.number ticket t.0 (subst (IsLegal core.base) (sym f.begins.1) f.is_core.legal) others t.1)
+      (t.0, ap (λ (x : State). x.flight ticket) (sym later) ∙ tickets_after core.base s.known.seen f.begins.0 s.known.number ticket t.0 (subst (IsLegal core.base) (sym f.begins.1) f.know_core.legal) others t.1)
 
   pub may_finish : (ticket : ℕ) → Sees s (λ base state. CanFinish base state s.known.number ticket) → CanFinish core.base (state_of core) s.known.number ticket
   may_finish ticket h =
@@ -85,6 +85,6 @@ module _ (s : SeatData) (core : CoreData) (f : Finds s core) where
       let closed = closed_after core.base s.known.seen f.begins.0 t.work is_work t.closed in
       record {
         work = t.work;
-        holds = ap (λ (x : State). x.flight ticket) (sym later) ∙ tickets_after core.base s.known.seen f.begins.0 s.known.number ticket t.work (subst (IsLegal core.base) (sym f.begins.1) f.is_core.legal) others t.holds;
+        holds = ap (λ (x : State). x.flight ticket) (sym later) ∙ tickets_after core.base s.known.seen f.begins.0 s.known.number ticket t.work (subst (IsLegal core.base) (sym f.begins.1) f.know_core.legal) others t.holds;
         closed = subst (λ (x : State). IsClosedWork core.base.problem x.log t.work) later closed;
       }

@@ -18,7 +18,7 @@ pub record Finds (s : SeatData) (core : CoreData) : Type 0 where
   pub begins : IsPrefix s.known.seen core.story
   pub own : told_by worker_of s.known.number core.story ≡ s.known.own
   pub seen_own : HasSeenOwn s
-  pub is_core : IsCore core
+  pub know_core : IsCore core
 
 -- the seat has seen this story, these steps are its own, and all else that it knows is as before
 abbrev pub seat_after : SeatData → Story → List CoreStep → SeatData
@@ -30,7 +30,7 @@ pub record Does (does : CoreData → CoreData → Type 0) (old new : SeatData) :
   pub finds : Finds old found
   pub left : CoreData
   pub done : does found left
-  pub is_core : IsCore left
+  pub know_core : IsCore left
   pub steps : List CoreStep
   pub grown : left.story ≡ found.story ++ steps
   pub seat : new ≡ seat_after old left.story (old.known.own ++ steps)

@@ -31,4 +31,4 @@ pub record IsHolding (s : SeatData) (h : HoldData) : Type 0 where
   pub base : s.known.base ≡ Some h.core.base
   pub seen : s.known.seen ≡ h.core.story
   pub own : HasSeenOwn s
-  pub is_core : IsCore h.core
+  pub know_core : IsCore h.core

@@ -23,7 +23,7 @@ pub(crate) fn count(core: &Core) -> usize
     ensures short { result < 2 ^ 63 }
     ensures core { IsCore core.now }
 {
-    core.is_core();
+    core.know_core();
     core.journal().len()
 }
 
@@ -96,7 +96,7 @@ pub(crate) fn publish_deduction(
 {
     core.reserve_some()?;
     let brought = core.bring(replica.interner(), deduced)?;
-    core.is_core();
+    core.know_core();
     Ok(core.publish(worker, ticket, brought))
 }
 

@@ -73,7 +73,7 @@ impl<'p> SharedTable<'p> {
         ensures holds { IsHolding seat.new result }
     {
         let guard = self.turn.enter(rt, seat);
-        guard.state.core.is_core();
+        guard.state.core.know_core();
         Hold { guard }
     }
 
@@ -215,7 +215,7 @@ impl<'p> SharedTable<'p> {
     {
         let SharedTable { turn } = self;
         let Held { core } = turn.close(seat);
-        core.is_core();
+        core.know_core();
         core
     }
 }

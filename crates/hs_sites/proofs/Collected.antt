@@ -9,8 +9,8 @@ use Rattle.hs_scheme.specs.declared.term.Head.{Head}
 use Rattle.hs_scheme.specs.declared.term.Head.TheVariants.{Var, Nt, Tm}
 use Rattle.hs_scheme.specs.declared.flow.FlowPair.{FlowPair}
 use Rattle.hs_scheme.specs.declared.flow.HeadPair.{HeadPair}
-use Rattle.hs_scheme.specs.Points.{PointData, point_at}
-use Rattle.hs_scheme.specs.Flow.{IsBase, pairs_of}
+use Rattle.hs_scheme.specs.flow.Points.{PointData, point_at}
+use Rattle.hs_scheme.specs.flow.Flow.{IsBase, pairs_of}
 use Rattle.hs_scheme.specs.Problem.{ProblemData}
 use Rattle.hs_table_laws.proofs.Places.{within_from}
 use Rattle.hs_table_laws.proofs.Members.{pushed_cases}
@@ -18,7 +18,7 @@ use Rattle.hs_flow_checker.proofs.Parts.{nothing_in}
 use Rattle.hs_flow_checker.proofs.GapLemmas.{leads_base}
 use Rattle.hs_sites.specs.declared.sites.Site.{Site}
 use Rattle.hs_sites.specs.declared.bases.Base.{Base}
-use Rattle.hs_sites.specs.declared.collecting.Turn.{Turn}
+use Rattle.hs_sites.specs.declared.collecting.CollectingOrder.{CollectingOrder}
 use Rattle.hs_sites.specs.Listed.{AreSites}
 use Rattle.hs_sites.specs.Collecting.{AddsTo, AreBases, IsFrom, IsSiteAt, AreTurns}
 use Rattle.hs_sites.proofs.Adding.{ByAny}
@@ -70,7 +70,7 @@ module _ (p : ProblemData) (point : ℕ) (lt : point < length p.points.points) w
   )
 
 -- those of all points
-pub all_sites : (p : ProblemData) (turns : List Turn) (old new : List Site) → length old ≡ 0 → AreTurns p turns → AddsTo (ByAny turns (λ (t : Turn) (s : Site). IsSiteAt p t.point s)) old new → AreSites p new
+pub all_sites : (p : ProblemData) (turns : List CollectingOrder) (old new : List Site) → length old ≡ 0 → AreTurns p turns → AddsTo (ByAny turns (λ (t : CollectingOrder) (s : Site). IsSiteAt p t.point s)) old new → AreSites p new
 all_sites p turns old new none are adds s = (
   λ m. elim ((adds s).0 m) [ inl before ↦ absurd (nothing_in old s none before) | inr by ↦ by.1.1.1 ],
   λ own. let turn = are.all s.point (within_from p.points.points s.point own.0 own.1.at) in (adds s).1 (inr (turn.0, (turn.1.0, (sym turn.1.1, own)))),
@@ -107,19 +107,19 @@ of_parameter p rule x row old new is none adds b =
 
 -- ---- the turns
 
-pub turns_more : (turns new : List Turn) (n : ℕ) (t : Turn) → new ≡ turns ++ t ∷ [] → t.point ≡ n → ((u : Turn) → Contains turns u → u.point < n) → (u : Turn) → Contains new u → u.point < n + 1
-turns_more turns new n t is own below u m = elim (pushed_cases turns t u (subst (λ (ts : List Turn). Contains ts u) is m)) [
+pub turns_more : (turns new : List CollectingOrder) (n : ℕ) (t : CollectingOrder) → new ≡ turns ++ t ∷ [] → t.point ≡ n → ((u : CollectingOrder) → Contains turns u → u.point < n) → (u : CollectingOrder) → Contains new u → u.point < n + 1
+turns_more turns new n t is own below u m = elim (pushed_cases turns t u (subst (λ (ts : List CollectingOrder). Contains ts u) is m)) [
   | inl was ↦ let lt = below u was in omega (arith, lt)
-  | inr last ↦ omega (arith, own, ap (λ (v : Turn). v.point) last)
+  | inr last ↦ omega (arith, own, ap (λ (v : CollectingOrder). v.point) last)
 ]
 
-pub turns_all : (turns new : List Turn) (n : ℕ) (t : Turn) → new ≡ turns ++ t ∷ [] → t.point ≡ n → ((k : ℕ) → k < n → (u : Turn) × (Contains turns u × (u.point ≡ k))) → (k : ℕ) → k < n + 1 → (u : Turn) × (Contains new u × (u.point ≡ k))
+pub turns_all : (turns new : List CollectingOrder) (n : ℕ) (t : CollectingOrder) → new ≡ turns ++ t ∷ [] → t.point ≡ n → ((k : ℕ) → k < n → (u : CollectingOrder) × (Contains turns u × (u.point ≡ k))) → (k : ℕ) → k < n + 1 → (u : CollectingOrder) × (Contains new u × (u.point ≡ k))
 turns_all turns new n t is own all k lt = elim (cases_lt k n) [
-  | inl before ↦ let u = all k before in (u.0, (subst (λ (ts : List Turn). Contains ts u.0) (sym is) (Contains-append_left turns (t ∷ []) u.0 u.1.0), u.1.1))
-  | inr after ↦ (t, (subst (λ (ts : List Turn). Contains ts t) (sym is) (Contains-push turns t), omega (arith, own, lt, after)))
+  | inl before ↦ let u = all k before in (u.0, (subst (λ (ts : List CollectingOrder). Contains ts u.0) (sym is) (Contains-append_left turns (t ∷ []) u.0 u.1.0), u.1.1))
+  | inr after ↦ (t, (subst (λ (ts : List CollectingOrder). Contains ts t) (sym is) (Contains-push turns t), omega (arith, own, lt, after)))
 ]
 
-pub turns_moved : (p : ProblemData) (old new : List Turn) → IsPermutation old new → AreTurns p old → AreTurns p new
+pub turns_moved : (p : ProblemData) (old new : List CollectingOrder) → IsPermutation old new → AreTurns p old → AreTurns p new
 turns_moved p old new moved are = record {
   points = λ t m. are.points t (Contains-permutation new old t (IsPermutation-sym old new moved) m);
   all = λ point lt. let t = are.all point lt in (t.0, (Contains-permutation old new t.0 moved t.1.0, t.1.1));

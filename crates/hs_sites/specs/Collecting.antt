@@ -7,19 +7,19 @@
 --     AreTurns p turns            each point has its turn
 use Rattle.std.specs.Prelude.{◌≡◌, ℕ, ◌<◌, List, length, Contains, ◌⊎◌, ◌↔◌}
 use Rattle.hs_scheme.specs.declared.term.Head.TheVariants.{Var}
-use Rattle.hs_scheme.specs.Flow.{IsBase, pairs_of}
+use Rattle.hs_scheme.specs.flow.Flow.{IsBase, pairs_of}
 use Rattle.hs_scheme.specs.Problem.{ProblemData}
 use Rattle.hs_sites.specs.declared.sites.Site.{Site}
 use Rattle.hs_sites.specs.declared.bases.Base.{Base}
 use Rattle.hs_sites.specs.declared.bases.ParameterBases.{ParameterBases}
-use Rattle.hs_sites.specs.declared.collecting.Turn.{Turn}
+use Rattle.hs_sites.specs.declared.collecting.CollectingOrder.{CollectingOrder}
 use Rattle.hs_sites.specs.Listed.{IsOwnSite}
 
 abbrev pub AnyBase : Type 0
 AnyBase = Base
 
 abbrev pub AnyTurn : Type 0
-AnyTurn = Turn
+AnyTurn = CollectingOrder
 
 abbrev pub AddsTo : {X : Type 0} → (X → Type 0) → List X → List X → Type 0
 AddsTo {X} S old new = (x : X) → Contains new x ↔ (Contains old x ⊎ S x)
@@ -36,6 +36,6 @@ IsFrom bases point s = (b : Base) × (Contains bases b × (s ≡ record { nonter
 abbrev pub IsSiteAt : ProblemData → ℕ → Site → Type 0
 IsSiteAt p point s = (s.point ≡ point) × IsOwnSite p s
 
-pub record AreTurns (p : ProblemData) (turns : List Turn) : Type 0 where
-  pub points : (t : Turn) → Contains turns t → t.point < length p.points.points
-  pub all : (point : ℕ) → point < length p.points.points → (t : Turn) × (Contains turns t × (t.point ≡ point))
+pub record AreTurns (p : ProblemData) (turns : List CollectingOrder) : Type 0 where
+  pub points : (t : CollectingOrder) → Contains turns t → t.point < length p.points.points
+  pub all : (point : ℕ) → point < length p.points.points → (t : CollectingOrder) × (Contains turns t × (t.point ≡ point))

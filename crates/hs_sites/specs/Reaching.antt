@@ -4,7 +4,7 @@
 --     IsReached p G P g            where each chain has a site of which P holds, no chain has such a site only before parameter g
 --     IsWalk p G sites marks k reached    by the first k sites: what is marked is reached, and what they lead on to is marked
 use Rattle.std.specs.Prelude.{◌≡◌, ℕ, ◌+◌, ◌<◌, Bool, true, List, length, slice_get, Some, Contains, ◌⊎◌}
-use Rattle.hs_scheme.specs.Points.{point_at}
+use Rattle.hs_scheme.specs.flow.Points.{point_at}
 use Rattle.hs_scheme.specs.Problem.{ProblemData}
 use Rattle.hs_weak.specs.Sites.{SiteData, IsChainFrom}
 use Rattle.hs_sites.specs.declared.sites.Site.{Site}

@@ -2,7 +2,7 @@
 
 ghost use Rattle.std.specs.Prelude.{◌≡◌, ◌<◌, Contains, OnOk, IfOk, length};
 ghost use Rattle.hs_scheme.specs.declared.term.Head.TheVariants.{Var};
-ghost use Rattle.hs_scheme.specs.Points.{point_at};
+ghost use Rattle.hs_scheme.specs.flow.Points.{point_at};
 ghost use Rattle.hs_sites.specs.Listed.{AnySite, AreSites};
 ghost use Rattle.hs_sites.specs.Collecting.{AnyTurn, IsSiteAt, HasBases, AddsTo, IsFrom, AreTurns};
 
@@ -15,7 +15,7 @@ use std::alloc::Global;
 /// When the sites at a point are collected: those of a rule in the order of the parameters at their
 /// heads. So what a parameter may become is looked for once.
 #[derive(Clone, Copy, Debug, PartialEq, Eq, PartialOrd, Ord)]
-struct Turn {
+struct CollectingOrder {
     rule: u32,
     /// The parameter at the point's head, or 0 where the head is none.
     param: u32,
@@ -23,7 +23,7 @@ struct Turn {
 }
 
 /// The point's turn.
-fn turn_of(problem: &Problem, point: u32) -> Turn
+fn turn_of(problem: &Problem, point: u32) -> CollectingOrder
     requires { point < length problem.now.points.points }
     ensures { result.point ≡ point }
 {
@@ -32,11 +32,11 @@ fn turn_of(problem: &Problem, point: u32) -> Turn
         Head::Var(param) => param,
         Head::Nt(_) | Head::Tm(_) => 0,
     };
-    Turn { rule, param, point }
+    CollectingOrder { rule, param, point }
 }
 
 /// The turns of all points, one behind the other.
-fn turns_of(alloc: Global, problem: &Problem) -> Result<Vec<Turn>, OutOfMemory>
+fn turns_of(alloc: Global, problem: &Problem) -> Result<Vec<CollectingOrder>, OutOfMemory>
     ensures { IfOk result (λ turns. AreTurns problem.now turns.items) }
 {
     let count = problem.points.count();
@@ -125,7 +125,7 @@ fn add_in_turn(
     alloc: Global,
     problem: &Problem,
     heads: &HeadPairs,
-    turns: &[Turn],
+    turns: &[CollectingOrder],
     bases: &mut ParameterBases,
     sites: &mut Vec<Site>,
 ) -> Result<(), OutOfMemory>

@@ -1,7 +1,7 @@
 //! Walks over the parameters of a nonterminal, by its sites.
 
 ghost use Rattle.std.specs.Prelude.{◌≡◌, ◌↔◌, ◌+◌, ◌^◌, ◌<◌, ℕ, true, Some, Contains, IfOk, IsTrue, length, slice_get};
-ghost use Rattle.hs_scheme.specs.Points.{point_at};
+ghost use Rattle.hs_scheme.specs.flow.Points.{point_at};
 ghost use Rattle.hs_table.specs.Entries.{params_of};
 ghost use Rattle.hs_sites.specs.Listed.{AnySite, AreSitesOf};
 ghost use Rattle.hs_sites.specs.Walks.{EachChainHas, IsMarked};

@@ -2,7 +2,7 @@
 use Rattle.std.proofs.Common.{◌≡◌, refl, sym, ◌∙◌, ap, subst, ℕ, ◌+◌, ◌^◌, ◌<◌, ◌≤◌, List, [], ◌∷◌, ◌++◌, length, slice_get, Some, arith, length-append, length-set}
 use Rattle.std.proofs.lemmas.Option.{same_Some, slice_get_within}
 use Rattle.hs_scheme.specs.Tree.{node}
-use Rattle.hs_scheme.specs.Sorting.{SortTree, o, arrow}
+use Rattle.hs_scheme.specs.sorting.Sorting.{SortTree, o, arrow}
 use Rattle.hs_scheme.proofs.Lists.{at_append}
 use Rattle.hs_sorts.specs.declared.store.Shape.TheVariants.{Open, Base, Arrow}
 use Rattle.hs_sorts.specs.declared.store.Node.{Node}

@@ -2,8 +2,8 @@
 use Rattle.std.proofs.Common.{◌≡◌, refl, sym, ◌∙◌, ap, ℕ, zero, suc, ◌<◌, ◌∷◌, slice_get, Some, arith}
 use Rattle.std.specs.Prelude.{unwrap_or}
 use Rattle.hs_scheme.specs.Tree.{node}
-use Rattle.hs_scheme.specs.Sorting.{SortTree, o, arrow, arrows, behind, arguments}
-use Rattle.hs_scheme.specs.Sorted.{sort_at}
+use Rattle.hs_scheme.specs.sorting.Sorting.{SortTree, o, arrow, arrows, behind, arguments}
+use Rattle.hs_scheme.specs.sorting.Sorted.{sort_at}
 
 pub arrows_more : (n : ℕ) (args : ℕ → SortTree) (k : SortTree) → arrows n args (arrow (args n) k) ≡ arrows (suc n) args k
 arrows_more zero args k = refl

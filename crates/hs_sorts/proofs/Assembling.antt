@@ -4,12 +4,12 @@ use Rattle.std.proofs.lemmas.List.{length-map}
 use Rattle.std.proofs.lemmas.List.Elements.{All-weaker}
 use Rattle.std.proofs.lemmas.Option.{slice_get-map, slice_get-get_or}
 use Rattle.std.specs.Option.{option_map}
-use Rattle.hs_scheme.specs.Unsorted.{UnsortedData, IsUnsorted}
+use Rattle.hs_scheme.specs.sorting.Unsorted.{UnsortedData, IsUnsorted}
 use Rattle.hs_scheme.specs.declared.term.Rule.{Rule}
 use Rattle.hs_scheme.specs.Tree.{Trees, node, none, more, children}
-use Rattle.hs_scheme.specs.Sorting.{SortTree, o, size, sizes, arguments}
-use Rattle.hs_scheme.specs.Sorted.{IsSorted, known, sort_at}
-use Rattle.hs_scheme.specs.Lengthening.{lengthening}
+use Rattle.hs_scheme.specs.sorting.Sorting.{SortTree, o, size, sizes, arguments}
+use Rattle.hs_scheme.specs.sorting.Sorted.{IsSorted, known, sort_at}
+use Rattle.hs_scheme.specs.sorting.Lengthening.{lengthening}
 use Rattle.hs_sorts.specs.Naming.{lengthened_names}
 use Rattle.hs_sorts.specs.Least.{AreLeastSorts}
 use Rattle.hs_sorts.proofs.FullRules.{long_sorting, are_full, as_many, long_params}

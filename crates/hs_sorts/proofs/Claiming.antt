@@ -1,7 +1,7 @@
 -- Claims on the sorts of nodes, one after another.
 use Rattle.std.proofs.Common.{◌≡◌, sym, ◌∙◌, ap, subst, ℕ, suc, ◌+◌, ◌^◌, ◌<◌, ◌≤◌, List, [], ◌∷◌, ◌++◌, length, slice_get, replicate, length-append, Some, Bool, true, false, arith}
 use Rattle.std.proofs.lemmas.List.{length-replicate}
-use Rattle.hs_scheme.specs.Sorting.{SortTree, o, arrow, arrows}
+use Rattle.hs_scheme.specs.sorting.Sorting.{SortTree, o, arrow, arrows}
 use Rattle.hs_scheme.proofs.Lists.{back_at}
 use Rattle.hs_sorts.specs.declared.store.Shape.TheVariants.{Base}
 use Rattle.hs_sorts.specs.declared.store.Node.{Node}

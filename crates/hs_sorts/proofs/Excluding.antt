@@ -4,9 +4,9 @@ use Rattle.std.proofs.lemmas.Option.{slice_get_within}
 use Rattle.std.proofs.lemmas.Bool.{cases_lt}
 use Rattle.std.proofs.lemmas.List.Elements.{All-nil}
 use Rattle.hs_scheme.specs.declared.term.Rule.{Rule}
-use Rattle.hs_scheme.specs.Sorting.{SortTree, o, ranked, size, HasSorting, IsFirstOrder, AreEqual}
-use Rattle.hs_scheme.specs.Sorted.{SortedData}
-use Rattle.hs_scheme.specs.Unsorted.{UnsortedData}
+use Rattle.hs_scheme.specs.sorting.Sorting.{SortTree, o, ranked, size, HasSorting, IsFirstOrder, AreEqual}
+use Rattle.hs_scheme.specs.sorting.Sorted.{SortedData}
+use Rattle.hs_scheme.specs.sorting.Unsorted.{UnsortedData}
 use Rattle.hs_scheme.proofs.Sortings.{least_first_order, least_unique}
 use Rattle.hs_sorts.specs.declared.fault.SortFault.{SortFault}
 use Rattle.hs_sorts.specs.declared.fault.SortFault.TheVariants.{IllSorted, TerminalNotFirstOrder, SortTooLarge, RuleTooLong, OutOfMemory}

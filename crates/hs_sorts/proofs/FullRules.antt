@@ -6,11 +6,11 @@ use Rattle.hs_scheme.specs.declared.term.Head.{Head}
 use Rattle.hs_scheme.specs.declared.term.Head.TheVariants.{Var, Nt, Tm}
 use Rattle.hs_scheme.specs.declared.term.Rule.{Rule}
 use Rattle.hs_scheme.specs.Tree.{Tree, Trees, node, none, more, children, join}
-use Rattle.hs_scheme.specs.Replacement.{applied}
+use Rattle.hs_scheme.specs.acceptance.Replacement.{applied}
 use Rattle.hs_scheme.specs.Scheme.{HeadInRange, TermInRange, TermsInRange, AreRules}
-use Rattle.hs_scheme.specs.Sorting.{SortTree, arrow, arrows, without, behind, arguments, heads, HasSort, Applied, IsSorting}
-use Rattle.hs_scheme.specs.Sorted.{sort_at, sorts_of, known, AreFull}
-use Rattle.hs_scheme.specs.Lengthening.{missing, parameters, lengthened, lengthening}
+use Rattle.hs_scheme.specs.sorting.Sorting.{SortTree, arrow, arrows, without, behind, arguments, heads, HasSort, Applied, IsSorting}
+use Rattle.hs_scheme.specs.sorting.Sorted.{sort_at, sorts_of, known, AreFull}
+use Rattle.hs_scheme.specs.sorting.Lengthening.{missing, parameters, lengthened, lengthening}
 use Rattle.hs_scheme.proofs.Sortings.{length-arrow, length-lengthening}
 use Rattle.hs_sorts.specs.Naming.{added_name, added_names, lengthened_params}
 use Rattle.hs_sorts.specs.Inference.{head_arguments, IsTooLong}

@@ -9,8 +9,8 @@ use Rattle.hs_scheme.specs.declared.term.Head.TheVariants.{Var, Nt, Tm}
 use Rattle.hs_scheme.specs.declared.term.Rule.{Rule}
 use Rattle.hs_scheme.specs.Tree.{Trees, node, none, more, children}
 use Rattle.hs_scheme.specs.Scheme.{HeadInRange, TermInRange, AreRules}
-use Rattle.hs_scheme.specs.Sorting.{SortTree, o, arrow, arrows, behind, ranked, size, arguments, IsFirstOrder, Sorts, heads, HasSort, IsSorting, HasSorting, AreFirstOrder, IsLeastSorting}
-use Rattle.hs_scheme.specs.Sorted.{sort_at, sorts_of, known}
+use Rattle.hs_scheme.specs.sorting.Sorting.{SortTree, o, arrow, arrows, behind, ranked, size, arguments, IsFirstOrder, Sorts, heads, HasSort, IsSorting, HasSorting, AreFirstOrder, IsLeastSorting}
+use Rattle.hs_scheme.specs.sorting.Sorted.{sort_at, sorts_of, known}
 use Rattle.hs_scheme.proofs.Sortings.{length-ranked}
 use Rattle.hs_sorts.specs.declared.finding.WeighedNodes.{WeighedNodes}
 use Rattle.hs_sorts.specs.declared.store.Node.{Node}

@@ -4,7 +4,7 @@ use Rattle.std.proofs.lemmas.Option.{same_Some, slice_get_within}
 use Rattle.std.proofs.lemmas.List.Elements.{All-push, All-nil, All-cons, All-head, All-tail}
 use Rattle.std.proofs.lemmas.Bool.{cases_lt}
 use Rattle.hs_scheme.specs.Tree.{node}
-use Rattle.hs_scheme.specs.Sorting.{SortTree, arrow}
+use Rattle.hs_scheme.specs.sorting.Sorting.{SortTree, arrow}
 use Rattle.hs_sorts.specs.declared.store.Shape.{Shape}
 use Rattle.hs_sorts.specs.declared.store.Shape.TheVariants.{Arrow}
 use Rattle.hs_sorts.specs.declared.store.Node.{Node}

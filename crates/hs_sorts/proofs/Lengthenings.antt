@@ -6,10 +6,10 @@ use Rattle.std.proofs.Math.ListN.{set}
 use Rattle.hs_scheme.specs.declared.term.Head.{Head}
 use Rattle.hs_scheme.specs.declared.term.Head.TheVariants.{Var}
 use Rattle.hs_scheme.specs.Tree.{Tree, Trees, node, none, more, forest, children, join, forest-append, children-forest}
-use Rattle.hs_scheme.specs.Replacement.{applied}
+use Rattle.hs_scheme.specs.acceptance.Replacement.{applied}
 use Rattle.hs_scheme.specs.declared.term.Rule.{Rule}
-use Rattle.hs_scheme.specs.Sorting.{SortTree, arguments}
-use Rattle.hs_scheme.specs.Lengthening.{missing, parameters, lengthened, lengthening}
+use Rattle.hs_scheme.specs.sorting.Sorting.{SortTree, arguments}
+use Rattle.hs_scheme.specs.sorting.Lengthening.{missing, parameters, lengthened, lengthening}
 use Rattle.hs_sorts.specs.Naming.{added_names, lengthened_params}
 use Rattle.hs_sorts.specs.Inference.{head_arguments}
 use Rattle.hs_sorts.specs.Finding.{TellsLong}

@@ -3,7 +3,7 @@ use Rattle.std.proofs.Common.{◌≡◌, sym, subst, ℕ, ◌<◌}
 use Rattle.hs_scheme.specs.declared.term.Head.{Head}
 use Rattle.hs_scheme.specs.Tree.{Tree, Trees, node, none, more}
 use Rattle.hs_scheme.specs.Scheme.{HeadInRange, TermInRange, TermsInRange}
-use Rattle.hs_scheme.specs.Sorting.{SortTree, HasSort, Applied}
+use Rattle.hs_scheme.specs.sorting.Sorting.{SortTree, HasSort, Applied}
 use Rattle.hs_sorts.specs.Constraints.{NodesBelow, AllNodesBelow}
 
 -- sorts that agree on the heads in range give a term the same sorts

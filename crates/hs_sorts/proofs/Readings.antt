@@ -4,7 +4,7 @@ use Rattle.std.specs.Option.{option_map}
 use Rattle.std.specs.Prelude.{unwrap_or}
 use Rattle.std.proofs.lemmas.Option.{slice_get-get_or, slice_get_within}
 use Rattle.hs_scheme.specs.Tree.{node, forest}
-use Rattle.hs_scheme.specs.Sorting.{SortTree, o, arrow, arrows, size}
+use Rattle.hs_scheme.specs.sorting.Sorting.{SortTree, o, arrow, arrows, size}
 use Rattle.hs_sorts.specs.declared.store.Shape.{Shape}
 use Rattle.hs_sorts.specs.declared.store.Shape.TheVariants.{Open, Base, Arrow}
 use Rattle.hs_sorts.specs.declared.store.Node.{Node}

@@ -6,7 +6,7 @@ use Rattle.std.proofs.lemmas.List.{take_at, length-map, length-replicate}
 use Rattle.std.proofs.lemmas.List.Sums.{sum_by-set}
 use Rattle.std.specs.Option.{option_map}
 use Rattle.std.proofs.lemmas.Option.{same_Some, slice_get_within, slice_get-map, get_or_from_slice_get, slice_get-get_or}
-use Rattle.hs_scheme.specs.Sorting.{SortTree, o, arrow, size}
+use Rattle.hs_scheme.specs.sorting.Sorting.{SortTree, o, arrow, size}
 use Rattle.hs_scheme.proofs.Lists.{at_append, back_at, place-append}
 use Rattle.hs_sorts.specs.declared.store.Shape.TheVariants.{Open, Base, Arrow}
 use Rattle.hs_sorts.specs.declared.store.Node.{Node}

@@ -5,11 +5,11 @@ use Rattle.hs_scheme.specs.declared.term.Head.{Head}
 use Rattle.hs_scheme.specs.declared.term.Head.TheVariants.{Var}
 use Rattle.hs_scheme.specs.declared.term.Rule.{Rule}
 use Rattle.hs_scheme.specs.Tree.{Tree, Trees, node, none, more, children, join}
-use Rattle.hs_scheme.specs.Replacement.{applied}
-use Rattle.hs_scheme.specs.Sorting.{SortTree, arrow, arrows, behind, arguments, size, sizes, Sorts, heads, HasSort, Applied, IsSorting, IsLeastSorting}
-use Rattle.hs_scheme.specs.Sorted.{SortedData, IsSorted, sort_at, sorts_of, known}
-use Rattle.hs_scheme.specs.Lengthening.{missing, parameters, lengthened, lengthening}
-use Rattle.hs_scheme.specs.Unsorted.{UnsortedData}
+use Rattle.hs_scheme.specs.acceptance.Replacement.{applied}
+use Rattle.hs_scheme.specs.sorting.Sorting.{SortTree, arrow, arrows, behind, arguments, size, sizes, Sorts, heads, HasSort, Applied, IsSorting, IsLeastSorting}
+use Rattle.hs_scheme.specs.sorting.Sorted.{SortedData, IsSorted, sort_at, sorts_of, known}
+use Rattle.hs_scheme.specs.sorting.Lengthening.{missing, parameters, lengthened, lengthening}
+use Rattle.hs_scheme.specs.sorting.Unsorted.{UnsortedData}
 use Rattle.hs_scheme.proofs.Sortings.{meet, meets, common_sorting, length-lengthening}
 use Rattle.hs_sorts.specs.Inference.{IsInferred}
 use Rattle.hs_sorts.proofs.Arrows.{argument_is}

@@ -5,8 +5,8 @@ use Rattle.hs_scheme.specs.declared.term.Head.{Head}
 use Rattle.hs_scheme.specs.declared.term.Head.TheVariants.{Var, Nt, Tm}
 use Rattle.hs_scheme.specs.declared.term.Rule.{Rule}
 use Rattle.hs_scheme.specs.Scheme.{HeadInRange, TermInRange, AreRules}
-use Rattle.hs_scheme.specs.Sorting.{arrows, behind, arguments, Sorts, heads, HasSort, IsSorting, HasSorting}
-use Rattle.hs_scheme.specs.Sorted.{sort_at}
+use Rattle.hs_scheme.specs.sorting.Sorting.{arrows, behind, arguments, Sorts, heads, HasSort, IsSorting, HasSorting}
+use Rattle.hs_scheme.specs.sorting.Sorted.{sort_at}
 use Rattle.hs_sorts.specs.declared.store.Node.{Node}
 use Rattle.hs_sorts.specs.Nodes.{Valuation, IsValuationOf}
 use Rattle.hs_sorts.specs.Constraints.{Agree, Claims, IsBaseSort, IsRankedIf, sorts_with, IsRuled, BodiesWithin}

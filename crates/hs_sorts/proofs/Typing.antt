@@ -4,7 +4,7 @@ use Rattle.std.proofs.lemmas.Bool.{eqb-true}
 use Rattle.std.proofs.lemmas.List.{take_more, take_all}
 use Rattle.hs_scheme.specs.declared.term.Head.{Head}
 use Rattle.hs_scheme.specs.Tree.{Tree, Trees, node, none, more, forest, height, heights}
-use Rattle.hs_scheme.specs.Sorting.{SortTree, arrow, HasSort, Applied}
+use Rattle.hs_scheme.specs.sorting.Sorting.{SortTree, arrow, HasSort, Applied}
 use Rattle.hs_sorts.specs.declared.store.Node.{Node}
 use Rattle.hs_sorts.specs.Nodes.{Valuation}
 use Rattle.hs_sorts.specs.Constraints.{NodesBelow, AllNodesBelow, Agree, AddsNode, Refutes, TakesArgument, HasSortAt}

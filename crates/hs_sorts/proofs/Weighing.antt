@@ -5,7 +5,7 @@ use Rattle.std.specs.Prelude.{unwrap_or}
 use Rattle.std.specs.Option.{option_map}
 use Rattle.std.proofs.lemmas.List.{length-map}
 use Rattle.hs_scheme.specs.Tree.{node, none, more, children}
-use Rattle.hs_scheme.specs.Sorting.{SortTree, o, arrow, size, arguments, IsFirstOrder}
+use Rattle.hs_scheme.specs.sorting.Sorting.{SortTree, o, arrow, size, arguments, IsFirstOrder}
 use Rattle.hs_sorts.specs.declared.weights.Weight.{Weight}
 use Rattle.hs_sorts.specs.declared.weights.Mark.{Mark}
 use Rattle.hs_sorts.specs.declared.weights.Mark.TheVariants.{New, Entered, Weighed}

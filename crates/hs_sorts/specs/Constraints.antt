@@ -8,7 +8,7 @@ use Rattle.hs_scheme.specs.declared.term.Head.TheVariants.{Var, Nt, Tm}
 use Rattle.hs_scheme.specs.Tree.{Tree, Trees, node, none, more}
 use Rattle.hs_scheme.specs.declared.term.Rule.{Rule}
 use Rattle.hs_scheme.specs.Scheme.{TermInRange}
-use Rattle.hs_scheme.specs.Sorting.{SortTree, o, arrow, arrows, ranked, HasSort}
+use Rattle.hs_scheme.specs.sorting.Sorting.{SortTree, o, arrow, arrows, ranked, HasSort}
 use Rattle.hs_sorts.specs.declared.store.Node.{Node}
 use Rattle.hs_sorts.specs.Nodes.{Valuation, IsValuationOf}
 

@@ -1,7 +1,7 @@
 -- Weighed nodes whose sorts are the sortings of a scheme's first rules.
 use Rattle.std.specs.Prelude.{◌≡◌, ◌<◌, ◌≤◌, ℕ, ◌+◌, List, length, slice_get, Option, Some, None, Bool, true, false}
 use Rattle.hs_scheme.specs.declared.term.Rule.{Rule}
-use Rattle.hs_scheme.specs.Sorting.{SortTree, arguments, HasSorting}
+use Rattle.hs_scheme.specs.sorting.Sorting.{SortTree, arguments, HasSorting}
 use Rattle.hs_sorts.specs.declared.finding.WeighedNodes.{WeighedNodes}
 use Rattle.hs_sorts.specs.declared.store.Node.{Node}
 use Rattle.hs_sorts.specs.declared.weights.Weight.{Weight}

@@ -6,12 +6,12 @@
 use Rattle.std.specs.Prelude.{◌≡◌, ◌<◌, ◌≤◌, ◌+◌, ℕ, List, length, Option, slice_get, Some, ◌⊎◌}
 use Rattle.hs_scheme.specs.declared.term.Head.{Head}
 use Rattle.hs_scheme.specs.Tree.{Tree, node, children}
-use Rattle.hs_scheme.specs.Lengthening.{missing, lengthened, lengthening}
+use Rattle.hs_scheme.specs.sorting.Lengthening.{missing, lengthened, lengthening}
 use Rattle.hs_sorts.specs.Naming.{lengthened_names}
 use Rattle.hs_scheme.specs.declared.term.Rule.{Rule}
-use Rattle.hs_scheme.specs.Unsorted.{UnsortedData}
-use Rattle.hs_scheme.specs.Sorting.{SortTree, Sorts, size, HasSorting, IsFirstOrder, AreFirstOrder, IsWellSorted, IsLeastSorting}
-use Rattle.hs_scheme.specs.Sorted.{SortedData, sorts_of}
+use Rattle.hs_scheme.specs.sorting.Unsorted.{UnsortedData}
+use Rattle.hs_scheme.specs.sorting.Sorting.{SortTree, Sorts, size, HasSorting, IsFirstOrder, AreFirstOrder, IsWellSorted, IsLeastSorting}
+use Rattle.hs_scheme.specs.sorting.Sorted.{SortedData, sorts_of}
 use Rattle.hs_sorts.specs.declared.fault.SortFault.{SortFault}
 use Rattle.hs_sorts.specs.declared.fault.SortFault.TheVariants.{IllSorted, TerminalNotFirstOrder, SortTooLarge, RuleTooLong, OutOfMemory}
 

@@ -1,8 +1,8 @@
 -- The least sorting as the sorts of the nonterminals and the ranks of the terminals.
 use Rattle.std.specs.Prelude.{◌≡◌, ℕ, List, length, Option, slice_get, Some}
 use Rattle.hs_scheme.specs.declared.term.Rule.{Rule}
-use Rattle.hs_scheme.specs.Sorting.{SortTree, IsSorting, IsLeastSorting}
-use Rattle.hs_scheme.specs.Sorted.{sorts_of, known}
+use Rattle.hs_scheme.specs.sorting.Sorting.{SortTree, IsSorting, IsLeastSorting}
+use Rattle.hs_scheme.specs.sorting.Sorted.{sorts_of, known}
 use Rattle.hs_sorts.specs.Inference.{AreSmall, NoneTooLong}
 
 pub record AreLeastSorts (rules : List Rule) (ranks : List (Option ℕ)) (sorts : List SortTree) (arities : List ℕ) : Type 0 where

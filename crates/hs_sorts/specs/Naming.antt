@@ -1,8 +1,8 @@
 -- The names of the parameters that short rules get: `~1` to `~d`. No name of a file has the byte `~`.
 use Rattle.std.specs.Prelude.{ℕ, zero, suc, List, [], ◌∷◌, ◌++◌, length, codes, decimal}
 use Rattle.hs_scheme.specs.Names.{NamesData}
-use Rattle.hs_scheme.specs.Sorting.{SortTree}
-use Rattle.hs_scheme.specs.Lengthening.{missing}
+use Rattle.hs_scheme.specs.sorting.Sorting.{SortTree}
+use Rattle.hs_scheme.specs.sorting.Lengthening.{missing}
 
 -- the name of the j-th of them, counted from 1
 abbrev pub added_name : ℕ → List ℕ

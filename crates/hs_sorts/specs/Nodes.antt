@@ -4,7 +4,7 @@
 --     IsStore              links and arrows lead to nodes, links to smaller numbers
 --     IsFlat               no link leads to a link
 use Rattle.std.specs.Prelude.{◌≡◌, ◌≢◌, ℕ, ◌+◌, ◌*◌, ◌^◌, ◌<◌, ◌≤◌, List, [], ◌∷◌, ◌++◌, All, length, slice_get, slice_set, sum_by, Option, Some, None, Bool, true, false}
-use Rattle.hs_scheme.specs.Sorting.{SortTree, o, arrow}
+use Rattle.hs_scheme.specs.sorting.Sorting.{SortTree, o, arrow}
 use Rattle.hs_sorts.specs.declared.store.Shape.{Shape}
 use Rattle.hs_sorts.specs.declared.store.Shape.TheVariants.{Open, Base, Arrow}
 use Rattle.hs_sorts.specs.declared.store.Node.{Node}

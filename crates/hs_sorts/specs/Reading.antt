@@ -1,7 +1,7 @@
 -- What is read from weighed nodes.
 use Rattle.std.specs.Prelude.{◌≡◌, ℕ, ◌<◌, List, length, Option, Some, None, slice_get, unwrap_or}
 use Rattle.std.specs.Option.{option_map}
-use Rattle.hs_scheme.specs.Sorting.{o, arrow}
+use Rattle.hs_scheme.specs.sorting.Sorting.{o, arrow}
 use Rattle.hs_sorts.specs.declared.store.Shape.{Shape}
 use Rattle.hs_sorts.specs.declared.store.Shape.TheVariants.{Open, Base, Arrow}
 use Rattle.hs_sorts.specs.declared.store.Node.{Node}

@@ -2,7 +2,7 @@
 --     rank        falls from a node to its children, whatever respects the nodes
 --     IsSearch    what holds between steps
 use Rattle.std.specs.Prelude.{◌≡◌, ◌≢◌, ℕ, ◌+◌, ◌*◌, ◌<◌, ◌≤◌, List, [], ◌∷◌, ◌++◌, length, slice_get, slice_set, sum_by, Option, Some, None, Bool, true, false}
-use Rattle.hs_scheme.specs.Sorting.{size}
+use Rattle.hs_scheme.specs.sorting.Sorting.{size}
 use Rattle.hs_sorts.specs.declared.store.Node.{Node}
 use Rattle.hs_sorts.specs.declared.weights.Weight.{Weight}
 use Rattle.hs_sorts.specs.declared.weights.Mark.{Mark}

@@ -1,7 +1,7 @@
 -- What the solver gives: nodes whose sorts are the sortings of the first k rules, or none where there is no sorting.
 use Rattle.std.specs.Prelude.{ℕ, List, Option, Some, None}
 use Rattle.hs_scheme.specs.declared.term.Rule.{Rule}
-use Rattle.hs_scheme.specs.Sorting.{HasSorting}
+use Rattle.hs_scheme.specs.sorting.Sorting.{HasSorting}
 use Rattle.hs_sorts.specs.declared.store.Node.{Node}
 use Rattle.hs_sorts.specs.Nodes.{IsFlat}
 use Rattle.hs_sorts.specs.Solving.{Solves}

@@ -3,8 +3,8 @@
 --     Solves       the valuations of the nodes are the sortings
 use Rattle.std.specs.Prelude.{◌≡◌, ℕ, ◌+◌, ◌^◌, ◌<◌, ◌≤◌, List, length, slice_get, Option, Some}
 use Rattle.hs_scheme.specs.declared.term.Rule.{Rule}
-use Rattle.hs_scheme.specs.Sorting.{Sorts, arguments, IsSorting}
-use Rattle.hs_scheme.specs.Sorted.{sort_at}
+use Rattle.hs_scheme.specs.sorting.Sorting.{Sorts, arguments, IsSorting}
+use Rattle.hs_scheme.specs.sorting.Sorted.{sort_at}
 use Rattle.hs_sorts.specs.declared.store.Node.{Node}
 use Rattle.hs_sorts.specs.Nodes.{Valuation, IsValuationOf}
 use Rattle.hs_sorts.specs.Constraints.{IsRuled}

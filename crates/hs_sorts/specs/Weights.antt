@@ -3,7 +3,7 @@
 --     IsReading      so is each node's sort
 --     Describes      a weight has the size of a sort, counted to 1,001, and its number of arguments
 use Rattle.std.specs.Prelude.{◌≡◌, ℕ, ◌<◌, List, length, map, slice_get, min, Option, Some, None, true, false, ◌⊎◌}
-use Rattle.hs_scheme.specs.Sorting.{SortTree, o, arrow, size, arguments, IsFirstOrder}
+use Rattle.hs_scheme.specs.sorting.Sorting.{SortTree, o, arrow, size, arguments, IsFirstOrder}
 use Rattle.hs_sorts.specs.declared.store.Shape.TheVariants.{Open, Base, Arrow}
 use Rattle.hs_sorts.specs.declared.store.Node.{Node}
 use Rattle.hs_sorts.specs.declared.store.Node.TheVariants.{Root, Link}

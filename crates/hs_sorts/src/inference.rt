@@ -3,7 +3,7 @@
 ghost use Rattle.std.specs.Prelude.{◌≡◌, ℕ, List, Option, length, IfOk, IfErr};
 ghost use Rattle.hs_scheme.specs.declared.term.Rule.{Rule};
 ghost use Rattle.hs_scheme.specs.Scheme.{AreRules};
-ghost use Rattle.hs_scheme.specs.Sorting.{HasSorting};
+ghost use Rattle.hs_scheme.specs.sorting.Sorting.{HasSorting};
 ghost use Rattle.hs_sorts.specs.Finding.{FindsSorting};
 ghost use Rattle.hs_sorts.specs.Inference.{IsInferred, IsFirstIllSorted, IsSortFault, IsInferable};
 ghost use Rattle.hs_sorts.specs.Least.{AreLeastSorts};

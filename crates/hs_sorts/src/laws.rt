@@ -2,9 +2,9 @@
 
 ghost use Rattle.std.specs.Prelude.{◌≡◌, ◌⊎◌, ℕ, List, Option};
 ghost use Rattle.hs_scheme.specs.declared.term.Rule.{Rule};
-ghost use Rattle.hs_scheme.specs.Unsorted.{UnsortedData};
-ghost use Rattle.hs_scheme.specs.Sorted.{SortedData, IsSorted, sorts_of};
-ghost use Rattle.hs_scheme.specs.Sorting.{IsLeastSorting};
+ghost use Rattle.hs_scheme.specs.sorting.Unsorted.{UnsortedData};
+ghost use Rattle.hs_scheme.specs.sorting.Sorted.{SortedData, IsSorted, sorts_of};
+ghost use Rattle.hs_scheme.specs.sorting.Sorting.{IsLeastSorting};
 ghost use Rattle.hs_sorts.specs.declared.fault.SortFault.{SortFault};
 ghost use Rattle.hs_sorts.specs.declared.fault.SortFault.TheVariants as sorts;
 ghost use Rattle.hs_sorts.specs.Inference.{IsInferable, IsInferred, IsSortFault};

@@ -1,9 +1,9 @@
 //! Rules with as many parameters as their nonterminal's sort has arguments.
 
 ghost use Rattle.std.specs.Prelude.{◌≡◌, ◌+◌, ◌++◌, ◌<◌, ◌≤◌, ◌^◌, All, IfOk, length, map};
-ghost use Rattle.hs_scheme.specs.Sorting.{arguments};
-ghost use Rattle.hs_scheme.specs.Replacement.{applied};
-ghost use Rattle.hs_scheme.specs.Lengthening.{parameters, lengthened, lengthening};
+ghost use Rattle.hs_scheme.specs.sorting.Sorting.{arguments};
+ghost use Rattle.hs_scheme.specs.acceptance.Replacement.{applied};
+ghost use Rattle.hs_scheme.specs.sorting.Lengthening.{parameters, lengthened, lengthening};
 ghost use Rattle.hs_sorts.specs.Naming as naming;
 
 use hs_scheme::{Head, Name, Names, OutOfMemory, Rule, Sort, Term};

@@ -1,7 +1,7 @@
 //! The occurs check, with the sizes of the sorts that the nodes stand for.
 
 ghost use Rattle.std.specs.Prelude.{◌≡◌, ◌<◌, length, slice_get, Some, IfOk};
-ghost use Rattle.hs_scheme.specs.Sorting.{SortTree, o, arrow};
+ghost use Rattle.hs_scheme.specs.sorting.Sorting.{SortTree, o, arrow};
 ghost use Rattle.hs_sorts.specs.declared.store.Node.{Node};
 ghost use Rattle.hs_sorts.specs.Nodes.{IsStore};
 ghost use Rattle.hs_sorts.specs.declared.store.Node.TheVariants.{Root};

@@ -3,11 +3,11 @@ use Rattle.std.proofs.Common.{◌≡◌, sym, ◌∙◌, ℕ, zero, suc, false, 
 use Rattle.hs_scheme.specs.declared.term.Head.{Head}
 use Rattle.hs_scheme.specs.declared.term.Head.TheVariants.{Var, Nt, Tm}
 use Rattle.hs_scheme.specs.declared.term.Rule.{Rule}
-use Rattle.hs_scheme.specs.Transition.{TransitionData}
+use Rattle.hs_scheme.specs.acceptance.Transition.{TransitionData}
 use Rattle.hs_scheme.specs.Tree.{Tree, Trees, node, children}
-use Rattle.hs_scheme.specs.Cut.{cut, unfolded}
-use Rattle.hs_scheme.specs.Run.{run}
-use Rattle.hs_scheme.specs.Steps.{Path, StepsTo, Along}
+use Rattle.hs_scheme.specs.acceptance.Cut.{cut, unfolded}
+use Rattle.hs_scheme.specs.acceptance.Run.{run}
+use Rattle.hs_scheme.specs.acceptance.Steps.{Path, StepsTo, Along}
 use Rattle.hs_steps.proofs.Refusal.{stuck_refused, step_refused, refused_only}
 
 module _ (rules others : List Rule) (ts : List TransitionData) (Holds : Tree Head → Type 0)

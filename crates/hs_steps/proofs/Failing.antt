@@ -5,12 +5,12 @@ use Rattle.std.proofs.Common.{subst as along}
 use Rattle.hs_scheme.specs.declared.term.Head.{Head}
 use Rattle.hs_scheme.specs.declared.term.Head.TheVariants.{Var, Nt, Tm}
 use Rattle.hs_scheme.specs.declared.term.Rule.{Rule}
-use Rattle.hs_scheme.specs.Transition.{TransitionData}
+use Rattle.hs_scheme.specs.acceptance.Transition.{TransitionData}
 use Rattle.hs_scheme.specs.Tree.{Tree, node}
-use Rattle.hs_scheme.specs.Cut.{cut}
-use Rattle.hs_scheme.specs.Run.{run, start, Accepts}
-use Rattle.hs_scheme.specs.Sorting.{Sorts}
-use Rattle.hs_scheme.specs.Steps.{Path, HasNoTransition, IsStuck, Fails}
+use Rattle.hs_scheme.specs.acceptance.Cut.{cut}
+use Rattle.hs_scheme.specs.acceptance.Run.{run, start, Accepts}
+use Rattle.hs_scheme.specs.sorting.Sorting.{Sorts}
+use Rattle.hs_scheme.specs.acceptance.Steps.{Path, HasNoTransition, IsStuck, Fails}
 use Rattle.hs_scheme.specs.TreeTerms.{IsTreeTerm, AreSortedBy}
 use Rattle.hs_steps.specs.Failing.{FailsWithin}
 use Rattle.hs_steps.proofs.Refusal.{stuck_refused, step_refused, refused_only, refused_longer}

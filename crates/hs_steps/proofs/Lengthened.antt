@@ -5,13 +5,13 @@ use Rattle.std.proofs.lemmas.List.{take_all, drop_all}
 use Rattle.hs_scheme.specs.declared.term.Head.{Head}
 use Rattle.hs_scheme.specs.declared.term.Head.TheVariants.{Nt}
 use Rattle.hs_scheme.specs.declared.term.Rule.{Rule}
-use Rattle.hs_scheme.specs.Transition.{TransitionData}
+use Rattle.hs_scheme.specs.acceptance.Transition.{TransitionData}
 use Rattle.hs_scheme.specs.Tree.{Tree, Trees, node, children, forest}
-use Rattle.hs_scheme.specs.Replacement.{subst, applied}
-use Rattle.hs_scheme.specs.Cut.{body_of, body_with, unfolded}
+use Rattle.hs_scheme.specs.acceptance.Replacement.{subst, applied}
+use Rattle.hs_scheme.specs.acceptance.Cut.{body_of, body_with, unfolded}
 use Rattle.hs_scheme.specs.Scheme.{TermInRange}
-use Rattle.hs_scheme.specs.Sorting.{SortTree, arguments, Sorts}
-use Rattle.hs_scheme.specs.Lengthening.{missing, parameters, lengthened, lengthening, AreSortsOf}
+use Rattle.hs_scheme.specs.sorting.Sorting.{SortTree, arguments, Sorts}
+use Rattle.hs_scheme.specs.sorting.Lengthening.{missing, parameters, lengthened, lengthening, AreSortsOf}
 use Rattle.hs_scheme.specs.TreeTerms.{ground, IsTreeTerm, AreSortedBy}
 use Rattle.hs_steps.proofs.Terms.{applied-none, subst-applied, subst_first, substs-parameters, unfolds}
 use Rattle.hs_steps.proofs.Sorted.{body_in_range, has_enough, count}

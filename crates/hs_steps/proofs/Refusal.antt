@@ -7,12 +7,12 @@ use Rattle.std.proofs.Math.Bool.{and-false}
 use Rattle.hs_scheme.specs.declared.term.Head.{Head}
 use Rattle.hs_scheme.specs.declared.term.Head.TheVariants.{Var, Nt, Tm}
 use Rattle.hs_scheme.specs.declared.term.Rule.{Rule}
-use Rattle.hs_scheme.specs.Transition.{TransitionData}
-use Rattle.hs_scheme.specs.Automaton.{next}
+use Rattle.hs_scheme.specs.acceptance.Transition.{TransitionData}
+use Rattle.hs_scheme.specs.acceptance.Automaton.{next}
 use Rattle.hs_scheme.specs.Tree.{Tree, Trees, node, none, more, children, each}
-use Rattle.hs_scheme.specs.Cut.{CutTree, undefined, cut, unfolded}
-use Rattle.hs_scheme.specs.Run.{run, runs}
-use Rattle.hs_scheme.specs.Steps.{Path, StepsTo, IsStuck, LeadsTo}
+use Rattle.hs_scheme.specs.acceptance.Cut.{CutTree, undefined, cut, unfolded}
+use Rattle.hs_scheme.specs.acceptance.Run.{run, runs}
+use Rattle.hs_scheme.specs.acceptance.Steps.{Path, StepsTo, IsStuck, LeadsTo}
 
 module _ (ts : List TransitionData) (go : Tree Head → CutTree) where
   -- one refused child refuses the row

@@ -10,15 +10,15 @@ use Rattle.std.proofs.lemmas.Option.{slice_get_within, slice_get-get_or, slice_g
 use Rattle.hs_scheme.specs.declared.term.Head.{Head}
 use Rattle.hs_scheme.specs.declared.term.Head.TheVariants.{Var, Nt, Tm}
 use Rattle.hs_scheme.specs.declared.term.Rule.{Rule}
-use Rattle.hs_scheme.specs.Transition.{TransitionData}
-use Rattle.hs_scheme.specs.Automaton.{next}
+use Rattle.hs_scheme.specs.acceptance.Transition.{TransitionData}
+use Rattle.hs_scheme.specs.acceptance.Automaton.{next}
 use Rattle.hs_scheme.specs.Tree.{Tree, Trees, node, none, more, join, children, forest}
-use Rattle.hs_scheme.specs.Replacement.{subst, substs, replaced, applied}
-use Rattle.hs_scheme.specs.Run.{start}
+use Rattle.hs_scheme.specs.acceptance.Replacement.{subst, substs, replaced, applied}
+use Rattle.hs_scheme.specs.acceptance.Run.{start}
 use Rattle.hs_scheme.specs.Scheme.{AreRules, HeadInRange, TermInRange, TermsInRange}
-use Rattle.hs_scheme.specs.Sorted.{known}
-use Rattle.hs_scheme.specs.Unsorted.{AgreesWithRanks}
-use Rattle.hs_scheme.specs.Steps.{Path, StepsTo, Reaches, HasNoTransition}
+use Rattle.hs_scheme.specs.sorting.Sorted.{known}
+use Rattle.hs_scheme.specs.sorting.Unsorted.{AgreesWithRanks}
+use Rattle.hs_scheme.specs.acceptance.Steps.{Path, StepsTo, Reaches, HasNoTransition}
 use Rattle.hs_scheme.specs.SameTree.{FailsFromStart, HaveSameTree}
 use Rattle.hs_scheme.proofs.Sortings.{known_at}
 use Rattle.hs_steps.proofs.Terms.{Unfolding, unfolding_of}

@@ -7,16 +7,16 @@ use Rattle.std.proofs.lemmas.List.Elements.{All-head, All-tail}
 use Rattle.hs_scheme.specs.declared.term.Head.{Head}
 use Rattle.hs_scheme.specs.declared.term.Head.TheVariants.{Var, Nt, Tm}
 use Rattle.hs_scheme.specs.declared.term.Rule.{Rule}
-use Rattle.hs_scheme.specs.Transition.{TransitionData}
-use Rattle.hs_scheme.specs.Automaton.{is_of, next}
+use Rattle.hs_scheme.specs.acceptance.Transition.{TransitionData}
+use Rattle.hs_scheme.specs.acceptance.Automaton.{is_of, next}
 use Rattle.hs_scheme.specs.Tree.{Tree, Trees, node, none, more, join, children, forest, forest-children}
-use Rattle.hs_scheme.specs.Replacement.{subst, substs, replaced, applied}
-use Rattle.hs_scheme.specs.Run.{start}
+use Rattle.hs_scheme.specs.acceptance.Replacement.{subst, substs, replaced, applied}
+use Rattle.hs_scheme.specs.acceptance.Run.{start}
 use Rattle.hs_scheme.specs.Scheme.{HeadInRange, TermInRange, TermsInRange}
-use Rattle.hs_scheme.specs.Sorting.{SortTree, o, arrow, arrows, behind, ranked, arguments, Sorts, heads, HasSort, Applied}
-use Rattle.hs_scheme.specs.Steps.{Path, StepsTo}
+use Rattle.hs_scheme.specs.sorting.Sorting.{SortTree, o, arrow, arrows, behind, ranked, arguments, Sorts, heads, HasSort, Applied}
+use Rattle.hs_scheme.specs.acceptance.Steps.{Path, StepsTo}
 use Rattle.hs_scheme.specs.TreeTerms.{ground, IsTreeTerm, AreSortedBy}
-use Rattle.hs_scheme.specs.Unsorted.{AgreesWithRanks}
+use Rattle.hs_scheme.specs.sorting.Unsorted.{AgreesWithRanks}
 use Rattle.hs_scheme.proofs.TransitionIndex.{is_of-true}
 use Rattle.hs_scheme.proofs.Sortings.{length-arrow, length-ranked}
 use Rattle.hs_steps.proofs.Terms.{Unfolding, unfolding_of}

@@ -8,10 +8,10 @@ use Rattle.hs_scheme.specs.declared.term.Head.{Head}
 use Rattle.hs_scheme.specs.declared.term.Head.TheVariants.{Var, Nt, Tm}
 use Rattle.hs_scheme.specs.declared.term.Rule.{Rule}
 use Rattle.hs_scheme.specs.Tree.{Tree, Trees, node, none, more, join, forest}
-use Rattle.hs_scheme.specs.Replacement.{subst, substs, replaced, applied}
-use Rattle.hs_scheme.specs.Cut.{body_of, body_with, unfolded}
+use Rattle.hs_scheme.specs.acceptance.Replacement.{subst, substs, replaced, applied}
+use Rattle.hs_scheme.specs.acceptance.Cut.{body_of, body_with, unfolded}
 use Rattle.hs_scheme.specs.Scheme.{HeadInRange, TermInRange, TermsInRange}
-use Rattle.hs_scheme.specs.Lengthening.{parameters}
+use Rattle.hs_scheme.specs.sorting.Lengthening.{parameters}
 
 pub join-none : {A : Type 0} (us : Trees A) → join us none ≡ us
 join-none none = refl

@@ -2,19 +2,19 @@
 use Rattle.std.proofs.Common.{◌≡◌, sym, ◌∙◌, ap, subst, ℕ, ◌↔◌, false, List, length, Option, unwrap_or}
 use Rattle.hs_scheme.specs.declared.term.Head.{Head}
 use Rattle.hs_scheme.specs.declared.term.Rule.{Rule}
-use Rattle.hs_scheme.specs.Transition.{TransitionData}
+use Rattle.hs_scheme.specs.acceptance.Transition.{TransitionData}
 use Rattle.hs_scheme.specs.Tree.{Tree}
-use Rattle.hs_scheme.specs.Cut.{cut}
-use Rattle.hs_scheme.specs.Run.{run, start, Accepts}
+use Rattle.hs_scheme.specs.acceptance.Cut.{cut}
+use Rattle.hs_scheme.specs.acceptance.Run.{run, start, Accepts}
 use Rattle.hs_scheme.specs.Scheme.{AreRules}
-use Rattle.hs_scheme.specs.Automaton.{AutomatonData}
-use Rattle.hs_scheme.specs.Unsorted.{UnsortedData, IsUnsorted}
-use Rattle.hs_scheme.specs.Sorting.{SortTree, o, ranked, Sorts, IsSorting}
-use Rattle.hs_scheme.specs.Sorted.{SortedData, IsSorted, known, sorts_of}
+use Rattle.hs_scheme.specs.acceptance.Automaton.{AutomatonData}
+use Rattle.hs_scheme.specs.sorting.Unsorted.{UnsortedData, IsUnsorted}
+use Rattle.hs_scheme.specs.sorting.Sorting.{SortTree, o, ranked, Sorts, IsSorting}
+use Rattle.hs_scheme.specs.sorting.Sorted.{SortedData, IsSorted, known, sorts_of}
 use Rattle.hs_steps.specs.Lengthened.{IsLengthened}
-use Rattle.hs_scheme.specs.Steps.{Path, Along, Reaches, HasNoTransition, Fails}
+use Rattle.hs_scheme.specs.acceptance.Steps.{Path, Along, Reaches, HasNoTransition, Fails}
 use Rattle.hs_scheme.specs.SameTree.{HaveSameTree}
-use Rattle.hs_scheme.specs.Lengthening.{lengthening, AreSortsOf}
+use Rattle.hs_scheme.specs.sorting.Lengthening.{lengthening, AreSortsOf}
 use Rattle.hs_scheme.specs.TreeTerms.{IsTreeTerm, AreSortedBy}
 use Rattle.hs_scheme.proofs.Sortings.{known_at, length-lengthening}
 use Rattle.hs_steps.proofs.Failing.{not_refused, not_both}

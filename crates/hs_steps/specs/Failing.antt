@@ -2,9 +2,9 @@
 use Rattle.std.specs.Prelude.{ℕ, ◌≤◌, List}
 use Rattle.hs_scheme.specs.declared.term.Head.{Head}
 use Rattle.hs_scheme.specs.declared.term.Rule.{Rule}
-use Rattle.hs_scheme.specs.Transition.{TransitionData}
+use Rattle.hs_scheme.specs.acceptance.Transition.{TransitionData}
 use Rattle.hs_scheme.specs.Tree.{Tree}
-use Rattle.hs_scheme.specs.Steps.{Path, Fails}
+use Rattle.hs_scheme.specs.acceptance.Steps.{Path, Fails}
 
 -- some path leads in at most n steps to a terminal that has no transition
 abbrev pub FailsWithin : List Rule → List TransitionData → ℕ → ℕ → Tree Head → Type 0

@@ -1,9 +1,9 @@
 -- A sorted scheme that was made of an unsorted one by lengthening its rules.
 use Rattle.std.specs.Prelude.{◌≡◌, length}
-use Rattle.hs_scheme.specs.Unsorted.{UnsortedData}
-use Rattle.hs_scheme.specs.Sorting.{IsSorting}
-use Rattle.hs_scheme.specs.Sorted.{SortedData, sorts_of}
-use Rattle.hs_scheme.specs.Lengthening.{lengthening}
+use Rattle.hs_scheme.specs.sorting.Unsorted.{UnsortedData}
+use Rattle.hs_scheme.specs.sorting.Sorting.{IsSorting}
+use Rattle.hs_scheme.specs.sorting.Sorted.{SortedData, sorts_of}
+use Rattle.hs_scheme.specs.sorting.Lengthening.{lengthening}
 
 -- the sorts are a sorting of the unsorted scheme's rules, the rules are these rules lengthened, and the automaton is its own
 pub record IsLengthened (u : UnsortedData) (s : SortedData) : Type 0 where

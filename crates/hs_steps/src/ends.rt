@@ -4,14 +4,14 @@ ghost use Rattle.std.specs.Prelude.{◌≡◌, ℕ, List, None, length};
 ghost use Rattle.hs_scheme.specs.declared.term.Head.{Head};
 ghost use Rattle.hs_scheme.specs.declared.term.Head.TheVariants.{Tm};
 ghost use Rattle.hs_scheme.specs.declared.term.Rule.{Rule};
-ghost use Rattle.hs_scheme.specs.Transition.{TransitionData};
+ghost use Rattle.hs_scheme.specs.acceptance.Transition.{TransitionData};
 ghost use Rattle.hs_scheme.specs.Tree.{Trees, node};
-ghost use Rattle.hs_scheme.specs.Automaton.{next};
-ghost use Rattle.hs_scheme.specs.Run.{start};
+ghost use Rattle.hs_scheme.specs.acceptance.Automaton.{next};
+ghost use Rattle.hs_scheme.specs.acceptance.Run.{start};
 ghost use Rattle.hs_scheme.specs.Scheme.{AreRules};
-ghost use Rattle.hs_scheme.specs.Unsorted.{AgreesWithRanks};
-ghost use Rattle.hs_scheme.specs.Sorted.{known};
-ghost use Rattle.hs_scheme.specs.Steps.{Path, Reaches};
+ghost use Rattle.hs_scheme.specs.sorting.Unsorted.{AgreesWithRanks};
+ghost use Rattle.hs_scheme.specs.sorting.Sorted.{known};
+ghost use Rattle.hs_scheme.specs.acceptance.Steps.{Path, Reaches};
 ghost use Rattle.hs_scheme.specs.SameTree.{HaveSameTree};
 
 /// Where a path from the start leads to a terminal without transition, it leads along other rules of

@@ -4,13 +4,13 @@ ghost use Rattle.std.specs.Prelude.{◌≡◌, ◌+◌, ◌⊎◌, ◌↔◌, �
 ghost use Rattle.hs_scheme.specs.declared.term.Head.{Head};
 ghost use Rattle.hs_scheme.specs.declared.term.Head.TheVariants.{Nt, Tm};
 ghost use Rattle.hs_scheme.specs.declared.term.Rule.{Rule};
-ghost use Rattle.hs_scheme.specs.Transition.{TransitionData};
+ghost use Rattle.hs_scheme.specs.acceptance.Transition.{TransitionData};
 ghost use Rattle.hs_scheme.specs.Tree.{Tree, Trees, node, children};
-ghost use Rattle.hs_scheme.specs.Cut.{cut, unfolded};
-ghost use Rattle.hs_scheme.specs.Replacement.{subst};
-ghost use Rattle.hs_scheme.specs.Run.{run, start, Accepts};
-ghost use Rattle.hs_scheme.specs.Sorting.{Sorts, arguments};
-ghost use Rattle.hs_scheme.specs.Steps.{Path, StepsTo, IsStuck, LeadsTo, Fails};
+ghost use Rattle.hs_scheme.specs.acceptance.Cut.{cut, unfolded};
+ghost use Rattle.hs_scheme.specs.acceptance.Replacement.{subst};
+ghost use Rattle.hs_scheme.specs.acceptance.Run.{run, start, Accepts};
+ghost use Rattle.hs_scheme.specs.sorting.Sorting.{Sorts, arguments};
+ghost use Rattle.hs_scheme.specs.acceptance.Steps.{Path, StepsTo, IsStuck, LeadsTo, Fails};
 ghost use Rattle.hs_scheme.specs.TreeTerms.{IsTreeTerm, AreSortedBy};
 ghost use Rattle.hs_steps.specs.Failing.{FailsWithin};
 

@@ -3,17 +3,17 @@
 ghost use Rattle.std.specs.Prelude.{◌≡◌, ◌↔◌, ℕ, List, Option, length, false};
 ghost use Rattle.hs_scheme.specs.declared.term.Head.{Head};
 ghost use Rattle.hs_scheme.specs.declared.term.Rule.{Rule};
-ghost use Rattle.hs_scheme.specs.Transition.{TransitionData};
+ghost use Rattle.hs_scheme.specs.acceptance.Transition.{TransitionData};
 ghost use Rattle.hs_scheme.specs.Tree.{Tree};
-ghost use Rattle.hs_scheme.specs.Cut.{cut};
-ghost use Rattle.hs_scheme.specs.Run.{run, start, Accepts};
+ghost use Rattle.hs_scheme.specs.acceptance.Cut.{cut};
+ghost use Rattle.hs_scheme.specs.acceptance.Run.{run, start, Accepts};
 ghost use Rattle.hs_scheme.specs.Scheme.{AreRules};
-ghost use Rattle.hs_scheme.specs.Sorting.{SortTree, Sorts, IsSorting};
-ghost use Rattle.hs_scheme.specs.Unsorted.{UnsortedData, IsUnsorted};
-ghost use Rattle.hs_scheme.specs.Sorted.{SortedData, IsSorted, known};
-ghost use Rattle.hs_scheme.specs.Steps.{Path, Reaches, Fails};
+ghost use Rattle.hs_scheme.specs.sorting.Sorting.{SortTree, Sorts, IsSorting};
+ghost use Rattle.hs_scheme.specs.sorting.Unsorted.{UnsortedData, IsUnsorted};
+ghost use Rattle.hs_scheme.specs.sorting.Sorted.{SortedData, IsSorted, known};
+ghost use Rattle.hs_scheme.specs.acceptance.Steps.{Path, Reaches, Fails};
 ghost use Rattle.hs_scheme.specs.SameTree.{HaveSameTree};
-ghost use Rattle.hs_scheme.specs.Lengthening.{lengthening, AreSortsOf};
+ghost use Rattle.hs_scheme.specs.sorting.Lengthening.{lengthening, AreSortsOf};
 ghost use Rattle.hs_scheme.specs.TreeTerms.{IsTreeTerm, AreSortedBy};
 ghost use Rattle.hs_steps.specs.Lengthened.{IsLengthened};
 

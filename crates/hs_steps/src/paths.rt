@@ -4,11 +4,11 @@ ghost use Rattle.std.specs.Prelude.{◌≡◌, ◌+◌, ◌∷◌, ◌++◌, ◌
 ghost use Rattle.hs_scheme.specs.declared.term.Head.{Head};
 ghost use Rattle.hs_scheme.specs.declared.term.Head.TheVariants.{Nt, Tm};
 ghost use Rattle.hs_scheme.specs.declared.term.Rule.{Rule};
-ghost use Rattle.hs_scheme.specs.Transition.{TransitionData};
+ghost use Rattle.hs_scheme.specs.acceptance.Transition.{TransitionData};
 ghost use Rattle.hs_scheme.specs.Tree.{Tree, Trees, node, children};
-ghost use Rattle.hs_scheme.specs.Automaton.{next};
-ghost use Rattle.hs_scheme.specs.Cut.{unfolded};
-ghost use Rattle.hs_scheme.specs.Steps.{Path, StepsTo, Reaches, HasNoTransition, Fails, child_numbers};
+ghost use Rattle.hs_scheme.specs.acceptance.Automaton.{next};
+ghost use Rattle.hs_scheme.specs.acceptance.Cut.{unfolded};
+ghost use Rattle.hs_scheme.specs.acceptance.Steps.{Path, StepsTo, Reaches, HasNoTransition, Fails, child_numbers};
 
 /// Child numbers determine the path and where it leads: after equal numbers of steps to the same
 /// state and term, and only after one number of steps to a terminal without transition.

@@ -1,8 +1,8 @@
 -- The transition that a state has for a terminal.
 use Rattle.std.proofs.Common.{◌≡◌, sym, ◌∙◌, ap, ℕ, ◌≤◌, nat_eq, Some, List, length, slice_get, option_map}
 use Rattle.std.proofs.lemmas.Bool.{eq-eqb, and_from}
-use Rattle.hs_scheme.specs.Transition.{TransitionData}
-use Rattle.hs_scheme.specs.Automaton.{is_of, IsDeterministic}
+use Rattle.hs_scheme.specs.acceptance.Transition.{TransitionData}
+use Rattle.hs_scheme.specs.acceptance.Automaton.{is_of, IsDeterministic}
 use Rattle.hs_scheme.proofs.TransitionIndex.{find-only, is_of-true}
 use Rattle.hs_table.specs.Follows.{HasMove}
 

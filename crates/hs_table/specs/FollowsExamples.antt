@@ -4,14 +4,14 @@
 use Rattle.std.specs.Prelude.{◌≡◌, refl, ℕ, zero, suc, ◌<◌, List, [], ◌∷◌, length, slice_get, Some, None, Contains, ◌↔◌, ◌⊎◌, AllPairs}
 use Rattle.std.proofs.Common.{sym, ◌∙◌, ap, subst, arith, inl, inr}
 use Rattle.hs_scheme.specs.declared.term.Head.TheVariants.{Var, Tm}
-use Rattle.hs_scheme.specs.Points.{points_of}
-use Rattle.hs_scheme.specs.Sorting.{o, arrow}
+use Rattle.hs_scheme.specs.flow.Points.{points_of}
+use Rattle.hs_scheme.specs.sorting.Sorting.{o, arrow}
 use Rattle.hs_scheme.specs.Problem.{ProblemData}
 use Rattle.hs_table.specs.declared.support.HeadBy.TheVariants.{Terminal, Param}
 use Rattle.hs_table.specs.Types.{TypeTree, state, IsSet}
 use Rattle.hs_table.specs.Entries.{Env, EntryData, set_at, Has, IsEnv, InShape}
 use Rattle.hs_table.specs.Follows.{HeadHas, AnyHas, done, FollowsBy}
-use Rattle.hs_scheme.specs.RunExamples.{rules, transitions}
+use Rattle.hs_scheme.specs.acceptance.RunExamples.{rules, transitions}
 
 abbrev pub example : ProblemData
 example = record {

@@ -7,7 +7,7 @@
 --     HasStart            the entry that rejects the start is there
 --     IsInstanceCount     how often a type of a head has an entry for each type of its sets
 use Rattle.std.specs.Prelude.{◌≡◌, ◌≢◌, ℕ, ◌<◌, List, [], length, take, slice_get, Some, Contains, AllPairs, ◌↔◌}
-use Rattle.hs_scheme.specs.Points.{PointData}
+use Rattle.hs_scheme.specs.flow.Points.{PointData}
 use Rattle.hs_scheme.specs.Problem.{ProblemData}
 use Rattle.hs_table.specs.declared.support.HeadBy.{HeadBy}
 use Rattle.hs_table.specs.Types.{TypeTree, state, arrows}

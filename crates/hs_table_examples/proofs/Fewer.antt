@@ -7,9 +7,9 @@ use Rattle.std.proofs.lemmas.List.Quantifiers.{all_pairs_remove}
 use Rattle.std.specs.declared.cmp.Ordering.TheVariants.{Less}
 use Rattle.hs_scheme.specs.declared.flow.FlowPair.{FlowPair}
 use Rattle.hs_scheme.specs.declared.flow.HeadPair.{HeadPair}
-use Rattle.hs_scheme.specs.Flow.{IsFlowTable, IsAscending, flow_cmp, head_cmp}
-use Rattle.hs_scheme.specs.FlowRows.{AreOfParameters}
-use Rattle.hs_scheme.specs.Points.{PointsData}
+use Rattle.hs_scheme.specs.flow.Flow.{IsFlowTable, IsAscending, flow_cmp, head_cmp}
+use Rattle.hs_scheme.specs.flow.FlowRows.{AreOfParameters}
+use Rattle.hs_scheme.specs.flow.Points.{PointsData}
 use Rattle.hs_scheme.specs.Problem.{ProblemData, IsProblem, FlowWithin, HeadWithin}
 use Rattle.hs_flow.proofs.TableLemmas.{has_parameter}
 

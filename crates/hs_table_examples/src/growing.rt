@@ -127,6 +127,22 @@ fn add_first(
     Ok(false)
 }
 
+/// Adds an entry that follows from the log at the point. Answers whether there was one that the log lacked.
+pub(crate) fn grow_at(
+    alloc: Global,
+    problem: &Problem,
+    replica: &mut Replica,
+    point: u32,
+) -> Result<bool, OutOfMemory>
+    requires point { point < length problem.now.points.points }
+    requires shape { All (InShape problem.now) replica.old.log }
+    ensures shape { OnOk result (All (InShape problem.now) replica.new.log) }
+{
+    let found = conclusions(alloc, problem, replica, point)?;
+    deduced_entries_are_in_shape(problem, replica, found.as_slice());
+    add_first(problem, replica, found.as_slice())
+}
+
 /// Adds an entry that follows from the log. Answers whether there was one that the log lacked.
 pub(crate) fn grow(
     alloc: Global,
@@ -137,9 +153,7 @@ pub(crate) fn grow(
     ensures shape { OnOk result (All (InShape problem.now) replica.new.log) }
 {
     for point in 0..problem.points.count() {
-        let found = conclusions(alloc, problem, replica, point)?;
-        deduced_entries_are_in_shape(problem, replica, found.as_slice());
-        if add_first(problem, replica, found.as_slice())? {
+        if grow_at(alloc, problem, replica, point)? {
             return Ok(true);
         }
     }

@@ -1,7 +1,7 @@
 //! Tests of tables without threads: the order of types and of entries, types as numbers, the look-ups
-//! of a log, the plain program, and the indexed programs beside it; saturation by one worker, the
-//! budget's edge, what a core tells of itself, and workers step by step; compact tables; and what the
-//! checker answers.
+//! of a log, the plain program, and the indexed programs beside it with the supports that they find;
+//! saturation by one worker, the budget's edge, what a core tells of itself, and workers step by step;
+//! compact tables; and what the checker answers.
 #![tactic(auto)]
 
 #[cfg(test)]
@@ -36,6 +36,8 @@ mod saturating;
 mod scripts;
 #[cfg(test)]
 mod seeing;
+#[cfg(test)]
+mod supports;
 #[cfg(test)]
 mod telling;
 #[cfg(test)]

@@ -1,7 +1,7 @@
 //! Least tables, problems over flows with a pair less, and tables with an entry less or changed.
 
 ghost use Rattle.std.specs.Prelude.{◌≡◌, IfOk};
-ghost use Rattle.hs_scheme.specs.Flow.{IsAscending, flow_cmp, head_cmp};
+ghost use Rattle.hs_scheme.specs.flow.Flow.{IsAscending, flow_cmp, head_cmp};
 ghost use Rattle.hs_scheme.specs.Problem.{IsProblem};
 
 use hs_scheme::{FlowPair, FlowTable, HeadPair, OutOfMemory, Problem};

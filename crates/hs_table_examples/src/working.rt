@@ -40,7 +40,7 @@ fn held(core: &Core, work: Work) -> Option<(u32, Flight)>
 fn are_shaped(core: &Core)
     ensures { All (InShape core.now.base.problem) (log_of core.now) }
 {
-    core.is_core();
+    core.know_core();
     know(core.problem());
     every_history_supported();
     least_tables_are_equal();

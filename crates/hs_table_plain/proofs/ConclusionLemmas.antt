@@ -2,7 +2,7 @@
 use Rattle.std.proofs.Common.{◌≡◌, sym, ◌∙◌, ap, subst, ℕ, ◌<◌, List, [], ◌∷◌, length, slice_get, Option, Some, option_map, arith, Contains, ◌⊎◌, inl, inr, ◌↔◌}
 use Rattle.std.proofs.lemmas.Option.{same_Some}
 use Rattle.hs_scheme.specs.declared.term.Head.{Head}
-use Rattle.hs_scheme.specs.Points.{PointData, NonterminalWithin}
+use Rattle.hs_scheme.specs.flow.Points.{PointData, NonterminalWithin}
 use Rattle.hs_scheme.specs.Problem.{ProblemData}
 use Rattle.hs_scheme.proofs.Lists.{here, only, some_at}
 use Rattle.hs_table.specs.Types.{TypeTree, arrows}

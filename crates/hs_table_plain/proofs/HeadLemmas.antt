@@ -8,8 +8,8 @@ use Rattle.std.proofs.lemmas.Option.{get_or_from_slice_get}
 use Rattle.hs_scheme.specs.declared.term.Head.{Head}
 use Rattle.hs_scheme.specs.declared.term.Head.TheVariants.{Var, Nt, Tm}
 use Rattle.hs_scheme.specs.Tree.{node}
-use Rattle.hs_scheme.specs.Automaton.{next}
-use Rattle.hs_scheme.specs.Points.{NonterminalWithin}
+use Rattle.hs_scheme.specs.acceptance.Automaton.{next}
+use Rattle.hs_scheme.specs.flow.Points.{NonterminalWithin}
 use Rattle.hs_scheme.specs.Problem.{ProblemData}
 use Rattle.hs_scheme.proofs.Lists.{none_in, here, slice_get-read, Contains-at, only}
 use Rattle.hs_table.specs.declared.support.HeadBy.{HeadBy}

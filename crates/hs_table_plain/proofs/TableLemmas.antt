@@ -3,7 +3,7 @@ use Rattle.std.proofs.Common.{◌≡◌, refl, sym, ◌∙◌, ap, subst, ℕ, z
 use Rattle.std.proofs.lemmas.Bool.{cases_order}
 use Rattle.std.proofs.lemmas.List.{take_all}
 use Rattle.std.proofs.lemmas.List.Elements.{All-push}
-use Rattle.hs_scheme.specs.Transition.{TransitionData}
+use Rattle.hs_scheme.specs.acceptance.Transition.{TransitionData}
 use Rattle.hs_scheme.specs.Problem.{ProblemData}
 use Rattle.hs_scheme.proofs.Lists.{push_cases}
 use Rattle.hs_table.specs.Entries.{EntryData, InShape}

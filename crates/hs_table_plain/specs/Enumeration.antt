@@ -7,7 +7,7 @@ use Rattle.hs_scheme.specs.declared.term.Head.{Head}
 use Rattle.hs_scheme.specs.declared.term.Head.TheVariants.{Var, Nt, Tm}
 use Rattle.hs_scheme.specs.declared.flow.FlowPair.{FlowPair}
 use Rattle.hs_scheme.specs.Tree.{node, none, more, children}
-use Rattle.hs_scheme.specs.Automaton.{next}
+use Rattle.hs_scheme.specs.acceptance.Automaton.{next}
 use Rattle.hs_scheme.specs.Problem.{ProblemData}
 use Rattle.hs_table.specs.Types.{TypeTree, state, arrows, type_cmp}
 use Rattle.hs_table.specs.Entries.{Env, EntryData, set_at}

@@ -1,7 +1,7 @@
 //! What follows at a point.
 
 ghost use Rattle.std.specs.Prelude.{◌≡◌, ◌≢◌, ◌<◌, ◌⊎◌, ◌↔◌, [], ◌∷◌, length, All, AllPairs, Contains, IfOk, OnOk};
-ghost use Rattle.hs_scheme.specs.Points.{NonterminalWithin};
+ghost use Rattle.hs_scheme.specs.flow.Points.{NonterminalWithin};
 ghost use Rattle.hs_table.specs.Entries.{EntryData, InShape, params_of};
 ghost use Rattle.hs_table.specs.Follows.{Follows};
 ghost use Rattle.hs_table_plain.specs.Enumeration as plain;

@@ -2,8 +2,8 @@
 
 ghost use Rattle.std.specs.Prelude.{◌≡◌, ◌<◌, ◌++◌, length, IfOk, OnOk};
 ghost use Rattle.std.specs.List.{flat_map};
-ghost use Rattle.hs_scheme.specs.Points.{NonterminalWithin};
-ghost use Rattle.hs_scheme.specs.Automaton as automaton;
+ghost use Rattle.hs_scheme.specs.flow.Points.{NonterminalWithin};
+ghost use Rattle.hs_scheme.specs.acceptance.Automaton as automaton;
 ghost use Rattle.hs_table_plain.specs.Enumeration as plain;
 
 use hs_scheme::{Head, OutOfMemory, Problem};

@@ -19,13 +19,13 @@ use Rattle.std.specs.Prelude.{◌≡◌, ℕ, Bool, true, false, List, [], ◌�
 use Rattle.std.specs.List.{flat_map, enumerate_from, join_by}
 use Rattle.std.specs.Option.{option_map_or}
 use Rattle.hs_scheme.specs.Tree.{Tree, Trees, node, none, more}
-use Rattle.hs_scheme.specs.Flow.{IsAscending}
+use Rattle.hs_scheme.specs.flow.Flow.{IsAscending}
 use Rattle.hs_scheme.specs.Names.{NamesData}
-use Rattle.hs_scheme.specs.Points.{point_at}
+use Rattle.hs_scheme.specs.flow.Points.{point_at}
 use Rattle.hs_scheme.specs.Problem.{ProblemData}
 use Rattle.hs_table.specs.Types.{TypeTree}
 use Rattle.hs_table.specs.Entries.{Env, EntryData, entry_cmp}
-use Rattle.hs_scheme.specs.FailingPath.{FailingPathData}
+use Rattle.hs_scheme.specs.acceptance.FailingPath.{FailingPathData}
 use Rattle.hs_weak.specs.Void.{VoidData, void_cmp}
 use Rattle.hs_text.specs.Canonical.{name_at, params_at}
 use Rattle.hs_text.specs.declared.minimal.Minimal.{Minimal}

@@ -5,14 +5,14 @@
 --     entry        the line of the entry at point 5
 use Rattle.std.specs.Prelude.{◌≡◌, refl, [], ◌∷◌, codes, Some, None}
 use Rattle.std.specs.Fmt.{digits}
-use Rattle.hs_scheme.specs.Points.{points_of}
-use Rattle.hs_scheme.specs.Sorting.{o, arrow}
+use Rattle.hs_scheme.specs.flow.Points.{points_of}
+use Rattle.hs_scheme.specs.sorting.Sorting.{o, arrow}
 use Rattle.hs_scheme.specs.Problem.{ProblemData}
 use Rattle.hs_table.specs.Types.{state}
 use Rattle.hs_text.specs.Report.{summary, entry_line}
 use Rattle.hs_text.specs.declared.minimal.Minimal.TheVariants.{More}
 use Rattle.hs_text.specs.declared.verdict.Verdict.TheVariants.{Accepted, Rejected}
-use Rattle.hs_scheme.specs.RunExamples.{rules, transitions}
+use Rattle.hs_scheme.specs.acceptance.RunExamples.{rules, transitions}
 
 abbrev example : ProblemData
 example = record {

@@ -2,7 +2,7 @@
 
 ghost use Rattle.std.specs.Prelude.{◌≡◌, ◌≢◌, ◌<◌, ℕ, List, length, map, true, All, AllPairs, Contains, ◌↔◌, IfOk};
 ghost use Rattle.std.specs.List.{flat_map};
-ghost use Rattle.hs_scheme.specs.Flow.{IsAscending};
+ghost use Rattle.hs_scheme.specs.flow.Flow.{IsAscending};
 ghost use Rattle.hs_table.specs.Entries.{EntryData, InShape, entry_cmp};
 ghost use Rattle.hs_text.specs.Pieces.{Puts};
 ghost use Rattle.hs_text.specs.Report as lines;

@@ -65,7 +65,7 @@ impl Nodes {
         requires ty { ty < length self.now.types }
         ensures { IsTrue result ↔ Contains (set_of_id self.now set) (type_of_id self.now ty) }
     {
-        self.numbers_are_exact();
+        self.know_numbers();
         let members = self.members(set);
         let mut low = 0;
         let mut high = members.len();

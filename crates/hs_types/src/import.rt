@@ -148,7 +148,7 @@ impl Nodes {
         ensures ok { IfOk result (λ own. slice_get self.new.sets own ≡ Some (set_of_id from.now id)) }
         ensures grows { Grows self.old self.new }
     {
-        from.numbers_are_exact();
+        from.know_numbers();
         let members = from.members(id);
         let mut types: SmallVec<TyId, 8> = SmallVec::new(alloc);
         for member in members {

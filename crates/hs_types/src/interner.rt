@@ -70,10 +70,10 @@ impl Interner {
 
     /// Two numbers are equal exactly where they stand for one thing, and all sets are in order. A
     /// law; does nothing.
-    pub fn numbers_are_exact(&self)
+    pub fn know_numbers(&self)
         ensures { IsInterner self.now }
     {
-        self.nodes.numbers_are_exact();
+        self.nodes.know_numbers();
     }
 
     /// The type that is this state, counted from 0. Constant time on average. Nothing is hashed where
@@ -255,7 +255,7 @@ impl Interner {
         requires b { b < length self.now.sets }
         ensures { IfSome result (λ id. IsSetUnion self.now a b id) }
     {
-        self.nodes.numbers_are_exact();
+        self.nodes.know_numbers();
         if a == b {
             return Some(a);
         }
@@ -294,7 +294,7 @@ impl Interner {
         requires b { b < length self.now.envs }
         ensures { IfSome result (λ id. IsEnvUnion self.now a b id) }
     {
-        self.nodes.numbers_are_exact();
+        self.nodes.know_numbers();
         if a == b {
             return Some(a);
         }

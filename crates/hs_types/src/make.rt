@@ -64,7 +64,7 @@ impl Nodes {
             × IsUnion (set_of_id self.old a) (set_of_id self.old b) (set_of_id self.new id)) }
         ensures grows { Grows self.old self.new }
     {
-        self.numbers_are_exact();
+        self.know_numbers();
         let merged = self.merge(alloc, self.members(a), self.members(b))?;
         self.add_set(merged.as_slice())
     }

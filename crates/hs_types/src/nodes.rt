@@ -135,7 +135,7 @@ impl Nodes {
     }
 
     /// A law; does nothing.
-    pub(crate) fn numbers_are_exact(&self)
+    pub(crate) fn know_numbers(&self)
         ensures { IsInterner self.now }
     {
         let _ = &self.types;

@@ -8,15 +8,15 @@ use Rattle.hs_scheme.specs.declared.term.Head.TheVariants.{Var, Nt, Tm}
 use Rattle.hs_scheme.specs.declared.term.Rule.{Rule}
 use Rattle.hs_scheme.specs.declared.flow.Pair.{Pair}
 use Rattle.hs_scheme.specs.declared.flow.Pair.TheVariants.{OfFlow}
-use Rattle.hs_scheme.specs.Transition.{TransitionData}
+use Rattle.hs_scheme.specs.acceptance.Transition.{TransitionData}
 use Rattle.hs_scheme.specs.Tree.{Tree, Trees, node, none, more, forest, children, children-forest}
-use Rattle.hs_scheme.specs.Replacement.{replaced, applied}
-use Rattle.hs_scheme.specs.Run.{start}
-use Rattle.hs_scheme.specs.Sorted.{known}
-use Rattle.hs_scheme.specs.Steps.{Path, Fails}
+use Rattle.hs_scheme.specs.acceptance.Replacement.{replaced, applied}
+use Rattle.hs_scheme.specs.acceptance.Run.{start}
+use Rattle.hs_scheme.specs.sorting.Sorted.{known}
+use Rattle.hs_scheme.specs.acceptance.Steps.{Path, Fails}
 use Rattle.hs_scheme.specs.TreeTerms.{IsTreeTerm}
-use Rattle.hs_scheme.specs.Points.{PointData, PointsData, points_of}
-use Rattle.hs_scheme.specs.Flow.{pairs_of}
+use Rattle.hs_scheme.specs.flow.Points.{PointData, PointsData, points_of}
+use Rattle.hs_scheme.specs.flow.Flow.{pairs_of}
 use Rattle.hs_scheme.specs.Problem.{ProblemData}
 use Rattle.hs_scheme.proofs.Lists.{none_in, Contains-at, only}
 use Rattle.hs_steps.proofs.Sorted.{start_sorted}

@@ -5,10 +5,10 @@ use Rattle.hs_scheme.specs.declared.term.Head.{Head}
 use Rattle.hs_scheme.specs.declared.term.Head.TheVariants.{Nt, Tm}
 use Rattle.hs_scheme.specs.declared.term.Rule.{Rule}
 use Rattle.hs_scheme.specs.Tree.{Tree, Trees, node, children, forest}
-use Rattle.hs_scheme.specs.Replacement.{subst, applied}
-use Rattle.hs_scheme.specs.Cut.{body_of}
-use Rattle.hs_scheme.specs.Sorting.{ranked, Sorts}
-use Rattle.hs_scheme.specs.Sorted.{sorts_of, sort_at, known}
+use Rattle.hs_scheme.specs.acceptance.Replacement.{subst, applied}
+use Rattle.hs_scheme.specs.acceptance.Cut.{body_of}
+use Rattle.hs_scheme.specs.sorting.Sorting.{ranked, Sorts}
+use Rattle.hs_scheme.specs.sorting.Sorted.{sorts_of, sort_at, known}
 use Rattle.hs_scheme.specs.TreeTerms.{ground, IsTreeTerm, AreSortedBy}
 use Rattle.hs_scheme.specs.Problem.{ProblemData}
 use Rattle.hs_scheme.proofs.Sortings.{length-ranked}

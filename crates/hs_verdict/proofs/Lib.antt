@@ -8,3 +8,11 @@ pub mod Unions
 pub mod Complete
 pub mod Verdict
 pub mod Supports
+pub mod Same
+pub mod Realizing
+pub mod Arrows
+pub mod Failures
+pub mod Bodies
+pub mod Cases
+pub mod Ending
+pub mod Deciding

@@ -5,8 +5,8 @@ use Rattle.hs_scheme.specs.declared.term.Head.{Head}
 use Rattle.hs_scheme.specs.declared.term.Head.TheVariants.{Var}
 use Rattle.hs_scheme.specs.declared.term.Rule.{Rule}
 use Rattle.hs_scheme.specs.Tree.{Tree, Trees, node, none, more, forest, children, join, forest-append}
-use Rattle.hs_scheme.specs.Replacement.{substs, replaced, applied}
-use Rattle.hs_scheme.specs.Replacement.{subst as replace}
+use Rattle.hs_scheme.specs.acceptance.Replacement.{substs, replaced, applied}
+use Rattle.hs_scheme.specs.acceptance.Replacement.{subst as replace}
 use Rattle.hs_steps.proofs.Terms.{applied-none, applied-applied}
 use Rattle.hs_verdict.specs.Closures.{Closure, argument_closures, read, reads, stands_for}
 

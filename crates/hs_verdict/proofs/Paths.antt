@@ -5,14 +5,14 @@ use Rattle.std.proofs.lemmas.List.{length-map}
 use Rattle.hs_scheme.specs.declared.term.Head.{Head}
 use Rattle.hs_scheme.specs.declared.term.Head.TheVariants.{Var, Nt, Tm}
 use Rattle.hs_scheme.specs.declared.term.Rule.{Rule}
-use Rattle.hs_scheme.specs.Transition.{TransitionData}
-use Rattle.hs_scheme.specs.Automaton.{next}
+use Rattle.hs_scheme.specs.acceptance.Transition.{TransitionData}
+use Rattle.hs_scheme.specs.acceptance.Automaton.{next}
 use Rattle.hs_scheme.specs.Tree.{Tree, Trees, node, forest, children, children-forest}
-use Rattle.hs_scheme.specs.Cut.{unfolded}
-use Rattle.hs_scheme.specs.Sorted.{known}
-use Rattle.hs_scheme.specs.Steps.{Path, StepsTo, IsChild, Fails}
+use Rattle.hs_scheme.specs.acceptance.Cut.{unfolded}
+use Rattle.hs_scheme.specs.sorting.Sorted.{known}
+use Rattle.hs_scheme.specs.acceptance.Steps.{Path, StepsTo, IsChild, Fails}
 use Rattle.hs_scheme.specs.TreeTerms.{IsTreeTerm}
-use Rattle.hs_scheme.specs.Points.{PointData, points_of}
+use Rattle.hs_scheme.specs.flow.Points.{PointData, points_of}
 use Rattle.hs_scheme.specs.Problem.{ProblemData}
 use Rattle.hs_steps.proofs.Terms.{applied-none, Unfolding, unfolding_of}
 use Rattle.hs_steps.proofs.Sorted.{step_sorted, as_many}

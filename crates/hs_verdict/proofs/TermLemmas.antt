@@ -5,7 +5,7 @@ use Rattle.hs_scheme.specs.declared.term.Head.{Head}
 use Rattle.hs_scheme.specs.declared.term.Head.TheVariants.{Nt}
 use Rattle.hs_scheme.specs.declared.term.Rule.{Rule}
 use Rattle.hs_scheme.specs.Tree.{Tree, Trees, node, none, more, forest}
-use Rattle.hs_scheme.specs.Points.{PointData, size, sizes, numbers, term_points, terms_points, rules_points, bodies, points_of}
+use Rattle.hs_scheme.specs.flow.Points.{PointData, size, sizes, numbers, term_points, terms_points, rules_points, bodies, points_of}
 use Rattle.hs_scheme.proofs.PointLemmas.{length-term_points}
 use Rattle.hs_scheme.proofs.Lists.{place-append}
 use Rattle.hs_table_laws.proofs.Standing.{StandsFrom, stands_front, stands_back, stands_tail, stands_head}

@@ -1,11 +1,11 @@
 -- Acceptance and failing paths, and the laws of a closed table.
 use Rattle.std.proofs.Common.{◌≡◌, ℕ, zero, suc, ◌+◌, false, List, length, Option, arith, add-one}
 use Rattle.hs_scheme.specs.declared.term.Rule.{Rule}
-use Rattle.hs_scheme.specs.Transition.{TransitionData}
-use Rattle.hs_scheme.specs.Cut.{cut}
-use Rattle.hs_scheme.specs.Run.{run, start, Accepts}
-use Rattle.hs_scheme.specs.Sorted.{known}
-use Rattle.hs_scheme.specs.Steps.{Path, Fails}
+use Rattle.hs_scheme.specs.acceptance.Transition.{TransitionData}
+use Rattle.hs_scheme.specs.acceptance.Cut.{cut}
+use Rattle.hs_scheme.specs.acceptance.Run.{run, start, Accepts}
+use Rattle.hs_scheme.specs.sorting.Sorted.{known}
+use Rattle.hs_scheme.specs.acceptance.Steps.{Path, Fails}
 use Rattle.hs_scheme.specs.Problem.{ProblemData}
 use Rattle.hs_steps.proofs.Sorted.{start_sorted}
 use Rattle.hs_steps.proofs.Failing.{refused_within, within_refused, not_refused, not_both}

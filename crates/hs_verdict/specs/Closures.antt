@@ -7,7 +7,7 @@
 use Rattle.std.specs.Prelude.{ℕ, List, [], ◌∷◌, map}
 use Rattle.hs_scheme.specs.declared.term.Head.{Head}
 use Rattle.hs_scheme.specs.Tree.{Tree, Trees, node, none, more, forest}
-use Rattle.hs_scheme.specs.Replacement.{subst, applied}
+use Rattle.hs_scheme.specs.acceptance.Replacement.{subst, applied}
 
 abbrev pub Closure : Type 0
 Closure = Tree ℕ

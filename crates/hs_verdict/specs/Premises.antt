@@ -2,9 +2,9 @@
 --     IsSortedProblem    a sorted scheme with its automaton, and the points of its rules
 --     HasClosedFlow      all that the flow demands is in it
 use Rattle.hs_scheme.specs.Scheme.{IsScheme}
-use Rattle.hs_scheme.specs.Automaton.{IsAutomaton}
-use Rattle.hs_scheme.specs.Sorted.{IsSorted}
-use Rattle.hs_scheme.specs.Flow.{IsClosed, pairs_of}
+use Rattle.hs_scheme.specs.acceptance.Automaton.{IsAutomaton}
+use Rattle.hs_scheme.specs.sorting.Sorted.{IsSorted}
+use Rattle.hs_scheme.specs.flow.Flow.{IsClosed, pairs_of}
 use Rattle.hs_scheme.specs.Problem.{ProblemData, IsProblem}
 
 -- each of these is an invariant of the type that holds the part

@@ -9,8 +9,8 @@ use Rattle.hs_scheme.specs.declared.term.Rule.{Rule}
 use Rattle.hs_scheme.specs.declared.flow.Pair.{Pair}
 use Rattle.hs_scheme.specs.declared.flow.Pair.TheVariants.{OfFlow, OfHead}
 use Rattle.hs_scheme.specs.Tree.{Trees, node, children}
-use Rattle.hs_scheme.specs.Points.{PointData, points_of}
-use Rattle.hs_scheme.specs.Flow.{HasParameter}
+use Rattle.hs_scheme.specs.flow.Points.{PointData, points_of}
+use Rattle.hs_scheme.specs.flow.Flow.{HasParameter}
 use Rattle.hs_scheme.specs.Problem.{ProblemData}
 use Rattle.hs_table.specs.Types.{TypeTree}
 use Rattle.hs_table.specs.Entries.{Env, EntryData, Has}

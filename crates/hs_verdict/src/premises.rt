@@ -6,7 +6,7 @@ use hs_scheme::Problem;
 
 /// What the types of a problem's parts keep: a sorted scheme, an automaton, and the points of its
 /// rules. Does nothing.
-pub fn is_sorted_problem(problem: &Problem)
+pub fn know_sorted_problem(problem: &Problem)
     ensures { IsSortedProblem problem.now }
 {
     let _ = &problem.points;
@@ -14,5 +14,5 @@ pub fn is_sorted_problem(problem: &Problem)
     let _ = &sorted.names;
     let scheme = &sorted.scheme;
     let _ = &scheme.rules;
-    sorted.automaton.is_automaton();
+    sorted.automaton.know_automaton();
 }

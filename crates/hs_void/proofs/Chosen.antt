@@ -4,7 +4,7 @@ use Rattle.std.proofs.lemmas.List.{length-replicate, take_all, get_or_default}
 use Rattle.std.proofs.lemmas.List.Elements.{All-contains}
 use Rattle.std.proofs.lemmas.Option.{slice_get-get_or, get_or_from_slice_get}
 use Rattle.hs_scheme.specs.declared.term.Head.TheVariants.{Tm}
-use Rattle.hs_scheme.specs.Points.{PointData, point_at}
+use Rattle.hs_scheme.specs.flow.Points.{PointData, point_at}
 use Rattle.hs_scheme.specs.Problem.{ProblemData}
 use Rattle.hs_scheme.proofs.Lists.{none_in, here, later, uncons}
 use Rattle.hs_table.specs.Types.{TypeTree}

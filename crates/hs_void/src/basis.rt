@@ -11,7 +11,7 @@ use hs_choices::VoidRow;
 use hs_scheme::{OutOfMemory, Problem};
 use hs_sites::{Site, Sites};
 use hs_types::Row;
-use hs_verdict::is_sorted_problem;
+use hs_verdict::know_sorted_problem;
 use std::alloc::Global;
 use std::marker::Model;
 
@@ -59,7 +59,7 @@ fn sites_by_rule<'a>(
     requires { AreSites problem.now sites.now }
     ensures { IfOk result (λ found. AreSitesBy problem.now (map (λ r. r.now) found.items)) }
 {
-    is_sorted_problem(problem);
+    know_sorted_problem(problem);
     let count = problem.sorted.scheme.rules.len();
     let mut found = Vec::with_capacity(alloc, count)?;
     for rule in 0..count {

@@ -1,7 +1,7 @@
 //! Which sites are blocked.
 
 ghost use Rattle.std.specs.Prelude.{◌≡◌, ◌↔◌, ◌<◌, ℕ, List, length, map, slice_get, slice_index_or, All, Contains, IfOk, IsTrue};
-ghost use Rattle.hs_scheme.specs.Points.{point_at};
+ghost use Rattle.hs_scheme.specs.flow.Points.{point_at};
 ghost use Rattle.hs_table.specs.Entries.{Env, EntryData, params_of};
 ghost use Rattle.hs_weak.specs.Void.{VoidData, IsVoid, sets_for, IsBlocked};
 ghost use Rattle.hs_types.specs.Interned.{set_of_id, env_of_id, Grows};
@@ -16,7 +16,7 @@ use hs_choices::{Known, slots_for};
 use hs_scheme::{OutOfMemory, Problem};
 use hs_sites::Site;
 use hs_types::{EnvId, SetId};
-use hs_verdict::is_sorted_problem;
+use hs_verdict::know_sorted_problem;
 use std::alloc::Global;
 
 /// The set at this place, or `none` where there is no such place.
@@ -110,7 +110,7 @@ fn least_choices(
     ensures basis { voids.new.basis ≡ voids.old.basis }
 {
     let problem = voids.problem();
-    is_sorted_problem(problem);
+    know_sorted_problem(problem);
     let rule = problem.points.rule_of(point);
     let first = types.empty_env(parameters_of(problem, rule))?;
     let args = problem.points.args_of(point);
@@ -140,7 +140,7 @@ pub(crate) fn is_blocked(
 {
     what_fits_stays();
     let problem = voids.problem();
-    is_sorted_problem(problem);
+    know_sorted_problem(problem);
     let args = problem.points.args_of(site.point);
     let sets = sets_of(alloc, types, env, site.given, args)?;
     let kept = least_choices(alloc, types, voids, site.point, sets.as_slice())?;

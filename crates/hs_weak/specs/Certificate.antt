@@ -4,7 +4,7 @@
 --     IsAcceptanceCertificate    the pairs are closed, the void list is one, the start entry is lacking, and whatever weakly follows and matters
 --                                is covered by an entry of the table or is void
 use Rattle.std.specs.Prelude.{◌≡◌, ℕ, List, slice_get, Some, Contains, ◌⊎◌}
-use Rattle.hs_scheme.specs.Points.{PointData}
+use Rattle.hs_scheme.specs.flow.Points.{PointData}
 use Rattle.hs_scheme.specs.Problem.{ProblemData}
 use Rattle.hs_table.specs.Entries.{EntryData}
 use Rattle.hs_table.specs.Tables.{HasStart}

@@ -17,11 +17,11 @@ use Rattle.hs_scheme.specs.declared.term.Head.{Head}
 use Rattle.hs_scheme.specs.declared.term.Head.TheVariants.{Var, Nt, Tm}
 use Rattle.hs_scheme.specs.declared.term.Rule.{Rule}
 use Rattle.hs_scheme.specs.Tree.{Tree, node, none, more}
-use Rattle.hs_scheme.specs.Points.{PointData, points_of}
-use Rattle.hs_scheme.specs.Transition.{TransitionData}
-use Rattle.hs_scheme.specs.Sorting.{o, arrow}
+use Rattle.hs_scheme.specs.flow.Points.{PointData, points_of}
+use Rattle.hs_scheme.specs.acceptance.Transition.{TransitionData}
+use Rattle.hs_scheme.specs.sorting.Sorting.{o, arrow}
 use Rattle.hs_scheme.specs.Problem.{ProblemData}
-use Rattle.hs_scheme.specs.Automaton.{next}
+use Rattle.hs_scheme.specs.acceptance.Automaton.{next}
 use Rattle.hs_scheme.specs.declared.flow.FlowPair.{FlowPair}
 use Rattle.hs_scheme.proofs.Lists.{none_in, here, uncons, only, Contains-at}
 use Rattle.std.proofs.lemmas.Option.{same_Some}

@@ -5,8 +5,8 @@
 --     GivesTo p s j u      the site gives the point u to parameter j
 --     IsChainFrom, IsChain     sites one behind the other, from a parameter to the last one; from the first
 use Rattle.std.specs.Prelude.{◌≡◌, ℕ, ◌+◌, ◌<◌, List, [], ◌∷◌, length, slice_get, Some}
-use Rattle.hs_scheme.specs.Points.{PointData}
-use Rattle.hs_scheme.specs.Flow.{IsBase, pairs_of}
+use Rattle.hs_scheme.specs.flow.Points.{PointData}
+use Rattle.hs_scheme.specs.flow.Flow.{IsBase, pairs_of}
 use Rattle.hs_scheme.specs.Problem.{ProblemData}
 use Rattle.hs_table.specs.Entries.{params_of}
 

@@ -22,9 +22,9 @@ use Rattle.hs_scheme.specs.declared.flow.HeadPair.{HeadPair}
 use Rattle.hs_scheme.specs.declared.flow.Pair.{Pair}
 use Rattle.hs_scheme.specs.declared.flow.Pair.TheVariants.{OfFlow, OfHead}
 use Rattle.hs_scheme.specs.Tree.{Tree, node, none, more}
-use Rattle.hs_scheme.specs.Points.{PointData, points_of}
-use Rattle.hs_scheme.specs.Flow.{IsBase, pairs_of}
-use Rattle.hs_scheme.specs.Sorting.{o, arrow}
+use Rattle.hs_scheme.specs.flow.Points.{PointData, points_of}
+use Rattle.hs_scheme.specs.flow.Flow.{IsBase, pairs_of}
+use Rattle.hs_scheme.specs.sorting.Sorting.{o, arrow}
 use Rattle.hs_scheme.specs.Problem.{ProblemData}
 use Rattle.hs_scheme.proofs.Lists.{Contains-at, uncons, only}
 use Rattle.hs_table.specs.Entries.{params_of}

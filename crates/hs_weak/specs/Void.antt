@@ -12,7 +12,7 @@ use Rattle.std.specs.Prelude.{◌≡◌, refl, ℕ, suc, ◌<◌, List, [], ◌�
 use Rattle.std.specs.Coded.{Coded, code_by, coded×, coded_ℕ, coded_list}
 use Rattle.std.specs.Ordering.{nat_cmp, ordering_then}
 use Rattle.std.specs.declared.cmp.Ordering.{Ordering}
-use Rattle.hs_scheme.specs.Points.{PointData}
+use Rattle.hs_scheme.specs.flow.Points.{PointData}
 use Rattle.hs_scheme.specs.Problem.{ProblemData}
 use Rattle.hs_table.specs.Types.{TypeTree, coded_type, IsType}
 use Rattle.hs_table.specs.Entries.{Env, EntryData, Has, set_at, env_cmp, IsEnv, params_of}

@@ -9,8 +9,8 @@ use Rattle.hs_scheme.specs.declared.term.Head.{Head}
 use Rattle.hs_scheme.specs.declared.term.Head.TheVariants.{Var, Nt, Tm}
 use Rattle.hs_scheme.specs.declared.term.Rule.{Rule}
 use Rattle.hs_scheme.specs.Tree.{Tree, node, none, more}
-use Rattle.hs_scheme.specs.Points.{PointData, points_of}
-use Rattle.hs_scheme.specs.Sorting.{o, arrow}
+use Rattle.hs_scheme.specs.flow.Points.{PointData, points_of}
+use Rattle.hs_scheme.specs.sorting.Sorting.{o, arrow}
 use Rattle.hs_scheme.specs.Problem.{ProblemData}
 use Rattle.hs_scheme.proofs.Lists.{none_in, here, later, uncons, only}
 use Rattle.hs_table.specs.Types.{TypeTree, state, IsSet, IsType}

@@ -8,7 +8,7 @@
 --     IsCompact                             no entry covers another, all can be derived, and what weakly follows is covered
 -- All but the last are written over the relation R that says which type is as strong as which.
 use Rattle.std.specs.Prelude.{◌≡◌, ◌≢◌, ℕ, suc, ◌<◌, List, [], ◌∷◌, length, take, slice_get, Some, Contains, ◌⊎◌, ◌↔◌}
-use Rattle.hs_scheme.specs.Points.{PointData}
+use Rattle.hs_scheme.specs.flow.Points.{PointData}
 use Rattle.hs_scheme.specs.Problem.{ProblemData}
 use Rattle.hs_table.specs.Types.{TypeTree, arrows}
 use Rattle.hs_table.specs.Entries.{Env, EntryData, Has, IsEnv, params_of}

@@ -8,11 +8,11 @@ use Rattle.std.proofs.lemmas.Option.{same_Some}
 use Rattle.hs_scheme.specs.declared.term.Head.TheVariants.{Tm}
 use Rattle.hs_scheme.specs.declared.term.Rule.{Rule}
 use Rattle.hs_scheme.specs.Tree.{node, none, more}
-use Rattle.hs_scheme.specs.Points.{points_of}
-use Rattle.hs_scheme.specs.Sorting.{o}
+use Rattle.hs_scheme.specs.flow.Points.{points_of}
+use Rattle.hs_scheme.specs.sorting.Sorting.{o}
 use Rattle.hs_scheme.specs.Problem.{ProblemData}
-use Rattle.hs_scheme.specs.Points.{PointData}
-use Rattle.hs_scheme.specs.Automaton.{next}
+use Rattle.hs_scheme.specs.flow.Points.{PointData}
+use Rattle.hs_scheme.specs.acceptance.Automaton.{next}
 use Rattle.hs_scheme.proofs.Lists.{none_in, here, later, uncons, only}
 use Rattle.hs_table.specs.declared.support.HeadBy.{HeadBy}
 use Rattle.hs_table.specs.declared.support.HeadBy.TheVariants.{Terminal, Rule as FromRule, Param}

@@ -8,8 +8,8 @@ use Rattle.hs_scheme.specs.declared.term.Rule.{Rule}
 use Rattle.hs_scheme.specs.declared.flow.Pair.{Pair}
 use Rattle.hs_scheme.specs.declared.flow.Pair.TheVariants.{OfFlow, OfHead}
 use Rattle.hs_scheme.specs.Tree.{Tree, Trees, node, forest, children, children-forest}
-use Rattle.hs_scheme.specs.Points.{PointData, PointsData, points_of}
-use Rattle.hs_scheme.specs.Flow.{HasParameter, IsBase, pairs_of}
+use Rattle.hs_scheme.specs.flow.Points.{PointData, PointsData, points_of}
+use Rattle.hs_scheme.specs.flow.Flow.{HasParameter, IsBase, pairs_of}
 use Rattle.hs_scheme.specs.Problem.{ProblemData}
 use Rattle.hs_scheme.proofs.Lists.{place-append}
 use Rattle.hs_table.specs.Entries.{params_of}

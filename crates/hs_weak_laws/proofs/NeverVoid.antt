@@ -4,7 +4,7 @@ use Rattle.std.proofs.lemmas.List.{length-map}
 use Rattle.std.proofs.lemmas.Option.{same_Some}
 use Rattle.hs_scheme.specs.declared.term.Head.TheVariants.{Nt}
 use Rattle.hs_scheme.specs.Tree.{Trees, node, children}
-use Rattle.hs_scheme.specs.Points.{PointData}
+use Rattle.hs_scheme.specs.flow.Points.{PointData}
 use Rattle.hs_scheme.specs.Problem.{ProblemData}
 use Rattle.hs_scheme.proofs.Lists.{none_in, uncons, at_append, back_at}
 use Rattle.hs_table.specs.Types.{TypeTree, state}

@@ -1,9 +1,9 @@
 -- The laws of certificates, of compact lists and of closed tables: three cases of one induction.
 use Rattle.std.proofs.Common.{◌≡◌, refl, sym, ◌∙◌, subst, ℕ, List, slice_get, Some, ◌↔◌, inl, inr}
 use Rattle.std.proofs.lemmas.Option.{same_Some}
-use Rattle.hs_scheme.specs.Run.{start, Accepts}
-use Rattle.hs_scheme.specs.Steps.{Path, Fails}
-use Rattle.hs_scheme.specs.Points.{PointData}
+use Rattle.hs_scheme.specs.acceptance.Run.{start, Accepts}
+use Rattle.hs_scheme.specs.acceptance.Steps.{Path, Fails}
+use Rattle.hs_scheme.specs.flow.Points.{PointData}
 use Rattle.hs_scheme.specs.Problem.{ProblemData}
 use Rattle.hs_table.specs.Types.{TypeTree}
 use Rattle.hs_table.specs.Entries.{Env, EntryData}

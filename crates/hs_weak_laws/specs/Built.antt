@@ -5,7 +5,7 @@
 --     IsBuiltClosure       the closures in it are a built tuple for the rule of its point
 use Rattle.std.specs.Prelude.{◌≡◌, ℕ, ◌+◌, ◌≤◌, List, [], ◌++◌, length, slice_get, Some}
 use Rattle.hs_scheme.specs.Tree.{Trees, node, children}
-use Rattle.hs_scheme.specs.Points.{PointData}
+use Rattle.hs_scheme.specs.flow.Points.{PointData}
 use Rattle.hs_scheme.specs.Problem.{ProblemData}
 use Rattle.hs_table.specs.Entries.{params_of}
 use Rattle.hs_weak.specs.Sites.{SiteData, IsSite}

@@ -2,8 +2,8 @@
 
 ghost use Rattle.std.specs.Prelude.{◌≡◌, ◌↔◌, ℕ, List};
 ghost use Rattle.hs_scheme.specs.Problem.{ProblemData};
-ghost use Rattle.hs_scheme.specs.Run.{start, Accepts};
-ghost use Rattle.hs_scheme.specs.Steps.{Path, Fails};
+ghost use Rattle.hs_scheme.specs.acceptance.Run.{start, Accepts};
+ghost use Rattle.hs_scheme.specs.acceptance.Steps.{Path, Fails};
 ghost use Rattle.hs_table.specs.Entries.{Env, EntryData};
 ghost use Rattle.hs_table.specs.Follows.{Follows};
 ghost use Rattle.hs_table.specs.Tables.{IsClosedTable, HasStart};

@@ -4,7 +4,7 @@ use Rattle.std.proofs.Common.{subst as along}
 use Rattle.std.specs.Ordering.{is_eq}
 use Rattle.std.proofs.lemmas.Cmp.{tied_itself}
 use Rattle.hs_scheme.specs.Problem.{ProblemData}
-use Rattle.hs_scheme.specs.Run.{Accepts}
+use Rattle.hs_scheme.specs.acceptance.Run.{Accepts}
 use Rattle.hs_scheme.proofs.Lists.{none_in, here, later, uncons}
 use Rattle.hs_scheme.proofs.Orderings.{equal_of}
 use Rattle.hs_table.specs.Types.{state}

@@ -6,7 +6,7 @@ use Rattle.std.proofs.lemmas.Option.{slice_get_within, get_or_from_slice_get}
 use Rattle.hs_scheme.specs.declared.term.Head.{Head}
 use Rattle.hs_scheme.specs.declared.term.Head.TheVariants.{Var, Nt, Tm}
 use Rattle.hs_scheme.specs.Tree.{Tree, node, none, forest, children}
-use Rattle.hs_scheme.specs.Replacement.{subst, substs, applied, replaced}
+use Rattle.hs_scheme.specs.acceptance.Replacement.{subst, substs, applied, replaced}
 use Rattle.hs_scheme.specs.Problem.{ProblemData}
 use Rattle.hs_scheme.proofs.Lists.{here}
 use Rattle.hs_table.specs.declared.support.HeadBy.{HeadBy}
@@ -16,9 +16,9 @@ use Rattle.hs_table.specs.Entries.{Env, EntryData, Has, InShape, params_of}
 use Rattle.hs_table.specs.Follows.{rank_of, LacksTransition, RejectsChild, IsAt, FromBody, FromFlow, IsHeadType, HeadHas, AnyHas}
 use Rattle.hs_table_laws.proofs.Arrows.{has_within}
 use Rattle.hs_verdict.specs.Premises.{IsSortedProblem}
-use Rattle.hs_naming.proofs.Arrows.{rest_of, one_at}
-use Rattle.hs_naming.proofs.Failures.{replacement, descent}
-use Rattle.hs_naming.proofs.Bodies.{rules, term, body_at, long_at_body, in_scope}
+use Rattle.hs_verdict.proofs.Arrows.{rest_of, one_at}
+use Rattle.hs_verdict.proofs.Failures.{replacement, descent}
+use Rattle.hs_verdict.proofs.Bodies.{rules, term, body_at, long_at_body, in_scope}
 use Rattle.hs_weak.specs.Strength.{AsStrongAs}
 use Rattle.hs_weak.specs.Weak.{WeaklyChosen, done, next_argument, choose}
 use Rattle.hs_weak_paths.proofs.Rejected.{FailsIn, IsRejected, AreRejected, as_many, at_place, both, fewer, abstracted, given}

@@ -9,8 +9,8 @@ use Rattle.std.proofs.Common.{subst as along}
 use Rattle.std.proofs.lemmas.Option.{same_Some}
 use Rattle.hs_scheme.specs.declared.term.Head.{Head}
 use Rattle.hs_scheme.specs.Tree.{Tree, Trees, node, none, more, forest, children, children-forest}
-use Rattle.hs_scheme.specs.Replacement.{applied}
-use Rattle.hs_scheme.specs.Steps.{Path, Fails}
+use Rattle.hs_scheme.specs.acceptance.Replacement.{applied}
+use Rattle.hs_scheme.specs.acceptance.Steps.{Path, Fails}
 use Rattle.hs_scheme.specs.Problem.{ProblemData}
 use Rattle.hs_scheme.proofs.Lists.{none_in, here, later, uncons}
 use Rattle.hs_steps.proofs.Terms.{applied-none, applied-applied}

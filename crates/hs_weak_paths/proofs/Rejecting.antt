@@ -14,10 +14,10 @@ use Rattle.std.proofs.lemmas.Option.{same_Some}
 use Rattle.hs_scheme.specs.declared.term.Head.{Head}
 use Rattle.hs_scheme.specs.declared.term.Rule.{Rule}
 use Rattle.hs_scheme.specs.Tree.{Tree, forest, forest-children}
-use Rattle.hs_scheme.specs.Replacement.{subst, substs, applied, replaced}
+use Rattle.hs_scheme.specs.acceptance.Replacement.{subst, substs, applied, replaced}
 use Rattle.hs_scheme.specs.Problem.{ProblemData}
-use Rattle.hs_scheme.specs.Run.{start, Accepts}
-use Rattle.hs_scheme.specs.Steps.{Path, Fails}
+use Rattle.hs_scheme.specs.acceptance.Run.{start, Accepts}
+use Rattle.hs_scheme.specs.acceptance.Steps.{Path, Fails}
 use Rattle.hs_table.specs.Types.{TypeTree, state}
 use Rattle.hs_table.specs.Entries.{Env, EntryData}
 use Rattle.hs_table.specs.Follows.{IsAt}
@@ -25,8 +25,8 @@ use Rattle.hs_table.specs.Tables.{HasStart}
 use Rattle.hs_table_laws.proofs.Places.{place_of, at_take}
 use Rattle.hs_verdict.specs.Premises.{IsSortedProblem}
 use Rattle.hs_verdict.proofs.Verdict.{never_fails}
-use Rattle.hs_naming.proofs.Bodies.{rules, term, whole, Body, body_at, long_at_argument}
-use Rattle.hs_naming.proofs.Failures.{replacement}
+use Rattle.hs_verdict.proofs.Bodies.{rules, term, whole, Body, body_at, long_at_argument}
+use Rattle.hs_verdict.proofs.Failures.{replacement}
 use Rattle.hs_weak.specs.Strength.{AsStrongAs}
 use Rattle.hs_weak.specs.Weak.{WeaklyFollows, EachWeaklyFollows}
 use Rattle.hs_weak_paths.proofs.Rejected.{FailsIn, IsRejected, AreRejected}

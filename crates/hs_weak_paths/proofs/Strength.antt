@@ -3,7 +3,7 @@
 use Rattle.std.proofs.Common.{ℕ, List, Option, Contains}
 use Rattle.hs_scheme.specs.declared.term.Head.{Head}
 use Rattle.hs_scheme.specs.Tree.{Tree, none, more}
-use Rattle.hs_scheme.specs.Replacement.{applied}
+use Rattle.hs_scheme.specs.acceptance.Replacement.{applied}
 use Rattle.hs_scheme.specs.Problem.{ProblemData}
 use Rattle.hs_weak.specs.Strength.{AsStrongAs, SomeAsStrongAs, same_state, stronger_arrow, some}
 use Rattle.hs_weak_paths.proofs.Rejected.{IsRejected, by_member, by_members}

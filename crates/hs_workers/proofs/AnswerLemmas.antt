@@ -3,7 +3,7 @@ use Rattle.std.proofs.Common.{◌≡◌, ◌↔◌, sym, ◌∙◌, ap, subst, �
 use Rattle.std.proofs.lemmas.List.{take_all, drop_all, append-nil}
 use Rattle.std.proofs.lemmas.List.Elements.{All-weaker, All-append}
 use Rattle.hs_scheme.specs.Problem.{ProblemData}
-use Rattle.hs_scheme.specs.Run.{Accepts}
+use Rattle.hs_scheme.specs.acceptance.Run.{Accepts}
 use Rattle.hs_table.specs.Tables.{IsLeastTable, HasStart}
 use Rattle.hs_history.specs.Story.{Base, CoreStep, Story}
 use Rattle.hs_history.specs.History.{state_after}

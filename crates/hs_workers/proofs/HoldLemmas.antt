@@ -5,7 +5,7 @@ use Rattle.std.proofs.lemmas.List.Elements.{All-nil, Contains-push}
 use Rattle.std.proofs.lemmas.Option.{same_Some}
 use mathlib.Core.List.{IsPrefix}
 use Rattle.atomic_table.specs.Seated.{TableId}
-use Rattle.hs_scheme.specs.Automaton.{IsAutomaton}
+use Rattle.hs_scheme.specs.acceptance.Automaton.{IsAutomaton}
 use Rattle.hs_scheme.specs.Problem.{ProblemData}
 use Rattle.hs_scheme.proofs.Lists.{Contains-at}
 use Rattle.hs_table.specs.Entries.{EntryData, InShape}
@@ -124,7 +124,7 @@ module _ (table : TableId) (p : ProblemData) (old : SeatData) (core : CoreData) 
   found_carries log ks f carries =
       let n = old.known.number in
       let here = sees old core finds (λ base state. Carries n state.flight ks) carries in
-      let legal = subst (IsLegal core.base) (sym finds.begins.1) finds.is_core.legal in
+      let legal = subst (IsLegal core.base) (sym finds.begins.1) finds.know_core.legal in
       carries_kept n (state_after core.base old.known.seen).flight (state_of core).flight ks
       (λ t w h. ap (λ (story : Story). (state_after core.base story).flight t) (sym finds.begins.1)
       ∙ tickets_after core.base old.known.seen finds.begins.0 n t w legal (others old core finds) h)
@@ -141,7 +141,7 @@ module _ (table : TableId) (p : ProblemData) (mid new : SeatData) (h : HoldData)
     seat = record { turn = is.turn ∙ turn; free = refl };
     base = h.core.base;
     knows = is.base;
-    legal = subst (IsLegal h.core.base) (sym is.seen) is.is_core.legal;
+    legal = subst (IsLegal h.core.base) (sym is.seen) is.know_core.legal;
   })
 
   pub left_loaded : (ids : InternerData) (log : List EntryData) (jobs : List Job) → h.core.base.problem ≡ p → IsPrefix log (log_of h.core) → Carries mid.known.number (state_of h.core).flight (keys jobs)

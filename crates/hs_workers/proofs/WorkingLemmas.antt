@@ -3,7 +3,7 @@ use Rattle.std.proofs.Common.{sym, subst, List, take, get_or, All, Contains}
 use Rattle.std.proofs.lemmas.List.Elements.{Contains-get_or, Contains-append_left}
 use mathlib.Core.List.{IsPrefix}
 use Rattle.hs_scheme.specs.Problem.{ProblemData}
-use Rattle.hs_scheme.specs.Automaton.{IsAutomaton}
+use Rattle.hs_scheme.specs.acceptance.Automaton.{IsAutomaton}
 use Rattle.hs_table.specs.Entries.{EntryData, InShape}
 use Rattle.hs_table.specs.Tables.{IsSupportedTable}
 use Rattle.hs_table_laws.proofs.Places.{place_of}

@@ -368,8 +368,8 @@ fn take_next<'p>(
 }
 
 /// Hands in the works that are done; or, where the worker does all works, does them now, on the core
-/// itself. Answers whether all are closed, and not much follows from little. `tally` says how many conclusions it has formed since its
-/// last turn, known ones too.
+/// itself. Answers whether all are closed, and not much follows from little. `tally` says how many
+/// conclusions it has formed since its last turn, known ones too.
 fn hand_over<'p>(
     alloc: Global,
     hold: &mut Hold<'_, 'p>,

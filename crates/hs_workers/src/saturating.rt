@@ -14,10 +14,9 @@ use crate::bell::Bell;
 use crate::worker::run_worker;
 use hs_core::{Core, Done, Gate, select_alone, work_alone};
 use hs_flow::Dependents;
-use hs_naming::least_tables_decide;
 use hs_scheme::{OutOfMemory, Problem};
 use hs_shared::{Held, RestedSeat, Seat, SharedTable};
-use hs_verdict::is_sorted_problem;
+use hs_verdict::{know_sorted_problem, least_tables_decide};
 use std::alloc::Global;
 use std::sync::Wait;
 use std::thread::{Threads, for_each_mut};
@@ -105,7 +104,7 @@ enum End {
 fn end_of(core: &Core) -> End
     ensures { IsEnd core.now result }
 {
-    core.is_core();
+    core.know_core();
     if let Some(_place) = core.found() {
         return End::First;
     }
@@ -293,7 +292,7 @@ pub fn saturate<'p, R: Threads + Wait + Sync, G: Gate + Sync>(
         (record { problem = problem.now; budget = budget; first = first }) workers) }
     ensures verdict { IfOk result (λ done. HasClosedFlow problem.now → IsVerdict problem.now done) }
 {
-    is_sorted_problem(problem);
+    know_sorted_problem(problem);
     least_tables_decide();
     let core = Core::new(alloc, problem, budget, first)?;
     let core = work(rt, alloc, problem, dependents, workers, core, gate)?;

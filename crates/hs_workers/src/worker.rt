@@ -17,7 +17,7 @@ use hs_rules::Replica;
 use hs_scheme::Problem;
 use hs_shared::{Held, Rested, RestedSeat, Seat, SharedTable};
 use hs_types::ImportedNumbers;
-use hs_verdict::is_sorted_problem;
+use hs_verdict::know_sorted_problem;
 use std::alloc::Global;
 use std::mem::replace;
 use std::sync::Wait;
@@ -74,7 +74,7 @@ fn serve<'p, G: Gate>(
     ensures { IsLoaded table.now problem.now seat.now replica.new.ids replica.new.log jobs.new.items }
 {
     let _ = table;
-    is_sorted_problem(problem);
+    know_sorted_problem(problem);
     form_each(
         alloc,
         problem,

@@ -5,7 +5,7 @@ use Rattle.std.proofs.lemmas.List.Elements.{All-contains_itself, Contains-append
 use Rattle.std.proofs.lemmas.Option.{same_Some}
 use mathlib.Core.List.{IsPrefix}
 use Rattle.atomic_table.specs.Seated.{TableId}
-use Rattle.hs_scheme.specs.Automaton.{IsAutomaton}
+use Rattle.hs_scheme.specs.acceptance.Automaton.{IsAutomaton}
 use Rattle.hs_scheme.specs.Problem.{ProblemData}
 use Rattle.hs_table.specs.Entries.{EntryData, InShape}
 use Rattle.hs_table.specs.Tables.{IsSupportedTable}
@@ -47,7 +47,7 @@ module _ (table : TableId) (p : ProblemData) (old : SeatData) (log : List EntryD
       let n = old.known.number in
       let same = found_base core finds in
       let here : IsAtWork p n log held core.base (state_after core.base old.known.seen) = subst (λ (b : Base). IsAtWork p n log held b (state_after b old.known.seen)) (sym same) w.works in
-      let legal = subst (IsLegal core.base) (sym finds.begins.1) finds.is_core.legal in
+      let legal = subst (IsLegal core.base) (sym finds.begins.1) finds.know_core.legal in
       moved p n log held held core.base core.base (state_after core.base old.known.seen) (state_of core) here refl (log_begins old core finds)
       (λ v t e. ap (λ (story : Story). (state_after core.base story).flight t) (sym finds.begins.1)
       ∙ tickets_after core.base old.known.seen finds.begins.0 n t v legal (others old core finds) (here.holds v t e))
@@ -72,7 +72,7 @@ module _ (table : TableId) (p : ProblemData) (old : SeatData) (log : List EntryD
       let here : IsPrefix after (log_of core) = subst (λ (story : Story). IsPrefix after (state_after core.base story).log) (ap (λ (s : SeatData). s.known.seen) l.seat)
       (seen new core.base (λ base state. IsPrefix after state.log) knows begins) in
       worker_after new core.story old.known.own core.base after held l.seat (found_base core l.finds)
-      (record { upon = works.upon; begins = here; shape = begins_shape p core after automaton l.finds.is_core works.upon here; holds = works.holds })
+      (record { upon = works.upon; begins = here; shape = begins_shape p core after automaton l.finds.know_core works.upon here; holds = works.holds })
 
   -- it does what a step lemma says
   pub does_on : (new : SeatData) (held' : WorkHeld) (does : CoreData → CoreData → Type 0) → Does does old new

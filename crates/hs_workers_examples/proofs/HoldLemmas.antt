@@ -2,7 +2,7 @@
 use Rattle.std.proofs.Common.{◌≡◌, refl, sym, ◌∙◌, ap, subst, ℕ, List, Some, None}
 use mathlib.Core.List.{IsPrefix}
 use Rattle.atomic_table.specs.Seated.{TableId}
-use Rattle.hs_scheme.specs.Automaton.{IsAutomaton}
+use Rattle.hs_scheme.specs.acceptance.Automaton.{IsAutomaton}
 use Rattle.hs_scheme.specs.Problem.{ProblemData}
 use Rattle.hs_table.specs.Entries.{EntryData}
 use Rattle.hs_table.specs.Follows.{FollowsBy}
@@ -54,7 +54,7 @@ module _ (table : TableId) (p : ProblemData) (old : SeatData) (h : HoldData) (lo
   holds_caught_up after automaton begins = record {
     holds = w.holds;
     turn = w.turn;
-    works = record { upon = w.works.upon; begins = begins; shape = begins_shape p h.core after automaton w.holds.is_core w.works.upon begins; holds = w.works.holds };
+    works = record { upon = w.works.upon; begins = begins; shape = begins_shape p h.core after automaton w.holds.know_core w.works.upon begins; holds = w.works.holds };
   }
 
   -- it leaves

@@ -28,7 +28,7 @@ pub(crate) struct Least {
 
 /// The lines of the core's log.
 fn lines_of(alloc: Global, core: &Core) -> Result<Vec<u8>, OutOfMemory> {
-    core.is_core();
+    core.know_core();
     let problem = core.problem();
     know(problem);
     let table = core.table(alloc)?;

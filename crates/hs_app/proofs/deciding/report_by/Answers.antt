@@ -1,7 +1,7 @@
 use Rattle.std.proofs.Common.{◌≡◌, ◌≢◌, sym, ◌∙◌, subst, Bool, true, false, List, All, AllPairs, Option, Some, None}
 use Rattle.std.specs.Prelude.{if◌then◌else◌}
 use Rattle.std.proofs.lemmas.Option.{same_Some}
-use Rattle.hs_scheme.specs.Automaton.{IsAutomaton}
+use Rattle.hs_scheme.specs.acceptance.Automaton.{IsAutomaton}
 use Rattle.hs_scheme.specs.Problem.{ProblemData}
 use Rattle.hs_table.specs.Entries.{EntryData, InShape}
 use Rattle.hs_minimal.proofs.CompactingLemmas.{ascending_distinct}
@@ -29,12 +29,12 @@ pub report-text-requires-clause-shape : goal.report-text-requires-clause-shape
 report-text-requires-clause-shape c = λ table e.
     shown (λ (t : List EntryData). All (InShape c.args.problem.now) t) (log_of c.args.core.now) table c.args.settings.table
     (subst (λ (p : ProblemData). All (InShape p) (log_of c.args.core.now)) (sym c.requires.problem)
-    (core_shape c.args.core.now c.is_core.ensures (subst (λ (p : ProblemData). IsAutomaton p.sorted.automaton) c.requires.problem c.is_sorted_problem.ensures.automaton)))
+    (core_shape c.args.core.now c.know_core.ensures (subst (λ (p : ProblemData). IsAutomaton p.sorted.automaton) c.requires.problem c.know_sorted_problem.ensures.automaton)))
     (sym c.requires.table ∙ e)
 
 pub report-text-requires-clause-distinct : goal.report-text-requires-clause-distinct
 report-text-requires-clause-distinct c = λ table e.
-    shown (λ (t : List EntryData). AllPairs (λ a b. a ≢ b) t) (log_of c.args.core.now) table c.args.settings.table (core_supports c.args.core.now c.is_core.ensures).distinct (sym c.requires.table ∙ e)
+    shown (λ (t : List EntryData). AllPairs (λ a b. a ≢ b) t) (log_of c.args.core.now) table c.args.settings.table (core_supports c.args.core.now c.know_core.ensures).distinct (sym c.requires.table ∙ e)
 
 pub report-text-requires-clause-list_distinct : goal.report-text-requires-clause-list_distinct
 report-text-requires-clause-list_distinct c =

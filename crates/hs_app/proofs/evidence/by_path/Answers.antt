@@ -1,5 +1,5 @@
 use Rattle.std.proofs.Common.{subst, Option}
-use Rattle.hs_scheme.specs.FailingPath.{FailingPathData}
+use Rattle.hs_scheme.specs.acceptance.FailingPath.{FailingPathData}
 use Rattle.hs_reduce.specs.Replays.{IsFailureAlong}
 use Rattle.hs_app.proofs.EvidenceLemmas.{path_decides}
 use Rattle.hs_app.proofs.evidence.by_path.Goals as goal

@@ -9,7 +9,8 @@ use Rattle.hs_app.specs.Order.{Order, FileOrigin, generate, read_file, job_of, o
 use Rattle.hs_front.specs.Outside.{source_run}
 use Rattle.hs_app.specs.Outcome.{IsAnswerOfRun, MayExplain}
 use Rattle.hs_app.proofs.OutcomeLemmas.{of_cycle}
-use Rattle.hs_app.proofs.ExplainingLemmas.{may_explain}
+use Rattle.hs_app.specs.Explaining.{mentions_explain}
+use Rattle.hs_app.proofs.ExplainingLemmas.{may_explain, usage_explained}
 use Rattle.hs_app.proofs.top.answer.Goals as goal
 
 -- what the words that were taken order
@@ -44,9 +45,9 @@ returns-in-Some-clause-explains g c =
     let source = source_run g.S.Source.file g.S.Source.left g.S.Source.reading g.S.Source.faults c.args.source.now c.args.source.now in
     let o : OptionsData = said_by c.in-Ok.options in
     let job : job_of o ≡ generate c.in-Some.k = ap (λ (x : Option ℕ). option_map_or (λ k. generate k) x (read_file (unwrap_or o.file (codes "-")))) c.in-Some.is in
-    subst (λ (x : Option Order). MayExplain x source c.verdict_on_cycle.result c.verdict_on_cycle.new.told.items)
+    subst (λ (x : Option Order). MayExplain (mentions_explain (texts c.args.words.now)) source c.verdict_on_cycle.result c.verdict_on_cycle.new.told.items x)
     (sym (order_is _ (texts c.args.words.now) o (generate c.in-Some.k) c.in-Ok.ensures.ok job))
-    (may_explain (record { job = generate c.in-Some.k; asked = asked_of o.settings [] }) source _ c.verdict_on_cycle.result c.verdict_on_cycle.new.told.items refl c.verdict_on_cycle.ensures.explains)
+    (may_explain (mentions_explain (texts c.args.words.now)) (record { job = generate c.in-Some.k; asked = asked_of o.settings [] }) source _ c.verdict_on_cycle.result c.verdict_on_cycle.new.told.items refl c.verdict_on_cycle.ensures.explains)
 
 -- the name that is read where no file is given
 name_is : (file : Option (Bor (List ℕ))) (default : Bor (List ℕ)) → default.now ≡ codes "-" → (unwrap_or file default).now ≡ unwrap_or (option_map (λ (f : Bor (List ℕ)). f.now) file) (codes "-")
@@ -71,9 +72,9 @@ returns-in-None-clause-explains g c =
     let name : c.unwrap_or.result.now ≡ unwrap_or o.file (codes "-") = ap (λ (b : Bor (List ℕ)). b.now) c.unwrap_or.ensures ∙ name_is c.in-Ok.options.file _ refl in
     let job : job_of o ≡ read_file c.unwrap_or.result.now =
     ap (λ (x : Option ℕ). option_map_or (λ k. generate k) x (read_file (unwrap_or o.file (codes "-")))) c.in-None.is ∙ ap (λ (n : List ℕ). read_file n) (sym name) in
-    subst (λ (x : Option Order). MayExplain x source c.verdict_on.result c.verdict_on.new.told.items)
+    subst (λ (x : Option Order). MayExplain (mentions_explain (texts c.args.words.now)) source c.verdict_on.result c.verdict_on.new.told.items x)
     (sym (order_is _ (texts c.args.words.now) o (read_file c.unwrap_or.result.now) c.in-Ok.ensures.ok job))
-    c.verdict_on.ensures.explains
+    (may_explain (mentions_explain (texts c.args.words.now)) (record { job = read_file c.unwrap_or.result.now; asked = asked_of o.settings [] }) source _ c.verdict_on.result c.verdict_on.new.told.items refl c.verdict_on.ensures.explains)
 
 pub returns-in-None-clause-untouched : goal.returns-in-None-clause-untouched
 returns-in-None-clause-untouched g c = λ nothing.
@@ -82,3 +83,8 @@ returns-in-None-clause-untouched g c = λ nothing.
     let job : job_of o ≡ read_file c.unwrap_or.result.now =
     ap (λ (x : Option ℕ). option_map_or (λ k. generate k) x (read_file (unwrap_or o.file (codes "-")))) c.in-None.is ∙ ap (λ (n : List ℕ). read_file n) (sym name) in
     absurd (subst (λ (x : Option Order). ReadsNothing x) (order_is _ (texts c.args.words.now) o (read_file c.unwrap_or.result.now) c.in-Ok.ensures.ok job) nothing)
+
+pub returns-in-Err-Usage-clause-explains : goal.returns-in-Err-Usage-clause-explains
+returns-in-Err-Usage-clause-explains g c =
+    let source = source_run g.S.Source.file g.S.Source.left g.S.Source.reading g.S.Source.faults c.args.source.now c.args.source.now in
+    usage_explained _ (texts c.args.words.now) (mentions_explain (texts c.args.words.now)) source c.words_explanation.result.items (c.in-Err-Usage.ensures.usage (cc)) c.words_explanation.ensures

@@ -1,9 +1,10 @@
-use Rattle.std.proofs.Common.{◌∙◌, inl, []}
+use Rattle.std.proofs.Common.{◌∙◌, subst, List, [], ℕ}
 use Rattle.hs_front.specs.Outside.{source_run}
 use Rattle.hs_app.specs.Problems.{asked_of}
 use Rattle.hs_app.specs.Order.{read_file}
 use Rattle.hs_app.proofs.OutcomeLemmas.{of_whole, has_of, of_fault}
-use Rattle.hs_app.proofs.ExplainingLemmas.{may_explain}
+use Rattle.hs_app.specs.Explaining.{IsExplanation}
+use Rattle.hs_app.proofs.ExplainingLemmas.{unread_explained}
 use Rattle.hs_app.proofs.top.verdict_on.Goals as goal
 
 pub returns-in-Ok-clause-answer : goal.returns-in-Ok-clause-answer
@@ -20,9 +21,8 @@ returns-in-Err-clause-answer g c =
 
 pub returns-in-Ok-clause-explains : goal.returns-in-Ok-clause-explains
 returns-in-Ok-clause-explains g c =
-    let source = source_run g.S.Source.file g.S.Source.left g.S.Source.reading g.S.Source.faults c.args.source.now c.read.new.source in
-    may_explain (record { job = read_file c.args.name.now; asked = asked_of c.args.settings [] }) source c.as_slice-in-Ok.result.now c.decide-decided.result c.explanation.result.items
+    subst (λ (bytes : List ℕ). IsExplanation c.args.settings.explain bytes c.decide-decided.result c.explanation.result.items)
     (c.as_slice-in-Ok.ensures.value ∙ c.in-Ok.ensures.answer.given) c.explanation.ensures
 
 pub returns-in-Err-clause-explains : goal.returns-in-Err-clause-explains
-returns-in-Err-clause-explains g c = inl c.requires.untold
+returns-in-Err-clause-explains g c = unread_explained c.args.settings.explain [] c.unread_explanation.result.items c.in-Err.refusal c.unread_explanation.ensures

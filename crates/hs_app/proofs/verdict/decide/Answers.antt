@@ -1,5 +1,5 @@
 use Rattle.std.proofs.Common.{subst}
-use Rattle.hs_scheme.specs.Unsorted.{UnsortedData, IsUnsorted}
+use Rattle.hs_scheme.specs.sorting.Unsorted.{UnsortedData, IsUnsorted}
 use Rattle.hs_sorts.specs.Inference.{IsInferred}
 use Rattle.hs_front.proofs.OneScheme.{reads_of}
 use Rattle.hs_app.proofs.VerdictLemmas.{refused, decided}

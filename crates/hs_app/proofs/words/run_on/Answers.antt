@@ -5,14 +5,17 @@ use Rattle.hs_words.specs.Words.{texts}
 use Rattle.hs_passes.specs.Passing.{Image}
 use Rattle.hs_front.specs.Outside.{SourceRun, source_run, SinkRun, sink_run}
 use Rattle.hs_app.specs.Order.{ordered}
+use Rattle.hs_app.specs.Explaining.{mentions_explain}
 use Rattle.hs_front.specs.Files.{IsAccepted, IsRejected}
 use Rattle.hs_app.specs.Headline.{OfInput, IsDecided}
 use Rattle.hs_app.specs.Outcome.{Rows}
+use Rattle.hs_app.specs.OneReport.{HasOneReport}
 use Rattle.hs_app.proofs.HeadlineLemmas.{without_memory}
+use Rattle.hs_app.proofs.OneReport.{disturbed}
 use Rattle.hs_app.proofs.words.run_on.Goals as goal
 
-of_words : (images : List Image) (one other : List (List ℕ)) (source : SourceRun) (out err : SinkRun) (status : ℕ) → one ≡ other → Rows (ordered images one) source out err status → Rows (ordered images other) source out err status
-of_words images one other source out err status e rows = subst (λ (l : List (List ℕ)). Rows (ordered images l) source out err status) e rows
+of_words : (images : List Image) (one other : List (List ℕ)) (source : SourceRun) (out err : SinkRun) (status : ℕ) → one ≡ other → Rows (mentions_explain one) (ordered images one) source out err status → Rows (mentions_explain other) (ordered images other) source out err status
+of_words images one other source out err status e rows = subst (λ (l : List (List ℕ)). Rows (mentions_explain l) (ordered images l) source out err status) e rows
 
 input_of : (one other : List (List ℕ)) (source : SourceRun) (P : List ℕ → Type 0) → one ≡ other → OfInput one source P → OfInput other source P
 input_of one other source P e h = subst (λ (l : List (List ℕ)). OfInput l source P) e h
@@ -55,6 +58,28 @@ returns-in-Ok-borrowed-clause-decided g c =
     if_ok _ _ c.in-Ok.words c.in-Ok.is (decided_of _ _ _
     (source_run g.S.Source.file g.S.Source.left g.S.Source.reading g.S.Source.faults c.args.source.now c.run.new.source)
     (sink_run g.O.Sink.writing g.O.Sink.faults c.args.out.now c.run.new.out) c.run.result e c.run.ensures.decided)
+
+report_of : (images : List Image) (one other : List (List ℕ)) (source : SourceRun) (out err : SinkRun) (status : ℕ) → one ≡ other → HasOneReport (ordered images one) source out err status
+    → HasOneReport (ordered images other) source out err status
+report_of images one other source out err status e h = subst (λ (l : List (List ℕ)). HasOneReport (ordered images l) source out err status) e h
+
+pub returns-in-Ok-borrowed-clause-one_report : goal.returns-in-Ok-borrowed-clause-one_report
+returns-in-Ok-borrowed-clause-one_report g c =
+    let e : texts c.as_slice-in-Ok-borrowed.result.now ≡ map string_bytes (into_iter_items c.in-Ok.words) =
+    ap texts c.as_slice-in-Ok-borrowed.ensures.value ∙ (c.in-Ok-borrowed.ensures ∙ ap (map string_bytes) (c.as_slice.ensures.value ∙ c.in-Ok-collected.ensures)) in
+    if_ok _ _ c.in-Ok.words c.in-Ok.is (report_of _ _ _ _ _ _ _ e c.run.ensures.one_report)
+
+pub returns-in_default-clause-one_report : goal.returns-in_default-clause-one_report
+returns-in_default-clause-one_report g c =
+    if_ok _ _ c.in-Ok.words c.in-Ok.is (disturbed _
+    (source_run g.S.Source.file g.S.Source.left g.S.Source.reading g.S.Source.faults c.args.source.now c.args.source.now)
+    (sink_run g.O.Sink.writing g.O.Sink.faults c.args.out.now c.args.out.now) (sink_run g.E.Sink.writing g.E.Sink.faults c.args.err.now c.args.err.now))
+
+pub returns-in-Err-borrowed-clause-one_report : goal.returns-in-Err-borrowed-clause-one_report
+returns-in-Err-borrowed-clause-one_report g c =
+    if_ok _ _ c.in-Ok.words c.in-Ok.is (disturbed _
+    (source_run g.S.Source.file g.S.Source.left g.S.Source.reading g.S.Source.faults c.args.source.now c.args.source.now)
+    (sink_run g.O.Sink.writing g.O.Sink.faults c.args.out.now c.args.out.now) (sink_run g.E.Sink.writing g.E.Sink.faults c.args.err.now c.args.err.now))
 
 pub returns-in_default-clause-decided : goal.returns-in_default-clause-decided
 returns-in_default-clause-decided g c =

@@ -7,9 +7,9 @@ use Rattle.hs_cert.proofs.entry.read_env.Goals as goal
 
 pub returns-in_err-expect_label-clause-faulty : goal.returns-in_err-expect_label-clause-faulty
 returns-in_err-expect_label-clause-faulty c = λ h.
-    let p = err_from_is_err_and c.from_residual.result c.from_residual.ensures.1 in
+    let p = err_from_is_err_and c.from_residual-in_err-expect_label.result c.from_residual-in_err-expect_label.ensures.1 in
     no_label c.args.states.now c.args.params.now c.requires.are c.args.ahead.now.bytes.now c.loop-number.ahead.bytes.now c.loop-number.env.items c.loop-number.invariant.0 c.args.count c.loop-number.number (sym c.loop-number.invariant.1)
-    (omega (arith, c.loop-number-test.true)) (c.in_err-expect_label.ensures.faulty (faulty_of c.from_residual.result p.0 c.in_err-expect_label.field-0.0 p.1 p.2 h))
+    (omega (arith, c.loop-number-test.true)) (c.in_err-expect_label.ensures.faulty (faulty_of c.from_residual-in_err-expect_label.result p.0 c.in_err-expect_label.field-0.0 p.1 p.2 h))
 
 pub returns-in_err-read_members-clause-faulty : goal.returns-in_err-read_members-clause-faulty
 returns-in_err-read_members-clause-faulty c = λ h.

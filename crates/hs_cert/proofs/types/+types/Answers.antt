@@ -1,4 +1,4 @@
-use Rattle.std.proofs.Common.{◌≡◌, refl, sym, ◌∙◌, subst, ◌++◌, ◌∷◌, [], false, true, List, ℕ}
+use Rattle.std.proofs.Common.{◌≡◌, refl, sym, ◌∙◌, ap, subst, ◌++◌, ◌∷◌, [], false, true, List, ℕ}
 use Rattle.std.proofs.lemmas.Result.{err_from_is_err_and}
 use Rattle.hs_table.specs.Types.{TypeTree, arrow, type_cmp}
 use Rattle.hs_cert.specs.Front.{IsAboveLast, IsTypeFront, IsMembersFront}
@@ -67,7 +67,7 @@ read_members-members-preserved t c =
     let set = c.members.set.items in
     let ty = c.in_ok-ty.ty in
     let above = subst (λ (xs : List TypeTree). IsAboveLast type_cmp xs ty) c.as_slice.ensures.value (c.if-not-is_above.ensures.0 refl) in
-    subst (λ (xs : List TypeTree). Listed names c.args.limit all xs rest) (sym c.in_ok-push.ensures.items)
+    subst (λ (xs : List TypeTree). Listed names c.args.limit all xs rest) (sym (c.in_ok-push.ensures.items ∙ ap (λ (xs : List TypeTree). xs ++ ty ∷ []) c.make_room_for_one.ensures))
     (listed_next names c.args.limit all c.members.ahead.bytes.now c.read_type.new.ahead.bytes.now rest set ty c.members.invariant c.in_ok-ty.ensures.read above (c.if-not-take.ensures.taken refl))
 
 pub read_members-returns-in_err-expect-clause-faulty : goal.read_members-returns-in_err-expect-clause-faulty
@@ -94,5 +94,5 @@ read_members-returns-then-not-take-clause-read t c =
     let above = subst (λ (xs : List TypeTree). IsAboveLast type_cmp xs ty) c.as_slice.ensures.value (c.if-not-is_above.ensures.0 refl) in
     let kept : c.take-in-members.new.self.bytes.now ≡ behind = c.if-not-take.ensures.kept refl in
     let last = listed_last names limit all c.members.ahead.bytes.now behind rest set ty c.members.invariant c.in_ok-ty.ensures.read above (sym kept ∙ c.in_ok-expect.ensures.read) in
-    subst (λ (xs : List TypeTree). IsMembersFront names limit c.args.ahead.now.bytes.now xs rest) (sym c.in_ok-push.ensures.items)
+    subst (λ (xs : List TypeTree). IsMembersFront names limit c.args.ahead.now.bytes.now xs rest) (sym (c.in_ok-push.ensures.items ∙ ap (λ (xs : List TypeTree). xs ++ ty ∷ []) c.make_room_for_one.ensures))
     (subst (λ (x : List ℕ). IsMembersFront names limit x (set ++ ty ∷ []) rest) (c.if-take.ensures.kept refl) last)

@@ -1,6 +1,6 @@
 use Rattle.std.proofs.Common.{◌≡◌, sym, ◌∙◌, true, false}
 use Rattle.std.proofs.lemmas.Result.{IfErr-weaker, on_ok_weaker, err_from_is_err_and}
-use Rattle.hs_scheme.specs.Run.{Accepts}
+use Rattle.hs_scheme.specs.acceptance.Run.{Accepts}
 use Rattle.hs_table.specs.Tables.{HasStart}
 use Rattle.hs_verdict.specs.Premises.{HasClosedFlow}
 use Rattle.hs_weak.specs.Void.{IsVoidList}
@@ -55,4 +55,4 @@ returns-clause-accepts c =
     let R = c.args.reads.now in
     let no_start : HasStart p C → ⊥ = λ start. let f : true ≡ false = sym (c.has_start.ensures.1 start) ∙ c.if-has_start.false in cc in
     on_ok_weaker {P = IsVoidList p C V × AreSettled p C V R} {Q = Accepts p.sorted.scheme.rules p.sorted.automaton.transitions} c.check_pairs.result
-    (λ whole. c.certificates_accept.ensures p C V R c.is_sorted_problem.ensures c.in_ok-check_flow.ensures.closed (certificate p C V R c.requires.reads no_start whole)) c.check_pairs.ensures.whole
+    (λ whole. c.certificates_accept.ensures p C V R c.know_sorted_problem.ensures c.in_ok-check_flow.ensures.closed (certificate p C V R c.requires.reads no_start whole)) c.check_pairs.ensures.whole

@@ -1,5 +1,5 @@
 use Rattle.std.proofs.Common.{refl, sym, ◌∙◌, ap, subst, length, arith}
-use Rattle.hs_scheme.specs.Points.{PointsData}
+use Rattle.hs_scheme.specs.flow.Points.{PointsData}
 use Rattle.hs_scheme.specs.Problem.{ProblemData}
 use Rattle.hs_types.proofs.Numbers.{Grows-refl, Grows-trans}
 use Rattle.hs_void.specs.Voids.{BasisData}

@@ -1,6 +1,6 @@
 -- so far all is covered or void by each type of the head
 use Rattle.std.proofs.Common.{◌≡◌, ℕ, List, take, slice_get, Some, Contains}
-use Rattle.hs_scheme.specs.Points.{PointData}
+use Rattle.hs_scheme.specs.flow.Points.{PointData}
 use Rattle.hs_table.specs.Entries.{EntryData}
 use Rattle.hs_weak.specs.Void.{VoidData}
 use Rattle.hs_types.specs.Interned.{type_of_id, Grows}

@@ -1,15 +1,18 @@
 use Rattle.std.proofs.Common.{◌≡◌, sym, subst, ℕ, List, All, Some, slice_get, MatchOption}
 use Rattle.std.specs.List.Sorted.{IsNonDecreasingBy}
 use Rattle.std.proofs.lemmas.Result.{IfOk-weaker}
-use Rattle.hs_scheme.specs.Points.{PointData}
+use Rattle.hs_scheme.specs.flow.Points.{PointData}
+use Rattle.hs_scheme.specs.Problem.{ProblemData}
 use Rattle.hs_table.specs.Entries.{EntryData}
 use Rattle.hs_weak.specs.Void.{VoidData}
 use Rattle.hs_types.specs.Interned.{RowData, IsRow}
-use Rattle.hs_types.proofs.Numbers.{Grows-trans}
+use Rattle.hs_types.proofs.Numbers.{Grows-refl, Grows-trans}
 use Rattle.hs_strength.proofs.Rows.{on_ok}
+use Rattle.hs_choices.specs.Numbered.{AreTableRows}
 use Rattle.hs_heads.specs.HeadTypes.{AreHeadTypes}
 use Rattle.hs_void.specs.Dropped.{fits_stays}
 use Rattle.hs_certificate_checker.specs.Settled.{StandFor, AreSettledAt, IsOpen}
+use Rattle.hs_certificate_checker.proofs.IdleLemmas.{idle_settled}
 use Rattle.hs_certificate_checker.proofs.AmongLemmas.{found_so, split_heads, open_here}
 use Rattle.hs_certificate_checker.proofs.missing.open_at.Goals as goal
 
@@ -52,3 +55,21 @@ returns-clause-grows c = on_ok c.open_among.result _ (Grows-trans c.args.types.n
 
 pub returns-clause-fits : goal.returns-clause-fits
 returns-clause-fits c = on_ok c.open_among.result _ c.open_among.ensures.fits
+
+pub is_idle-requires-clause-order : goal.is_idle-requires-clause-order
+is_idle-requires-clause-order c = subst (λ (rows : List RowData). IsNonDecreasingBy (λ (r : RowData). r.point) rows) (sym c.requires.table) c.requires.fits.rows.order
+
+pub returns-then-is_idle-clause-opened : goal.returns-then-is_idle-clause-opened
+returns-then-is_idle-clause-opened c = λ C V stand.
+    let p = c.args.problem.now in
+    let b = c.args.voids.now.basis in
+    let I = c.args.types.now in
+    let own : AreTableRows p C I c.args.table.now =
+    subst (λ (q : ProblemData). AreTableRows q C I c.args.table.now) (sym c.requires.problem) (subst (λ (rows : List RowData). AreTableRows b.problem C I rows) (sym c.requires.table) stand.rows) in
+    idle_settled p C I c.args.table.now own c.args.reads.now c.args.point (c.is_idle.ensures c.if-is_idle.true) V
+
+pub returns-then-is_idle-clause-grows : goal.returns-then-is_idle-clause-grows
+returns-then-is_idle-clause-grows c = Grows-refl c.args.types.now
+
+pub returns-then-is_idle-clause-fits : goal.returns-then-is_idle-clause-fits
+returns-then-is_idle-clause-fits c = c.requires.fits

@@ -1,7 +1,7 @@
 use Rattle.std.proofs.Common.{◌≡◌, sym, ◌∙◌, ap, subst, ℕ, ◌<◌, List, length, map, All, MatchOption, slice_get, Some}
 use Rattle.std.specs.List.Sorted.{IsNonDecreasingBy}
 use Rattle.std.proofs.lemmas.Result.{IfOk-weaker}
-use Rattle.hs_scheme.specs.Points.{PointData, point_at}
+use Rattle.hs_scheme.specs.flow.Points.{PointData, point_at}
 use Rattle.hs_scheme.specs.Problem.{ProblemData}
 use Rattle.hs_table.specs.Entries.{EntryData, params_of}
 use Rattle.hs_weak.specs.Void.{VoidData}
@@ -57,7 +57,7 @@ least_unions-requires-clause-slots c =
     let are = of_arguments I b.table c.args.table.now c.args_at-args.result.now of.args h c.as_slice.result.now c.in_ok-slots.slots.items c.requires.table c.args_at-args.ensures sets c.in_ok-slots.ensures.slots in
     let own : AreTableRows p (map (entry_of I) b.table) I b.table = subst (λ (q : ProblemData). AreTableRows q (map (entry_of I) b.table) I b.table) (sym c.requires.problem) (own_rows b.problem I b.table c.requires.fits.rows.shape) in
     let long : All (AreOfLength (params_of p of.rule) I) c.in_ok-slots.slots.items =
-    c.rows_of_arguments_are_of_one_rule.ensures p (map (entry_of I) b.table) I b.table c.is_sorted_problem.ensures own c.requires.fits.rows.in_use c.args.point of at (sets_of I h) c.in_ok-slots.slots.items are in
+    c.rows_of_arguments_are_of_one_rule.ensures p (map (entry_of I) b.table) I b.table c.know_sorted_problem.ensures own c.requires.fits.rows.in_use c.args.point of at (sets_of I h) c.in_ok-slots.slots.items are in
     subst (λ k. All (AreOfLength (length (env_of_id c.slots_for.new.types k)) c.slots_for.new.types) c.as_slice-2.result.now) (sym (ap (λ (x : HeadTypeData). x.first) c.head.view_is))
     (subst (λ (K : InternerData). All (AreOfLength (length (env_of_id K h.first)) K) c.as_slice-2.result.now) (sym c.slots_for.ensures.same)
     (subst (λ n. All (AreOfLength n I) c.as_slice-2.result.now) (sym row.first.long) (subst (λ (z : List (List ℕ)). All (AreOfLength (params_of p of.rule) I) z) (sym c.as_slice-2.ensures.value) long)))
@@ -101,7 +101,7 @@ returns-clause-opened c =
     IfOk-weaker c.first_open.result _
     (λ opened. (C : List EntryData) (V : List VoidData) (R : List (ℕ × ℕ)) (d : PointData) → StandFor b I C V → slice_get p.points.points c.args.point ≡ Some d → IsHeadTypeAt p C R c.args.point d (sets_of I h) (type_of_id I h.ty)
     → MatchOption opened (AreSettledBy p C V c.args.point d (sets_of I h) (type_of_id I h.ty)) (IsOpen p C V R c.first_open.new.types))
-    (λ opened told. open_of b I J g c.args.point of h slots are kept in_use c.in_ok-kept.ensures.ascend opened p c.requires.problem c.is_sorted_problem.ensures at row least
+    (λ opened told. open_of b I J g c.args.point of h slots are kept in_use c.in_ok-kept.ensures.ascend opened p c.requires.problem c.know_sorted_problem.ensures at row least
     (told_so b c.least_unions.new.self.basis J c.args.point c.rule_at-rule.result of.rule _ h.ty c.as_slice-3.result.now kept opened c.least_unions.ensures.basis c.rule_at-rule.ensures (ap (λ (x : HeadTypeData). x.ty) c.head.view_is) c.as_slice-3.ensures.value told)
     c.first_open.new.types c.first_open.ensures.same) c.first_open.ensures.opened
 

@@ -1,6 +1,6 @@
 use Rattle.std.proofs.Common.{◌≡◌, sym, ◌∙◌, ap, subst, ℕ, ◌+◌, true, false, take, slice_index, List, Contains, Bor, arith}
 use Rattle.std.proofs.lemmas.List.{take_all}
-use Rattle.hs_scheme.specs.Points.{PointsData, point_at}
+use Rattle.hs_scheme.specs.flow.Points.{PointsData, point_at}
 use Rattle.hs_scheme.specs.Problem.{ProblemData}
 use Rattle.hs_scheme.proofs.Lists.{match_none, match_some}
 use Rattle.hs_table.specs.Types.{TypeTree}

@@ -16,7 +16,7 @@ pub returns-in_err-instances-clause-fault : goal.returns-in_err-instances-clause
 returns-in_err-instances-clause-fault c =
     let p = c.args.problem.now in
     let flow = no_gap p c.first_gap-gap.result c.in_default.not-Some c.first_gap-gap.ensures in
-    let fault = gap_whole p c.args.index.now c.args.table.now c.in_err-instances.field-0.0 c.requires c.is_sorted_problem.ensures.automaton flow c.in_err-instances.ensures.missing in
+    let fault = gap_whole p c.args.index.now c.args.table.now c.in_err-instances.field-0.0 c.requires c.know_sorted_problem.ensures.automaton flow c.in_err-instances.ensures.missing in
     let e = err_from_is_err_and c.from_residual-in_err-instances.result c.from_residual-in_err-instances.ensures.1 in
     rw (e.1, e.2) fault
 
@@ -47,5 +47,5 @@ pub returns-clause-accepted : goal.returns-clause-accepted
 returns-clause-accepted c =
     let p = c.args.problem.now in
     let flow = no_gap p c.first_gap-gap.result c.in_default.not-Some c.first_gap-gap.ensures in
-    accepts_without_start p c.is_sorted_problem.ensures flow c.args.table.now (closed_whole p c.args.index.now c.args.table.now c.requires c.in_ok-instances.ensures.closed)
+    accepts_without_start p c.know_sorted_problem.ensures flow c.args.table.now (closed_whole p c.args.index.now c.args.table.now c.requires c.in_ok-instances.ensures.closed)
     (λ start. let f : true ≡ false = sym (c.has_start.ensures.1 start) ∙ c.if-has_start.false in absurd (cc))

@@ -1,5 +1,5 @@
 use Rattle.std.proofs.Common.{◌≡◌, sym, ◌∙◌, ap, subst, ℕ, ◌<◌, length, true, false, arith}
-use Rattle.hs_scheme.specs.Points.{PointsData, point_at}
+use Rattle.hs_scheme.specs.flow.Points.{PointsData, point_at}
 use Rattle.hs_scheme.specs.Problem.{ProblemData}
 use Rattle.hs_table.specs.Types.{TypeTree, IsType}
 use Rattle.hs_table.specs.Entries.{Env, EntryData, Has, IsEnv}

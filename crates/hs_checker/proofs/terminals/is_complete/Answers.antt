@@ -1,5 +1,5 @@
 use Rattle.std.proofs.Common.{◌≡◌, sym, subst, ℕ, Bool, true, Some, List, slice_get, inl, inr, arith}
-use Rattle.hs_scheme.specs.Automaton.{AutomatonData}
+use Rattle.hs_scheme.specs.acceptance.Automaton.{AutomatonData}
 use Rattle.hs_table.specs.Follows.{rank_of, HasMove}
 use Rattle.hs_table_plain.proofs.TableLemmas.{below_or_last}
 use Rattle.hs_checker.proofs.terminals.is_complete.Goals as goal

@@ -2,7 +2,7 @@ use Rattle.std.proofs.Common.{◌≡◌, sym, ◌∙◌, ap, subst, length, Bool
 use Rattle.std.proofs.lemmas.Bool.{ltb-true}
 use Rattle.std.proofs.lemmas.Option.{slice_get-get_or, same_Some}
 use Rattle.std.proofs.lemmas.List.Elements.{Contains-get_or}
-use Rattle.hs_scheme.specs.Transition.{TransitionData}
+use Rattle.hs_scheme.specs.acceptance.Transition.{TransitionData}
 use Rattle.hs_table.proofs.MoveLemmas.{moves_at}
 use Rattle.hs_checker.proofs.terminals.moving.Goals as goal
 use Rattle.hs_checker.proofs.terminals.moving.Goals.{in-Some, in-None}
@@ -24,7 +24,7 @@ loop-place-preserved c = elim c.match-get.branch [
         long = ap (λ (v : Vec Bool Global). length v.items) w.marks-is ∙ (w.mark.ensures.long ∙ c.loop-place.invariant.long);
         marked = λ q h. elim (w.mark.ensures.marked q (subst (λ (v : Vec Bool Global). slice_get v.items q ≡ Some true) w.marks-is h)) [
           | inl before ↦ c.loop-place.invariant.marked q before
-          | inr own ↦ moves_at ts c.args.terminal c.args.most i q t c.is_automaton.ensures.deterministic at terminal own.0 own.1
+          | inr own ↦ moves_at ts c.args.terminal c.args.most i q t c.know_automaton.ensures.deterministic at terminal own.0 own.1
         ];
       }
   | in-None w ↦ record {

@@ -1,5 +1,5 @@
 use Rattle.std.proofs.Common.{rules, ◌≡◌, sym, subst, ℕ, Bool, true, Some, slice_get, Vec, Global, List, Contains, ◌⊎◌, ◌↔◌, arith}
-use Rattle.hs_scheme.specs.Automaton.{next}
+use Rattle.hs_scheme.specs.acceptance.Automaton.{next}
 use Rattle.hs_table.specs.Types.{TypeTree}
 use Rattle.hs_table.specs.declared.ty.Ty.{Ty}
 use Rattle.hs_table_plain.specs.Enumeration.{terminal_types, types_in}

@@ -10,7 +10,7 @@ returns-in-Quiet-clause-done c = λ base alone. (alone, c.in-Quiet.ensures)
 
 pub returns-in-Quiet-clause-verdict : goal.returns-in-Quiet-clause-verdict
 returns-in-Quiet-clause-verdict c = λ closed.
-    c.least_tables_decide.ensures c.args.problem.now (log_of c.args.core) c.is_sorted_problem.ensures closed
+    c.least_tables_decide.ensures c.args.problem.now (log_of c.args.core) c.know_sorted_problem.ensures closed
     (subst (λ (p : ProblemData). IsLeastTable p (log_of c.args.core)) c.requires.problem c.in-Quiet.ensures.least)
 
 pub returns-in-Over-clause-done : goal.returns-in-Over-clause-done

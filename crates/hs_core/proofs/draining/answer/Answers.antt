@@ -7,9 +7,9 @@ pub returns-in-Some : goal.returns-in-Some
 returns-in-Some c = (c.found.ensures c.in-Some.place).0 c.in-Some.is
 
 pub returns-then-is_some : goal.returns-then-is_some
-returns-then-is_some c = over_answer c.args.core.now c.is_core.ensures.legal (λ place found. c.in_default.not-Some place ((c.found.ensures place).1 found))
+returns-then-is_some c = over_answer c.args.core.now c.know_core.ensures.legal (λ place found. c.in_default.not-Some place ((c.found.ensures place).1 found))
     (subst (λ k. IsSome k) (sym c.past.ensures.kept) (mapped_some (deduction_of c.args.core.now.ids) c.past.result (sym c.if-is_some.ensures)))
 
 pub returns : goal.returns
-returns c = least_answer c.args.core.now c.is_core.ensures.legal (λ place found. c.in_default.not-Some place ((c.found.ensures place).1 found)) c.requires
+returns c = least_answer c.args.core.now c.know_core.ensures.legal (λ place found. c.in_default.not-Some place ((c.found.ensures place).1 found)) c.requires
     (c.past.ensures.kept ∙ mapped_none (deduction_of c.args.core.now.ids) c.past.result (sym c.if-is_some.ensures))

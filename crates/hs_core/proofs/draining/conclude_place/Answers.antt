@@ -10,7 +10,7 @@ use Rattle.hs_core.proofs.draining.conclude_place.Goals as goal
 pub list-dependent-items-requires : goal.list-dependent-items-requires
 list-dependent-items-requires c =
     let at = ap (λ xs. slice_get xs c.args.place) (sym c.replica.ensures.log) ∙ c.row-point.ensures.entry in
-    omega (arith, point_within c.args.core.now c.args.place (entry_of c.replica.result.now.ids c.row-point.result) c.is_core.ensures.legal at, c.requires.dependents.each)
+    omega (arith, point_within c.args.core.now c.args.place (entry_of c.replica.result.now.ids c.row-point.result) c.know_core.ensures.legal at, c.requires.dependents.each)
 
 pub loop-dependent-init : goal.loop-dependent-init
 loop-dependent-init c = record { moves = moves_same c.args.core.now c.args.core.now refl refl; all = λ k lt. absurd (omega arith) }

@@ -11,7 +11,7 @@ pub conclude-all-requires-clause-holds : goal.conclude-all-requires-clause-holds
 conclude-all-requires-clause-holds c = (c.args.work, c.requires.flies)
 
 pub conclude-all-requires-clause-work : goal.conclude-all-requires-clause-work
-conclude-all-requires-clause-work c = flying_work c.args.core.now c.is_core.ensures c.args.ticket c.args.worker c.args.work c.requires.flies
+conclude-all-requires-clause-work c = flying_work c.args.core.now c.know_core.ensures c.args.ticket c.args.worker c.args.work c.requires.flies
 
 pub close-requires-clause-holds : goal.close-requires-clause-holds
 close-requires-clause-holds c = (c.args.work, c.conclude-all.ensures.flight c.args.ticket ∙ c.requires.flies)

@@ -15,7 +15,7 @@ use Rattle.hs_core.proofs.draining.seed_turn.Goals as goal
 pub at_seed-requires : goal.at_seed-requires
 at_seed-requires c =
     let a = c.args.core.now in
-    taken_work a (Seed c.args.point) c.is_core.ensures.legal (subst (λ ws. Contains ws (Seed c.args.point)) (sym c.requires.next.pending) (here (Seed c.args.point) c.requires.next.rest))
+    taken_work a (Seed c.args.point) c.know_core.ensures.legal (subst (λ ws. Contains ws (Seed c.args.point)) (sym c.requires.next.pending) (here (Seed c.args.point) c.requires.next.rest))
 
 pub returns-in_err-found-clause-goes : goal.returns-in_err-found-clause-goes
 returns-in_err-found-clause-goes c =

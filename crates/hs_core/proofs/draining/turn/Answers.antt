@@ -59,7 +59,7 @@ conclude-all-requires-clause-holds g c = (c.in-Item.work, holds_new c.reserve_so
 
 pub conclude-all-requires-clause-work : goal.conclude-all-requires-clause-work
 conclude-all-requires-clause-work g c =
-    work_taken c.args.worker c.reserve_some.new.self c.take.new.self c.in-Item.work c.in-Item.ticket _ (taken_work c.reserve_some.new.self c.in-Item.work c.is_core.ensures.legal c.in-Item.ensures.0.pending) c.in-Item.ensures.1
+    work_taken c.args.worker c.reserve_some.new.self c.take.new.self c.in-Item.work c.in-Item.ticket _ (taken_work c.reserve_some.new.self c.in-Item.work c.know_core.ensures.legal c.in-Item.ensures.0.pending) c.in-Item.ensures.1
 
 pub conclude-all-requires-clause-dependents : goal.conclude-all-requires-clause-dependents
 conclude-all-requires-clause-dependents g c =

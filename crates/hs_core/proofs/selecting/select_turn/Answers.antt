@@ -85,7 +85,7 @@ returns-in_default-clause-after g c =
 pub form-requires-clause-work : goal.form-requires-clause-work
 form-requires-clause-work g c =
     let s = c.publish_surplus-progress.new.core in
-    work_taken c.args.worker s c.take.new.self c.in-Item.work c.in-Item.ticket _ (taken_work s c.in-Item.work c.is_core.ensures.legal c.in-Item.ensures.0.pending) c.in-Item.ensures.1
+    work_taken c.args.worker s c.take.new.self c.in-Item.work c.in-Item.ticket _ (taken_work s c.in-Item.work c.know_core.ensures.legal c.in-Item.ensures.0.pending) c.in-Item.ensures.1
 
 pub form-requires-clause-dependents : goal.form-requires-clause-dependents
 form-requires-clause-dependents g c =
@@ -135,7 +135,7 @@ returns-in_ok-form-in-Item-clause-after g c =
     let W = Waits c.publish_surplus-progress.new.waiting.found in
     let h = behind c.args.worker c.args.last.now _ c.args.core.now c.reserve_some.new.self s W c.publish_surplus-progress.result c.in_ok-reserve_some.ensures.same c.in_ok-reserve_some.ensures.some c.in-Done.is c.publish_surplus-progress.ensures.after in
     let x = took_after s c.take.new.self e c.in-Item.work c.in-Item.ticket _ c.args.last.now W (Waits c.form.new.waiting.found) h.selecting c.in-Item.ensures.0 c.in-Item.ensures.1 c.in_ok-form-in-Item.ensures.kept c.in_ok-form-in-Item.ensures.grows c.in_ok-form-in-Item.ensures.keeps
-    (AreClosed e × IsIdleCore e) c.is_core.ensures.legal c.in_ok-form-in-Item.ensures.ready c.in_ok-form-in-Item.ensures.all in
+    (AreClosed e × IsIdleCore e) c.know_core.ensures.legal c.in_ok-form-in-Item.ensures.ready c.in_ok-form-in-Item.ensures.all in
     (omega (arith, x.0, h.lighter), x.1)
 
 pub returns-in-Over-clause-goes : goal.returns-in-Over-clause-goes

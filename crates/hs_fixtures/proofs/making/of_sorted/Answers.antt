@@ -1,7 +1,7 @@
 use Rattle.std.proofs.Common.{◌≡◌, ap, subst, List, All, length}
 use Rattle.hs_scheme.specs.declared.term.Rule.{Rule}
-use Rattle.hs_scheme.specs.Sorted.{SortedData}
-use Rattle.hs_scheme.specs.Points.{points_of}
+use Rattle.hs_scheme.specs.sorting.Sorted.{SortedData}
+use Rattle.hs_scheme.specs.flow.Points.{points_of}
 use Rattle.hs_scheme.specs.Problem.{FlowWithin, HeadWithin}
 use Rattle.hs_fixtures.proofs.making.of_sorted.Goals as goal
 

@@ -1,10 +1,10 @@
 use Rattle.std.proofs.Common.{◌≡◌, ℕ, sym, ◌∙◌, ap, subst, List, length, All, arith}
 use Rattle.hs_scheme.specs.declared.term.Rule.{Rule}
-use Rattle.hs_scheme.specs.Parameters.{IsParameter, counts_of}
+use Rattle.hs_scheme.specs.sorting.Parameters.{IsParameter, counts_of}
 use Rattle.hs_scheme.specs.Scheme.{SchemeData}
-use Rattle.hs_scheme.specs.Points.{PointsData, points_of}
+use Rattle.hs_scheme.specs.flow.Points.{PointsData, points_of}
 use Rattle.hs_scheme.specs.Problem.{FlowWithin, HeadWithin}
-use Rattle.hs_scheme.specs.Flow.{IsSupported, IsClosed}
+use Rattle.hs_scheme.specs.flow.Flow.{IsSupported, IsClosed}
 use Rattle.hs_flow.proofs.TableLemmas.{is_flow, all_flows_within, all_heads_within, supported_parameters}
 use Rattle.hs_flow.specs.declared.fault.FlowFault.TheVariants.{FlowLimit}
 use Rattle.hs_flow.proofs.SupportLemmas.{no_refusal}

@@ -1,7 +1,7 @@
 use Rattle.std.proofs.Common.{◌≡◌, sym, ◌∙◌, subst, List}
 use Rattle.hs_scheme.specs.declared.term.Rule.{Rule}
 use Rattle.hs_scheme.specs.declared.flow.Pair.{Pair}
-use Rattle.hs_scheme.specs.Flow.{IsClosed}
+use Rattle.hs_scheme.specs.flow.Flow.{IsClosed}
 use Rattle.hs_flow.proofs.PairLemmas.{extends_rules}
 use Rattle.hs_flow.proofs.analysis.demanded.Goals as goal
 

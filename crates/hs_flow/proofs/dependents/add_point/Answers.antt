@@ -1,6 +1,6 @@
 use Rattle.std.proofs.Common.{Contains}
 use Rattle.std.proofs.lemmas.Result.{on_ok_weaker}
-use Rattle.hs_scheme.specs.Dependents.{HeadReads, IsDependent}
+use Rattle.hs_scheme.specs.flow.Dependents.{HeadReads, IsDependent}
 use Rattle.hs_flow.proofs.DependentLemmas.{adds_then, point_reads}
 use Rattle.hs_flow.proofs.dependents.add_point.Goals as goal
 

@@ -5,8 +5,8 @@ use Rattle.hs_scheme.specs.declared.term.Head.{Head}
 use Rattle.hs_scheme.specs.declared.term.Head.TheVariants.{Var, Nt}
 use Rattle.hs_scheme.specs.declared.flow.FlowPair.{FlowPair}
 use Rattle.std.proofs.lemmas.Option.{slice_get-get_or}
-use Rattle.hs_scheme.specs.Points.{NonterminalWithin}
-use Rattle.hs_scheme.specs.Dependents.{HeadReads}
+use Rattle.hs_scheme.specs.flow.Points.{NonterminalWithin}
+use Rattle.hs_scheme.specs.flow.Dependents.{HeadReads}
 use Rattle.hs_flow.specs.Dependents.{HasPoint}
 use Rattle.hs_flow.proofs.DependentLemmas.{adds_same, flow_reads, body_reads}
 use Rattle.hs_flow.proofs.dependents.add_to_head.Goals as goal

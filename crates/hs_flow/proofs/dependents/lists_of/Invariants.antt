@@ -1,7 +1,7 @@
 -- each list has the dependents among the points so far
 use Rattle.std.proofs.Common.{◌≡◌, ◌<◌, ◌↔◌, ℕ, Contains, length}
 use Rattle.std.specs.List.Sorted.{IsStrictlyIncreasing}
-use Rattle.hs_scheme.specs.Dependents.{IsDependent}
+use Rattle.hs_scheme.specs.flow.Dependents.{IsDependent}
 use Rattle.hs_flow.specs.Lists.{list_of}
 use Rattle.hs_flow.proofs.dependents.lists_of.Given as goal
 

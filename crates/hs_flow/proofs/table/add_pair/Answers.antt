@@ -6,8 +6,8 @@ use Rattle.std.proofs.lemmas.Result.{on_ok_weaker}
 use Rattle.hs_scheme.specs.declared.flow.FlowPair.{FlowPair}
 use Rattle.hs_scheme.specs.declared.flow.Pair.{Pair}
 use Rattle.hs_scheme.specs.declared.flow.Pair.TheVariants.{OfFlow}
-use Rattle.hs_scheme.specs.Parameters.{IsParameter, parameter_of}
-use Rattle.hs_scheme.specs.FlowRows.{number_of}
+use Rattle.hs_scheme.specs.sorting.Parameters.{IsParameter, parameter_of}
+use Rattle.hs_scheme.specs.flow.FlowRows.{number_of}
 use Rattle.hs_flow.specs.Lists.{list_of, IsPushed}
 use Rattle.hs_flow.specs.Tables.{flows_in, of_number}
 use Rattle.hs_flow.proofs.table.add_pair.Goals as goal

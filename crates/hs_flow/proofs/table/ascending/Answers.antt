@@ -3,9 +3,9 @@ use Rattle.std.specs.List.Sorted.{IsPermutation}
 use Rattle.std.proofs.lemmas.List.Kept.{AllPairs-filter}
 use Rattle.hs_scheme.specs.declared.flow.FlowPair.{FlowPair}
 use Rattle.hs_scheme.specs.declared.flow.Pair.{Pair}
-use Rattle.hs_scheme.specs.Parameters.{IsParameter}
-use Rattle.hs_scheme.specs.Flow.{IsAscending, flow_cmp}
-use Rattle.hs_scheme.specs.FlowRows.{number_of}
+use Rattle.hs_scheme.specs.sorting.Parameters.{IsParameter}
+use Rattle.hs_scheme.specs.flow.Flow.{IsAscending, flow_cmp}
+use Rattle.hs_scheme.specs.flow.FlowRows.{number_of}
 use Rattle.hs_scheme.proofs.ParameterLemmas.{number_within}
 use Rattle.hs_flow.specs.Tables.{flows_in, of_number}
 use Rattle.hs_flow.proofs.ListLemmas.{list-read}

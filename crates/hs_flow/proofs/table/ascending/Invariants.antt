@@ -1,6 +1,6 @@
 -- the pairs of the parameters so far, in ascending order
 use Rattle.std.specs.List.Sorted.{IsPermutation}
-use Rattle.hs_scheme.specs.Flow.{IsAscending, flow_cmp}
+use Rattle.hs_scheme.specs.flow.Flow.{IsAscending, flow_cmp}
 use Rattle.hs_flow.specs.Tables.{flows_in}
 use Rattle.hs_flow.proofs.ParameterTables.{below_number}
 use Rattle.hs_flow.proofs.table.ascending.Given as goal

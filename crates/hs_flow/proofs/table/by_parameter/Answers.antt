@@ -4,7 +4,7 @@ use Rattle.std.proofs.lemmas.List.Elements.{Contains-get_or, filter-append}
 use Rattle.hs_scheme.specs.declared.flow.FlowPair.{FlowPair}
 use Rattle.hs_scheme.specs.declared.flow.Pair.{Pair}
 use Rattle.hs_scheme.specs.declared.flow.Pair.TheVariants.{OfFlow}
-use Rattle.hs_scheme.specs.FlowRows.{number_of}
+use Rattle.hs_scheme.specs.flow.FlowRows.{number_of}
 use Rattle.hs_flow.specs.Tables.{flows_in, of_number}
 use Rattle.hs_flow.proofs.TableLemmas.{flows_more}
 use Rattle.hs_flow.proofs.table.by_parameter.Goals as goal

@@ -3,7 +3,7 @@ use Rattle.std.specs.List.Sorted.{IsPermutation}
 use Rattle.std.proofs.lemmas.List.Sorted.{length_permutation}
 use Rattle.hs_scheme.specs.declared.flow.HeadPair.{HeadPair}
 use Rattle.hs_scheme.specs.declared.flow.Pair.{Pair}
-use Rattle.hs_scheme.specs.Flow.{FlowData, IsFlowTable, pairs_of, head_cmp}
+use Rattle.hs_scheme.specs.flow.Flow.{FlowData, IsFlowTable, pairs_of, head_cmp}
 use Rattle.hs_scheme.proofs.FlowLemmas.{head_cmp_total, head_cmp-equal}
 use Rattle.hs_scheme.proofs.Orderings.{ascends}
 use Rattle.hs_flow.specs.Tables.{flows_in, heads_in}

@@ -1,7 +1,7 @@
 use Rattle.std.proofs.Common.{◌≡◌, sym, ◌∙◌, ap, ◌<◌, ◌≤◌, length, arith, inl, inr, subst, MatchOption, Contains, Option, None, Some}
 use Rattle.std.proofs.Math.Nat.{eq-or-lt_of_le}
 use Rattle.hs_scheme.specs.declared.flow.Pair.{Pair}
-use Rattle.hs_scheme.specs.Points.{points_of}
+use Rattle.hs_scheme.specs.flow.Points.{points_of}
 use Rattle.hs_scheme.specs.Problem.{ProblemData}
 use Rattle.hs_flow_checker.specs.Gaps.{held, IsOfKind}
 use Rattle.hs_flow_checker.specs.PassedOn.{DemandsAt}

@@ -1,5 +1,5 @@
 use Rattle.std.proofs.Common.{◌≡◌, refl, ap, subst}
-use Rattle.hs_scheme.specs.Points.{PointsData, point_at}
+use Rattle.hs_scheme.specs.flow.Points.{PointsData, point_at}
 use Rattle.hs_scheme.specs.Problem.{ProblemData}
 use Rattle.hs_flow_checker.proofs.GapLemmas.{demand_by, gap_by_demands}
 use Rattle.hs_flow_checker.proofs.gaps.gap_at.Goals as goal

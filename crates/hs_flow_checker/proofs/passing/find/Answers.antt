@@ -1,6 +1,6 @@
 use Rattle.std.proofs.Common.{◌≡◌, sym, ◌∙◌, ap, subst, ℕ, true, false, List, Result, is_ok, Contains, refl}
 use Rattle.hs_scheme.specs.declared.flow.FlowPair.{FlowPair}
-use Rattle.hs_scheme.specs.Flow.{flow_cmp}
+use Rattle.hs_scheme.specs.flow.Flow.{flow_cmp}
 use Rattle.hs_scheme.proofs.FlowLemmas.{flow_cmp_total, flow_cmp-equal, found_there, there_found}
 use Rattle.hs_flow_checker.proofs.GapLemmas.{row_has}
 use Rattle.hs_flow_checker.proofs.passing.find.Goals as goal

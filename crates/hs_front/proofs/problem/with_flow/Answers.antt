@@ -1,7 +1,7 @@
 use Rattle.std.proofs.Common.{ap, subst, List, All, length}
 use Rattle.hs_scheme.specs.declared.term.Rule.{Rule}
 use Rattle.hs_scheme.specs.Problem.{FlowWithin, HeadWithin}
-use Rattle.hs_scheme.specs.Sorted.{SortedData}
+use Rattle.hs_scheme.specs.sorting.Sorted.{SortedData}
 use Rattle.hs_front.proofs.problem.with_flow.Goals as goal
 
 pub new-requires : goal.new-requires

@@ -1,5 +1,5 @@
 use Rattle.std.proofs.Common.{sym, subst}
-use Rattle.hs_scheme.specs.Unsorted.{UnsortedData}
+use Rattle.hs_scheme.specs.sorting.Unsorted.{UnsortedData}
 use Rattle.hs_front.specs.Files.{IsSchemeOf}
 use Rattle.hs_front.proofs.OneScheme.{scheme_is}
 use Rattle.hs_front.proofs.sorted.scheme_of.Goals as goal

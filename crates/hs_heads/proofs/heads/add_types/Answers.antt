@@ -3,7 +3,7 @@ use Rattle.std.proofs.lemmas.Result.{on_ok_weaker}
 use Rattle.hs_scheme.specs.declared.term.Head.{Head}
 use Rattle.hs_scheme.specs.declared.term.Head.TheVariants.{Var, Nt, Tm}
 use Rattle.hs_scheme.specs.declared.flow.FlowPair.{FlowPair}
-use Rattle.hs_scheme.specs.Points.{point_at}
+use Rattle.hs_scheme.specs.flow.Points.{point_at}
 use Rattle.hs_types.specs.Interned.{InternerData}
 use Rattle.hs_heads.specs.Sources.{GainsTypes, FromSome, InState, BodySays, FlowSays, AtRow, HeadSays}
 use Rattle.hs_heads.proofs.Gaining.{gains_same}

@@ -11,6 +11,6 @@ use Rattle.hs_minimal.proofs.compacting.table.Goals as goal
 pub returns : goal.returns
 returns c =
     let g = c.args.growing.now in
-    let given : IsSortedProblem g.problem = subst (λ (p : ProblemData). IsSortedProblem p) c.problem.ensures c.is_sorted_problem.ensures in
+    let given : IsSortedProblem g.problem = subst (λ (p : ProblemData). IsSortedProblem p) c.problem.ensures c.know_sorted_problem.ensures in
     is_table c.args.types.now g given c.requires.growing c.requires.settled c.requires.room c.in_ok-table.table.items c.sort_by.new.self.items c.in_ok-table.ensures c.sort_by.ensures.permutation
     (c.in_ok-sort_by.ensures.sorted (λ a b. is_lt (entry_cmp a b)) (ranks_by entry_cmp_total (λ (e : EntryData). e)) (answers_always _ _ _ (λ f a r k h. search rules)))

@@ -1,6 +1,6 @@
 use Rattle.std.proofs.Common.{◌≡◌, sym, ◌∙◌, ap, subst, ℕ, ◌<◌, List, ◌++◌, length, map, All}
 use Rattle.std.proofs.lemmas.Result.{on_ok_weaker}
-use Rattle.hs_scheme.specs.Points.{point_at}
+use Rattle.hs_scheme.specs.flow.Points.{point_at}
 use Rattle.hs_table.specs.Entries.{params_of}
 use Rattle.hs_types.specs.Interned.{InternerData, env_of_id, entry_of, Grows}
 use Rattle.hs_choices.specs.Unions.{AreLeastUnions}
@@ -38,7 +38,7 @@ least_unions-requires-clause-slots c =
     let sets : c.as_slice.result.now ≡ h.sets = c.as_slice.ensures.value ∙ ap (λ (x : HeadTypeData). x.sets) c.head.view_is in
     let are = of_arguments I c.args.rows.now c.args_at-args.result.now of.args h c.as_slice.result.now c.in_ok-slots.slots.items c.args_at-args.ensures sets c.in_ok-slots.ensures.slots in
     let long : All (AreOfLength (params_of p of.rule) I) c.in_ok-slots.slots.items =
-    c.rows_of_arguments_are_of_one_rule.ensures p (map (entry_of I) c.args.rows.now) I c.args.rows.now c.is_sorted_problem.ensures (own_rows p I c.args.rows.now c.requires.shape) c.requires.rows c.args.point of at (sets_of I h) c.in_ok-slots.slots.items are in
+    c.rows_of_arguments_are_of_one_rule.ensures p (map (entry_of I) c.args.rows.now) I c.args.rows.now c.know_sorted_problem.ensures (own_rows p I c.args.rows.now c.requires.shape) c.requires.rows c.args.point of at (sets_of I h) c.in_ok-slots.slots.items are in
     subst (λ k. All (AreOfLength (length (env_of_id c.slots_for.new.types k)) c.slots_for.new.types) c.as_slice-2.result.now) (sym (ap (λ (x : HeadTypeData). x.first) c.head.view_is))
     (subst (λ (K : InternerData). All (AreOfLength (length (env_of_id K h.first)) K) c.as_slice-2.result.now) (sym c.slots_for.ensures.same)
     (subst (λ n. All (AreOfLength n I) c.as_slice-2.result.now) (sym row.first.long) (subst (λ (z : List (List ℕ)). All (AreOfLength (params_of p of.rule) I) z) (sym c.as_slice-2.ensures.value) long)))
@@ -66,4 +66,4 @@ returns-clause-added c =
     let ty_is = ap (λ (x : HeadTypeData). x.ty) c.head.view_is in
     on_ok_weaker c.add_rows.result (λ added.
     let new_is : new ≡ old ++ map (row_with c.args.point h.ty) kept = added ∙ (λ i. old ++ map (row_with c.args.point (ty_is i)) (c.as_slice-3.ensures.value i)) in
-    λ C R d stand d_at head. adds p c.is_sorted_problem.ensures c.args.point I J g h c.requires.head.row c.args.rows.now slots are kept (in_of _ J kept c.in_ok-envs.ensures.range) c.in_ok-envs.ensures.ascend least old new new_is C R d stand d_at at head) c.add_rows.ensures
+    λ C R d stand d_at head. adds p c.know_sorted_problem.ensures c.args.point I J g h c.requires.head.row c.args.rows.now slots are kept (in_of _ J kept c.in_ok-envs.ensures.range) c.in_ok-envs.ensures.ascend least old new new_is C R d stand d_at at head) c.add_rows.ensures

@@ -1,6 +1,6 @@
 use Rattle.std.proofs.Common.{◌≡◌, ◌<◌, sym, ◌∙◌, ap, ℕ, length, arith}
 use Rattle.std.proofs.lemmas.Result.{IfOk-weaker}
-use Rattle.hs_scheme.specs.Sorted.{SortedData}
+use Rattle.hs_scheme.specs.sorting.Sorted.{SortedData}
 use Rattle.hs_passes.specs.Selection.{stays, number_in, place, selected}
 use Rattle.hs_passes.specs.Reachable.{is_reachable, without_unreachable}
 use Rattle.hs_passes.proofs.Unreachable.{is_selection, made_is}

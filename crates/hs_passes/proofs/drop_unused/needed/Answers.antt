@@ -1,7 +1,7 @@
 use Rattle.std.proofs.Common.{◌≡◌, sym, ◌∙◌, ap, subst, List}
 use Rattle.std.proofs.lemmas.Result.{IfOk-weaker}
 use Rattle.hs_scheme.specs.declared.term.Rule.{Rule}
-use Rattle.hs_scheme.specs.Parameters.{counts_of}
+use Rattle.hs_scheme.specs.sorting.Parameters.{counts_of}
 use Rattle.hs_scheme.specs.Scheme.{SchemeData}
 use Rattle.hs_passes.specs.Needing.{kept, IsAbove, IsGreatest}
 use Rattle.hs_passes.proofs.drop_unused.needed.Goals as goal

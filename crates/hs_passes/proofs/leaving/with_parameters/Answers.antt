@@ -1,6 +1,6 @@
 use Rattle.std.proofs.Common.{◌≡◌, ◌≤◌, sym, ◌∙◌, ap, subst, length, arith}
 use Rattle.hs_scheme.specs.Scheme.{IsScheme}
-use Rattle.hs_scheme.specs.Sorted.{SortedData, IsSorted}
+use Rattle.hs_scheme.specs.sorting.Sorted.{SortedData, IsSorted}
 use Rattle.hs_passes.specs.Leaving.{by_number, scheme_left, all_names_left, sort_left, with_parameters}
 use Rattle.hs_passes.specs.Needing.{kept}
 use Rattle.hs_passes.proofs.Selected.{params_each}

@@ -2,7 +2,7 @@ use Rattle.std.proofs.Common.{◌≡◌, ◌++◌, sym, ◌∙◌, ap, length, t
 use Rattle.std.specs.Prelude.{◌||◌}
 use Rattle.std.proofs.lemmas.List.{length-take-le}
 use Rattle.hs_scheme.specs.declared.term.Rule.{Rule}
-use Rattle.hs_scheme.specs.Parameters.{parameter_of}
+use Rattle.hs_scheme.specs.sorting.Parameters.{parameter_of}
 use Rattle.hs_passes.specs.Needing.{live, kept}
 use Rattle.hs_passes.specs.Selection.{stays}
 use Rattle.hs_passes.proofs.Chaining.{written_back}

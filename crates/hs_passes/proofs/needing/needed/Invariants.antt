@@ -1,5 +1,5 @@
 use Rattle.std.proofs.Common.{◌≡◌, take, vec_len, sum, ℕ}
-use Rattle.hs_scheme.specs.Parameters.{IsParameter, parameter_of}
+use Rattle.hs_scheme.specs.sorting.Parameters.{IsParameter, parameter_of}
 use Rattle.hs_passes.specs.Selection.{stays}
 use Rattle.hs_passes.specs.Needing.{is_live, kept}
 use Rattle.hs_passes.proofs.needing.needed.Given as goal

@@ -1,6 +1,6 @@
 use Rattle.std.proofs.Common.{◌≡◌, ◌++◌, sym, ◌∙◌, ap, subst, ℕ, length, take, drop}
 use Rattle.std.specs.Prelude.{◌&&◌}
-use Rattle.hs_scheme.specs.Parameters.{IsParameter, parameter_of}
+use Rattle.hs_scheme.specs.sorting.Parameters.{IsParameter, parameter_of}
 use Rattle.hs_passes.specs.Selection.{stays}
 use Rattle.hs_passes.specs.Needing.{is_live, kept, KeepsOnlyLive, IsAbove}
 use Rattle.hs_passes.proofs.Chaining.{written_back}

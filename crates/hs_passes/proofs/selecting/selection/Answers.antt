@@ -1,6 +1,6 @@
 use Rattle.std.proofs.Common.{◌≡◌, sym, ◌∙◌, ap, subst, length}
 use Rattle.hs_scheme.specs.Scheme.{IsScheme}
-use Rattle.hs_scheme.specs.Sorted.{SortedData, IsSorted}
+use Rattle.hs_scheme.specs.sorting.Sorted.{SortedData, IsSorted}
 use Rattle.hs_passes.specs.Selection.{stays, number_in, chosen, selected, selected_scheme, selected_names}
 use Rattle.hs_passes.proofs.Selected.{params_each, selected_is_scheme, selected_is_sorted}
 use Rattle.hs_passes.proofs.selecting.selection.Goals as goal

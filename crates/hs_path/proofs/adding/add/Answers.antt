@@ -1,7 +1,7 @@
 use Rattle.std.proofs.Common.{◌≡◌, refl, sym, ◌∙◌, ap, subst as along, length, arith, ℕ, ◌+◌, ◌-◌, ◌<◌, List, [], ◌∷◌, ◌++◌, drop}
 use Rattle.hs_table.specs.Types.{TypeTree}
 use Rattle.hs_table.specs.Entries.{Env, set_at, entry_at}
-use Rattle.hs_naming.specs.Evidence.{Evidence, Packs, own_evidence, pack_for, packs_for}
+use Rattle.hs_verdict.specs.Evidence.{Evidence, Packs, own_evidence, pack_for, packs_for}
 use Rattle.hs_core.specs.Core.{log_of}
 use Rattle.hs_path.specs.declared.evidence.Store.{Store}
 use Rattle.hs_path.specs.Stored.{Piled, GrowsStore}

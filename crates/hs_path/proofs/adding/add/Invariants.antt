@@ -1,7 +1,7 @@
 -- the packs of the parameters from `param` on stand one behind the other
 use Rattle.std.proofs.Common.{◌≡◌, ◌≤◌, length, drop}
 use Rattle.hs_table.specs.Entries.{entry_at}
-use Rattle.hs_naming.specs.Evidence.{Packs, own_evidence, packs_for}
+use Rattle.hs_verdict.specs.Evidence.{Packs, own_evidence, packs_for}
 use Rattle.hs_core.specs.Core.{log_of}
 use Rattle.hs_path.specs.Stored.{Piled, GrowsStore, KnowsCurrent}
 use Rattle.hs_path.proofs.adding.add.Given as goal

@@ -1,7 +1,7 @@
 use Rattle.std.proofs.Common.{◌≡◌, sym, subst as along, length, arith, ℕ, ◌+◌, ◌-◌, ◌<◌, get_or, drop}
 use Rattle.std.proofs.lemmas.Option.{slice_get-get_or}
-use Rattle.hs_naming.specs.Evidence.{Pack}
-use Rattle.hs_naming.specs.Naming.{chosen_pack}
+use Rattle.hs_verdict.specs.Evidence.{Pack}
+use Rattle.hs_verdict.specs.Naming.{chosen_pack}
 use Rattle.hs_path.specs.declared.evidence.Store.{Store}
 use Rattle.hs_path.specs.Stored.{Stands, Members, GrowsStore}
 use Rattle.hs_path.proofs.StoredLemmas.{begins_refl, begins_pushed, grows_then, stands_grow}

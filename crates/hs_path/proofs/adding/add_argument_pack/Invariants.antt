@@ -1,7 +1,7 @@
 -- the pack has the evidences of those from `at` on that are chosen for the argument
 use Rattle.std.proofs.Common.{◌≡◌, ℕ, ◌≤◌, length, drop}
-use Rattle.hs_naming.specs.Evidence.{Evidence}
-use Rattle.hs_naming.specs.Naming.{chosen_pack}
+use Rattle.hs_verdict.specs.Evidence.{Evidence}
+use Rattle.hs_verdict.specs.Naming.{chosen_pack}
 use Rattle.hs_path.specs.Stored.{Members, GrowsStore, ArePremises}
 use Rattle.hs_path.proofs.adding.add_argument_pack.Given as goal
 

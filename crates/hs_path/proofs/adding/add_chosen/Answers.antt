@@ -4,7 +4,7 @@ use Rattle.hs_core.specs.Core.{log_of}
 use Rattle.hs_path.specs.declared.evidence.Store.{Store}
 use Rattle.hs_path.specs.Stored.{Stands, premise}
 use Rattle.hs_path.proofs.StoredLemmas.{grows_then}
-use Rattle.hs_path.proofs.TurningLemmas.{begins_longer}
+use Rattle.hs_path.proofs.MovingLemmas.{begins_longer}
 use Rattle.hs_path.proofs.AddingLemmas.{knows_grow, each_chosen}
 use Rattle.hs_path.proofs.adding.add_chosen.Goals as goal
 

@@ -1,6 +1,6 @@
 -- those before the index have their evidences
 use Rattle.std.proofs.Common.{◌≡◌, ℕ, ◌+◌, ◌<◌, length, slice_get, Some}
-use Rattle.hs_naming.specs.Evidence.{Packs}
+use Rattle.hs_verdict.specs.Evidence.{Packs}
 use Rattle.hs_core.specs.Core.{log_of}
 use Rattle.hs_path.specs.Stored.{Stands, GrowsStore, KnowsCurrent, premise}
 use Rattle.hs_path.proofs.adding.add_chosen.Given as goal

@@ -2,7 +2,7 @@ use Rattle.std.proofs.Common.{◌≡◌, sym, subst as along, length, arith, ℕ
 use Rattle.hs_table.specs.Types.{TypeTree}
 use Rattle.hs_table.specs.Entries.{entry_at}
 use Rattle.hs_types.specs.Interned.{type_of_id}
-use Rattle.hs_naming.specs.Evidence.{Evidence, Pack, own_evidence, pack_for}
+use Rattle.hs_verdict.specs.Evidence.{Evidence, Pack, own_evidence, pack_for}
 use Rattle.hs_core.specs.Core.{log_of}
 use Rattle.hs_path.specs.declared.evidence.Store.{Store}
 use Rattle.hs_path.specs.Stored.{Members, IsPack, GrowsStore}

@@ -2,7 +2,7 @@
 use Rattle.std.proofs.Common.{◌≡◌, ℕ, ◌≤◌, length, drop, map}
 use Rattle.hs_table.specs.Entries.{entry_at}
 use Rattle.hs_types.specs.Interned.{type_of_id}
-use Rattle.hs_naming.specs.Evidence.{Packs, own_evidence, pack_for}
+use Rattle.hs_verdict.specs.Evidence.{Packs, own_evidence, pack_for}
 use Rattle.hs_core.specs.Core.{log_of}
 use Rattle.hs_path.specs.Stored.{Members, GrowsStore, KnowsCurrent}
 use Rattle.hs_path.proofs.adding.add_own_pack.Given as goal

@@ -5,8 +5,8 @@ use Rattle.hs_path.specs.Stored.{Piled, GrowsStore}
 use Rattle.hs_path.proofs.StoredLemmas.{begins_refl, begins_more, begins_same, piled_behind, piled_grow}
 use Rattle.hs_path.proofs.adding.of_stack.Goals as goal
 
-pub returns-clause-spot : goal.returns-clause-spot
-returns-clause-spot c = λ bound packs nothing within piled.
+pub returns-clause-continuation : goal.returns-clause-continuation
+returns-clause-continuation c = λ bound packs nothing within piled.
     let old : Store = c.args.store.now in
     let new : Store = record { nodes = old.nodes; owns = c.extend_from_slice.new.self; packs = old.packs; members = old.members } in
     let items : List ℕ = c.args.stack.now.items in

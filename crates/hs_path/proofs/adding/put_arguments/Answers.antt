@@ -1,12 +1,12 @@
 use Rattle.std.proofs.Common.{◌≡◌, sym, ◌∙◌, ap, subst as along, length, arith, ℕ, ◌+◌, ◌-◌, ◌<◌, ◌≤◌, drop, List}
-use Rattle.hs_naming.specs.Evidence.{Packs, stacked}
-use Rattle.hs_naming.specs.Naming.{chosen_pack, argument_packs}
+use Rattle.hs_verdict.specs.Evidence.{Packs, stacked}
+use Rattle.hs_verdict.specs.Naming.{chosen_pack, argument_packs}
 use Rattle.hs_core.specs.Core.{log_of}
 use Rattle.hs_path.specs.declared.evidence.Store.{Store}
 use Rattle.hs_path.specs.Stored.{Piled, premise}
 use Rattle.hs_path.proofs.StoredLemmas.{begins_refl, grows_refl, grows_then, piled_grow, pack_grows}
 use Rattle.hs_path.proofs.AddingLemmas.{premises_grow, put_pushed, arguments_from, arguments_end}
-use Rattle.hs_path.proofs.TurningLemmas.{begins_longer}
+use Rattle.hs_path.proofs.MovingLemmas.{begins_longer}
 use Rattle.hs_path.proofs.adding.put_arguments.Goals as goal
 
 pub loop-argument-init : goal.loop-argument-init

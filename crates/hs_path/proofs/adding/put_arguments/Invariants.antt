@@ -1,7 +1,7 @@
 -- the packs of the arguments from `argument` on are on the stack
 use Rattle.std.proofs.Common.{◌≡◌, ◌+◌, ◌≤◌, length, drop}
-use Rattle.hs_naming.specs.Evidence.{Packs, stacked}
-use Rattle.hs_naming.specs.Naming.{argument_packs}
+use Rattle.hs_verdict.specs.Evidence.{Packs, stacked}
+use Rattle.hs_verdict.specs.Naming.{argument_packs}
 use Rattle.hs_core.specs.Core.{log_of}
 use Rattle.hs_path.specs.Stored.{Piled, GrowsStore, KnowsCurrent, premise, ArePremises}
 use Rattle.hs_path.proofs.adding.put_arguments.Given as goal

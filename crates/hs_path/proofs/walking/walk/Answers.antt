@@ -10,8 +10,8 @@ returns-then-steps-eq0 c =
     let core = c.args.core.now in
     let p = c.args.problem.now in
     let supports = (state_of core).supports in
-    let log = along (λ (q : ProblemData). HasSupports q (log_of core) supports) (sym c.requires.problem) (c.every_history_supported.ensures.supported core.base core.story c.is_core.ensures.legal) in
-    no_steps p (log_of core) supports (c.namings_lead_the_start.ensures p (log_of core) supports c.is_sorted_problem.ensures log c.requires.start) c.args.steps c.new.result.items c.if-steps-eq0.true c.new.ensures.items
+    let log = along (λ (q : ProblemData). HasSupports q (log_of core) supports) (sym c.requires.problem) (c.every_history_supported.ensures.supported core.base core.story c.know_core.ensures.legal) in
+    no_steps p (log_of core) supports (c.namings_lead_the_start.ensures p (log_of core) supports c.know_sorted_problem.ensures log c.requires.start) c.args.steps c.new.result.items c.if-steps-eq0.true c.new.ensures.items
 
 some_steps : (n : ℕ) → (n ≡ 0 → ⊥) → 1 ≤ n
 some_steps n some = omega (arith, some)

@@ -4,8 +4,8 @@ use Rattle.hs_scheme.specs.Problem.{ProblemData}
 use Rattle.hs_table.specs.Entries.{EntryData}
 use Rattle.hs_table.specs.Follows.{Support}
 use Rattle.hs_core.specs.Core.{log_of, state_of}
-use Rattle.hs_path.specs.declared.turning.Turn.{Turn}
-use Rattle.hs_path.specs.Turned.{TurnsAt}
+use Rattle.hs_path.specs.declared.moving.NamingMove.{NamingMove}
+use Rattle.hs_path.specs.Moved.{MovesAt}
 use Rattle.hs_path.specs.Walked.{IsLongerPath}
 use Rattle.hs_path.specs.Walking.{listed}
 use Rattle.hs_path.proofs.WalkingLemmas.{at_place, walk_starts, walk_silent, walk_step, walk_cut, walk_end}
@@ -30,9 +30,9 @@ returns-in-End c =
     let supports : List Support = (state_of c.args.core.now).supports in
     let from = c.loop-trail in
     let w = from.invariant.walking in
-    let said = c.in_ok-terminal.ensures.turn w.at.node.own w.packs w.nothing (at_place p T supports from.store from.stack.items from.spot from.trail.items from.used w) w.stack in
-    let t = along (λ (x : Turn). TurnsAt p T supports c.next_turn.new.store c.next_turn.new.stack.items from.spot w.at.node.own w.packs x) c.in-End.is said in
-    walk_end p T supports from.store from.stack.items from.spot from.trail.items from.used w c.args.steps c.in-End.terminal c.in-End.state _ from.invariant.few t.0 t.1 refl
+    let said = c.in_ok-terminal.ensures.taken w.at.node.own w.packs w.nothing (at_place p T supports from.store from.stack.items from.continuation from.trail.items from.used w) w.stack in
+    let t = along (λ (x : NamingMove). MovesAt p T supports c.next_move.new.store c.next_move.new.stack.items from.continuation w.at.node.own w.packs x) c.in-End.is said in
+    walk_end p T supports from.store from.stack.items from.continuation from.trail.items from.used w c.args.steps c.in-End.terminal c.in-End.state _ from.invariant.few t.0 t.1 refl
 
 pub loop-trail-smaller-in-Silent : goal.loop-trail-smaller-in-Silent
 loop-trail-smaller-in-Silent c =
@@ -41,8 +41,8 @@ loop-trail-smaller-in-Silent c =
     let supports : List Support = (state_of c.args.core.now).supports in
     let from = c.loop-trail in
     let w = from.invariant.walking in
-    let said = c.in_ok-terminal.ensures.turn w.at.node.own w.packs w.nothing (at_place p T supports from.store from.stack.items from.spot from.trail.items from.used w) w.stack in
-    let t = along (λ (x : Turn). TurnsAt p T supports c.next_turn.new.store c.next_turn.new.stack.items from.spot w.at.node.own w.packs x) c.in-Silent.is said in
+    let said = c.in_ok-terminal.ensures.taken w.at.node.own w.packs w.nothing (at_place p T supports from.store from.stack.items from.continuation from.trail.items from.used w) w.stack in
+    let t = along (λ (x : NamingMove). MovesAt p T supports c.next_move.new.store c.next_move.new.stack.items from.continuation w.at.node.own w.packs x) c.in-Silent.is said in
     omega (arith, t.lower)
 
 pub loop-trail-preserved-in-Silent : goal.loop-trail-preserved-in-Silent
@@ -52,11 +52,11 @@ loop-trail-preserved-in-Silent c =
     let supports : List Support = (state_of c.args.core.now).supports in
     let from = c.loop-trail in
     let w = from.invariant.walking in
-    let said = c.in_ok-terminal.ensures.turn w.at.node.own w.packs w.nothing (at_place p T supports from.store from.stack.items from.spot from.trail.items from.used w) w.stack in
-    let t = along (λ (x : Turn). TurnsAt p T supports c.next_turn.new.store c.next_turn.new.stack.items from.spot w.at.node.own w.packs x) c.in-Silent.is said in
+    let said = c.in_ok-terminal.ensures.taken w.at.node.own w.packs w.nothing (at_place p T supports from.store from.stack.items from.continuation from.trail.items from.used w) w.stack in
+    let t = along (λ (x : NamingMove). MovesAt p T supports c.next_move.new.store c.next_move.new.stack.items from.continuation w.at.node.own w.packs x) c.in-Silent.is said in
     record {
       few = from.invariant.few;
-      walking = walk_silent p T supports from.store from.stack.items from.spot from.trail.items from.used w c.next_turn.new.store c.next_turn.new.stack.items c.in-Silent.next c.in_ok-terminal.ensures.grows t;
+      walking = walk_silent p T supports from.store from.stack.items from.continuation from.trail.items from.used w c.next_move.new.store c.next_move.new.stack.items c.in-Silent.next c.in_ok-terminal.ensures.grows t;
     }
 
 pub returns-then-used-steps : goal.returns-then-used-steps
@@ -66,10 +66,10 @@ returns-then-used-steps c =
     let supports : List Support = (state_of c.args.core.now).supports in
     let from = c.loop-trail in
     let w = from.invariant.walking in
-    let said = c.in_ok-terminal.ensures.turn w.at.node.own w.packs w.nothing (at_place p T supports from.store from.stack.items from.spot from.trail.items from.used w) w.stack in
-    let t = along (λ (x : Turn). TurnsAt p T supports c.next_turn.new.store c.next_turn.new.stack.items from.spot w.at.node.own w.packs x) c.in-Step.is said in
+    let said = c.in_ok-terminal.ensures.taken w.at.node.own w.packs w.nothing (at_place p T supports from.store from.stack.items from.continuation from.trail.items from.used w) w.stack in
+    let t = along (λ (x : NamingMove). MovesAt p T supports c.next_move.new.store c.next_move.new.stack.items from.continuation w.at.node.own w.packs x) c.in-Step.is said in
     along (λ (n : ℕ). IsLongerPath p T supports n from.trail.items) c.if-used-steps.true
-    (walk_cut p T supports from.store from.stack.items from.spot from.trail.items from.used w c.next_turn.new.store c.next_turn.new.stack.items c.in-Step.label c.in-Step.next c.in_ok-terminal.ensures.grows t)
+    (walk_cut p T supports from.store from.stack.items from.continuation from.trail.items from.used w c.next_move.new.store c.next_move.new.stack.items c.in-Step.label c.in-Step.next c.in_ok-terminal.ensures.grows t)
 
 pub loop-trail-preserved : goal.loop-trail-preserved
 loop-trail-preserved c =
@@ -78,14 +78,14 @@ loop-trail-preserved c =
     let supports : List Support = (state_of c.args.core.now).supports in
     let from = c.loop-trail in
     let w = from.invariant.walking in
-    let said = c.in_ok-terminal.ensures.turn w.at.node.own w.packs w.nothing (at_place p T supports from.store from.stack.items from.spot from.trail.items from.used w) w.stack in
-    let t = along (λ (x : Turn). TurnsAt p T supports c.next_turn.new.store c.next_turn.new.stack.items from.spot w.at.node.own w.packs x) c.in-Step.is said in
+    let said = c.in_ok-terminal.ensures.taken w.at.node.own w.packs w.nothing (at_place p T supports from.store from.stack.items from.continuation from.trail.items from.used w) w.stack in
+    let t = along (λ (x : NamingMove). MovesAt p T supports c.next_move.new.store c.next_move.new.stack.items from.continuation w.at.node.own w.packs x) c.in-Step.is said in
     let longer : c.match-label.trail.items ≡ from.trail.items ++ listed c.in-Step.label = elim c.match-label.branch [
       | in-Some+in_ok-push-in-Step v ↦ sym (ap (λ (o : Option (ℕ × ℕ)). from.trail.items ++ listed o) v.in-Some.is ∙ (sym v.in_ok-push-in-Step.ensures.items ∙ ap (λ x. x.items) (sym v.trail-is)))
       | in_default v ↦ sym (ap (λ (o : Option (ℕ × ℕ)). from.trail.items ++ listed o) v.in_default.is ∙ (append-nil from.trail.items ∙ ap (λ x. x.items) (sym v.trail-is)))
     ] in
     record {
       few = omega (arith, from.invariant.few, c.if-used-steps.false);
-      walking = walk_step p T supports from.store from.stack.items from.spot from.trail.items from.used w c.next_turn.new.store c.next_turn.new.stack.items c.in-Step.label c.in-Step.next c.in_ok-terminal.ensures.grows t
+      walking = walk_step p T supports from.store from.stack.items from.continuation from.trail.items from.used w c.next_move.new.store c.next_move.new.stack.items c.in-Step.label c.in-Step.next c.in_ok-terminal.ensures.grows t
           c.match-label.trail.items longer;
     }

@@ -3,7 +3,7 @@ use Rattle.std.proofs.lemmas.Bool.{cases_lt}
 use Rattle.std.proofs.lemmas.List.Elements.{Contains-get_or}
 use Rattle.hs_table.specs.Entries.{EntryData, InShape}
 use Rattle.hs_types.specs.Interned.{entry_of}
-use Rattle.hs_history.specs.Following.{HasAt}
+use Rattle.hs_rank.specs.Following.{HasAtBy}
 use Rattle.hs_rank.specs.Gathering.{IsKnown}
 use Rattle.hs_rank.proofs.Gathered.{gathered_same, gathered_then, place_whole, point_within, dependent_within}
 use Rattle.hs_rank.proofs.gathering.gather_place.Goals as goal
@@ -13,7 +13,7 @@ list-dependent-items-requires c =
     omega (arith, point_within c.args.problem.now c.args.replica.now.log c.args.place (entry_of c.args.replica.now.ids c.row-point.result) c.requires.shape c.row-point.ensures.entry, c.requires.dependents.each)
 
 pub loop-dependent-init : goal.loop-dependent-init
-loop-dependent-init c = record { gathered = gathered_same c.args.problem.now c.args.replica.now c.args.fresh.now.keys c.requires.fresh; all = λ k lt. absurd (omega arith) }
+loop-dependent-init c = record { rows = c.requires.rows; gathered = gathered_same c.args.problem.now c.args.replica.now c.args.fresh.now.list.items c.requires.fresh; all = λ k lt. absurd (omega arith) }
 
 pub gather_at-requires-clause-point : goal.gather_at-requires-clause-point
 gather_at-requires-clause-point c =
@@ -41,13 +41,14 @@ loop-dependent-preserved c =
     let n = c.loop-dependent.dependent-index in
     let later = c.in_ok-gather_at.ensures.gathered in
     record {
-      gathered = gathered_then p a b e c.args.fresh.now.keys c.loop-dependent.fresh.keys c.gather_at.new.fresh.keys c.loop-dependent.invariant.gathered later;
+      rows = c.in_ok-gather_at.ensures.rows;
+      gathered = gathered_then p a b e c.args.fresh.now.list.items c.loop-dependent.fresh.list.items c.gather_at.new.fresh.list.items c.loop-dependent.invariant.gathered later;
       all = λ k lt. elim (cases_lt k n) [
-        | inl below ↦ λ s x at by among. later.more x (c.loop-dependent.invariant.all k below s x at by among)
+        | inl below ↦ λ s x at by among. later.more s x (c.loop-dependent.invariant.all k below s x at by among)
         | inr above ↦
             let same : n ≡ k = omega arith in
-            subst (λ j. HasAt p a.log c.args.place (get_or items j 0) (IsKnown e.ids e.log c.gather_at.new.fresh.keys)) same
-            (subst (λ (L : List EntryData). HasAt p L c.args.place (get_or items n 0) (IsKnown e.ids e.log c.gather_at.new.fresh.keys)) c.loop-dependent.invariant.gathered.log c.in_ok-gather_at.ensures.all)
+            subst (λ j. HasAtBy p a.log c.args.place (get_or items j 0) (IsKnown e.ids e.log c.gather_at.new.fresh.list.items)) same
+            (subst (λ (L : List EntryData). HasAtBy p L c.args.place (get_or items n 0) (IsKnown e.ids e.log c.gather_at.new.fresh.list.items)) c.loop-dependent.invariant.gathered.log c.in_ok-gather_at.ensures.all)
       ];
     }
 
@@ -57,5 +58,5 @@ returns-clause-gathered c = c.loop-dependent.invariant.gathered
 pub returns-clause-all : goal.returns-clause-all
 returns-clause-all c =
     let a = c.args.replica.now in
-    place_whole c.args.problem.now a.log c.args.place (IsKnown c.loop-dependent.replica.ids c.loop-dependent.replica.log c.loop-dependent.fresh.keys) (entry_of a.ids c.row-point.result) c.args.dependents.now c.list-dependent-items.result.now
+    place_whole c.args.problem.now a.log c.args.place (IsKnown c.loop-dependent.replica.ids c.loop-dependent.replica.log c.loop-dependent.fresh.list.items) (entry_of a.ids c.row-point.result) c.args.dependents.now c.list-dependent-items.result.now
     c.row-point.ensures.entry c.requires.dependents (sym (ap (λ o. unwrap_or o []) c.list-dependent-items.ensures)) (λ k lt. c.loop-dependent.invariant.all k (omega (arith, lt, c.loop-dependent-test.false)))

@@ -1,13 +1,13 @@
 use Rattle.std.proofs.Common.{◌≡◌, sym, ap, subst, List, length, All, arith, inl, inr}
 use Rattle.std.proofs.lemmas.Bool.{cases_lt}
 use Rattle.hs_table.specs.Entries.{EntryData, InShape}
-use Rattle.hs_history.specs.Following.{HasPlace}
+use Rattle.hs_rank.specs.Following.{HasPlaceBy}
 use Rattle.hs_rank.specs.Gathering.{IsKnown}
 use Rattle.hs_rank.proofs.Gathered.{gathered_same, gathered_then}
 use Rattle.hs_rank.proofs.gathering.gather_places.Goals as goal
 
 pub loop-place-init : goal.loop-place-init
-loop-place-init c = record { gathered = gathered_same c.args.problem.now c.args.replica.now c.args.fresh.now.keys c.requires.fresh; all = λ k le lt. absurd (omega (arith, le, lt)) }
+loop-place-init c = record { rows = c.requires.rows; gathered = gathered_same c.args.problem.now c.args.replica.now c.args.fresh.now.list.items c.requires.fresh; all = λ k le lt. absurd (omega (arith, le, lt)) }
 
 pub gather_place-requires-clause-place : goal.gather_place-requires-clause-place
 gather_place-requires-clause-place c = omega (arith, c.loop-place-test.true, c.len-place-end.ensures.len, ap (λ (L : List EntryData). length L) c.loop-place.invariant.gathered.log)
@@ -26,13 +26,14 @@ loop-place-preserved c =
     let n = c.loop-place.place in
     let later = c.in_ok-gather_place.ensures.gathered in
     record {
-      gathered = gathered_then p a c.loop-place.replica e c.args.fresh.now.keys c.loop-place.fresh.keys c.gather_place.new.fresh.keys c.loop-place.invariant.gathered later;
+      rows = c.in_ok-gather_place.ensures.rows;
+      gathered = gathered_then p a c.loop-place.replica e c.args.fresh.now.list.items c.loop-place.fresh.list.items c.gather_place.new.fresh.list.items c.loop-place.invariant.gathered later;
       all = λ k le lt. elim (cases_lt k n) [
-        | inl below ↦ λ at x s here depends by among. later.more x (c.loop-place.invariant.all k le below at x s here depends by among)
+        | inl below ↦ λ at x s here depends by among. later.more s x (c.loop-place.invariant.all k le below at x s here depends by among)
         | inr above ↦
             let same : n ≡ k = omega arith in
-            subst (λ j. HasPlace p a.log j (IsKnown e.ids e.log c.gather_place.new.fresh.keys)) same
-            (subst (λ (L : List EntryData). HasPlace p L n (IsKnown e.ids e.log c.gather_place.new.fresh.keys)) c.loop-place.invariant.gathered.log c.in_ok-gather_place.ensures.all)
+            subst (λ j. HasPlaceBy p a.log j (IsKnown e.ids e.log c.gather_place.new.fresh.list.items)) same
+            (subst (λ (L : List EntryData). HasPlaceBy p L n (IsKnown e.ids e.log c.gather_place.new.fresh.list.items)) c.loop-place.invariant.gathered.log c.in_ok-gather_place.ensures.all)
       ];
     }
 

@@ -1,13 +1,13 @@
 use Rattle.std.proofs.Common.{◌≡◌, ap, subst, length, arith, inl, inr}
 use Rattle.std.proofs.lemmas.Bool.{cases_lt}
 use Rattle.hs_scheme.specs.Problem.{ProblemData}
-use Rattle.hs_history.specs.Following.{HasSeed}
+use Rattle.hs_rank.specs.Following.{HasSeedBy}
 use Rattle.hs_rank.specs.Gathering.{IsKnown}
 use Rattle.hs_rank.proofs.Gathered.{gathered_same, gathered_then}
 use Rattle.hs_rank.proofs.gathering.gather_seeds.Goals as goal
 
 pub loop-point-init : goal.loop-point-init
-loop-point-init c = record { gathered = gathered_same c.args.problem.now c.args.replica.now c.args.fresh.now.keys c.requires.fresh; all = λ k lt. absurd (omega arith) }
+loop-point-init c = record { rows = c.requires.rows; gathered = gathered_same c.args.problem.now c.args.replica.now c.args.fresh.now.list.items c.requires.fresh; all = λ k lt. absurd (omega arith) }
 
 pub gather_seed-requires-clause-fresh : goal.gather_seed-requires-clause-fresh
 gather_seed-requires-clause-fresh c = c.loop-point.invariant.gathered.fresh
@@ -19,12 +19,13 @@ loop-point-preserved c =
     let n = c.loop-point.point in
     let later = c.in_ok-gather_seed.ensures.gathered in
     record {
-      gathered = gathered_then p c.args.replica.now c.loop-point.replica e c.args.fresh.now.keys c.loop-point.fresh.keys c.gather_seed.new.fresh.keys c.loop-point.invariant.gathered later;
+      rows = c.in_ok-gather_seed.ensures.rows;
+      gathered = gathered_then p c.args.replica.now c.loop-point.replica e c.args.fresh.now.list.items c.loop-point.fresh.list.items c.gather_seed.new.fresh.list.items c.loop-point.invariant.gathered later;
       all = λ k lt. elim (cases_lt k n) [
-        | inl below ↦ λ x at by. later.more x (c.loop-point.invariant.all k below x at by)
+        | inl below ↦ λ s x at by. later.more s x (c.loop-point.invariant.all k below s x at by)
         | inr above ↦
             let same : n ≡ k = omega arith in
-            subst (λ j. HasSeed p j (IsKnown e.ids e.log c.gather_seed.new.fresh.keys)) same c.in_ok-gather_seed.ensures.all
+            subst (λ j. HasSeedBy p j (IsKnown e.ids e.log c.gather_seed.new.fresh.list.items)) same c.in_ok-gather_seed.ensures.all
       ];
     }
 

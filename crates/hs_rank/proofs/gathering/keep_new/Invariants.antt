@@ -1,8 +1,11 @@
--- the rows so far were kept
+-- those so far were kept
 use Rattle.std.proofs.Common.{take, Contains}
+use Rattle.hs_rules.specs.Found.{RowsAre}
 use Rattle.hs_rank.specs.Gathering.{AddsNew}
-use Rattle.hs_rank.proofs.Keeping.{rows_in}
 use Rattle.hs_rank.proofs.gathering.keep_new.Given as goal
 
 abbrev pub invariant-loop-deduced : goal.invariant-loop-deduced
-invariant-loop-deduced l = AddsNew l.replica.ids l.replica.log (Contains (rows_in (take l.deduced-index l.found))) l.fn.fresh.keys l.fresh.keys
+invariant-loop-deduced l = record {
+  rows : RowsAre l.fresh.rows.keys l.fresh.list.items;
+  adds : AddsNew l.replica.ids l.replica.log (Contains (take l.deduced-index l.found)) l.fn.fresh.list.items l.fresh.list.items;
+}

@@ -1,7 +1,7 @@
 use Rattle.std.proofs.Common.{◌≡◌, ℕ, ◌+◌, List, get_or, slice_get, Some, Contains}
 use Rattle.std.proofs.lemmas.List.Elements.{Contains-get_or}
-use Rattle.hs_scheme.specs.Transition.{TransitionData}
-use Rattle.hs_scheme.specs.Automaton.{next}
+use Rattle.hs_scheme.specs.acceptance.Transition.{TransitionData}
+use Rattle.hs_scheme.specs.acceptance.Automaton.{next}
 use Rattle.hs_reads.specs.Becomings.{AnyBecoming}
 use Rattle.hs_reads.specs.Pairs.{IsReadBehind}
 use Rattle.hs_reads.proofs.GrowLemmas.{grows_then, grows_has, next_more, adds_more}

@@ -1,6 +1,6 @@
 -- so far what stands behind the terminals that were taken is there, and nothing else
 use Rattle.std.proofs.Common.{◌≡◌, ℕ, ◌+◌, List, take, slice_get, Some, Contains}
-use Rattle.hs_scheme.specs.Automaton.{next}
+use Rattle.hs_scheme.specs.acceptance.Automaton.{next}
 use Rattle.hs_reads.specs.Growing.{Grows, AddsOnly}
 use Rattle.hs_reads.specs.Becomings.{AnyBecoming}
 use Rattle.hs_reads.specs.Pairs.{IsReadBehind}

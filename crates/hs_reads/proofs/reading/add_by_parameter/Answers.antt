@@ -1,9 +1,9 @@
 use Rattle.std.proofs.Common.{◌≡◌, refl, sym, ◌∙◌, ap, subst, ℕ, List, filter, ◌&&◌, nat_eq, slice_get, Some, Contains}
 use Rattle.std.proofs.lemmas.Result.{on_ok_weaker}
 use Rattle.hs_scheme.specs.declared.flow.FlowPair.{FlowPair}
-use Rattle.hs_scheme.specs.Automaton.{AutomatonData, next}
-use Rattle.hs_scheme.specs.Points.{point_at}
-use Rattle.hs_scheme.specs.Parameters.{IsParameter, parameter_of}
+use Rattle.hs_scheme.specs.acceptance.Automaton.{AutomatonData, next}
+use Rattle.hs_scheme.specs.flow.Points.{point_at}
+use Rattle.hs_scheme.specs.sorting.Parameters.{IsParameter, parameter_of}
 use Rattle.hs_scheme.specs.Problem.{ProblemData}
 use Rattle.hs_reads.specs.Lists.{list_of}
 use Rattle.hs_reads.specs.Becomings.{AnyBecoming}

@@ -1,7 +1,7 @@
 use Rattle.std.proofs.Common.{◌≡◌, refl, sym, ◌∙◌, ap, subst, ℕ, List, slice_get, Some, None, Option, option_copied}
 use Rattle.std.proofs.lemmas.Option.{same_Some}
-use Rattle.hs_scheme.specs.Automaton.{AutomatonData, next}
-use Rattle.hs_scheme.specs.Points.{point_at}
+use Rattle.hs_scheme.specs.acceptance.Automaton.{AutomatonData, next}
+use Rattle.hs_scheme.specs.flow.Points.{point_at}
 use Rattle.hs_scheme.specs.Problem.{ProblemData}
 use Rattle.hs_reads.specs.Pairs.{IsDemandedBy, IsArgumentRead}
 use Rattle.hs_reads.proofs.GrowLemmas.{both_ok, adds_none, adds_such}

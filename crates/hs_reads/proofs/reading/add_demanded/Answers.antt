@@ -1,5 +1,5 @@
 use Rattle.std.proofs.Common.{◌≡◌, refl, sym, ◌∙◌, ap, subst, ◌<◌, length, slice_index, Contains, arith}
-use Rattle.hs_scheme.specs.Points.{point_at, NonterminalWithin}
+use Rattle.hs_scheme.specs.flow.Points.{point_at, NonterminalWithin}
 use Rattle.hs_scheme.specs.Problem.{ProblemData}
 use Rattle.hs_reads.specs.Pairs.{IsDemandedBy}
 use Rattle.hs_reads.proofs.GrowLemmas.{both_ok, adds_such}

@@ -2,11 +2,11 @@ use Rattle.std.proofs.Common.{◌≡◌, ◌∙◌, ◌-◌, ◌<◌, ◌≤◌,
 use Rattle.std.specs.Prelude.{slice_index}
 use Rattle.hs_scheme.specs.declared.term.Head.{Head}
 use Rattle.hs_scheme.specs.Tree.{Tree}
-use Rattle.hs_scheme.specs.Automaton.{next}
-use Rattle.hs_scheme.specs.Cut.{unfolded}
-use Rattle.hs_scheme.specs.Sorted.{SortedData, sorts_of}
+use Rattle.hs_scheme.specs.acceptance.Automaton.{next}
+use Rattle.hs_scheme.specs.acceptance.Cut.{unfolded}
+use Rattle.hs_scheme.specs.sorting.Sorted.{SortedData, sorts_of}
 use Rattle.hs_scheme.specs.TreeTerms.{IsTreeTerm}
-use Rattle.hs_scheme.specs.FailingPath.{FailingPathData}
+use Rattle.hs_scheme.specs.acceptance.FailingPath.{FailingPathData}
 use Rattle.hs_reduce.specs.Path.{IsErrorFrom}
 use Rattle.hs_reduce.specs.Graph.{term_at, arguments_of, NamesTerms, Unfolds}
 use Rattle.hs_reduce.specs.Bounds.{ReadsCut, IsErrorWithin, IsFoundWithin}

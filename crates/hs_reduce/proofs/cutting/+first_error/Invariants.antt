@@ -1,8 +1,8 @@
 -- each search is one step shorter; the children so far are read to their ends
 use Rattle.std.proofs.Common.{◌≡◌, ◌-◌, map, drop}
 use Rattle.hs_scheme.specs.Tree.{forest}
-use Rattle.hs_scheme.specs.Cut.{cut}
-use Rattle.hs_scheme.specs.Run.{runs}
+use Rattle.hs_scheme.specs.acceptance.Cut.{cut}
+use Rattle.hs_scheme.specs.acceptance.Run.{runs}
 use Rattle.hs_reduce.specs.Graph.{terms_at, GrowsTrees}
 use Rattle.hs_reduce.proofs.cutting.+first_error.Given as goal
 

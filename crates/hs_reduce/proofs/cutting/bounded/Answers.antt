@@ -1,10 +1,10 @@
 use Rattle.std.proofs.Common.{◌∙◌, ap, subst, Option}
-use Rattle.hs_scheme.specs.Run.{start}
+use Rattle.hs_scheme.specs.acceptance.Run.{start}
 use Rattle.hs_scheme.specs.Scheme.{IsScheme}
-use Rattle.hs_scheme.specs.Sorted.{SortedData, IsSorted}
+use Rattle.hs_scheme.specs.sorting.Sorted.{SortedData, IsSorted}
 use Rattle.hs_scheme.specs.Tree.{Tree}
 use Rattle.hs_scheme.specs.declared.term.Head.{Head}
-use Rattle.hs_scheme.specs.FailingPath.{FailingPathData}
+use Rattle.hs_scheme.specs.acceptance.FailingPath.{FailingPathData}
 use Rattle.hs_reduce.specs.Graph.{term_at}
 use Rattle.hs_reduce.specs.Advances.{HasKnownSorts}
 use Rattle.hs_reduce.specs.Bounds.{IsErrorWithin, IsFoundWithin}

@@ -1,7 +1,7 @@
 -- the arguments so far are replaced, behind those of what stands for the head
 use Rattle.std.proofs.Common.{◌≡◌, ◌++◌, ◌<◌, length, map, take}
 use Rattle.std.specs.Prelude.{All}
-use Rattle.hs_scheme.specs.Replacement.{subst}
+use Rattle.hs_scheme.specs.acceptance.Replacement.{subst}
 use Rattle.hs_reduce.specs.Graph.{terms_at, GrowsTrees}
 use Rattle.hs_reduce.proofs.replacement.+substitute.Given as goal
 

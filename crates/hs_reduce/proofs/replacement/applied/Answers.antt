@@ -3,7 +3,7 @@ use Rattle.std.specs.Prelude.{IfOk}
 use Rattle.std.proofs.lemmas.Bool.{eqb-true}
 use Rattle.std.proofs.lemmas.List.{nil_from_length, map-append}
 use Rattle.hs_scheme.specs.Tree.{node, forest}
-use Rattle.hs_scheme.specs.Replacement.{applied}
+use Rattle.hs_scheme.specs.acceptance.Replacement.{applied}
 use Rattle.hs_steps.proofs.Terms.{applied-none}
 use Rattle.hs_reduce.specs.Graph.{term_at, terms_at, head_of, AddsTerm}
 use Rattle.hs_reduce.proofs.ReplacementLemmas.{AddsTerm-there, further}

@@ -24,7 +24,7 @@ next_at-requires c = (c.loop-place.invariant.index c.requires.index.0 c.requires
 
 pub returns-in_err-add_row-clause-index : goal.returns-in_err-add_row-clause-index
 returns-in_err-add_row-clause-index c types was =
-    asks_stopped c.args.interner.now c.numbers_are_exact.ensures c.args.rows.now types c.loop-place.asked.items c.args.indexed c.args.point (list_at c.loop-place.lists) (c.loop-place.invariant.index types was)
+    asks_stopped c.args.interner.now c.know_numbers.ensures c.args.rows.now types c.loop-place.asked.items c.args.indexed c.args.point (list_at c.loop-place.lists) (c.loop-place.invariant.index types was)
     c.requires.within c.loop-place.invariant.long c.index.result.now c.index.ensures c.in-Some.place c.in-Some.ensures.there c.in-Some.ensures.first c.index-rows-place.result c.index-rows-place.is
     (list_at c.add_row.new.lists) c.in_err-add_row.ensures.gains
 
@@ -37,7 +37,7 @@ loop-place-preserved c =
     record {
       long = omega (arith, length-set (set asked point place) point (place + 1), later);
       index = λ types was.
-          asks_more c.args.interner.now c.numbers_are_exact.ensures c.args.rows.now types asked c.args.indexed point (list_at c.loop-place.lists) (c.loop-place.invariant.index types was)
+          asks_more c.args.interner.now c.know_numbers.ensures c.args.rows.now types asked c.args.indexed point (list_at c.loop-place.lists) (c.loop-place.invariant.index types was)
           c.requires.within c.loop-place.invariant.long c.index.result.now c.index.ensures place c.in-Some.ensures.there c.in-Some.ensures.first c.index-rows-place.result c.index-rows-place.is
           (list_at c.add_row.new.lists) c.in_ok-add_row.ensures.gains c.in_ok-add_row.ensures.all;
     }
@@ -48,5 +48,5 @@ returns-clause-ok c =
     let types = c.requires.index.0 in
     let asked = c.loop-place.asked.items in
     let point = c.args.point in
-    all_asked ids (log_of ids c.args.rows.now) types asked c.args.indexed (list_at c.loop-place.lists) (c.loop-place.invariant.index types c.requires.index.1) c.numbers_are_exact.ensures point
+    all_asked ids (log_of ids c.args.rows.now) types asked c.args.indexed (list_at c.loop-place.lists) (c.loop-place.invariant.index types c.requires.index.1) c.know_numbers.ensures point
     (λ i there lt. omega (arith, number_read asked point c.index.result.now c.loop-place.invariant.long c.index.ensures, c.in_default.ensures.none i there lt))

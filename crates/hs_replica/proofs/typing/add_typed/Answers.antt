@@ -8,7 +8,7 @@ returns-in_err-first-clause-gains c =
     let ids = c.args.interner.now in
     let rows = c.args.rows.now in
     let row = c.index-rows-place.result in
-    typed_gains ids c.numbers_are_exact.ensures (log_of ids rows) c.args.place row (entry_at ids rows c.args.place row c.requires.place c.index-rows-place.is)
+    typed_gains ids c.know_numbers.ensures (log_of ids rows) c.args.place row (entry_at ids rows c.args.place row c.requires.place c.index-rows-place.is)
     (row_known ids rows c.args.place row c.requires.place c.index-rows-place.is c.requires.rows).1 (list_at c.args.lists.now) c.requires.next (list_at c.add_once.new.lists) c.in_err-first.ensures.adds
 
 pub returns-clause-gains : goal.returns-clause-gains
@@ -16,7 +16,7 @@ returns-clause-gains c =
     let ids = c.args.interner.now in
     let rows = c.args.rows.now in
     let row = c.index-rows-place.result in
-    all_gains ids c.numbers_are_exact.ensures (log_of ids rows) c.args.place row (entry_at ids rows c.args.place row c.requires.place c.index-rows-place.is)
+    all_gains ids c.know_numbers.ensures (log_of ids rows) c.args.place row (entry_at ids rows c.args.place row c.requires.place c.index-rows-place.is)
     (row_known ids rows c.args.place row c.requires.place c.index-rows-place.is c.requires.rows).1 (list_at c.args.lists.now) c.requires.next (list_at c.add_once.new.lists) c.in_ok-first.ensures.adds
     c.in_ok-first.ensures.there (list_at c.add_first.new.lists) c.add_first.ensures.gains
 
@@ -26,7 +26,7 @@ returns-clause-all c =
     let rows = c.args.rows.now in
     let row = c.index-rows-place.result in
     on_ok_weaker c.add_first.result
-    (all_met ids c.numbers_are_exact.ensures (log_of ids rows) c.args.place row (entry_at ids rows c.args.place row c.requires.place c.index-rows-place.is)
+    (all_met ids c.know_numbers.ensures (log_of ids rows) c.args.place row (entry_at ids rows c.args.place row c.requires.place c.index-rows-place.is)
     (row_known ids rows c.args.place row c.requires.place c.index-rows-place.is c.requires.rows).1 (list_at c.args.lists.now) c.requires.next (list_at c.add_once.new.lists) c.in_ok-first.ensures.adds
     c.in_ok-first.ensures.there (list_at c.add_first.new.lists) c.add_first.ensures.gains)
     c.add_first.ensures.all

@@ -25,7 +25,7 @@ next_at-requires c = (c.loop-place.invariant.index c.requires.index.0 c.requires
 
 pub add_typed-requires-clause-next : goal.add_typed-requires-clause-next
 add_typed-requires-clause-next c =
-    types_next c.args.interner.now c.numbers_are_exact.ensures (log_of c.args.interner.now c.args.rows.now) c.loop-place.by_type.items c.requires.index.0 c.args.indexed c.args.point (list_at c.loop-place.lists)
+    types_next c.args.interner.now c.know_numbers.ensures (log_of c.args.interner.now c.args.rows.now) c.loop-place.by_type.items c.requires.index.0 c.args.indexed c.args.point (list_at c.loop-place.lists)
     (c.loop-place.invariant.index c.requires.index.0 c.requires.index.1)
     c.loop-place.invariant.long c.index-in-loop-place.result.now c.index-in-loop-place.ensures c.in-Some.place c.in-Some.ensures.there c.in-Some.ensures.first
 
@@ -36,7 +36,7 @@ returns-then-index-indexed-clause-index c asked was =
 
 pub returns-in_err-add_typed-clause-index : goal.returns-in_err-add_typed-clause-index
 returns-in_err-add_typed-clause-index c asked was =
-    types_stopped c.args.interner.now c.numbers_are_exact.ensures (log_of c.args.interner.now c.args.rows.now) c.loop-place.by_type.items asked c.args.indexed c.args.point (list_at c.loop-place.lists)
+    types_stopped c.args.interner.now c.know_numbers.ensures (log_of c.args.interner.now c.args.rows.now) c.loop-place.by_type.items asked c.args.indexed c.args.point (list_at c.loop-place.lists)
     (c.loop-place.invariant.index asked was)
     c.loop-place.invariant.long c.index-in-loop-place.result.now c.index-in-loop-place.ensures c.in-Some.place c.in-Some.ensures.there c.in-Some.ensures.first
     (list_at c.add_typed.new.lists) c.in_err-add_typed.ensures.gains
@@ -57,7 +57,7 @@ loop-place-preserved c =
       long = omega (arith, length-set (set by_type point place) point (place + 1), later);
       more = types_rise c.args.by_type.now.items (set by_type point place) point place (place + 1) later (number_written by_type point place long) (omega arith) more;
       index = λ asked was.
-          types_more c.args.interner.now c.numbers_are_exact.ensures (log_of c.args.interner.now c.args.rows.now) by_type asked c.args.indexed point (list_at c.loop-place.lists) (c.loop-place.invariant.index asked was)
+          types_more c.args.interner.now c.know_numbers.ensures (log_of c.args.interner.now c.args.rows.now) by_type asked c.args.indexed point (list_at c.loop-place.lists) (c.loop-place.invariant.index asked was)
           long c.index-in-loop-place.result.now c.index-in-loop-place.ensures place c.in-Some.ensures.there c.in-Some.ensures.first
           (list_at c.add_typed.new.lists) c.in_ok-add_typed.ensures.gains c.in_ok-add_typed.ensures.all;
     }
@@ -65,7 +65,7 @@ loop-place-preserved c =
 pub returns-clause-index : goal.returns-clause-index
 returns-clause-index c asked was =
     let ids = c.args.interner.now in
-    types_all ids c.numbers_are_exact.ensures (log_of ids c.args.rows.now) c.loop-place.by_type.items asked c.args.indexed c.args.point (list_at c.loop-place.lists) (c.loop-place.invariant.index asked was)
+    types_all ids c.know_numbers.ensures (log_of ids c.args.rows.now) c.loop-place.by_type.items asked c.args.indexed c.args.point (list_at c.loop-place.lists) (c.loop-place.invariant.index asked was)
     c.loop-place.invariant.long c.index-in-loop-place.result.now c.index-in-loop-place.ensures c.in_default.ensures.none
 
 pub returns-clause-more : goal.returns-clause-more
@@ -73,6 +73,6 @@ returns-clause-more c =
     let ids = c.args.interner.now in
     let by_type = c.loop-place.by_type.items in
     types_rise c.args.by_type.now.items by_type c.args.point c.index-in-loop-place.result.now c.args.indexed c.loop-place.invariant.long c.index-in-loop-place.ensures
-    (types_within ids c.numbers_are_exact.ensures (log_of ids c.args.rows.now) by_type c.requires.index.0 c.args.indexed c.args.point (list_at c.loop-place.lists)
+    (types_within ids c.know_numbers.ensures (log_of ids c.args.rows.now) by_type c.requires.index.0 c.args.indexed c.args.point (list_at c.loop-place.lists)
     (c.loop-place.invariant.index c.requires.index.0 c.requires.index.1) c.loop-place.invariant.long c.index-in-loop-place.result.now c.index-in-loop-place.ensures)
     c.loop-place.invariant.more

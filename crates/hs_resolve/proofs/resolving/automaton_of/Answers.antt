@@ -1,5 +1,5 @@
 use Rattle.std.proofs.Common.{◌≡◌, ◌∙◌, sym, subst}
-use Rattle.hs_scheme.specs.Automaton.{AutomatonData, IsAutomaton}
+use Rattle.hs_scheme.specs.acceptance.Automaton.{AutomatonData, IsAutomaton}
 use Rattle.hs_resolve.specs.Tables.{automaton_with}
 use Rattle.hs_resolve.proofs.resolving.automaton_of.Goals as goal
 

@@ -1,14 +1,14 @@
 use Rattle.std.proofs.Common.{◌∙◌, sym, subst, ap, refl, inl, inr, List, ℕ, length, Option, IfNone, arith}
 use Rattle.std.proofs.lemmas.Result.{err_from_is_err_and}
-use Rattle.hs_scheme.specs.Automaton.{IsAutomaton}
-use Rattle.hs_scheme.specs.Unsorted.{UnsortedData, IsUnsorted}
+use Rattle.hs_scheme.specs.acceptance.Automaton.{IsAutomaton}
+use Rattle.hs_scheme.specs.sorting.Unsorted.{UnsortedData, IsUnsorted}
 use Rattle.hs_resolve.specs.declared.fault.NameFault.{NameFault}
 use Rattle.hs_resolve.specs.declared.resolving.Tables.{Tables}
 use Rattle.hs_resolve.specs.declared.resolving.Numbered.{Numbered}
 use Rattle.hs_resolve.specs.declared.resolving.Resolved.{Resolved}
 use Rattle.hs_resolve.specs.Answer.{IsFaultless}
 use Rattle.hs_resolve.proofs.FirstFault.{not_both, one_fault_is}
-use Rattle.hs_resolve.proofs.Sound.{is_automaton, is_unsorted, made-is}
+use Rattle.hs_resolve.proofs.Sound.{know_automaton, is_unsorted, made-is}
 use Rattle.hs_resolve.proofs.resolving.decide.Goals as goal
 
 abbrev of_args : Tables → Numbered → Resolved
@@ -30,7 +30,7 @@ put_together-requires-clause-automaton c =
     let raw = c.requires.some.0 in
     let is = c.requires.some.1 in
     let clean : IsFaultless raw = subst (λ (o : Option NameFault). IfNone o (IsFaultless raw)) c.in_default.is (c.first_fault.ensures.none raw is.tables is.lines) in
-    subst IsAutomaton (ap (λ (u : UnsortedData). u.automaton) (sym (made-is raw (of_args c.args.tables.now c.args.numbered) is clean))) (is_automaton raw is.numbered.inside clean)
+    subst IsAutomaton (ap (λ (u : UnsortedData). u.automaton) (sym (made-is raw (of_args c.args.tables.now c.args.numbered) is clean))) (know_automaton raw is.numbered.inside clean)
 
 pub put_together-requires-clause-scheme : goal.put_together-requires-clause-scheme
 put_together-requires-clause-scheme c =

@@ -1,5 +1,5 @@
 use Rattle.std.proofs.Common.{◌≡◌, sym, subst}
-use Rattle.hs_scheme.specs.Unsorted.{IsUnsorted}
+use Rattle.hs_scheme.specs.sorting.Unsorted.{IsUnsorted}
 use Rattle.hs_resolve.specs.Tables.{made_of}
 use Rattle.hs_resolve.proofs.resolving.put_together.Goals as goal
 

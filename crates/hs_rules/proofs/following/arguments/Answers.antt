@@ -1,5 +1,5 @@
 use Rattle.std.proofs.Common.{◌≡◌, sym, ◌∙◌, ap, subst, ℕ, ◌<◌, ◌≤◌, List, [], length, slice_get, All, arith}
-use Rattle.hs_scheme.specs.Points.{PointsData, point_at, points_of}
+use Rattle.hs_scheme.specs.flow.Points.{PointsData, point_at, points_of}
 use Rattle.hs_scheme.specs.Problem.{ProblemData}
 use Rattle.std.proofs.lemmas.Option.{slice_get-get_or}
 use Rattle.hs_scheme.specs.declared.term.Head.TheVariants.{Tm}

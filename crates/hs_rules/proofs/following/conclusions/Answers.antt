@@ -1,14 +1,15 @@
 use Rattle.std.proofs.Common.{◌≡◌, sym, ◌∙◌, ap, subst, ℕ, ◌≤◌, arith, List, length, take, All}
 use Rattle.std.proofs.lemmas.List.{take_all}
 use Rattle.std.proofs.lemmas.List.Elements.{All-contains, All-take}
-use Rattle.hs_scheme.specs.Points.{PointsData, point_at, points_of, NonterminalWithin, ParameterWithin}
+use Rattle.hs_scheme.specs.flow.Points.{PointsData, point_at, points_of, NonterminalWithin, ParameterWithin}
 use Rattle.hs_scheme.specs.Problem.{ProblemData}
 use Rattle.hs_table.specs.Entries.{EntryData, InShape}
-use Rattle.hs_types.specs.Interned.{InternerData, Grows}
+use Rattle.hs_types.specs.Interned.{InternerData, IsInterner, Grows}
 use Rattle.hs_types.proofs.Numbers.{Grows-refl}
 use Rattle.hs_replica.specs.Replica.{ReplicaData}
 use Rattle.hs_rules.specs.Conclusions.{AnySupport, AreConclusions}
 use Rattle.hs_rules.proofs.PartLemmas.{part_conclusions, part_none, have_envs, point_parts, head_within}
+use Rattle.hs_rules.proofs.ListedLemmas.{tells_indexed, tells_then, whole_then}
 use Rattle.hs_rules.proofs.following.conclusions.Goals as goal
 
 pub add_all-requires-clause-search : goal.add_all-requires-clause-search
@@ -62,7 +63,7 @@ returns-clause-found c =
     let le : length log ≤ c.len-limit.result = omega (arith, c.len-limit.ensures.len) in
     let whole = take_all c.len-limit.result log le ∙ ap (λ (r : ReplicaData). r.log) c.in_ok-index.ensures.kept in
     subst (λ (E : List EntryData). AreConclusions p K E c.args.point AnySupport found) whole
-    (part_conclusions p K (take c.len-limit.result log) c.args.point AnySupport c.add_all.new.found.rows.keys found c.in_ok-add_all.ensures.part c.in_ok-add_all.ensures.all)
+    (part_conclusions p K (take c.len-limit.result log) c.args.point AnySupport c.add_all.new.found.rows.keys found (subst (λ (I : InternerData). IsInterner I) c.interner.ensures c.know_numbers.ensures) c.in_ok-add_all.ensures.part c.in_ok-add_all.ensures.all)
 
 pub returns-in_err-index-clause-log : goal.returns-in_err-index-clause-log
 returns-in_err-index-clause-log c = ap (λ (r : ReplicaData). r.log) c.index.ensures.kept
@@ -90,3 +91,15 @@ returns-clause-spare c = c.add_all.ensures.kept.spare ∙ ap (λ (r : ReplicaDat
 
 pub returns-clause-grows : goal.returns-clause-grows
 returns-clause-grows c = subst (λ (I : InternerData). Grows I c.add_all.new.replica.ids) (ap (λ (r : ReplicaData). r.ids) c.index.ensures.kept) c.add_all.ensures.kept.grows
+
+pub returns-in_err-index-clause-listed : goal.returns-in_err-index-clause-listed
+returns-in_err-index-clause-listed c = tells_indexed c.args.replica.now c.index.new.self c.index.ensures.kept c.index.ensures.more
+
+pub returns-in_err-add_all-clause-listed : goal.returns-in_err-add_all-clause-listed
+returns-in_err-add_all-clause-listed c = tells_then c.args.replica.now c.index.new.self c.index.ensures.kept c.index.ensures.more c.add_all.new.replica c.add_all.ensures.kept
+
+pub returns-clause-listed : goal.returns-clause-listed
+returns-clause-listed c = tells_then c.args.replica.now c.index.new.self c.index.ensures.kept c.index.ensures.more c.add_all.new.replica c.add_all.ensures.kept
+
+pub returns-clause-whole : goal.returns-clause-whole
+returns-clause-whole c = whole_then c.index.new.self c.add_all.new.replica c.in_ok-index.ensures.ok c.add_all.ensures.kept

@@ -1,13 +1,14 @@
 use Rattle.std.proofs.Common.{◌≡◌, sym, ◌∙◌, ap, subst, ℕ, ◌+◌, List, length, take, All, arith}
 use Rattle.std.proofs.lemmas.List.Elements.{All-contains, All-take}
-use Rattle.hs_scheme.specs.Points.{PointsData, point_at, points_of, NonterminalWithin, ParameterWithin}
+use Rattle.hs_scheme.specs.flow.Points.{PointsData, point_at, points_of, NonterminalWithin, ParameterWithin}
 use Rattle.hs_scheme.specs.Problem.{ProblemData}
 use Rattle.hs_table.specs.Entries.{EntryData, InShape}
-use Rattle.hs_types.specs.Interned.{InternerData, Grows}
+use Rattle.hs_types.specs.Interned.{InternerData, IsInterner, Grows}
 use Rattle.hs_types.proofs.Numbers.{Grows-refl}
 use Rattle.hs_replica.specs.Replica.{ReplicaData}
 use Rattle.hs_rules.specs.Conclusions.{Uses, AreConclusions}
 use Rattle.hs_rules.proofs.PartLemmas.{part_conclusions, part_none, have_envs, point_parts, head_within}
+use Rattle.hs_rules.proofs.ListedLemmas.{tells_indexed, tells_then, whole_then}
 use Rattle.hs_rules.proofs.following.conclusions_with.Goals as goal
 
 pub add_with-requires-clause-search : goal.add_with-requires-clause-search
@@ -67,7 +68,7 @@ returns-clause-found c =
     let K = c.add_with.new.replica.ids in
     let found = c.add_with.new.found.list.items in
     subst (λ (l : List EntryData). AreConclusions p K (take (c.args.place + 1) l) c.args.point (Uses c.args.place) found) (ap (λ (r : ReplicaData). r.log) c.in_ok-index.ensures.kept)
-    (part_conclusions p K (take (c.args.place + 1) c.index.new.self.log) c.args.point (Uses c.args.place) c.add_with.new.found.rows.keys found c.in_ok-add_with.ensures.part c.in_ok-add_with.ensures.all)
+    (part_conclusions p K (take (c.args.place + 1) c.index.new.self.log) c.args.point (Uses c.args.place) c.add_with.new.found.rows.keys found (subst (λ (I : InternerData). IsInterner I) c.interner.ensures c.know_numbers.ensures) c.in_ok-add_with.ensures.part c.in_ok-add_with.ensures.all)
 
 pub returns-in_err-index-clause-log : goal.returns-in_err-index-clause-log
 returns-in_err-index-clause-log c = ap (λ (r : ReplicaData). r.log) c.index.ensures.kept
@@ -95,3 +96,15 @@ returns-clause-spare c = c.add_with.ensures.kept.spare ∙ ap (λ (r : ReplicaDa
 
 pub returns-clause-grows : goal.returns-clause-grows
 returns-clause-grows c = subst (λ (I : InternerData). Grows I c.add_with.new.replica.ids) (ap (λ (r : ReplicaData). r.ids) c.index.ensures.kept) c.add_with.ensures.kept.grows
+
+pub returns-in_err-index-clause-listed : goal.returns-in_err-index-clause-listed
+returns-in_err-index-clause-listed c = tells_indexed c.args.replica.now c.index.new.self c.index.ensures.kept c.index.ensures.more
+
+pub returns-in_err-add_with-clause-listed : goal.returns-in_err-add_with-clause-listed
+returns-in_err-add_with-clause-listed c = tells_then c.args.replica.now c.index.new.self c.index.ensures.kept c.index.ensures.more c.add_with.new.replica c.add_with.ensures.kept
+
+pub returns-clause-listed : goal.returns-clause-listed
+returns-clause-listed c = tells_then c.args.replica.now c.index.new.self c.index.ensures.kept c.index.ensures.more c.add_with.new.replica c.add_with.ensures.kept
+
+pub returns-clause-whole : goal.returns-clause-whole
+returns-clause-whole c = whole_then c.index.new.self c.add_with.new.replica c.in_ok-index.ensures.ok c.add_with.ensures.kept

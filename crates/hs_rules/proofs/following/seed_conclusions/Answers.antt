@@ -1,12 +1,13 @@
 use Rattle.std.proofs.Common.{◌∙◌, ap, [], refl, subst}
-use Rattle.hs_scheme.specs.Points.{PointsData, point_at}
+use Rattle.hs_scheme.specs.flow.Points.{PointsData, point_at}
 use Rattle.hs_scheme.specs.Problem.{ProblemData}
 use Rattle.hs_rules.specs.Conclusions.{AnySupport}
 use Rattle.hs_rules.proofs.PartLemmas.{part_conclusions, point_parts}
 use Rattle.hs_rules.proofs.SeedLemmas.{nothing_follows}
-use Rattle.hs_types.specs.Interned.{InternerData, Grows}
+use Rattle.hs_types.specs.Interned.{InternerData, IsInterner, Grows}
 use Rattle.hs_types.proofs.Numbers.{Grows-refl}
 use Rattle.hs_replica.specs.Replica.{ReplicaData}
+use Rattle.hs_rules.proofs.ListedLemmas.{tells_indexed, tells_then, tells_same}
 use Rattle.hs_rules.proofs.following.seed_conclusions.Goals as goal
 
 pub add_seeds-requires-clause-at : goal.add_seeds-requires-clause-at
@@ -19,7 +20,7 @@ add_seeds-requires-clause-at c =
 
 pub returns-clause-found : goal.returns-clause-found
 returns-clause-found c =
-    part_conclusions c.args.problem.now c.add_seeds.new.replica.ids [] c.args.point AnySupport c.add_seeds.new.found.rows.keys c.add_seeds.new.found.list.items c.in_ok-add_seeds.ensures.part c.in_ok-add_seeds.ensures.all
+    part_conclusions c.args.problem.now c.add_seeds.new.replica.ids [] c.args.point AnySupport c.add_seeds.new.found.rows.keys c.add_seeds.new.found.list.items (subst (λ (I : InternerData). IsInterner I) c.interner-2.ensures c.know_numbers-2.ensures) c.in_ok-add_seeds.ensures.part c.in_ok-add_seeds.ensures.all
 
 pub returns-then-starts_nothing-clause-found : goal.returns-then-starts_nothing-clause-found
 returns-then-starts_nothing-clause-found c =
@@ -31,7 +32,7 @@ returns-then-starts_nothing-clause-found c =
     let at = point_parts p.points c.args.point rule head args c.requires.point
     (c.rule_of-rule.ensures.rule ∙ ap (λ (x : PointsData). (point_at x c.args.point).rule) points)
     (c.head_of-head.ensures.head ∙ ap (λ (x : PointsData). (point_at x c.args.point).head) points) c.arguments-args.ensures.args in
-    nothing_follows p c.args.replica.now.ids c.args.point (record { rule = rule; head = head; args = args }) c.new.result.items c.new.ensures.items at
+    nothing_follows p c.args.replica.now.ids c.args.point (record { rule = rule; head = head; args = args }) c.new.result.items c.new.ensures.items at (subst (λ (I : InternerData). IsInterner I) c.interner.ensures c.know_numbers.ensures)
     (c.starts_nothing.ensures rule c.args.replica.now.ids c.if-starts_nothing.true)
 
 pub returns-then-starts_nothing-clause-log : goal.returns-then-starts_nothing-clause-log
@@ -69,3 +70,15 @@ returns-clause-spare c = c.add_seeds.ensures.kept.spare ∙ ap (λ (r : ReplicaD
 
 pub returns-clause-grows : goal.returns-clause-grows
 returns-clause-grows c = subst (λ (I : InternerData). Grows I c.add_seeds.new.replica.ids) (ap (λ (r : ReplicaData). r.ids) c.index.ensures.kept) c.add_seeds.ensures.kept.grows
+
+pub returns-then-starts_nothing-clause-listed : goal.returns-then-starts_nothing-clause-listed
+returns-then-starts_nothing-clause-listed c = tells_same c.args.replica.now
+
+pub returns-in_err-index-clause-listed : goal.returns-in_err-index-clause-listed
+returns-in_err-index-clause-listed c = tells_indexed c.args.replica.now c.index.new.self c.index.ensures.kept c.index.ensures.more
+
+pub returns-in_err-add_seeds-clause-listed : goal.returns-in_err-add_seeds-clause-listed
+returns-in_err-add_seeds-clause-listed c = tells_then c.args.replica.now c.index.new.self c.index.ensures.kept c.index.ensures.more c.add_seeds.new.replica c.add_seeds.ensures.kept
+
+pub returns-clause-listed : goal.returns-clause-listed
+returns-clause-listed c = tells_then c.args.replica.now c.index.new.self c.index.ensures.kept c.index.ensures.more c.add_seeds.new.replica c.add_seeds.ensures.kept

@@ -1,9 +1,15 @@
 use Rattle.std.proofs.Common.{sym, ◌∙◌, ap, subst, List, inl, inr, Contains}
 use Rattle.std.proofs.lemmas.List.{take_all}
+use Rattle.hs_scheme.proofs.Lists.{none_in}
+use Rattle.hs_table.specs.Follows.{Support}
 use Rattle.hs_rules.specs.Joins.{PartialData}
-use Rattle.hs_rules.specs.Found.{HeadData, HasRow}
+use Rattle.hs_rules.specs.Found.{HeadData, HasNoGreater, HasRow}
 use Rattle.hs_rules.proofs.Lists.{taken_cases}
+use Rattle.hs_rules.proofs.FoundLemmas.{lowers_none, lower_then, lowers_then}
 use Rattle.hs_rules.proofs.found.add_all.Goals as goal
+
+pub loop-partial-init : goal.loop-partial-init
+loop-partial-init c = record { rows = c.requires; lowers = lowers_none c.args.found.now.list.items; rows_of = λ d there. inl there; all = λ x there. absurd (none_in x there) }
 
 pub loop-partial-preserved : goal.loop-partial-preserved
 loop-partial-preserved c =
@@ -15,18 +21,19 @@ loop-partial-preserved c =
     let env_is = ap (λ (x : PartialData). x.env) c.partial.view_is in
     let args_is = c.as_slice.ensures ∙ ap (λ (x : PartialData). x.args) c.partial.view_is in
     record {
-      rows = c.in_ok-add.ensures.rows;
-      keeps = λ d there. c.in_ok-add.ensures.keeps d (c.loop-partial.invariant.keeps d there);
-      rows_of = λ d there. elim (c.in_ok-add.ensures.only d there) [
+      rows = c.in_ok-add_found.ensures.rows;
+      lowers = lowers_then c.args.found.now.list.items c.loop-partial.found.list.items c.add_found.new.found.list.items c.loop-partial.invariant.lowers c.in_ok-add_found.ensures.lowers;
+      rows_of = λ d there. elim (c.in_ok-add_found.ensures.only d there) [
         | inl was ↦ c.loop-partial.invariant.rows_of d was
         | inr is ↦ inr (record { from = item; among = among; is = is ∙ (λ i. record { row = record { point = c.args.point; env = env_is i; ty = rest_is i }; support = record { head = by_is i; args = args_is i } }) })
       ];
       all = λ x there. elim (taken_cases c.args.partials.now c.loop-partial.partial-index item x c.loop-partial-test.true c.partial-item.is there) [
-        | inl was ↦ let r = c.loop-partial.invariant.all x was in record { item = r.item; there = c.in_ok-add.ensures.keeps r.item r.there; is = r.is }
+        | inl was ↦ lower_then c.loop-partial.found.list.items c.add_found.new.found.list.items (record { point = c.args.point; env = x.env; ty = h.rest }) (record { head = h.by; args = x.args }) (c.loop-partial.invariant.all x was) c.in_ok-add_found.ensures.lowers
         | inr is ↦
-            let r = c.in_ok-add.ensures.there in
-            subst (λ (y : PartialData). HasRow c.args.point h y c.add.new.found.list.items) (sym is)
-            (record { item = r.0; there = r.1; is = r.2 ∙ (λ i. record { point = c.args.point; env = env_is i; ty = rest_is i }) })
+            let r = c.in_ok-add_found.ensures.there in
+            subst (λ (y : PartialData). HasRow c.args.point h y c.add_found.new.found.list.items) (sym is)
+            (subst (λ (s : Support). HasNoGreater c.add_found.new.found.list.items (record { point = c.args.point; env = item.env; ty = h.rest }) s) (λ i. record { head = by_is i; args = args_is i })
+            (record { item = r.item; there = r.there; is = r.is ∙ (λ i. record { point = c.args.point; env = env_is i; ty = rest_is i }); least = r.least }))
       ];
     }
 

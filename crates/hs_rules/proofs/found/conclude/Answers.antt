@@ -10,7 +10,7 @@ use Rattle.hs_rules.specs.Joins.{PartialData, ArePlaced, AreJoined}
 use Rattle.hs_rules.specs.Found.{HeadData, seek, IsRowOf, HasRow, HeadLeadsTo, IsDeducedBy, HasEnvFound}
 use Rattle.hs_rules.proofs.KeepLemmas.{keeps_then, as_before, as_then, lists_keep}
 use Rattle.hs_rules.proofs.Lists.{on_ok_map}
-use Rattle.hs_rules.proofs.FoundLemmas.{filled_placed, rows_conclude, conclude_rows}
+use Rattle.hs_rules.proofs.FoundLemmas.{lowers_none, filled_rise, filled_placed, rows_conclude, conclude_rows}
 use Rattle.hs_rules.proofs.found.conclude.Goals as goal
 
 pub fill-requires-clause-search : goal.fill-requires-clause-search
@@ -34,8 +34,8 @@ returns-in_err-complete-clause-kept c = lists_keep c.args.replica.now c.fill.new
 pub returns-then-not-complete-clause-rows : goal.returns-then-not-complete-clause-rows
 returns-then-not-complete-clause-rows c = c.requires.rows
 
-pub returns-then-not-complete-clause-keeps : goal.returns-then-not-complete-clause-keeps
-returns-then-not-complete-clause-keeps c = λ d there. there
+pub returns-then-not-complete-clause-lowers : goal.returns-then-not-complete-clause-lowers
+returns-then-not-complete-clause-lowers c = lowers_none c.args.found.now.list.items
 
 pub returns-then-not-complete-clause-only : goal.returns-then-not-complete-clause-only
 returns-then-not-complete-clause-only c = λ d there. inl there
@@ -75,6 +75,13 @@ joined-requires-clause-placed c = λ f there.
     (subst (λ (n : ℕ). ArePlaced log (length (env_of_id ids n)) f) (sym (ap (λ (x : HeadData). x.own) c.head.view_is))
     (filled_placed log s.limit (fixed_of log s.fixed) s.args (map (set_of_id ids) h.sets) c.fill.new.out.items (length (env_of_id ids h.own)) filled c.requires.envs f
     (subst (λ (fs : List FilledData). Contains fs f) c.as_slice-filled.ensures there)))
+
+pub joined-requires-clause-rise : goal.joined-requires-clause-rise
+joined-requires-clause-rise c = λ f there.
+    let log = c.args.replica.now.log in
+    let s = seek c.args.search.now in
+    filled_rise log s.limit (fixed_of log s.fixed) (slots 0 s.args (map (set_of_id c.args.replica.now.ids) c.as_slice-sets.result.now)) c.fill.new.out.items (OnTrue_at c.if-not-complete.false c.in_ok-complete.ensures.filled) f
+    (subst (λ (fs : List FilledData). Contains fs f) c.as_slice-filled.ensures there)
 
 pub returns-clause-only : goal.returns-clause-only
 returns-clause-only c =
@@ -116,7 +123,7 @@ returns-clause-all c =
     (subst (λ (gs : List FilledData). AreJoined K c.fill.new.replica.log (length (env_of_id c.fill.new.replica.ids c.head.inside.own)) (env_of_id c.fill.new.replica.ids c.head.inside.own) gs partials) c.as_slice-filled.ensures
     c.in_ok-joined.ensures.joined)) in
     on_ok_map c.add_all.result ((x : PartialData) → Contains c.as_slice-joins.result.now x → HasRow s.point h x c.add_all.new.found.list.items)
-    ((args : List (ℕ × ℕ)) (env : Env) → HeadLeadsTo ids log s h args env → HasEnvFound K s h env c.add_all.new.found.list.items)
+    ((args : List (ℕ × ℕ)) (env : Env) → HeadLeadsTo ids log s h args env → HasEnvFound K s h args env c.add_all.new.found.list.items)
     (λ all. conclude_rows ids K log s h fs partials filled joined c.add_all.new.found.list.items (λ x there. all x (subst (λ (xs : List PartialData). Contains xs x) (sym c.as_slice-joins.ensures) there))) c.add_all.ensures.all
 
 pub returns-in_err-joined-clause-kept : goal.returns-in_err-joined-clause-kept
@@ -128,8 +135,8 @@ add_all-requires c = c.requires.rows
 pub returns-clause-rows : goal.returns-clause-rows
 returns-clause-rows c = c.add_all.ensures.rows
 
-pub returns-clause-keeps : goal.returns-clause-keeps
-returns-clause-keeps c = c.add_all.ensures.keeps
+pub returns-clause-lowers : goal.returns-clause-lowers
+returns-clause-lowers c = c.add_all.ensures.lowers
 
 pub returns-clause-kept : goal.returns-clause-kept
 returns-clause-kept c = keeps_then c.args.replica.now c.fill.new.replica c.joined.new.replica (lists_keep c.args.replica.now c.fill.new.replica c.in_ok-complete.ensures.kept) c.in_ok-joined.ensures.kept

@@ -2,8 +2,9 @@ use Rattle.std.proofs.Common.{sym, subst, List, inl, inr, Contains}
 use Rattle.std.proofs.lemmas.List.{take_all}
 use Rattle.hs_rules.specs.Found.{HeadData, seek, HeadLeadsTo, HasEnvFound}
 use Rattle.hs_rules.proofs.Lists.{taken_cases}
-use Rattle.hs_rules.proofs.KeepLemmas.{keeps_then}
-use Rattle.hs_rules.proofs.FoundLemmas.{known_later, envs_later, leads_later, conclusion_earlier, conclusion_later, found_later}
+use Rattle.hs_scheme.proofs.Lists.{none_in}
+use Rattle.hs_rules.proofs.KeepLemmas.{keeps_none, keeps_then}
+use Rattle.hs_rules.proofs.FoundLemmas.{lowers_none, lowers_then, known_later, envs_later, leads_later, conclusion_earlier, conclusion_later, found_later}
 use Rattle.hs_rules.proofs.found.conclude_all.Goals as goal
 
 pub conclude-requires-clause-head : goal.conclude-requires-clause-head
@@ -16,6 +17,15 @@ conclude-requires-clause-envs c =
     let among : Contains c.args.heads.now c.head-item.result = (c.loop-head.head-index, c.loop-head-test.true, sym c.head-item.is) in
     envs_later c.args.replica.now.ids c.loop-head.replica.ids c.args.replica.now.log c.loop-head.replica.log c.args.search.now.limit c.args.search.now.args.now c.head-item.result c.loop-head.invariant.kept.grows
     c.loop-head.invariant.kept.log (c.requires.heads c.head-item.result among).own (c.requires.envs c.head-item.result among)
+
+pub loop-head-init : goal.loop-head-init
+loop-head-init c = record {
+  kept = keeps_none c.args.replica.now;
+  rows = c.requires.rows;
+  lowers = lowers_none c.args.found.now.list.items;
+  concluded = λ d there. inl there;
+  all = λ x there. absurd (none_in x there);
+}
 
 pub loop-head-preserved : goal.loop-head-preserved
 loop-head-preserved c =
@@ -34,7 +44,7 @@ loop-head-preserved c =
     record {
       kept = keeps_then c.args.replica.now c.loop-head.replica c.conclude.new.replica c.loop-head.invariant.kept c.in_ok-conclude.ensures.kept;
       rows = c.in_ok-conclude.ensures.rows;
-      keeps = λ d there. c.in_ok-conclude.ensures.keeps d (c.loop-head.invariant.keeps d there);
+      lowers = lowers_then c.args.found.now.list.items c.loop-head.found.list.items c.conclude.new.found.list.items c.loop-head.invariant.lowers c.in_ok-conclude.ensures.lowers;
       concluded = λ d there. elim (c.in_ok-conclude.ensures.only d there) [
         | inl was ↦ elim (c.loop-head.invariant.concluded d was) [
           | inl first ↦ inl first
@@ -43,9 +53,9 @@ loop-head-preserved c =
         | inr k ↦ inr (item, among, conclusion_earlier I J K log later s item g same known d k)
       ];
       all = λ x there args env leads. elim (taken_cases c.args.heads.now c.loop-head.head-index item x c.loop-head-test.true c.head-item.is there) [
-        | inl was ↦ found_later J K s x env c.loop-head.found.list.items c.conclude.new.found.list.items h c.in_ok-conclude.ensures.keeps (c.loop-head.invariant.all x was args env leads)
+        | inl was ↦ found_later J K s x args env c.loop-head.found.list.items c.conclude.new.found.list.items h c.in_ok-conclude.ensures.lowers (c.loop-head.invariant.all x was args env leads)
         | inr is ↦
-            subst (λ (y : HeadData). HasEnvFound K s y env c.conclude.new.found.list.items) (sym is)
+            subst (λ (y : HeadData). HasEnvFound K s y args env c.conclude.new.found.list.items) (sym is)
             (c.in_ok-conclude.ensures.all args env (leads_later I J log later s item g same known args env (subst (λ (y : HeadData). HeadLeadsTo I log s y args env) is leads)))
       ];
     }

@@ -1,6 +1,6 @@
 use Rattle.std.proofs.Common.{◌≡◌, refl, sym, ap, subst, ℕ, List, length, take, Option, None, OnOk, Contains, ◌⊎◌}
 use Rattle.std.proofs.lemmas.List.Elements.{All-contains}
-use Rattle.hs_scheme.specs.Points.{PointData}
+use Rattle.hs_scheme.specs.flow.Points.{PointData}
 use Rattle.hs_table.specs.Entries.{Env, EntryData, InShape}
 use Rattle.hs_types.specs.Interned.{env_of_id}
 use Rattle.hs_rules.specs.Conclusions.{DeducedData, AnySupport}
@@ -72,8 +72,8 @@ returns-clause-all c =
     let are = c.in_ok-heads_all.ensures.heads in
     let new = c.conclude_all.new.found.list.items in
     let shapes = λ (e : EntryData) (m : Contains E e). All-contains (InShape p) E e c.requires.spot.shapes m in
-    let all = along (λ i. OnOk c.conclude_all.result ((h : HeadData) → Contains (c.as_slice.ensures i) h → (args : List (ℕ × ℕ)) (env : Env) → HeadLeadsTo J (same i) s h args env → HasEnvFound K s h env new)) c.conclude_all.ensures.all in
+    let all = along (λ i. OnOk c.conclude_all.result ((h : HeadData) → Contains (c.as_slice.ensures i) h → (args : List (ℕ × ℕ)) (env : Env) → HeadLeadsTo J (same i) s h args env → HasEnvFound K s h args env new)) c.conclude_all.ensures.all in
     let free : fixed_of log s.fixed ≡ None = ap (fixed_of log) c.requires.free in
-    on_ok_map c.conclude_all.result ((h : HeadData) → Contains heads h → (args : List (ℕ × ℕ)) (env : Env) → HeadLeadsTo J log s h args env → HasEnvFound K s h env new) (HasAll p K E s.point (AnySupport) new)
+    on_ok_map c.conclude_all.result ((h : HeadData) → Contains heads h → (args : List (ℕ × ℕ)) (env : Env) → HeadLeadsTo J log s h args env → HasEnvFound K s h args env new) (HasAll p K E s.point (AnySupport) new)
     (λ each. all_reached p log s of c.requires.at refl shapes J K c.conclude_all.ensures.kept.grows (AnyHead) (AnySupport) heads new are each
     (λ sup e f here_is k. (tt, λ ids is picked. subst (λ (x : Option FixedData). Picked (λ (y : SlotData). y.arg) (IsCandidate E x) (slots 0 f.of.args f.sets) sup.args f.chosen) (sym free) picked))) all

@@ -1,7 +1,7 @@
 use Rattle.std.proofs.Common.{refl, sym, ◌∙◌, ap, subst, ℕ, ◌<◌, List, [], length, map, take, Option, Some, OnOk, Contains, ◌⊎◌}
 use Rattle.std.proofs.lemmas.List.Elements.{All-contains}
 use Rattle.std.proofs.lemmas.Option.{get_or_from_slice_get}
-use Rattle.hs_scheme.specs.Points.{PointData, PointsData, IsArgument}
+use Rattle.hs_scheme.specs.flow.Points.{PointData, PointsData, IsArgument}
 use Rattle.hs_scheme.specs.Problem.{ProblemData}
 use Rattle.hs_scheme.proofs.Lists.{Contains-at}
 use Rattle.hs_table.specs.Types.{state}
@@ -15,6 +15,7 @@ use Rattle.hs_rules.specs.Parts.{ArePart, HasAll, UsesArgument, IsOnlyPlaceOf}
 use Rattle.hs_rules.proofs.Lists.{along, on_ok_map, on_ok_both}
 use Rattle.hs_rules.proofs.ConcludeLemmas.{part_more, all_reached, heads_envs, argument_used, used_argument, there, fixed_uses, argument_kind}
 use Rattle.hs_rules.proofs.PartLemmas.{can_search_later}
+use Rattle.hs_rules.proofs.FoundLemmas.{lowers_none}
 use Rattle.hs_rules.proofs.gathering.add_by_argument.Goals as goal
 
 pub place_of-requires : goal.place_of-requires
@@ -152,9 +153,9 @@ returns-clause-all c =
     let new = c.conclude_all.new.found.list.items in
     let wanted = Asks arg (type_of_id I row.ty) in
     let shapes = λ (e : EntryData) (m : Contains E e). All-contains (InShape p) E e c.requires.spot.shapes m in
-    let all = along (λ i. OnOk c.conclude_all.result ((h : HeadData) → Contains (c.as_slice.ensures i) h → (args : List (ℕ × ℕ)) (env : Env) → HeadLeadsTo J (same i) s h args env → HasEnvFound K s h env new)) c.conclude_all.ensures.all in
-    let numbers = subst (λ (ids : InternerData). IsInterner ids) c.interner.ensures c.numbers_are_exact.ensures in
-    on_ok_map c.conclude_all.result ((h : HeadData) → Contains heads h → (args : List (ℕ × ℕ)) (env : Env) → HeadLeadsTo J log s h args env → HasEnvFound K s h env new) (HasAll p K E s.point (UsesArgument place) new)
+    let all = along (λ i. OnOk c.conclude_all.result ((h : HeadData) → Contains (c.as_slice.ensures i) h → (args : List (ℕ × ℕ)) (env : Env) → HeadLeadsTo J (same i) s h args env → HasEnvFound K s h args env new)) c.conclude_all.ensures.all in
+    let numbers = subst (λ (ids : InternerData). IsInterner ids) c.interner.ensures c.know_numbers.ensures in
+    on_ok_map c.conclude_all.result ((h : HeadData) → Contains heads h → (args : List (ℕ × ℕ)) (env : Env) → HeadLeadsTo J log s h args env → HasEnvFound K s h args env new) (HasAll p K E s.point (UsesArgument place) new)
     (λ each. all_reached p log s of c.requires.at refl shapes J K c.conclude_all.ensures.kept.grows wanted (UsesArgument place) heads new are each
     (λ sup e f here_is used. argument_kind p log limit point arg place of c.requires.at e0 c.row-row.ensures.entry c.requires.place is_place J numbers sup e f here_is used)) all
 
@@ -164,3 +165,6 @@ returns-in_default-clause-all c = λ sup e here_is f used.
     let e0 = entry_of c.args.replica.now.ids c.row-row.result in
     let u = used_argument p c.args.replica.now.log c.args.search.now.limit c.args.search.now.point c.args.place e0 c.row-row.ensures.entry sup e f here_is used in
     absurd (c.in_default.ensures u.0 (subst (λ (x : PointsData). IsArgument x c.args.search.now.point u.0 e0.point) (sym (ap (λ (q : ProblemData). q.points) c.problem.view_is)) u.1))
+
+pub returns-in_default-clause-lowers : goal.returns-in_default-clause-lowers
+returns-in_default-clause-lowers c = lowers_none c.args.found.now.list.items

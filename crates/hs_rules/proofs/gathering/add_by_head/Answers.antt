@@ -7,6 +7,7 @@ use Rattle.hs_rules.specs.Heads.{IsParameterSpot}
 use Rattle.hs_rules.specs.Parts.{ArePart, HasAll}
 use Rattle.hs_rules.proofs.KeepLemmas.{keeps_then, as_before, as_then, lists_keep}
 use Rattle.hs_rules.proofs.PartLemmas.{can_search_later}
+use Rattle.hs_rules.proofs.FoundLemmas.{lowers_none}
 use Rattle.hs_rules.proofs.gathering.add_by_head.Goals as goal
 
 pub returns-then-not-may-clause-all : goal.returns-then-not-may-clause-all
@@ -51,3 +52,6 @@ pub returns-clause-kept : goal.returns-clause-kept
 returns-clause-kept c =
     let mid = c.may_follow.new.replica in
     keeps_then c.args.replica.now mid c.add_from_head.new.replica (lists_keep c.args.replica.now mid c.in_ok-may.ensures.kept) c.add_from_head.ensures.kept
+
+pub returns-then-not-may-clause-lowers : goal.returns-then-not-may-clause-lowers
+returns-then-not-may-clause-lowers c = lowers_none c.args.found.now.list.items

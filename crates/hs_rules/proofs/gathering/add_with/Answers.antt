@@ -1,9 +1,9 @@
-use Rattle.std.proofs.Common.{sym, subst, List, take, Option, OnOk, Contains}
+use Rattle.std.proofs.Common.{sym, subst, List, take, Option, OnOk}
 use Rattle.hs_table.specs.Entries.{EntryData}
 use Rattle.hs_rules.specs.declared.search.Fixed.{Fixed}
-use Rattle.hs_rules.specs.Conclusions.{DeducedData, Uses}
+use Rattle.hs_rules.specs.Conclusions.{Uses}
 use Rattle.hs_rules.specs.Filling.{CanSearch}
-use Rattle.hs_rules.specs.Found.{HaveEnvs}
+use Rattle.hs_rules.specs.Found.{HaveEnvs, Lowers}
 use Rattle.hs_rules.specs.Heads.{IsParameterSpot}
 use Rattle.hs_rules.specs.Parts.{ArePart, HasAll, UsesArgument}
 use Rattle.hs_rules.proofs.Lists.{on_ok_both}
@@ -85,9 +85,9 @@ returns-clause-all c =
     let mid = c.add_by_head.new.found in
     let new = c.add_by_argument.new.found.list.items in
     let by_argument = subst (λ (l : List EntryData). OnOk c.add_by_argument.result (HasAll p K (take s.limit l) s.point (UsesArgument place) new)) c.in_ok-add_by_head.ensures.kept.log c.add_by_argument.ensures.all in
-    on_ok_both c.add_by_argument.result ((d : DeducedData) → Contains mid.list.items d → Contains new d) (HasAll p K E s.point (UsesArgument place) new) (HasAll p K E s.point (Uses place) new)
-    (λ keeps all. both_kinds p J K E s.point place mid.rows.keys mid.list.items new c.add_by_argument.ensures.kept.grows c.in_ok-add_by_head.ensures.part keeps c.in_ok-add_by_head.ensures.all all)
-    c.add_by_argument.ensures.keeps by_argument
+    on_ok_both c.add_by_argument.result (Lowers mid.list.items new) (HasAll p K E s.point (UsesArgument place) new) (HasAll p K E s.point (Uses place) new)
+    (λ lowers all. both_kinds p J K E s.point place mid.rows.keys mid.list.items new c.add_by_argument.ensures.kept.grows c.in_ok-add_by_head.ensures.part lowers c.in_ok-add_by_head.ensures.all all)
+    c.add_by_argument.ensures.lowers by_argument
 
 pub returns-clause-kept : goal.returns-clause-kept
 returns-clause-kept c = keeps_then c.args.replica.now c.add_by_head.new.replica c.add_by_argument.new.replica c.in_ok-add_by_head.ensures.kept c.add_by_argument.ensures.kept

@@ -40,7 +40,7 @@ returns-clause-gains c =
       long = ap (λ (xs : List ℕ). length xs) sets_are ∙ length-take-le c.args.count full (omega (arith, c.if-full-count.false));
     })
     (refl, env_stays I K g c.args.own c.requires.own, is)
-    (λ by o t j. j.2 ∙ sym is)
+    (λ by o t j. (j.0, j.2 ∙ sym is))
 
 pub push_reserved-requires : goal.push_reserved-requires
 push_reserved-requires c = (omega arith, c.in_ok-reserve.ensures.ok)

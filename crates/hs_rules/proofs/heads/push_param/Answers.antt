@@ -37,7 +37,7 @@ returns-clause-gains c =
       long = s.long;
     })
     (record { entry = e; at = c.row-row.ensures.entry; just = (refl, get_or_from_slice_get K.envs own own_env [] c.in_ok-own.ensures.ok, is) })
-    (λ by o t p. p.just.2 ∙ (ap (λ (x : EntryData). x.ty) (same_Some p.entry e (sym p.at ∙ c.row-row.ensures.entry)) ∙ sym is))
+    (λ by o t p. (p.just.0, p.just.2 ∙ (ap (λ (x : EntryData). x.ty) (same_Some p.entry e (sym p.at ∙ c.row-row.ensures.entry)) ∙ sym is)))
 
 pub push_reserved-requires : goal.push_reserved-requires
 push_reserved-requires c = (omega arith, c.in_ok-reserve.ensures.ok)

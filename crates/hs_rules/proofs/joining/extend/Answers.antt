@@ -1,14 +1,34 @@
-use Rattle.std.proofs.Common.{◌≡◌, sym, ◌∙◌, ap, subst, ℕ, ◌<◌, ◌++◌, ◌∷◌, [], length, get_or, slice_get, Some, inl, inr, Contains}
+use Rattle.std.proofs.Common.{◌≡◌, sym, ◌∙◌, ap, subst, ℕ, ◌<◌, List, ◌++◌, ◌∷◌, [], length, get_or, slice_get, Some, arith, inl, inr, Contains}
+use Rattle.std.specs.List.Sorted.{IsStrictlyIncreasing}
 use Rattle.std.proofs.lemmas.List.Elements.{Contains-get_or}
 use borrow.Author.Count.{below_more}
 use Rattle.hs_table.specs.Entries.{EntryData}
 use Rattle.hs_types.specs.Interned.{env_of_id, IsUnionEnv}
 use Rattle.hs_types.proofs.Numbers.{env_within}
+use Rattle.hs_rules.specs.Order.{chosen_places, IsLess}
 use Rattle.hs_rules.specs.Slots.{FilledData}
 use Rattle.hs_rules.specs.Joins.{PartialData, IsCovered}
-use Rattle.hs_rules.proofs.KeepLemmas.{keeps_then}
-use Rattle.hs_rules.proofs.JoinLemmas.{place_within, place_placed, same_length, made_next, covered_stays, covered_next, reached}
+use Rattle.hs_rules.proofs.KeepLemmas.{keeps_none, keeps_then}
+use Rattle.hs_rules.proofs.JoinLemmas.{place_within, place_placed, same_length, IsThere, before_next, made_next, covered_stays, covered_next, reached}
 use Rattle.hs_rules.proofs.joining.extend.Goals as goal
+
+pub loop-place-init : goal.loop-place-init
+loop-place-init c = record {
+  kept = keeps_none c.args.replica.now;
+  seen = c.requires.seen;
+  ascending = c.requires.ascending;
+  before = λ x there k le lt. c.requires.before (get_or c.as_slice-place-items.result.now k 0) x there;
+  keeps = λ x there. there;
+  made = λ x there. inl there;
+  all = λ k lt. absurd (omega (arith, lt));
+}
+
+pub add-requires-clause-before : goal.add-requires-clause-before
+add-requires-clause-before c = λ x there.
+    let place = get_or c.as_slice-place-items.result.now c.loop-place.place-index 0 in
+    let from_is = c.as_slice-from.ensures ∙ ap (λ (y : PartialData). y.args) c.partial.view_is in
+    subst (λ (a : List (ℕ × ℕ)). IsLess (chosen_places x.args) (chosen_places a ++ place ∷ [])) (sym from_is)
+    (c.loop-place.invariant.before x there c.loop-place.place-index (omega arith) c.loop-place-test.true)
 
 pub row-candidate-requires : goal.row-candidate-requires
 row-candidate-requires c =
@@ -52,23 +72,31 @@ loop-place-preserved c =
     let at = ap (λ l. slice_get l place) (sym c.loop-place.invariant.kept.log) ∙ c.row-candidate.ensures.entry in
     let there = subst (λ xs. Contains xs place) places_is (Contains-get_or items c.loop-place.place-index 0 c.loop-place-test.true) in
     let within = c.in_ok-joined.ensures.ok.0 in
+    let there_is = subst (λ (a : List (ℕ × ℕ)). IsThere c.add.new.out.list.items id a place) from_is c.in_ok-add.ensures.there in
     let union = subst (λ (n : ℕ). IsUnionEnv (env_of_id J n) (env_of_id J row.env) (env_of_id K id)) env_is c.in_ok-joined.ensures.ok.1 in
     record {
       kept = keeps_then c.args.replica.now c.loop-place.replica c.union_envs.new.self c.loop-place.invariant.kept c.in_ok-joined.ensures.kept;
       seen = c.in_ok-add.ensures.seen;
+      ascending = c.in_ok-add.ensures.ascending;
+      before = before_next c.loop-place.out.list.items c.add.new.out.list.items from.args c.as_slice-from.result.now items id f.arg c.loop-place.place-index from_is
+          (subst (λ (xs : List ℕ). IsStrictlyIncreasing xs) (sym places_is) c.requires.rises) c.loop-place-test.true c.loop-place.invariant.before
+          (λ x m. elim (c.in_ok-add.ensures.only x m) [
+            | inl was ↦ inl was
+            | inr is ↦ inr (is ∙ (λ i. record { env = id; args = c.as_slice-from.result.now ++ (arg_is i, place) ∷ [] }))
+          ]);
       keeps = λ x there_. c.in_ok-add.ensures.keeps x (c.loop-place.invariant.keeps x there_);
       made = made_next I J K log from f g h known row place id at there within union c.args.out.now.list.items c.loop-place.out.list.items c.add.new.out.list.items c.loop-place.invariant.made
           (λ x m. elim (c.in_ok-add.ensures.only x m) [
             | inl was ↦ inl was
             | inr is ↦ inr (is ∙ (λ i. record { env = id; args = from_is i ++ (arg_is i, place) ∷ [] }))
           ]);
-      all = below_more (λ k. (e : EntryData) → slice_get log (get_or items k 0) ≡ Some e → IsCovered I K from e c.add.new.out.list.items) c.loop-place.place-index
-          (λ k lt e is. covered_stays I J K log from f g h known e c.loop-place.out.list.items c.add.new.out.list.items c.in_ok-add.ensures.keeps (c.loop-place.invariant.all k lt e is))
-          (λ e is. covered_next I J K log from f g h known row place id at there within union c.add.new.out.list.items c.in_ok-add.ensures.there e is);
+      all = below_more (λ k. (e : EntryData) → slice_get log (get_or items k 0) ≡ Some e → IsCovered I K from (get_or items k 0) e c.add.new.out.list.items) c.loop-place.place-index
+          (λ k lt e is. covered_stays I J K log from f g h known (get_or items k 0) e c.loop-place.out.list.items c.add.new.out.list.items c.in_ok-add.ensures.keeps (c.loop-place.invariant.all k lt e is))
+          (λ e is. covered_next I J K log from f g h known row place id at there within union c.add.new.out.list.items there_is e is);
     }
 
 pub returns-clause-all : goal.returns-clause-all
 returns-clause-all c = λ place e fills.
     let r = reached c.args.replica.now.log c.args.slot.now c.as_slice-place-items.result.now c.loop-place.place-index place e
     (c.as_slice-place-items.ensures ∙ ap (λ (f : FilledData). f.places) c.slot.view_is) c.loop-place-test.false fills in
-    c.loop-place.invariant.all r.k r.lt e r.at
+    subst (λ (i : ℕ). IsCovered c.args.replica.now.ids c.loop-place.replica.ids c.args.partial.now i e c.loop-place.out.list.items) r.is (c.loop-place.invariant.all r.k r.lt e r.at)

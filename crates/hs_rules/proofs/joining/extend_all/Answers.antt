@@ -1,18 +1,20 @@
-use Rattle.std.proofs.Common.{sym, ◌∙◌, ap, subst, ℕ, List, take, slice_get, inl, inr, Contains}
+use Rattle.std.proofs.Common.{sym, ◌∙◌, ap, subst, ℕ, List, take, slice_get, arith, inl, inr, Contains}
 use Rattle.std.proofs.lemmas.List.{take_all}
 use Rattle.hs_scheme.proofs.Lists.{Contains-at, none_in}
 use Rattle.hs_types.proofs.Numbers.{env_within}
 use Rattle.hs_table_laws.proofs.Places.{place_of, at_take}
-use Rattle.hs_rules.specs.Joins.{PartialData, IsCovered}
+use Rattle.hs_rules.specs.Joins.{PartialData, AreAscending, IsCovered}
 use Rattle.hs_rules.proofs.Lists.{taken_cases}
 use Rattle.hs_rules.proofs.KeepLemmas.{keeps_none, keeps_then}
-use Rattle.hs_rules.proofs.JoinLemmas.{made_stays, covered_stays, made_earlier, covered_earlier, placed_later}
+use Rattle.hs_rules.proofs.JoinLemmas.{item_at, before_more, made_stays, covered_stays, made_earlier, covered_earlier, placed_later}
 use Rattle.hs_rules.proofs.joining.extend_all.Goals as goal
 
 pub loop-partial-init : goal.loop-partial-init
 loop-partial-init c = record {
   kept = keeps_none c.args.replica.now;
   seen = λ env there. absurd (none_in env (subst (λ (xs : List ℕ). Contains xs env) c.requires.unseen there));
+  ascending = subst (λ (xs : List PartialData). AreAscending xs) (sym c.requires.none) (λ i j d lt below. absurd (omega (arith, lt, below)));
+  before = λ x there. absurd (none_in x (subst (λ (xs : List PartialData). Contains xs x) c.requires.none there));
   made = λ x there. absurd (none_in x (subst (λ (xs : List PartialData). Contains xs x) c.requires.none there));
   all = λ from there. absurd (none_in from there);
 }
@@ -26,6 +28,10 @@ pub extend-requires-clause-placed : goal.extend-requires-clause-placed
 extend-requires-clause-placed c =
     let known = c.requires.can c.partial-item.result (c.loop-partial.partial-index, c.loop-partial-test.true, sym c.partial-item.is) in
     placed_later c.args.replica.now.ids c.loop-partial.replica.ids c.loop-partial.replica.ids c.args.replica.now.log c.loop-partial.replica.log c.partial-item.result c.args.slot.now c.loop-partial.invariant.kept.grows known.0 c.loop-partial.invariant.kept.log known.1
+
+pub extend-requires-clause-before : goal.extend-requires-clause-before
+extend-requires-clause-before c = λ place x there.
+    c.loop-partial.invariant.before x there c.loop-partial.partial-index c.partial-item.result (omega arith) (item_at c.args.partials.now c.loop-partial.partial-index c.partial-item.result c.loop-partial-test.true c.partial-item.is) place
 
 pub returns-in_err-extend-clause-kept : goal.returns-in_err-extend-clause-kept
 returns-in_err-extend-clause-kept c = keeps_then c.args.replica.now c.loop-partial.replica c.extend.new.replica c.loop-partial.invariant.kept c.extend.ensures.kept
@@ -46,6 +52,9 @@ loop-partial-preserved c =
     record {
       kept = keeps_then c.args.replica.now c.loop-partial.replica c.extend.new.replica c.loop-partial.invariant.kept c.extend.ensures.kept;
       seen = c.in_ok-extend.ensures.seen;
+      ascending = c.in_ok-extend.ensures.ascending;
+      before = before_more J K c.loop-partial.replica.log c.loop-partial.out.list.items c.extend.new.out.list.items c.args.partials.now f c.loop-partial.partial-index item
+          (item_at c.args.partials.now c.loop-partial.partial-index item c.loop-partial-test.true c.partial-item.is) c.requires.ascending c.requires.long c.loop-partial.invariant.before c.in_ok-extend.ensures.only;
       made = λ x there. elim (c.in_ok-extend.ensures.only x there) [
         | inl was ↦
             let m = c.loop-partial.invariant.made x was in
@@ -55,10 +64,10 @@ loop-partial-preserved c =
       all = λ from there place e fills. elim (taken_cases c.args.partials.now c.loop-partial.partial-index item from c.loop-partial-test.true c.partial-item.is there) [
         | inl was ↦
             let before = c.loop-partial.invariant.all from was place e fills in
-            covered_stays I J K log from f g h (c.requires.can from (in_all from was)).0 e c.loop-partial.out.list.items c.extend.new.out.list.items c.in_ok-extend.ensures.keeps before
+            covered_stays I J K log from f g h (c.requires.can from (in_all from was)).0 place e c.loop-partial.out.list.items c.extend.new.out.list.items c.in_ok-extend.ensures.keeps before
         | inr is ↦
-            subst (λ (y : PartialData). IsCovered I K y e c.extend.new.out.list.items) (sym is)
-            (covered_earlier I J K log c.loop-partial.replica.log item f g known same e c.extend.new.out.list.items
+            subst (λ (y : PartialData). IsCovered I K y place e c.extend.new.out.list.items) (sym is)
+            (covered_earlier I J K log c.loop-partial.replica.log item f g known same place e c.extend.new.out.list.items
             (c.in_ok-extend.ensures.all place e (record { among = fills.among; at = ap (λ l. slice_get l place) same ∙ fills.at })))
       ];
     }

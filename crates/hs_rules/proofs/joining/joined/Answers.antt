@@ -8,7 +8,7 @@ use Rattle.hs_types.proofs.Numbers.{env_within, env_stays}
 use Rattle.hs_rules.specs.Slots.{FilledData}
 use Rattle.hs_rules.specs.Joins.{PartialData, FillsBy, IsMadeOf, IsCovered, AreJoined}
 use Rattle.hs_rules.proofs.KeepLemmas.{keeps_then}
-use Rattle.hs_rules.proofs.JoinLemmas.{joined_none, joined_next, can_extend}
+use Rattle.hs_rules.proofs.JoinLemmas.{joined_none, joined_as_long, joined_next, can_extend}
 use Rattle.hs_rules.proofs.joining.joined.Goals as goal
 
 pub joined_only-requires-clause-own : goal.joined_only-requires-clause-own
@@ -43,8 +43,18 @@ loop-slot-init c =
           (c.push_reserved.ensures.items ∙ ap (λ (xs : List PartialData). xs ++ x ∷ []) (c.reserve.ensures.items ∙ OnFalse_at c.if-alone.false c.in_ok-alone.ensures.none)) refl c.new.ensures.items);
     }
 
-pub extended-requires : goal.extended-requires
-extended-requires c =
+pub extended-requires-clause-rises : goal.extended-requires-clause-rises
+extended-requires-clause-rises c = c.requires.rise c.slot-item.result (c.loop-slot.slot-index, c.loop-slot-test.true, sym c.slot-item.is)
+
+pub extended-requires-clause-ascending : goal.extended-requires-clause-ascending
+extended-requires-clause-ascending c = c.loop-slot.invariant.joined.ascending
+
+pub extended-requires-clause-long : goal.extended-requires-clause-long
+extended-requires-clause-long c =
+    joined_as_long c.loop-slot.replica.ids c.args.replica.now.log (length (env_of_id c.args.replica.now.ids c.args.own)) (env_of_id c.args.replica.now.ids c.args.own) (take c.loop-slot.slot-index c.args.slots.now) c.loop-slot.out.items c.loop-slot.invariant.joined
+
+pub extended-requires-clause-can : goal.extended-requires-clause-can
+extended-requires-clause-can c =
     can_extend c.loop-slot.replica.ids c.args.replica.now.log c.loop-slot.replica.log (length (env_of_id c.args.replica.now.ids c.args.own)) (env_of_id c.args.replica.now.ids c.args.own)
     (take c.loop-slot.slot-index c.args.slots.now) c.slot-item.result c.loop-slot.out.items c.loop-slot.invariant.kept.log c.loop-slot.invariant.joined
     (c.requires.placed c.slot-item.result (c.loop-slot.slot-index, c.loop-slot-test.true, sym c.slot-item.is))
@@ -61,11 +71,11 @@ loop-slot-preserved c =
     let new = c.extended.new.partials.items in
     let same = c.loop-slot.invariant.kept.log in
     let some = subst (λ (l : List EntryData). (x : PartialData) → Contains new x → IsMadeOf J K l old f x) same c.in_ok-extended.ensures.only in
-    let all = subst (λ (l : List EntryData). (from : PartialData) → Contains old from → (place : ℕ) (e : EntryData) → FillsBy l f place e → IsCovered J K from e new) same c.in_ok-extended.ensures.all in
+    let all = subst (λ (l : List EntryData). (from : PartialData) → Contains old from → (place : ℕ) (e : EntryData) → FillsBy l f place e → IsCovered J K from place e new) same c.in_ok-extended.ensures.all in
     record {
       kept = keeps_then c.args.replica.now c.loop-slot.replica c.extended.new.replica c.loop-slot.invariant.kept c.in_ok-extended.ensures.kept;
       joined = subst (λ (fs : List FilledData). AreJoined K log n own fs new) (sym (taken_next c.args.slots.now c.loop-slot.slot-index f c.loop-slot-test.true c.slot-item.is))
-          (joined_next J K log n own (take c.loop-slot.slot-index c.args.slots.now) f old new c.loop-slot.invariant.joined some all);
+          (joined_next J K log n own (take c.loop-slot.slot-index c.args.slots.now) f old new c.loop-slot.invariant.joined some all c.in_ok-extended.ensures.ascending);
     }
 
 pub returns-in_err-alone-clause-kept : goal.returns-in_err-alone-clause-kept

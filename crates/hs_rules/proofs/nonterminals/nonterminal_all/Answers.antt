@@ -2,7 +2,7 @@ use Rattle.std.proofs.Common.{◌≡◌, sym, ◌∙◌, ap, subst, ℕ, ◌<◌
 use Rattle.std.proofs.lemmas.Option.{slice_get-get_or, slice_get_within, get_or_from_slice_get}
 use Rattle.std.proofs.lemmas.List.Elements.{All-contains}
 use Rattle.hs_scheme.specs.declared.term.Head.TheVariants.{Nt}
-use Rattle.hs_scheme.specs.Points.{PointsData}
+use Rattle.hs_scheme.specs.flow.Points.{PointsData}
 use Rattle.hs_scheme.specs.Problem.{ProblemData}
 use Rattle.hs_table.specs.Entries.{Env, EntryData, InShape, params_of}
 use Rattle.hs_types.specs.Interned.{env_of_id}
@@ -17,7 +17,7 @@ pub push_bodies-requires-clause-places : goal.push_bodies-requires-clause-places
 push_bodies-requires-clause-places c =
     subst (λ (xs : List ℕ). All (λ place. place < length c.empty_env.new.self.log) xs) (sym c.as_slice.ensures)
     (all_from (λ place. place < length c.empty_env.new.self.log) c.in_ok-places.places.items (λ place there.
-    let b = (c.in_ok-places.ensures place).0 there in
+    let b = (c.in_ok-places.ensures.places place).0 there in
     omega (arith, b.1, c.requires.search.limited, ap (λ (l : List EntryData). length l) c.in_ok-own.ensures.kept.log)))
 
 pub push_bodies-requires-clause-own : goal.push_bodies-requires-clause-own
@@ -47,7 +47,7 @@ returns-clause-heads c =
     let are = subst (λ (l : List EntryData). ArePlaces l c.empty_env.new.self.indexed (here body) c.at_point.result.now) same c.at_point.ensures in
     on_ok_map c.push_bodies.result (GainsHeads K (length args) (AtSome (BodyAt log (replicate (params_of p c.args.spot.now.rule) [])) c.in_ok-places.places.items) [] heads)
     (AreHeads p (take limit log) (record { rule = c.args.spot.now.rule; head = Nt f; args = args }) K AnyHead heads)
-    (bodies_all p log limit c.args.spot.now.rule args shapes f body body_is K c.in_ok-places.places.items heads c.empty_env.new.self.indexed c.at_point.result.now indexed are c.in_ok-places.ensures) gains
+    (bodies_all p log limit c.args.spot.now.rule args shapes f body body_is K c.in_ok-places.places.items heads c.empty_env.new.self.indexed c.at_point.result.now indexed are c.in_ok-places.ensures.places) gains
 
 pub returns-in_err-own-clause-kept : goal.returns-in_err-own-clause-kept
 returns-in_err-own-clause-kept c = c.empty_env.ensures.kept

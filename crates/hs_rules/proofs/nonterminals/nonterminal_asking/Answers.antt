@@ -2,7 +2,7 @@ use Rattle.std.proofs.Common.{◌≡◌, sym, ◌∙◌, ap, subst, ℕ, ◌<◌
 use Rattle.std.proofs.lemmas.Option.{slice_get-get_or, slice_get_within, get_or_from_slice_get}
 use Rattle.std.proofs.lemmas.List.Elements.{All-contains}
 use Rattle.hs_scheme.specs.declared.term.Head.TheVariants.{Nt}
-use Rattle.hs_scheme.specs.Points.{PointsData}
+use Rattle.hs_scheme.specs.flow.Points.{PointsData}
 use Rattle.hs_scheme.specs.Problem.{ProblemData}
 use Rattle.hs_table.specs.Entries.{Env, EntryData, InShape, params_of}
 use Rattle.hs_types.specs.Interned.{type_of_id, env_of_id}
@@ -21,7 +21,7 @@ kept_from old mid new same = subst (λ (r : ReplicaData). KeepsLog r new) same
 pub push_bodies-requires-clause-places : goal.push_bodies-requires-clause-places
 push_bodies-requires-clause-places c =
     all_from (λ place. place < length c.empty_env.new.self.log) c.begin_below-places.result.now (λ place there.
-    let b = (c.begin_below-places.ensures place).0 there in
+    let b = (c.begin_below-places.ensures.places place).0 there in
     omega (arith, b.1, c.requires.search.limited, ap (λ (l : List EntryData). length l) (kept_from c.args.replica.now c.asking.new.self c.empty_env.new.self c.in_ok-asked.ensures.kept c.in_ok-own.ensures.kept).log))
 
 pub push_bodies-requires-clause-own : goal.push_bodies-requires-clause-own
@@ -51,7 +51,7 @@ returns-clause-heads c =
     on_ok_map c.push_bodies.result (GainsHeads K (length args) (AtSome (BodyAt log (replicate (params_of p c.args.spot.now.rule) [])) c.begin_below-places.result.now) [] heads)
     (AreHeads p (take limit log) (record { rule = c.args.spot.now.rule; head = Nt f; args = args }) K (Asks c.args.arg (type_of_id I c.args.ty)) heads)
     (bodies_asking p log limit c.args.spot.now.rule args shapes f body body_is K c.begin_below-places.result.now heads c.args.replica.now.indexed c.args.arg (type_of_id I c.args.ty) c.as_slice.result.now c.requires.search.indexed c.requires.arg are
-    c.begin_below-places.ensures) gains
+    c.begin_below-places.ensures.places) gains
 
 pub returns-in_err-asked-clause-kept : goal.returns-in_err-asked-clause-kept
 returns-in_err-asked-clause-kept c = subst (λ (r : ReplicaData). KeepsLog c.args.replica.now r) (sym c.asking.ensures.kept) (keeps_none c.args.replica.now)

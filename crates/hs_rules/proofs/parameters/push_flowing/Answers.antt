@@ -13,7 +13,7 @@ pub push_params-requires-clause-places : goal.push_params-requires-clause-places
 push_params-requires-clause-places c =
     subst (λ (xs : List ℕ). All (λ place. place < length c.loop-pair.replica.log) xs) (sym c.as_slice.ensures)
     (all_from (λ place. place < length c.loop-pair.replica.log) c.in_ok-places.places.items (λ place there.
-    let b = (c.in_ok-places.ensures place).0 there in
+    let b = (c.in_ok-places.ensures.places place).0 there in
     omega (arith, b.1, c.requires.search.limited, ap (λ (l : List EntryData). length l) c.loop-pair.invariant.kept.log)))
 
 pub loop-pair-preserved : goal.loop-pair-preserved
@@ -32,7 +32,7 @@ loop-pair-preserved c =
     record {
       kept = keeps_then c.args.replica.now c.loop-pair.replica c.push_params.new.replica c.loop-pair.invariant.kept c.in_ok-push_params.ensures.kept;
       gains = flow_next J K count log c.args.params c.args.x c.args.search.now.limit here pairs k d c.at_point.result.now c.in_ok-places.places.items c.loop-pair.replica.indexed
-          c.args.out.now.items c.loop-pair.out.items c.push_params.new.out.items c.in_ok-push_params.ensures.kept.grows c.loop-pair-test.true (c.loop-pair.invariant.kept.indexed ∙ c.requires.search.indexed) are c.in_ok-places.ensures
+          c.args.out.now.items c.loop-pair.out.items c.push_params.new.out.items c.in_ok-push_params.ensures.kept.grows c.loop-pair-test.true (c.loop-pair.invariant.kept.indexed ∙ c.requires.search.indexed) are c.in_ok-places.ensures.places
           c.loop-pair.invariant.gains gains;
     }
 

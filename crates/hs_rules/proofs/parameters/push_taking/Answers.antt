@@ -28,7 +28,7 @@ push_params-requires-clause-places c =
     let kept = listed c.args.replica.now c.loop-pair.replica now c.loop-pair.invariant.kept c.in_ok-list_types.ensures.kept in
     subst (λ (xs : List ℕ). All (λ place. place < length now.log) xs) (sym c.as_slice.ensures)
     (all_from (λ place. place < length now.log) c.in_ok-places.places.items (λ place there.
-    let b = (c.in_ok-places.ensures place).0 there in
+    let b = (c.in_ok-places.ensures.places place).0 there in
     omega (arith, b.1, c.requires.search.limited, ap (λ (l : List EntryData). length l) kept.log)))
 
 pub loop-pair-preserved : goal.loop-pair-preserved
@@ -55,7 +55,7 @@ loop-pair-preserved c =
     record {
       kept = keeps_then c.args.replica.now now c.push_params.new.replica kept c.in_ok-push_params.ensures.kept;
       gains = flow_next J K count log c.args.params c.args.x c.args.search.now.limit (λ u. takes u c.args.arg ty) pairs k d c.taking.result.now c.in_ok-places.places.items (typed_to now pair.point)
-          c.args.out.now.items c.loop-pair.out.items c.push_params.new.out.items c.in_ok-push_params.ensures.kept.grows c.loop-pair-test.true told are c.in_ok-places.ensures
+          c.args.out.now.items c.loop-pair.out.items c.push_params.new.out.items c.in_ok-push_params.ensures.kept.grows c.loop-pair-test.true told are c.in_ok-places.ensures.places
           before gains;
     }
 

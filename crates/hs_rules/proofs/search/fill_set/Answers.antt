@@ -37,7 +37,7 @@ loop-number-preserved c =
       gains = subst (λ (ss : List SlotData). GainsFilled E fixed ss c.args.out.now.items c.push_reserved.new.self.items)
           (sym (next_of_types c.args.arg c.args.point k set (type_of_id ids t) long (member_is ids items set are k t within c.index-members-number.is)))
           (gains_then E fixed (slots_of c.args.arg c.args.point (take k set)) (s ∷ []) c.args.out.now.items c.loop-number.out.items c.push_reserved.new.self.items c.loop-number.invariant.gains
-          (gains_one E fixed s c.loop-number.out.items c.push_reserved.new.self.items f (push_later c.loop-number.out.items c.reserve.new.self.items c.push_reserved.new.self.items f c.reserve.ensures.items c.push_reserved.ensures.items) (record { arg = refl; places = candidates })));
+          (gains_one E fixed s c.loop-number.out.items c.push_reserved.new.self.items f (push_later c.loop-number.out.items c.reserve.new.self.items c.push_reserved.new.self.items f c.reserve.ensures.items c.push_reserved.ensures.items) (record { arg = refl; places = candidates; ascending = c.in_ok-places.ensures.ascending })));
     }
 
 pub returns-then-is_empty-clause-lacks : goal.returns-then-is_empty-clause-lacks

@@ -1,7 +1,7 @@
 use Rattle.std.proofs.Common.{◌≡◌, sym, ◌∙◌, ap, subst, ◌≤◌, ℕ, length, List, slice_get, Some}
 use Rattle.std.proofs.lemmas.Bool.{ltb-true, leb-true}
 use Rattle.std.proofs.lemmas.Option.{slice_get-get_or, same_Some}
-use Rattle.hs_scheme.specs.Transition.{TransitionData}
+use Rattle.hs_scheme.specs.acceptance.Transition.{TransitionData}
 use Rattle.hs_table.proofs.MoveLemmas.{moves_at}
 use Rattle.hs_rules.proofs.seeds.moves_by.Goals as goal
 
@@ -18,4 +18,4 @@ returns-then-transition-q c = λ h.
     let from : t.from ≡ c.args.q = ap (λ (u : TransitionData). u.from) (sym c.transition.view_is) ∙ c.if-transition-q.true in
     let to : c.as_slice.result.now ≡ t.to = c.as_slice.ensures.value ∙ ap (λ (u : TransitionData). u.to) c.transition.view_is in
     let le = subst (λ (qs : List ℕ). length qs ≤ c.args.count) to (leb-true (length c.as_slice.result.now) c.args.count h) in
-    moves_at c.args.automaton.now.transitions c.args.terminal c.args.count i c.args.q t c.is_automaton.ensures.deterministic at terminal from le
+    moves_at c.args.automaton.now.transitions c.args.terminal c.args.count i c.args.q t c.know_automaton.ensures.deterministic at terminal from le

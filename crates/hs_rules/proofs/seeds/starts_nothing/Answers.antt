@@ -1,7 +1,7 @@
 use Rattle.std.proofs.Common.{◌≡◌, refl, sym, ◌∙◌, ap, subst, ℕ, ◌<◌, length, []}
 use Rattle.hs_scheme.specs.declared.term.Head.{Head}
-use Rattle.hs_scheme.specs.Automaton.{AutomatonData}
-use Rattle.hs_scheme.specs.Sorted.{SortedData, IsSorted}
+use Rattle.hs_scheme.specs.acceptance.Automaton.{AutomatonData}
+use Rattle.hs_scheme.specs.sorting.Sorted.{SortedData, IsSorted}
 use Rattle.hs_scheme.specs.Problem.{ProblemData}
 use Rattle.hs_table.specs.Follows.{HasMove}
 use Rattle.hs_rules.specs.Heads.{AreHeads, AsksNothing}

@@ -2,9 +2,9 @@ use Rattle.std.proofs.Common.{◌≡◌, sym, ◌∙◌, ap, subst, ℕ, [], len
 use Rattle.std.proofs.lemmas.Option.{slice_get_within, get_or_from_slice_get}
 use Rattle.std.proofs.lemmas.List.Elements.{All-contains}
 use Rattle.hs_scheme.specs.declared.term.Head.TheVariants.{Tm}
-use Rattle.hs_scheme.specs.Automaton.{AutomatonData, next}
-use Rattle.hs_scheme.specs.Transitions.{Reads}
-use Rattle.hs_scheme.specs.Sorted.{SortedData, IsSorted}
+use Rattle.hs_scheme.specs.acceptance.Automaton.{AutomatonData, next}
+use Rattle.hs_scheme.specs.acceptance.Transitions.{Reads}
+use Rattle.hs_scheme.specs.sorting.Sorted.{SortedData, IsSorted}
 use Rattle.hs_scheme.specs.Problem.{ProblemData}
 use Rattle.hs_table.specs.Types.{TypeTree, state}
 use Rattle.hs_table.specs.Entries.{Env, EntryData, InShape, params_of}

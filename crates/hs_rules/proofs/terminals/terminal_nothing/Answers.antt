@@ -1,8 +1,8 @@
 use Rattle.std.proofs.Common.{◌≡◌, sym, ◌∙◌, ap, subst, ℕ, [], length, replicate, Some, OnOk}
 use Rattle.std.proofs.lemmas.Option.{slice_get_within, get_or_from_slice_get}
 use Rattle.hs_scheme.specs.declared.term.Head.TheVariants.{Tm}
-use Rattle.hs_scheme.specs.Automaton.{AutomatonData, next}
-use Rattle.hs_scheme.specs.Sorted.{SortedData, IsSorted}
+use Rattle.hs_scheme.specs.acceptance.Automaton.{AutomatonData, next}
+use Rattle.hs_scheme.specs.sorting.Sorted.{SortedData, IsSorted}
 use Rattle.hs_scheme.specs.Problem.{ProblemData}
 use Rattle.hs_table.specs.Entries.{Env, params_of}
 use Rattle.hs_table.specs.Follows.{rank_of}

@@ -2,8 +2,8 @@ use Rattle.std.proofs.Common.{◌≡◌, refl, ap, subst, ℕ, ◌+◌, ◌<◌,
 use Rattle.std.specs.Prelude.{SomeIff, IfSome}
 use Rattle.std.proofs.lemmas.List.{get_or_default}
 use Rattle.hs_scheme.specs.declared.flow.FlowPair.{FlowPair}
-use Rattle.hs_scheme.specs.FlowRows.{StartsSoFar}
-use Rattle.hs_scheme.specs.Parameters.{IsParameter, parameter_of}
+use Rattle.hs_scheme.specs.flow.FlowRows.{StartsSoFar}
+use Rattle.hs_scheme.specs.sorting.Parameters.{IsParameter, parameter_of}
 use Rattle.hs_scheme.proofs.FlowRowLemmas.{pair_taken, all_taken}
 use Rattle.hs_scheme.proofs.flow.starts_of.Goals as goal
 

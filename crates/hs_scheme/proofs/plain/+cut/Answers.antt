@@ -2,7 +2,7 @@ use Rattle.std.proofs.Common.{◌≡◌, sym, ◌∙◌, ap, subst, ℕ, ◌-◌
 use Rattle.std.specs.Result.{IfOk}
 use Rattle.std.proofs.lemmas.List.{take_all}
 use Rattle.hs_scheme.specs.Tree.{node, forest}
-use Rattle.hs_scheme.specs.Cut.{CutTree, cut, unfolded}
+use Rattle.hs_scheme.specs.acceptance.Cut.{CutTree, cut, unfolded}
 use Rattle.hs_scheme.proofs.PlainLemmas.{cut-Var, cut-Nt_none, cut-Nt_some, cut-Tm}
 use Rattle.hs_scheme.proofs.plain.+cut.Goals as goal
 use Rattle.hs_scheme.proofs.plain.+cut.Goals.{then-n-gt0+in-Var, then-n-gt0+in-Nt+in_ok-body-in-Nt+in_default, then-n-gt0+in-Tm+else-loop-arg-test, else-n-gt0}

@@ -1,6 +1,6 @@
 -- each cut is one step shorter; the children so far are cut
 use Rattle.std.proofs.Common.{◌≡◌, ◌-◌, map, take}
-use Rattle.hs_scheme.specs.Cut.{cut}
+use Rattle.hs_scheme.specs.acceptance.Cut.{cut}
 use Rattle.hs_scheme.proofs.plain.+cut.Given as goal
 
 abbrev pub decreases-cut : goal.decreases-cut

@@ -1,11 +1,11 @@
 use Rattle.std.proofs.Common.{◌≡◌, sym, ◌∙◌, ap, ℕ, ◌+◌, ◌<◌, true, false, ◌&&◌, List, ◌∷◌, length, drop, get_or, Option, Some, arith}
 use Rattle.std.proofs.lemmas.List.{get_or_default, drop_more}
 use Rattle.std.specs.Option.{option_copied, option_map_or}
-use Rattle.hs_scheme.specs.Transition.{TransitionData}
-use Rattle.hs_scheme.specs.Automaton.{next}
+use Rattle.hs_scheme.specs.acceptance.Transition.{TransitionData}
+use Rattle.hs_scheme.specs.acceptance.Automaton.{next}
 use Rattle.hs_scheme.specs.Tree.{node, forest}
-use Rattle.hs_scheme.specs.Cut.{CutTree}
-use Rattle.hs_scheme.specs.Run.{run, runs}
+use Rattle.hs_scheme.specs.acceptance.Cut.{CutTree}
+use Rattle.hs_scheme.specs.acceptance.Run.{run, runs}
 use Rattle.hs_scheme.proofs.PlainLemmas.{run-length}
 use Rattle.hs_scheme.proofs.plain.+run.Goals as goal
 

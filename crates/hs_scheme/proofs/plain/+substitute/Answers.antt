@@ -1,6 +1,6 @@
 use Rattle.std.proofs.Common.{◌≡◌, sym, ◌∙◌, ap, ℕ, ◌+◌, ◌<◌, List, ◌++◌, ◌∷◌, [], length, map, take, get_or, append_assoc}
 use Rattle.hs_scheme.specs.Tree.{node, forest}
-use Rattle.hs_scheme.specs.Replacement.{subst}
+use Rattle.hs_scheme.specs.acceptance.Replacement.{subst}
 use Rattle.hs_scheme.proofs.PlainLemmas.{subst-node}
 use Rattle.std.proofs.lemmas.List.{take_all, map_more}
 use Rattle.hs_scheme.proofs.plain.+substitute.Goals as goal

@@ -1,6 +1,6 @@
 -- the arguments so far are replaced, behind those of what stands for the head
 use Rattle.std.proofs.Common.{◌≡◌, ◌++◌, map, take}
-use Rattle.hs_scheme.specs.Replacement.{subst}
+use Rattle.hs_scheme.specs.acceptance.Replacement.{subst}
 use Rattle.hs_scheme.proofs.plain.+substitute.Given as goal
 
 abbrev pub invariant-loop-arg : goal.invariant-loop-arg

@@ -1,7 +1,7 @@
 use Rattle.std.proofs.Common.{◌≡◌, sym, ◌∙◌, ap, ◌+◌, ◌++◌, ◌∷◌, [], take, append_assoc}
 use Rattle.std.proofs.lemmas.List.{take_all, take_more, append-nil}
 use Rattle.hs_scheme.specs.Tree.{node, forest, forest-append}
-use Rattle.hs_scheme.specs.Replacement.{applied}
+use Rattle.hs_scheme.specs.acceptance.Replacement.{applied}
 use Rattle.hs_scheme.proofs.plain.applied.Goals as goal
 
 pub loop-arg-init : goal.loop-arg-init

@@ -4,8 +4,8 @@ use Rattle.std.proofs.lemmas.List.{take_rest}
 use Rattle.hs_scheme.specs.declared.term.Head.{Head}
 use Rattle.hs_scheme.specs.declared.term.Rule.{Rule}
 use Rattle.hs_scheme.specs.Tree.{Tree, forest}
-use Rattle.hs_scheme.specs.Replacement.{subst, applied}
-use Rattle.hs_scheme.specs.Cut.{body_of, body_with, unfolded}
+use Rattle.hs_scheme.specs.acceptance.Replacement.{subst, applied}
+use Rattle.hs_scheme.specs.acceptance.Cut.{body_of, body_with, unfolded}
 use Rattle.hs_scheme.proofs.Lists.{got_some}
 use Rattle.hs_scheme.proofs.plain.unfolded.Goals as goal
 

@@ -7,8 +7,8 @@ use Rattle.hs_scheme.specs.declared.term.Head.{Head}
 use Rattle.hs_scheme.specs.declared.points.Row.{Row}
 use Rattle.hs_scheme.specs.declared.points.PointsFault.TheVariants.{TooMany}
 use Rattle.hs_scheme.specs.Tree.{Tree, node, forest}
-use Rattle.hs_scheme.specs.Points.{PointData, size, sizes, numbers, term_points, terms_points}
-use Rattle.hs_scheme.specs.Rows.{point_of, points_in, places_in, Fits, terms_places}
+use Rattle.hs_scheme.specs.flow.Points.{PointData, size, sizes, numbers, term_points, terms_points}
+use Rattle.hs_scheme.specs.flow.Rows.{point_of, points_in, places_in, Fits, terms_places}
 use Rattle.hs_scheme.proofs.PointLemmas.{row_more, row_length, numbers_more, row_many, point_at, term_done, at_least_one}
 use Rattle.hs_scheme.proofs.RowLemmas.{all_grown, places_more, first_pushed, place_pushed, ranged_points, ranged_places, term_placed, length-numbers, last_range}
 use Rattle.hs_scheme.proofs.Exits.{on_ok_err}

@@ -1,8 +1,8 @@
 -- the point stands without its arguments, and those so far stand behind it
 use Rattle.std.proofs.Common.{◌≡◌, ◌≤◌, ◌+◌, ◌++◌, take, length, All}
 use Rattle.hs_scheme.specs.Tree.{forest}
-use Rattle.hs_scheme.specs.Points.{numbers, terms_points}
-use Rattle.hs_scheme.specs.Rows.{points_in, places_in, Fits, terms_places}
+use Rattle.hs_scheme.specs.flow.Points.{numbers, terms_points}
+use Rattle.hs_scheme.specs.flow.Rows.{points_in, places_in, Fits, terms_places}
 use Rattle.hs_scheme.proofs.points.+add_term.Given as goal
 
 abbrev pub invariant-loop-place : goal.invariant-loop-place

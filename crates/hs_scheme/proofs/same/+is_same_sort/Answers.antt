@@ -1,5 +1,5 @@
 use Rattle.std.proofs.Common.{◌≡◌, ◌∙◌, ap, true, false, List, length, arith}
-use Rattle.hs_scheme.specs.Sorting.{SortTree}
+use Rattle.hs_scheme.specs.sorting.Sorting.{SortTree}
 use Rattle.hs_scheme.proofs.SameLemmas.{same_item, below_same}
 use Rattle.hs_scheme.proofs.same.+is_same_sort.Goals as goal
 

@@ -1,6 +1,6 @@
 use Rattle.std.proofs.Common.{◌≡◌, sym, ◌∙◌, ap}
 use Rattle.std.proofs.lemmas.Slice.Eq.{slice_eq-Decides}
-use Rattle.hs_scheme.specs.Flow.{FlowData}
+use Rattle.hs_scheme.specs.flow.Flow.{FlowData}
 use Rattle.hs_scheme.proofs.SameLemmas.{flow_pair_same, head_pair_same}
 use Rattle.hs_scheme.proofs.same.is_same_flow.Goals as goal
 

@@ -2,8 +2,8 @@ use Rattle.std.proofs.Common.{◌≡◌, ◌∙◌, ap, subst, ℕ, ◌++◌, �
 use Rattle.std.specs.HashMap.{get}
 use Rattle.std.proofs.lemmas.Option.{slice_get-get_or}
 use Rattle.hs_scheme.specs.Key.{triple_eq}
-use Rattle.hs_scheme.specs.Transition.{TransitionData}
-use Rattle.hs_scheme.specs.Transitions.{items_of, GainsReads}
+use Rattle.hs_scheme.specs.acceptance.Transition.{TransitionData}
+use Rattle.hs_scheme.specs.acceptance.Transitions.{items_of, GainsReads}
 use Rattle.hs_scheme.proofs.TransitionLemmas.{child_more}
 use Rattle.hs_scheme.proofs.transitions.add_children.Goals as goal
 

@@ -1,7 +1,7 @@
 -- the children so far are in their rows
 use Rattle.std.specs.HashMap.{get}
 use Rattle.hs_scheme.specs.Key.{triple_eq}
-use Rattle.hs_scheme.specs.Transitions.{items_of, GainsReads}
+use Rattle.hs_scheme.specs.acceptance.Transitions.{items_of, GainsReads}
 use Rattle.hs_scheme.proofs.transitions.add_children.Given as goal
 
 abbrev pub invariant-loop-child : goal.invariant-loop-child

@@ -2,7 +2,7 @@ use Rattle.std.proofs.Common.{◌≡◌, refl, subst, ℕ, length, arith}
 use Rattle.std.specs.HashMap.{get}
 use Rattle.std.proofs.lemmas.Option.{slice_get_read}
 use Rattle.hs_scheme.specs.Key.{triple_eq}
-use Rattle.hs_scheme.specs.Transitions.{items_of, IsByChild}
+use Rattle.hs_scheme.specs.acceptance.Transitions.{items_of, IsByChild}
 use Rattle.hs_scheme.proofs.TransitionLemmas.{children_more}
 use Rattle.hs_scheme.proofs.transitions.by_child.Goals as goal
 

@@ -1,7 +1,7 @@
 -- the transitions so far are in their rows
 use Rattle.std.specs.HashMap.{get}
 use Rattle.hs_scheme.specs.Key.{triple_eq}
-use Rattle.hs_scheme.specs.Transitions.{items_of, IsByChild}
+use Rattle.hs_scheme.specs.acceptance.Transitions.{items_of, IsByChild}
 use Rattle.hs_scheme.proofs.transitions.by_child.Given as goal
 
 abbrev pub invariant-loop-transition : goal.invariant-loop-transition

@@ -1,8 +1,8 @@
 use Rattle.std.proofs.Common.{◌≡◌, refl, subst, ℕ, ◌++◌, ◌∷◌, [], cond, length, nat_eq, arith}
 use Rattle.std.specs.HashMap.{get}
 use Rattle.std.proofs.lemmas.Option.{slice_get_read}
-use Rattle.hs_scheme.specs.Transition.{TransitionData}
-use Rattle.hs_scheme.specs.Transitions.{items_of, IsByTerminal}
+use Rattle.hs_scheme.specs.acceptance.Transition.{TransitionData}
+use Rattle.hs_scheme.specs.acceptance.Transitions.{items_of, IsByTerminal}
 use Rattle.hs_scheme.proofs.TransitionLemmas.{terminal_more}
 use Rattle.hs_scheme.proofs.transitions.by_terminal.Goals as goal
 

@@ -1,12 +1,12 @@
 use Rattle.std.proofs.Common.{sym, subst, List, Contains}
 use Rattle.std.proofs.lemmas.Result.{on_ok_weaker}
-use Rattle.hs_sites.specs.declared.collecting.Turn.{Turn}
+use Rattle.hs_sites.specs.declared.collecting.CollectingOrder.{CollectingOrder}
 use Rattle.hs_sites.specs.Collecting.{AreTurns}
 use Rattle.hs_sites.proofs.Collected.{all_sites}
 use Rattle.hs_sites.proofs.collecting.add_all.Goals as goal
 
 pub add_in_turn-requires-clause-points : goal.add_in_turn-requires-clause-points
-add_in_turn-requires-clause-points c = λ t m. c.in_ok-turns.ensures.points t (subst (λ (ts : List Turn). Contains ts t) c.as_slice.ensures.value m)
+add_in_turn-requires-clause-points c = λ t m. c.in_ok-turns.ensures.points t (subst (λ (ts : List CollectingOrder). Contains ts t) c.as_slice.ensures.value m)
 
 pub returns : goal.returns
 returns c =

@@ -1,6 +1,6 @@
 use Rattle.std.proofs.Common.{◌≡◌, sym, ◌∙◌, ap, subst, ℕ, List}
 use Rattle.std.proofs.lemmas.Result.{on_ok_weaker}
-use Rattle.hs_scheme.specs.Points.{point_at}
+use Rattle.hs_scheme.specs.flow.Points.{point_at}
 use Rattle.hs_scheme.specs.Problem.{ProblemData}
 use Rattle.hs_sites.specs.declared.bases.Base.{Base}
 use Rattle.hs_sites.specs.declared.sites.Site.{Site}

@@ -1,13 +1,13 @@
 use Rattle.std.proofs.Common.{◌≡◌, ap, subst, ◌∙◌, List, [], ◌∷◌, length, Contains, length-append, arith}
 use Rattle.hs_scheme.specs.Problem.{ProblemData}
 use Rattle.hs_scheme.proofs.Lists.{none_in}
-use Rattle.hs_sites.specs.declared.collecting.Turn.{Turn}
+use Rattle.hs_sites.specs.declared.collecting.CollectingOrder.{CollectingOrder}
 use Rattle.hs_sites.proofs.Collected.{turns_more, turns_all, turns_moved}
 use Rattle.hs_sites.proofs.collecting.turns_of.Goals as goal
 
 pub loop-point-init : goal.loop-point-init
 loop-point-init c = record {
-  points = λ t m. absurd (none_in t (subst (λ (ts : List Turn). Contains ts t) c.in_ok-turns.ensures.items m));
+  points = λ t m. absurd (none_in t (subst (λ (ts : List CollectingOrder). Contains ts t) c.in_ok-turns.ensures.items m));
   all = λ k lt. absurd (omega (arith, lt));
   long = ap length c.in_ok-turns.ensures.items;
   room = omega (arith, c.in_ok-turns.ensures.capacity);

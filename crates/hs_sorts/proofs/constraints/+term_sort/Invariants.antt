@@ -7,4 +7,4 @@ decreases-term_sort l = goal.size-term_sort l
 
 abbrev pub invariant-loop-arg : goal.invariant-loop-arg
 invariant-loop-arg l =
-    AddsNode l.fn.store l.store l.sort (λ v k. Rattle.hs_scheme.specs.Sorting.Applied (λ h. v (node_of l.heads.rules l.heads.first h)) (Rattle.hs_scheme.specs.Tree.forest (Rattle.std.proofs.Common.take l.arg-index l.arg-items)) (v l.initial.sort) k)
+    AddsNode l.fn.store l.store l.sort (λ v k. Rattle.hs_scheme.specs.sorting.Sorting.Applied (λ h. v (node_of l.heads.rules l.heads.first h)) (Rattle.hs_scheme.specs.Tree.forest (Rattle.std.proofs.Common.take l.arg-index l.arg-items)) (v l.initial.sort) k)

@@ -1,6 +1,6 @@
 use Rattle.std.proofs.Common.{subst}
 use Rattle.std.proofs.lemmas.Result.{IfOk-weaker}
-use Rattle.hs_scheme.specs.Sorting.{o}
+use Rattle.hs_scheme.specs.sorting.Sorting.{o}
 use Rattle.hs_sorts.specs.Constraints.{IsNodeFor, IsClaim, IsBaseSort, LeavesSort, IsRanked}
 use Rattle.hs_sorts.proofs.Claiming.{ended, ranked_by}
 use Rattle.hs_sorts.proofs.constraints.make_ranked.Goals as goal

@@ -1,6 +1,6 @@
 use Rattle.std.proofs.Common.{◌≡◌, sym, ◌∙◌, ap, subst, ℕ, ◌+◌, List, [], ◌∷◌, ◌++◌, length, slice_get, length-append, Some, inl, inr, arith}
 use Rattle.hs_scheme.proofs.Lists.{push_cases}
-use Rattle.hs_scheme.specs.Sorting.{SortTree}
+use Rattle.hs_scheme.specs.sorting.Sorting.{SortTree}
 use Rattle.hs_sorts.specs.declared.store.Node.{Node}
 use Rattle.hs_sorts.specs.Nodes.{Valuation}
 use Rattle.hs_sorts.specs.Weights.{IsReading}

@@ -1,6 +1,6 @@
 -- the first rules up to `sorted` have a sorting, and those up to `unsorted` have none
 use Rattle.std.proofs.Common.{◌<◌, ◌≤◌, ◌-◌, length}
-use Rattle.hs_scheme.specs.Sorting.{HasSorting}
+use Rattle.hs_scheme.specs.sorting.Sorting.{HasSorting}
 use Rattle.hs_sorts.proofs.inference.first_ill_sorted.Given as goal
 
 abbrev pub invariant-loop-unsorted : goal.invariant-loop-unsorted

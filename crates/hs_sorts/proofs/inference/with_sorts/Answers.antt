@@ -1,11 +1,11 @@
 use Rattle.std.proofs.Common.{◌≡◌, ◌≤◌, sym, ◌∙◌, ap, subst, List, All, length}
 use Rattle.hs_scheme.specs.declared.term.Rule.{Rule}
 use Rattle.hs_scheme.specs.Scheme.{AreRules}
-use Rattle.hs_scheme.specs.Sorting.{SortTree, arguments}
+use Rattle.hs_scheme.specs.sorting.Sorting.{SortTree, arguments}
 use Rattle.hs_scheme.specs.Names.{NamesData}
-use Rattle.hs_scheme.specs.Sorted.{IsSorted}
-use Rattle.hs_scheme.specs.Lengthening.{lengthening}
-use Rattle.hs_scheme.specs.Unsorted.{UnsortedData}
+use Rattle.hs_scheme.specs.sorting.Sorted.{IsSorted}
+use Rattle.hs_scheme.specs.sorting.Lengthening.{lengthening}
+use Rattle.hs_scheme.specs.sorting.Unsorted.{UnsortedData}
 use Rattle.hs_sorts.specs.Least.{AreLeastSorts}
 use Rattle.hs_sorts.specs.Naming.{lengthened_names}
 use Rattle.hs_sorts.proofs.FullRules.{are_long_rules}

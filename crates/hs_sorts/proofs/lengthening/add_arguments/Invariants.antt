@@ -1,8 +1,8 @@
 -- the term has the arguments so far
 use Rattle.std.proofs.Common.{◌≡◌}
 use Rattle.hs_scheme.specs.Tree.{node, forest}
-use Rattle.hs_scheme.specs.Replacement.{applied}
-use Rattle.hs_scheme.specs.Lengthening.{parameters}
+use Rattle.hs_scheme.specs.acceptance.Replacement.{applied}
+use Rattle.hs_scheme.specs.sorting.Lengthening.{parameters}
 use Rattle.hs_sorts.proofs.lengthening.add_arguments.Given as goal
 
 abbrev pub invariant-loop-number : goal.invariant-loop-number

@@ -1,8 +1,8 @@
 use Rattle.std.proofs.Common.{◌≡◌, ◌<◌, ◌≤◌, sym, ◌∙◌, ap, subst, ℕ, ◌++◌, length, map, arith}
 use Rattle.std.proofs.Math.ListN.{get_or-map}
 use Rattle.std.proofs.lemmas.List.{map-set, length-map}
-use Rattle.hs_scheme.specs.Sorting.{SortTree, arguments}
-use Rattle.hs_scheme.specs.Lengthening.{missing}
+use Rattle.hs_scheme.specs.sorting.Sorting.{SortTree, arguments}
+use Rattle.hs_scheme.specs.sorting.Lengthening.{missing}
 use Rattle.hs_sorts.specs.Naming.{added_names}
 use Rattle.hs_sorts.proofs.Lengthenings.{partly_long, partly_more, longer_names, all_names, arguments_long}
 use Rattle.hs_sorts.proofs.lengthening.lengthen_params.Goals as goal

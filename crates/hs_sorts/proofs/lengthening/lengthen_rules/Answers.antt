@@ -1,7 +1,7 @@
 use Rattle.std.proofs.Common.{◌≡◌, ◌<◌, ◌≤◌, sym, ◌∙◌, ap, subst, ℕ, length, arith}
 use Rattle.hs_scheme.specs.declared.term.Rule.{Rule}
-use Rattle.hs_scheme.specs.Sorting.{SortTree, arguments}
-use Rattle.hs_scheme.specs.Lengthening.{missing, lengthened}
+use Rattle.hs_scheme.specs.sorting.Sorting.{SortTree, arguments}
+use Rattle.hs_scheme.specs.sorting.Lengthening.{missing, lengthened}
 use Rattle.hs_sorts.proofs.Lengthenings.{partly_long, partly_more, longer_rule, all_rules, arguments_long, same_before}
 use Rattle.hs_sorts.proofs.lengthening.lengthen_rules.Goals as goal
 

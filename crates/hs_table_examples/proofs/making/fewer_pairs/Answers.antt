@@ -1,6 +1,6 @@
 use Rattle.std.proofs.Common.{sym, subst, ℕ, ◌<◌, List, length, arith}
-use Rattle.hs_scheme.specs.Flow.{FlowData}
-use Rattle.hs_scheme.specs.FlowRows.{AreOfParameters}
+use Rattle.hs_scheme.specs.flow.Flow.{FlowData}
+use Rattle.hs_scheme.specs.flow.FlowRows.{AreOfParameters}
 use Rattle.hs_scheme.specs.Problem.{ProblemData, IsProblem}
 use Rattle.hs_table_examples.proofs.Fewer.{of_parameters, fewer_pairs}
 use Rattle.hs_table_examples.proofs.making.fewer_pairs.Goals as goal

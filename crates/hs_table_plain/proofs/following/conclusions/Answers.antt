@@ -3,7 +3,7 @@ use Rattle.std.proofs.lemmas.Option.{slice_get-get_or}
 use Rattle.hs_scheme.specs.declared.term.Head.TheVariants.{Tm}
 use Rattle.std.proofs.lemmas.List.Elements.{All-contains}
 use Rattle.std.proofs.lemmas.Result.{IfOk-weaker}
-use Rattle.hs_scheme.specs.Points.{PointData, PointsData, point_at, NonterminalWithin}
+use Rattle.hs_scheme.specs.flow.Points.{PointData, PointsData, point_at, NonterminalWithin}
 use Rattle.hs_scheme.specs.Problem.{ProblemData}
 use Rattle.hs_table.specs.Entries.{EntryData, InShape, params_of}
 use Rattle.hs_table.specs.Follows.{Follows}

@@ -1,5 +1,5 @@
 use Rattle.std.proofs.Common.{◌≡◌, ◌∙◌, ap, subst, [], ◌∷◌, ◌++◌, replicate, Option, List, ℕ, None, Some, OnOk}
-use Rattle.hs_scheme.specs.Automaton.{AutomatonData, next}
+use Rattle.hs_scheme.specs.acceptance.Automaton.{AutomatonData, next}
 use Rattle.hs_scheme.specs.Problem.{ProblemData}
 use Rattle.hs_table.specs.Types.{TypeTree, state, arrows}
 use Rattle.hs_table.specs.Follows.{rank_of}

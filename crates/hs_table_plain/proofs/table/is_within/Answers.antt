@@ -1,7 +1,7 @@
 use Rattle.std.proofs.Common.{◌≡◌, refl, sym, ◌∙◌, ap, subst, true, false, ℕ, ◌<◌, List, take, All, Contains, IsTrue, ◌↔◌}
 use Rattle.std.proofs.lemmas.List.{take_all}
 use Rattle.std.proofs.lemmas.List.Elements.{All-contains, All-push}
-use Rattle.hs_scheme.specs.Transition.{TransitionData}
+use Rattle.hs_scheme.specs.acceptance.Transition.{TransitionData}
 use Rattle.hs_table_laws.proofs.Members.{taken_next}
 use Rattle.hs_table_plain.proofs.TableLemmas.{within_as}
 use Rattle.hs_table_plain.proofs.table.is_within.Goals as goal

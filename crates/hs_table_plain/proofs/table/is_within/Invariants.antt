@@ -1,6 +1,6 @@
 -- those so far lead to states
 use Rattle.std.proofs.Common.{◌<◌, take, All}
-use Rattle.hs_scheme.specs.Transition.{TransitionData}
+use Rattle.hs_scheme.specs.acceptance.Transition.{TransitionData}
 use Rattle.hs_table_plain.proofs.table.is_within.Given as goal
 
 abbrev pub invariant-loop-transition : goal.invariant-loop-transition

@@ -1,5 +1,5 @@
 use Rattle.std.proofs.Common.{◌∙◌, ap, subst, IsTrue, ◌↔◌}
-use Rattle.hs_scheme.specs.Automaton.{AutomatonData}
+use Rattle.hs_scheme.specs.acceptance.Automaton.{AutomatonData}
 use Rattle.hs_scheme.specs.Problem.{ProblemData}
 use Rattle.hs_table_laws.proofs.Shapes.{LeadsWithin}
 use Rattle.hs_table_plain.proofs.table.leads_within.Goals as goal

@@ -1,7 +1,7 @@
 use Rattle.std.proofs.Common.{◌≡◌, sym, ◌∙◌, ap, subst, length, map}
 use Rattle.std.proofs.lemmas.List.{length-map}
 use Rattle.std.proofs.lemmas.Result.{IfOk-weaker}
-use Rattle.hs_scheme.specs.Points.{PointsData, point_at}
+use Rattle.hs_scheme.specs.flow.Points.{PointsData, point_at}
 use Rattle.hs_scheme.specs.Problem.{ProblemData}
 use Rattle.hs_table.specs.Entries.{Env}
 use Rattle.hs_verdict.specs.Premises.{IsSortedProblem}
@@ -36,7 +36,7 @@ returns-clause-ok c =
     let K = c.least_choices.new.types in
     let s = data_of c.args.site.now in
     let E : Env = env_of_id I c.args.env in
-    let sorted = subst (λ (q : ProblemData). IsSortedProblem q) c.problem-problem.ensures c.is_sorted_problem.ensures in
+    let sorted = subst (λ (q : ProblemData). IsSortedProblem q) c.problem-problem.ensures c.know_sorted_problem.ensures in
     let points : c.problem.inside.points ≡ b.problem.points = ap (λ (q : ProblemData). q.points) (c.problem.view_is ∙ c.problem-problem.ensures) in
     let args_is = c.args_of-args.ensures.args ∙ ap (λ (ps : PointsData). (point_at ps s.point).args) points in
     let rule_is = c.rule_of.ensures.rule ∙ ap (λ (ps : PointsData). (point_at ps s.point).rule) points in

@@ -2,7 +2,7 @@ use Rattle.std.proofs.Common.{◌≡◌, sym, ◌∙◌, ap, subst, ◌<◌, Lis
 use Rattle.std.proofs.lemmas.List.Elements.{All-weaker}
 use Rattle.std.proofs.lemmas.Option.{slice_get_within}
 use Rattle.std.proofs.lemmas.Result.{IfOk-weaker}
-use Rattle.hs_scheme.specs.Points.{PointsData, point_at}
+use Rattle.hs_scheme.specs.flow.Points.{PointsData, point_at}
 use Rattle.hs_scheme.specs.Problem.{ProblemData}
 use Rattle.hs_table.specs.Entries.{params_of}
 use Rattle.hs_verdict.specs.Premises.{IsSortedProblem}
@@ -43,7 +43,7 @@ least_unions-requires-clause-slots c =
     let b = c.args.voids.now.basis in
     let I = c.args.types.now in
     let J = c.empty_env.new.self in
-    let sorted = subst (λ (q : ProblemData). IsSortedProblem q) c.problem-problem.ensures c.is_sorted_problem.ensures in
+    let sorted = subst (λ (q : ProblemData). IsSortedProblem q) c.problem-problem.ensures c.know_sorted_problem.ensures in
     let rows = (fits_stays c.args.voids.now I J c.empty_env.ensures.grows c.requires.fits).rows in
     let points : c.problem.inside.points ≡ b.problem.points = ap (λ (q : ProblemData). q.points) (c.problem.view_is ∙ c.problem-problem.ensures) in
     let rule = c.rule_of-rule.result in
@@ -58,7 +58,7 @@ returns-clause-least c =
     let b = c.args.voids.now.basis in
     let I = c.args.types.now in
     let J = c.empty_env.new.self in
-    let sorted = subst (λ (q : ProblemData). IsSortedProblem q) c.problem-problem.ensures c.is_sorted_problem.ensures in
+    let sorted = subst (λ (q : ProblemData). IsSortedProblem q) c.problem-problem.ensures c.know_sorted_problem.ensures in
     let rows = (fits_stays c.args.voids.now I J c.empty_env.ensures.grows c.requires.fits).rows in
     let points : c.problem.inside.points ≡ b.problem.points = ap (λ (q : ProblemData). q.points) (c.problem.view_is ∙ c.problem-problem.ensures) in
     let rule = c.rule_of-rule.result in

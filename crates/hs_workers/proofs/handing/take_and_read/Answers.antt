@@ -75,5 +75,5 @@ returns-clause-works c =
     let is : log ≡ log_of new = c.in-Ok.ensures.whole in
     let n = c.take_some-next.new.seat.known.number in
     carried n (state_of new).flight c.take_some-next.new.jobs.items (λ (w : Work). IsWork new.base.problem log w)
-    (λ t w e. subst (λ xs. IsWork new.base.problem xs w) (sym is) (flying_work new c.take_some-next.ensures.goes.holds.is_core t n w e))
+    (λ t w e. subst (λ xs. IsWork new.base.problem xs w) (sym is) (flying_work new c.take_some-next.ensures.goes.holds.know_core t n w e))
     c.take_some-next.ensures.carries

@@ -10,7 +10,7 @@ returns-in-Some c =
     record { first = found.first; start = (found.start.entry, (found.start.is_start, Contains-at (log_of c.args.core.now) c.in-Some._place found.start.entry found.start.at)) }
 
 pub returns-then-is_some : goal.returns-then-is_some
-returns-then-is_some c = over_answer c.args.core.now c.is_core.ensures.legal (λ place found. c.in_default.not-Some place ((c.found.ensures place).1 found))
+returns-then-is_some c = over_answer c.args.core.now c.know_core.ensures.legal (λ place found. c.in_default.not-Some place ((c.found.ensures place).1 found))
     (subst (λ k. IsSome k) (sym c.past.ensures.kept) (mapped_some (deduction_of c.args.core.now.ids) c.past.result (sym c.if-is_some.ensures)))
 
 pub returns-then-not-quiet : goal.returns-then-not-quiet
@@ -19,4 +19,4 @@ returns-then-not-quiet c = tt
 pub returns : goal.returns
 returns c =
     let rest = c.quiet.ensures.0 c.if-not-quiet.false in
-    least_answer c.args.core.now c.is_core.ensures.legal (λ place found. c.in_default.not-Some place ((c.found.ensures place).1 found)) (λ none on. rest) rest.kept
+    least_answer c.args.core.now c.know_core.ensures.legal (λ place found. c.in_default.not-Some place ((c.found.ensures place).1 found)) (λ none on. rest) rest.kept

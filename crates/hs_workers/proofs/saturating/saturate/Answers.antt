@@ -22,7 +22,7 @@ returns-clause-verdict g c =
     ok_more _ _ c.answer.result
     (λ done h closed.
     verdict_of c.args.problem.now core (ap (λ (b : Base). b.problem) same)
-    (λ least. c.least_tables_decide.ensures c.args.problem.now (log_of core) c.is_sorted_problem.ensures closed least) done h)
+    (λ least. c.least_tables_decide.ensures c.args.problem.now (log_of core) c.know_sorted_problem.ensures closed least) done h)
     c.answer.ensures
 
 pub new-requires-clause-least : goal.new-requires-clause-least

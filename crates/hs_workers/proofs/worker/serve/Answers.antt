@@ -3,7 +3,7 @@ use Rattle.hs_workers.proofs.worker.serve.Goals as goal
 
 pub form_each-requires-clause-shape : goal.form_each-requires-clause-shape
 form_each-requires-clause-shape g c =
-    shape_in c.args.table.now c.args.problem.now c.args.seat.now c.args.replica.now.log c.is_sorted_problem.ensures.automaton c.requires.loaded.free
+    shape_in c.args.table.now c.args.problem.now c.args.seat.now c.args.replica.now.log c.know_sorted_problem.ensures.automaton c.requires.loaded.free
 
 pub returns : goal.returns
 returns g c =

@@ -1,6 +1,6 @@
 use Rattle.std.proofs.Common.{◌≡◌, sym, ◌∙◌, ap, subst, ℕ, List, map, length, get_or, Contains, Bor, arith}
 use Rattle.hs_table.specs.Entries.{EntryData}
-use Rattle.hs_scheme.specs.Flow.{IsAscending}
+use Rattle.hs_scheme.specs.flow.Flow.{IsAscending}
 use Rattle.hs_checker.specs.Order.{index_cmp, IsInIndexOrder, AreStartsOfPoints}
 use Rattle.hs_checker.proofs.StartLemmas.{none_of, part_up, part_has, index_part, once_part}
 use Rattle.hs_checker.proofs.index.EntryIndex.at_point.Goals as goal

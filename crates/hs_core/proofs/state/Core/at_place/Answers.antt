@@ -3,7 +3,7 @@ use Rattle.hs_core.proofs.Stepping.{base_of, fields_of, brought_inside, brought_
 use Rattle.hs_core.proofs.state.Core.at_place.Goals as goal
 
 pub conclusions_with-requires-clause-shape : goal.conclusions_with-requires-clause-shape
-conclusions_with-requires-clause-shape c = shapes (base_of c.self.inside) (fields_of c.self.inside) c.self.invariant.0 c.is_sorted_problem.ensures.automaton
+conclusions_with-requires-clause-shape c = shapes (base_of c.self.inside) (fields_of c.self.inside) c.self.invariant.0 c.know_sorted_problem.ensures.automaton
 
 pub invariant_of-self : goal.invariant_of-self
 invariant_of-self c =

@@ -1,5 +1,5 @@
 use Rattle.std.proofs.Common.{◌∙◌, ap, length, arith}
-use Rattle.hs_scheme.specs.Points.{PointsData}
+use Rattle.hs_scheme.specs.flow.Points.{PointsData}
 use Rattle.hs_flow.proofs.AnalysisLemmas.{analysis_none}
 use Rattle.hs_flow.proofs.analysis.Analysis.new.Goals as goal
 

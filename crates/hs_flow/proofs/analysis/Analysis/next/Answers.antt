@@ -1,6 +1,6 @@
 use Rattle.std.proofs.Common.{◌≡◌, ◌∙◌, ap, subst, List, slice_get}
 use Rattle.hs_scheme.specs.declared.flow.Pair.{Pair}
-use Rattle.hs_scheme.specs.Flow.{IsSupported}
+use Rattle.hs_scheme.specs.flow.Flow.{IsSupported}
 use Rattle.hs_flow.specs.Analysis.{AnalysisData, IsAnalysis}
 use Rattle.hs_flow.proofs.AnalysisLemmas.{all_taken, next_within}
 use Rattle.hs_flow.proofs.analysis.Analysis.next.Goals as goal

@@ -9,7 +9,7 @@ use Rattle.hs_flow.specs.Analysis.{AnalysisData, IsAnalysis}
 use Rattle.hs_flow.proofs.ListLemmas.{list-read}
 use Rattle.hs_flow.proofs.PairLemmas.{extends_same}
 use Rattle.hs_flow.proofs.AnalysisLemmas.{extended, extended_at, step_unused, step_flow, heads_found}
-use Rattle.hs_scheme.specs.Points.{points_of}
+use Rattle.hs_scheme.specs.flow.Points.{points_of}
 use Rattle.hs_flow.proofs.analysis.Analysis.take_flow.Goals as goal
 
 pub overflow_add-self : goal.overflow_add-self

@@ -3,7 +3,7 @@ use Rattle.std.proofs.lemmas.Option.{slice_get_within}
 use Rattle.std.proofs.lemmas.List.Elements.{Contains-get_or}
 use Rattle.hs_scheme.specs.declared.term.Rule.{Rule}
 use Rattle.hs_scheme.specs.declared.flow.Pair.{Pair}
-use Rattle.hs_scheme.specs.Points.{points_of}
+use Rattle.hs_scheme.specs.flow.Points.{points_of}
 use Rattle.hs_flow.specs.Passing.{PassedBy, PassedFor}
 use Rattle.hs_flow.specs.Pairs.{FindsOnly}
 use Rattle.hs_flow.proofs.PairLemmas.{finds_rules, finds_then, finds_weaker, addable_more}

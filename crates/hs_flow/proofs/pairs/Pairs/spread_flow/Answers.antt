@@ -3,7 +3,7 @@ use Rattle.std.proofs.lemmas.List.{take_more, take_all}
 use Rattle.std.proofs.lemmas.List.Elements.{Contains-append_cases}
 use Rattle.hs_scheme.specs.declared.flow.HeadPair.{HeadPair}
 use Rattle.hs_scheme.specs.declared.flow.Pair.TheVariants.{OfFlow, OfHead}
-use Rattle.hs_scheme.specs.Points.{points_of}
+use Rattle.hs_scheme.specs.flow.Points.{points_of}
 use Rattle.hs_scheme.proofs.Lists.{none_in, only}
 use Rattle.hs_flow.specs.Bases.{HasBase}
 use Rattle.hs_flow.specs.Pairs.{PairsData, HasBaseAt, IsReady, Extends}

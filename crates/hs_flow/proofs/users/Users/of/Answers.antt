@@ -2,8 +2,8 @@ use Rattle.std.proofs.Common.{◌≡◌, ◌≢◌, AllPairs, sym, ◌∙◌, ap
 use Rattle.std.proofs.lemmas.Option.{slice_get_within, slice_get-get_or}
 use Rattle.hs_scheme.specs.Key.{key_eq}
 use Rattle.hs_scheme.specs.declared.term.Head.{Head}
-use Rattle.hs_scheme.specs.Parameters.{IsParameter}
-use Rattle.hs_scheme.specs.Points.{ParameterWithin, point_at}
+use Rattle.hs_scheme.specs.sorting.Parameters.{IsParameter}
+use Rattle.hs_scheme.specs.flow.Points.{ParameterWithin, point_at}
 use Rattle.hs_scheme.proofs.Lists.{none_in}
 use Rattle.hs_flow.specs.Users.{UserMap, list_for, users_of, IsUser}
 use Rattle.hs_flow.proofs.UserLemmas.{user_skip, user_step, once_more, all_empty}

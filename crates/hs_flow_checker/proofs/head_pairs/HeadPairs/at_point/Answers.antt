@@ -1,7 +1,7 @@
 use Rattle.std.proofs.Common.{◌≡◌, sym, ap, subst, ℕ, List, length, get_or, Contains, arith, rules}
 use Rattle.hs_scheme.specs.declared.flow.HeadPair.{HeadPair}
 use Rattle.hs_flow_checker.specs.Starts.{AreHeadStarts}
-use Rattle.hs_scheme.specs.Flow.{head_cmp}
+use Rattle.hs_scheme.specs.flow.Flow.{head_cmp}
 use Rattle.hs_scheme.proofs.Lists.{none_in}
 use Rattle.hs_flow_checker.proofs.StartLemmas.{part_rises, part_within, part_exact, ascending_part}
 use Rattle.hs_flow_checker.proofs.head_pairs.HeadPairs.at_point.Goals as goal

@@ -1,5 +1,5 @@
 use Rattle.std.proofs.Common.{◌≡◌, sym, ◌∙◌, ap, true, false, Result, ℕ, is_ok, refl}
-use Rattle.hs_scheme.specs.Flow.{head_cmp}
+use Rattle.hs_scheme.specs.flow.Flow.{head_cmp}
 use Rattle.hs_scheme.proofs.FlowLemmas.{head_cmp_total, head_cmp-equal, found_there, there_found}
 use Rattle.hs_flow_checker.proofs.head_pairs.HeadPairs.find.Goals as goal
 

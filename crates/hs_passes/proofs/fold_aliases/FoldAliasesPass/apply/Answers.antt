@@ -1,5 +1,5 @@
 use Rattle.std.proofs.Common.{◌≤◌, sym, subst, arith}
-use Rattle.hs_scheme.specs.Sorted.{SortedData}
+use Rattle.hs_scheme.specs.sorting.Sorted.{SortedData}
 use Rattle.hs_scheme.specs.SameTree.{HaveSameTree}
 use Rattle.hs_passes.specs.Passing.{KeepsRest}
 use Rattle.hs_passes.specs.Weight.{weight}

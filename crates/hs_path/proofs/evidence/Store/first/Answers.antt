@@ -1,7 +1,7 @@
 use Rattle.std.proofs.Common.{◌≡◌, sym, ◌∙◌, ap, subst as along, ◌-◌, ◌<◌, slice_get, Some, None, arith, ℕ}
 use Rattle.std.proofs.lemmas.Option.{same_Some}
 use Rattle.hs_scheme.proofs.Lists.{got_some, got_none}
-use Rattle.hs_naming.specs.Evidence.{Evidence, first}
+use Rattle.hs_verdict.specs.Evidence.{Evidence, first}
 use Rattle.hs_path.specs.Stored.{Stands}
 use Rattle.hs_path.proofs.StoredLemmas.{first_none, first_some}
 use Rattle.hs_path.proofs.evidence.Store.first.Goals as goal

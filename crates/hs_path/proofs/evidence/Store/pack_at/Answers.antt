@@ -1,7 +1,7 @@
 use Rattle.std.proofs.Common.{◌≡◌, sym, ◌∙◌, subst as along, ◌-◌, ◌+◌, ◌≤◌, Some, None, arith, ℕ}
 use Rattle.std.proofs.lemmas.Option.{same_Some}
 use Rattle.hs_scheme.proofs.Lists.{got_some, got_none}
-use Rattle.hs_naming.specs.Evidence.{pack_at}
+use Rattle.hs_verdict.specs.Evidence.{pack_at}
 use Rattle.hs_path.specs.Stored.{IsPack}
 use Rattle.hs_path.proofs.StoredLemmas.{piled_at, piled_past, no_members}
 use Rattle.hs_path.proofs.evidence.Store.pack_at.Goals as goal

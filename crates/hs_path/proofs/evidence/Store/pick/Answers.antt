@@ -1,6 +1,6 @@
 use Rattle.std.proofs.Common.{sym, subst as along, length, ℕ, ◌+◌, ◌<◌, map, drop}
 use Rattle.hs_types.specs.Interned.{type_of_id}
-use Rattle.hs_naming.specs.Evidence.{Evidence}
+use Rattle.hs_verdict.specs.Evidence.{Evidence}
 use Rattle.hs_path.specs.declared.evidence.Span.{Span}
 use Rattle.hs_path.specs.Stored.{Stands}
 use Rattle.hs_path.proofs.StoredLemmas.{Left, types_equal, types_differ, left_first, left_found, left_more, left_none, left_end}
@@ -18,7 +18,7 @@ returns-then-eq c = λ bound below p nothing some h.
     let l = at.invariant bound below p h in
     let other_in : c.other-item.result < length I.types = along (λ (k : ℕ). k < length I.types) (sym c.other-item.is) (c.requires.types at.other-index c.other-item.result c.loop-other-test.true) in
     let e = left_found bound c.args.self.now below (type_of_id I) c.args.types.now (type_of_id I c.args.ty) p at.left.from at.left.to at.other-index c.other-item.result c.loop-other-test.true c.other-item.is l
-    (types_equal I c.numbers_are_exact.ensures c.args.ty c.other-item.result c.requires.ty other_in c.if-eq.ensures) in
+    (types_equal I c.know_numbers.ensures c.args.ty c.other-item.result c.requires.ty other_in c.if-eq.ensures) in
     along (λ (x : Evidence). (c.first.result < below) × Stands bound c.args.self.now c.first.result x) (sym e) (c.first.ensures bound below l.rest nothing some l.members)
 
 pub loop-other-preserved : goal.loop-other-preserved
@@ -27,7 +27,7 @@ loop-other-preserved c = λ bound below p h.
     let at = c.loop-other in
     let l = at.invariant bound below p h in
     let other_in : c.other-item.result < length I.types = along (λ (k : ℕ). k < length I.types) (sym c.other-item.is) (c.requires.types at.other-index c.other-item.result c.loop-other-test.true) in
-    let e = types_differ I c.numbers_are_exact.ensures c.args.ty c.other-item.result c.requires.ty other_in c.if-eq.ensures in
+    let e = types_differ I c.know_numbers.ensures c.args.ty c.other-item.result c.requires.ty other_in c.if-eq.ensures in
     let f = type_of_id I in
     let ids = c.args.types.now in
     let a = type_of_id I c.args.ty in

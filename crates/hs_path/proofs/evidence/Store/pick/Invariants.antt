@@ -1,7 +1,7 @@
 -- the rest of the types is looked for in the rest of the pack
 use Rattle.std.proofs.Common.{ℕ, drop, map}
 use Rattle.hs_types.specs.Interned.{type_of_id}
-use Rattle.hs_naming.specs.Evidence.{Pack}
+use Rattle.hs_verdict.specs.Evidence.{Pack}
 use Rattle.hs_path.specs.Stored.{Members}
 use Rattle.hs_path.proofs.StoredLemmas.{Left}
 use Rattle.hs_path.proofs.evidence.Store.pick.Given as goal

@@ -11,7 +11,7 @@ returns-clause-closed c =
     let p = c.args.problem.now in
     let points = c.count.ensures.points ∙ ap (λ (x : ProblemData). length x.points.points) c.problem.view_is in
     let states = c.states_of-states.ensures ∙ ap (λ (x : ProblemData). x.sorted.automaton.states) c.problem.view_is in
-    subst (λ (n : ℕ). IsClosedReads p (all_pairs n c.states_of-states.result)) (sym points) (subst (λ (n : ℕ). IsClosedReads p (all_pairs (length p.points.points) n)) (sym states) (all_closed p c.is_sorted_problem.ensures))
+    subst (λ (n : ℕ). IsClosedReads p (all_pairs n c.states_of-states.result)) (sym points) (subst (λ (n : ℕ). IsClosedReads p (all_pairs (length p.points.points) n)) (sym states) (all_closed p c.know_sorted_problem.ensures))
 
 pub returns-clause-all : goal.returns-clause-all
 returns-clause-all c =

@@ -55,7 +55,7 @@ returns-clause-exact c =
     let key = Asking c.args.point c.args.param c.args.ty in
     let asked = asks c.args.point c.args.param (type_of_id a.interner c.args.ty) in
     let exact = subst (λ (xs : List ℕ). (i : ℕ) → Contains c.below.result.now i ↔ ((i < a.indexed) × Contains xs i)) c.list_of-list.ensures c.below.ensures.exact in
-    let are = places_of a.interner c.numbers_are_exact.ensures (log_of a.interner c.as_slice.result.now) (reach a.by_type.items c.add_asks.new.asked.items a.indexed) a.indexed list listed key
+    let are = places_of a.interner c.know_numbers.ensures (log_of a.interner c.as_slice.result.now) (reach a.by_type.items c.add_asks.new.asked.items a.indexed) a.indexed list listed key
     (subst (λ (r : ReplicaData). c.args.ty < length r.ids.types) (sym c.self.view_is) c.requires)
     (λ i lt. c.in_ok-add_asks.ensures.ok i c.args.param (type_of_id a.interner c.args.ty) lt) c.below.result.now c.below.ensures.ascending exact in
     subst (λ (r : ReplicaData). ArePlaces r.log r.indexed (asks c.args.point c.args.param (type_of_id r.ids c.args.ty)) c.in_ok-places.places.items) c.self.view_is

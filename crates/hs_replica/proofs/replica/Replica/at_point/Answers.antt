@@ -16,7 +16,7 @@ returns c =
     let a = c.self.inside in
     let point = c.args.point in
     subst (λ (r : ReplicaData). ArePlaces r.log r.indexed (here point) c.below.result.now) c.self.view_is
-    (places_of a.interner c.numbers_are_exact.ensures (log_of a.interner a.rows.keys) (reach a.by_type.items a.asked.items a.indexed) a.indexed (list_at a.lists) c.self.invariant.index (At point) tt
+    (places_of a.interner c.know_numbers.ensures (log_of a.interner a.rows.keys) (reach a.by_type.items a.asked.items a.indexed) a.indexed (list_at a.lists) c.self.invariant.index (At point) tt
     (λ i lt. c.self.invariant.index.complete i (here point) lt)
     c.below.result.now c.below.ensures.ascending
     (subst (λ (xs : List ℕ). (i : ℕ) → Contains c.below.result.now i ↔ ((i < a.indexed) × Contains xs i)) c.list_of.ensures c.below.ensures.exact))

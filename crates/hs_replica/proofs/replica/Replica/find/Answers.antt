@@ -16,4 +16,4 @@ returns-in-None-clause-absent c =
     let a = c.self.inside in
     subst (λ (r : ReplicaData). Contains r.log (entry_of r.ids c.args.row) → ⊥) c.self.view_is
     (λ h. found_nowhere c.args.row a.rows.keys c.in-None.ensures.found
-    (row_there a.interner c.numbers_are_exact.ensures a.rows.keys c.self.invariant.known c.args.row (subst (λ (r : ReplicaData). IsRow r.ids c.args.row) (sym c.self.view_is) c.requires) h))
+    (row_there a.interner c.know_numbers.ensures a.rows.keys c.self.invariant.known c.args.row (subst (λ (r : ReplicaData). IsRow r.ids c.args.row) (sym c.self.view_is) c.requires) h))

@@ -21,7 +21,7 @@ returns c =
     let end : c.number_of-end.result ≡ get_or a.by_type.items point 0 = c.number_of-end.ensures ∙ ap (λ (xs : List ℕ). get_or xs point 0) c.as_slice.ensures.value in
     let told = reach_by_type a.interner a.by_type.items a.asked.items a.indexed point key c.requires.by_type in
     subst (λ (r : ReplicaData). ArePlaces r.log (typed_to r point) (question r.ids key) c.below.result.now) c.self.view_is
-    (places_of a.interner c.numbers_are_exact.ensures (log_of a.interner a.rows.keys) (reach a.by_type.items a.asked.items a.indexed) (get_or a.by_type.items point 0) (list_at a.lists) c.self.invariant.index key
+    (places_of a.interner c.know_numbers.ensures (log_of a.interner a.rows.keys) (reach a.by_type.items a.asked.items a.indexed) (get_or a.by_type.items point 0) (list_at a.lists) c.self.invariant.index key
     (subst (λ (r : ReplicaData). IsKey r.ids key) (sym c.self.view_is) c.requires.known)
     (λ i lt. c.self.invariant.index.complete i (question a.interner key) (omega (arith, lt, told)))
     c.below.result.now c.below.ensures.ascending

@@ -3,8 +3,8 @@ use Rattle.std.specs.Option.{option_copied}
 use Rattle.std.specs.HashMap.{get}
 use Rattle.std.proofs.lemmas.Option.{slice_get_read}
 use Rattle.hs_scheme.specs.Key.{key_eq}
-use Rattle.hs_scheme.specs.Transition.{TransitionData}
-use Rattle.hs_scheme.specs.Automaton.{AutomatonData, next}
+use Rattle.hs_scheme.specs.acceptance.Transition.{TransitionData}
+use Rattle.hs_scheme.specs.acceptance.Automaton.{AutomatonData, next}
 use Rattle.hs_scheme.proofs.TransitionIndex.{next-nowhere, next-there}
 use Rattle.hs_scheme.proofs.automaton.Automaton.next.Goals as goal
 

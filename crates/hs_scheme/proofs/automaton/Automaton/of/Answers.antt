@@ -1,9 +1,9 @@
 use Rattle.std.proofs.Common.{◌≡◌, refl, sym, subst, ℕ, List, Some, cond, length, nat_eq, arith}
 use Rattle.std.specs.HashMap.{get}
 use Rattle.hs_scheme.specs.Key.{key_eq, triple_eq}
-use Rattle.hs_scheme.specs.Transitions.{items_of, IsByTerminal, IsByChild}
-use Rattle.hs_scheme.specs.Transition.{TransitionData}
-use Rattle.hs_scheme.specs.Automaton.{is_of, IsDeterministic, IsTransitionIndex}
+use Rattle.hs_scheme.specs.acceptance.Transitions.{items_of, IsByTerminal, IsByChild}
+use Rattle.hs_scheme.specs.acceptance.Transition.{TransitionData}
+use Rattle.hs_scheme.specs.acceptance.Automaton.{is_of, IsDeterministic, IsTransitionIndex}
 use Rattle.std.proofs.lemmas.Option.{slice_get_read}
 use Rattle.hs_scheme.proofs.TransitionIndex.{index_more}
 use Rattle.hs_scheme.proofs.automaton.Automaton.of.Goals as goal

@@ -1,7 +1,7 @@
 -- the index holds the transitions so far
 use Rattle.std.specs.HashMap.{get}
 use Rattle.hs_scheme.specs.Key.{key_eq}
-use Rattle.hs_scheme.specs.Automaton.{IsTransitionIndex}
+use Rattle.hs_scheme.specs.acceptance.Automaton.{IsTransitionIndex}
 use Rattle.hs_scheme.proofs.automaton.Automaton.of.Given as goal
 
 abbrev pub invariant-loop-place : goal.invariant-loop-place

@@ -1,8 +1,8 @@
 use Rattle.std.proofs.Common.{sym, subst, ℕ, List, Contains, ◌↔◌}
 use Rattle.std.specs.HashMap.{get}
 use Rattle.hs_scheme.specs.Key.{triple_eq}
-use Rattle.hs_scheme.specs.Automaton.{AutomatonData}
-use Rattle.hs_scheme.specs.Transitions.{items_of, Reads}
+use Rattle.hs_scheme.specs.acceptance.Automaton.{AutomatonData}
+use Rattle.hs_scheme.specs.acceptance.Transitions.{items_of, Reads}
 use Rattle.hs_scheme.proofs.TransitionLemmas.{reads_exactly}
 use Rattle.hs_scheme.proofs.automaton.Automaton.reading.Goals as goal
 

@@ -1,7 +1,7 @@
 use Rattle.std.proofs.Common.{sym, subst, ℕ, List, Contains, ◌↔◌, nat_eq}
 use Rattle.std.specs.HashMap.{get}
-use Rattle.hs_scheme.specs.Automaton.{AutomatonData}
-use Rattle.hs_scheme.specs.Transitions.{items_of, IsPlaceOf}
+use Rattle.hs_scheme.specs.acceptance.Automaton.{AutomatonData}
+use Rattle.hs_scheme.specs.acceptance.Transitions.{items_of, IsPlaceOf}
 use Rattle.hs_scheme.proofs.TransitionLemmas.{places_exactly}
 use Rattle.hs_scheme.proofs.automaton.Automaton.with_terminal.Goals as goal
 

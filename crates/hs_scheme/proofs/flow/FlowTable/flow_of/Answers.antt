@@ -4,7 +4,7 @@ use Rattle.std.specs.Prelude.{SomeIff}
 use Rattle.std.proofs.lemmas.List.Kept.{AllPairs-filter}
 use Rattle.std.specs.declared.cmp.Ordering.TheVariants.{Less}
 use Rattle.hs_scheme.specs.declared.flow.FlowPair.{FlowPair}
-use Rattle.hs_scheme.specs.Flow.{FlowData, flow_cmp, IsAscending}
+use Rattle.hs_scheme.specs.flow.Flow.{FlowData, flow_cmp, IsAscending}
 use Rattle.hs_scheme.proofs.FlowLemmas.{is_of}
 use Rattle.hs_scheme.proofs.FlowRowLemmas.{in_order, in_pairs, between, none_of}
 use Rattle.hs_scheme.proofs.flow.FlowTable.flow_of.Goals as goal

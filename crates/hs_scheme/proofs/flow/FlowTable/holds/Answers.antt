@@ -1,7 +1,7 @@
 use Rattle.std.proofs.Common.{◌≡◌, refl, sym, ◌∙◌, subst, List, true, Contains}
 use Rattle.std.proofs.lemmas.Bool.{eq-eqb}
 use Rattle.hs_scheme.specs.declared.flow.FlowPair.{FlowPair}
-use Rattle.hs_scheme.specs.Flow.{flow_cmp}
+use Rattle.hs_scheme.specs.flow.Flow.{flow_cmp}
 use Rattle.hs_scheme.proofs.FlowLemmas.{flow_cmp_total, flow_cmp-equal, found_there, there_found, is_of}
 use Rattle.hs_scheme.proofs.flow.FlowTable.holds.Goals as goal
 use Rattle.hs_scheme.proofs.Lists.{filter_keeps, filter_has}

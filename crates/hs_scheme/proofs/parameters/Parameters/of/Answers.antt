@@ -2,7 +2,7 @@ use Rattle.std.proofs.Common.{◌≡◌, refl, ◌∙◌, ap, sym, subst, ℕ, �
 use Rattle.std.proofs.lemmas.List.{length_push, length-map, take_all}
 use Rattle.std.proofs.lemmas.Result.{err_from_is_err_and}
 use Rattle.hs_scheme.specs.declared.term.Rule.{Rule}
-use Rattle.hs_scheme.specs.Parameters.{counts_of, IsNumbering}
+use Rattle.hs_scheme.specs.sorting.Parameters.{counts_of, IsNumbering}
 use Rattle.hs_scheme.proofs.ParameterLemmas.{counts_more, sum_more, sum_within, row_more}
 use Rattle.hs_scheme.proofs.Exits.{if_ok_err}
 use Rattle.hs_scheme.proofs.parameters.Parameters.of.Goals as goal

@@ -1,6 +1,6 @@
 -- the rules so far are counted, and each knows the number of its first parameter; there is room for the others
 use Rattle.std.proofs.Common.{◌≡◌, ◌+◌, ◌<◌, ◌≤◌, ℕ, take, length, sum, slice_index, vec_len, vec_capacity}
-use Rattle.hs_scheme.specs.Parameters.{counts_of}
+use Rattle.hs_scheme.specs.sorting.Parameters.{counts_of}
 use Rattle.hs_scheme.proofs.parameters.Parameters.of.Given as goal
 
 abbrev pub invariant-loop-rule : goal.invariant-loop-rule

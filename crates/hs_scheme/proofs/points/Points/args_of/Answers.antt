@@ -1,7 +1,7 @@
 use Rattle.std.proofs.Common.{ap, sym, subst, ℕ, List, ◌<◌, length, All}
 use Rattle.std.specs.List.{slice_range}
-use Rattle.hs_scheme.specs.Points.{PointData, PointsData}
-use Rattle.hs_scheme.specs.Rows.{points_in}
+use Rattle.hs_scheme.specs.flow.Points.{PointData, PointsData}
+use Rattle.hs_scheme.specs.flow.Rows.{points_in}
 use Rattle.hs_scheme.proofs.RowLemmas.{row_holds, long}
 use Rattle.hs_scheme.proofs.points.Points.args_of.Goals as goal
 

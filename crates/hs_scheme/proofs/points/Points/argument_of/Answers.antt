@@ -1,7 +1,7 @@
 use Rattle.std.proofs.Common.{◌≡◌, ◌∙◌, ap, sym, subst, Option, Some}
 use Rattle.hs_scheme.specs.declared.points.Argument.{Argument}
-use Rattle.hs_scheme.specs.Points.{PointsData}
-use Rattle.hs_scheme.specs.Rows.{ArePlacesOfArguments, places_in}
+use Rattle.hs_scheme.specs.flow.Points.{PointsData}
+use Rattle.hs_scheme.specs.flow.Rows.{ArePlacesOfArguments, places_in}
 use Rattle.hs_scheme.proofs.RowLemmas.{place_there, long}
 use Rattle.hs_scheme.proofs.points.Points.argument_of.Goals as goal
 

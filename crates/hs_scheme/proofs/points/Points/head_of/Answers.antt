@@ -1,5 +1,5 @@
 use Rattle.std.proofs.Common.{ap, subst, length}
-use Rattle.hs_scheme.specs.Points.{PointData, PointsData, NonterminalWithin}
+use Rattle.hs_scheme.specs.flow.Points.{PointData, PointsData, NonterminalWithin}
 use Rattle.hs_scheme.proofs.RowLemmas.{row_holds, long}
 use Rattle.hs_scheme.proofs.points.Points.head_of.Goals as goal
 

@@ -4,9 +4,9 @@ use Rattle.std.proofs.lemmas.Result.{err_from_is_err_and}
 use Rattle.hs_scheme.specs.declared.term.Rule.{Rule}
 use Rattle.hs_scheme.specs.declared.points.Row.{Row}
 use Rattle.hs_scheme.specs.Scheme.{SchemeData, AreRules}
-use Rattle.hs_scheme.specs.Parameters.{counts_of}
-use Rattle.hs_scheme.specs.Points.{PointData, PointsData, IsPoints, rules_points, term_points, bodies, points_of}
-use Rattle.hs_scheme.specs.Rows.{point_of, points_in, places_in, ArePlacesOfArguments, rules_places}
+use Rattle.hs_scheme.specs.sorting.Parameters.{counts_of}
+use Rattle.hs_scheme.specs.flow.Points.{PointData, PointsData, IsPoints, rules_points, term_points, bodies, points_of}
+use Rattle.hs_scheme.specs.flow.Rows.{point_of, points_in, places_in, ArePlacesOfArguments, rules_places}
 use Rattle.hs_scheme.proofs.ParameterLemmas.{sum_few}
 use Rattle.hs_scheme.proofs.PointLemmas.{rule_more, rule_length, body_more, rule_many, are_points}
 use Rattle.hs_scheme.proofs.RowLemmas.{rule_places_more}

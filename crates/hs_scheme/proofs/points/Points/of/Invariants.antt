@@ -1,7 +1,7 @@
 -- the rules so far have their points
 use Rattle.std.proofs.Common.{◌≡◌, ◌≤◌, take, length, All, vec_len, vec_capacity}
-use Rattle.hs_scheme.specs.Points.{rules_points, bodies}
-use Rattle.hs_scheme.specs.Rows.{points_in, places_in, Fits, rules_places}
+use Rattle.hs_scheme.specs.flow.Points.{rules_points, bodies}
+use Rattle.hs_scheme.specs.flow.Rows.{points_in, places_in, Fits, rules_places}
 use Rattle.hs_scheme.proofs.points.Points.of.Given as goal
 
 abbrev pub invariant-loop-number : goal.invariant-loop-number

@@ -1,9 +1,9 @@
 use Rattle.std.proofs.Common.{◌≡◌, sym, ◌∙◌, subst, List}
-use Rattle.hs_scheme.specs.Automaton.{AutomatonData}
+use Rattle.hs_scheme.specs.acceptance.Automaton.{AutomatonData}
 use Rattle.hs_scheme.specs.Names.{NamesData}
 use Rattle.hs_scheme.specs.Scheme.{SchemeData}
-use Rattle.hs_scheme.specs.Sorted.{IsSorted}
-use Rattle.hs_scheme.specs.Sorting.{SortTree}
+use Rattle.hs_scheme.specs.sorting.Sorted.{IsSorted}
+use Rattle.hs_scheme.specs.sorting.Sorting.{SortTree}
 use Rattle.hs_scheme.proofs.sorted.Sorted.copy.Goals as goal
 
 sorted_same : {s t : SchemeData} {a b : AutomatonData} {n m : NamesData} {k l : List SortTree} → s ≡ t → a ≡ b → n ≡ m → k ≡ l

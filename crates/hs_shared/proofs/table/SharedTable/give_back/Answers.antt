@@ -17,6 +17,6 @@ returns g c =
     let core = c.enter-hold.result.core in
     let left = c.give_back.new.self.core in
     let n = c.args.seat.now.known.number in
-    does_by c.args.seat.now c.enter-hold.new.seat c.give_back.new.seat c.leave.new.seat core left c.enter-hold.ensures.seat c.enter-hold.ensures.finds c.give_back.ensures.told c.give_back.ensures.holds.own c.give_back.ensures.holds.is_core c.leave.ensures
-    (λ found after. after ≡ stepped found n (gives_back c.args.ticket) found.spare) core c.enter-hold.ensures.finds.is_core refl refl
+    does_by c.args.seat.now c.enter-hold.new.seat c.give_back.new.seat c.leave.new.seat core left c.enter-hold.ensures.seat c.enter-hold.ensures.finds c.give_back.ensures.told c.give_back.ensures.holds.own c.give_back.ensures.holds.know_core c.leave.ensures
+    (λ found after. after ≡ stepped found n (gives_back c.args.ticket) found.spare) core c.enter-hold.ensures.finds.know_core refl refl
     (subst (λ (s : SeatData). left ≡ stepped core s.known.number (gives_back c.args.ticket) core.spare) c.enter-hold.ensures.seat c.give_back.ensures.core)

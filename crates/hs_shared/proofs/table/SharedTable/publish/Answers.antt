@@ -26,7 +26,7 @@ returns-clause-ok g c =
     let d = deduction_of c.args.replica.now.ids c.args.deduced.now in
     ok_mapped c.publish-published.result
     (λ published h.
-    does_by c.args.seat.now c.enter-hold.new.seat c.publish-published.new.seat c.leave.new.seat core left c.enter-hold.ensures.seat c.enter-hold.ensures.finds c.publish-published.ensures.told c.publish-published.ensures.holds.own c.publish-published.ensures.holds.is_core c.leave.ensures
+    does_by c.args.seat.now c.enter-hold.new.seat c.publish-published.new.seat c.leave.new.seat core left c.enter-hold.ensures.seat c.enter-hold.ensures.finds c.publish-published.ensures.told c.publish-published.ensures.holds.own c.publish-published.ensures.holds.know_core c.leave.ensures
     (λ found after. Publishes found n c.args.ticket d published after) h.0 h.1 h.2 h.3
     (subst (λ (s : SeatData). Publishes h.0 s.known.number c.args.ticket d published left) c.enter-hold.ensures.seat h.4))
     c.publish-published.ensures.ok
@@ -36,5 +36,5 @@ returns-clause-err g c =
     let core = c.enter-hold.result.core in
     let left = c.publish-published.new.self.core in
     err_mapped c.publish-published.result
-    (λ h. looks_by c.args.seat.now c.enter-hold.new.seat c.publish-published.new.seat c.leave.new.seat core left c.enter-hold.ensures.seat c.enter-hold.ensures.finds c.publish-published.ensures.told c.publish-published.ensures.holds.own c.publish-published.ensures.holds.is_core c.leave.ensures h.1)
+    (λ h. looks_by c.args.seat.now c.enter-hold.new.seat c.publish-published.new.seat c.leave.new.seat core left c.enter-hold.ensures.seat c.enter-hold.ensures.finds c.publish-published.ensures.told c.publish-published.ensures.holds.own c.publish-published.ensures.holds.know_core c.leave.ensures h.1)
     c.publish-published.ensures.err

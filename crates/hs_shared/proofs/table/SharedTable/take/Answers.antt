@@ -10,10 +10,10 @@ returns-clause-ok g c =
     let core = c.enter-hold.result.core in
     let left = c.take-taken.new.self.core in
     let n = c.args.seat.now.known.number in
-    let is = c.enter-hold.ensures.finds.is_core in
+    let is = c.enter-hold.ensures.finds.know_core in
     ok_mapped c.take-taken.result
     (λ taken h.
-    does_by c.args.seat.now c.enter-hold.new.seat c.take-taken.new.seat c.leave.new.seat core left c.enter-hold.ensures.seat c.enter-hold.ensures.finds c.take-taken.ensures.told c.take-taken.ensures.holds.own c.take-taken.ensures.holds.is_core c.leave.ensures
+    does_by c.args.seat.now c.enter-hold.new.seat c.take-taken.new.seat c.leave.new.seat core left c.enter-hold.ensures.seat c.enter-hold.ensures.finds c.take-taken.ensures.told c.take-taken.ensures.holds.own c.take-taken.ensures.holds.know_core c.leave.ensures
     (λ found after. Takes found n taken after) (record core { spare = h.0 })
     (record { legal = is.legal; least_budget = is.least_budget; greatest_budget = is.greatest_budget; ids = is.ids }) refl refl
     (subst (λ (s : SeatData). Takes (record core { spare = h.0 }) s.known.number taken left) c.enter-hold.ensures.seat h.1))
@@ -24,5 +24,5 @@ returns-clause-err g c =
     let core = c.enter-hold.result.core in
     let left = c.take-taken.new.self.core in
     err_mapped c.take-taken.result
-    (λ h. looks_by c.args.seat.now c.enter-hold.new.seat c.take-taken.new.seat c.leave.new.seat core left c.enter-hold.ensures.seat c.enter-hold.ensures.finds c.take-taken.ensures.told c.take-taken.ensures.holds.own c.take-taken.ensures.holds.is_core c.leave.ensures (ap (λ (x : CoreData). x.story) h))
+    (λ h. looks_by c.args.seat.now c.enter-hold.new.seat c.take-taken.new.seat c.leave.new.seat core left c.enter-hold.ensures.seat c.enter-hold.ensures.finds c.take-taken.ensures.told c.take-taken.ensures.holds.own c.take-taken.ensures.holds.know_core c.leave.ensures (ap (λ (x : CoreData). x.story) h))
     c.take-taken.ensures.err

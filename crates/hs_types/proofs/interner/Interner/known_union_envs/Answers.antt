@@ -4,7 +4,7 @@ use Rattle.hs_types.proofs.interner.Interner.known_union_envs.Goals as goal
 
 pub returns-then-is_empty_env : goal.returns-then-is_empty_env
 returns-then-is_empty_env c =
-    union_of_empty c.self.inside.nodes c.args.self.now (length c.sets.result.now) c.args.a c.args.b c.sets.result.now c.self.view_is c.numbers_are_exact.ensures (c.is_empty_env.ensures c.if-is_empty_env.true) c.sets.ensures.sets refl
+    union_of_empty c.self.inside.nodes c.args.self.now (length c.sets.result.now) c.args.a c.args.b c.sets.result.now c.self.view_is c.know_numbers.ensures (c.is_empty_env.ensures c.if-is_empty_env.true) c.sets.ensures.sets refl
     c.requires.a c.requires.b
 
 pub returns : goal.returns

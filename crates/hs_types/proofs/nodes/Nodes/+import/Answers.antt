@@ -47,7 +47,7 @@ import_set-number_set-requires-clause-ascends t c =
     let J = c.loop-member.self in
     let all : map (type_of_id J) c.loop-member.types.items ≡ set_of_id I c.args.id =
     made_all (type_of_id I) c.members-members.result.now (map (type_of_id J) c.loop-member.types.items) (set_of_id I c.args.id) c.loop-member.member-index c.loop-member.invariant.same (omega (arith, c.loop-member-test.false)) c.members-members.ensures.members in
-    subst (λ (s : List TypeTree). IsSet s) (sym (ap (λ (zs : List ℕ). map (type_of_id J) zs) c.as_slice.ensures ∙ all)) (c.numbers_are_exact.ensures.set_ascends c.args.id)
+    subst (λ (s : List TypeTree). IsSet s) (sym (ap (λ (zs : List ℕ). map (type_of_id J) zs) c.as_slice.ensures ∙ all)) (c.know_numbers.ensures.set_ascends c.args.id)
 
 pub import_set-returns-clause-ok : goal.import_set-returns-clause-ok
 import_set-returns-clause-ok t c =

@@ -6,10 +6,10 @@ use Rattle.hs_types.proofs.MakeLemmas.{numbered_union}
 use Rattle.hs_types.proofs.nodes.Nodes.union_sets.Goals as goal
 
 pub merge-requires-clause-xs_ascend : goal.merge-requires-clause-xs_ascend
-merge-requires-clause-xs_ascend c = subst (λ (s : List TypeTree). IsSet s) (sym c.members.ensures.members) (c.numbers_are_exact.ensures.set_ascends c.args.a)
+merge-requires-clause-xs_ascend c = subst (λ (s : List TypeTree). IsSet s) (sym c.members.ensures.members) (c.know_numbers.ensures.set_ascends c.args.a)
 
 pub merge-requires-clause-ys_ascend : goal.merge-requires-clause-ys_ascend
-merge-requires-clause-ys_ascend c = subst (λ (s : List TypeTree). IsSet s) (sym c.members-2.ensures.members) (c.numbers_are_exact.ensures.set_ascends c.args.b)
+merge-requires-clause-ys_ascend c = subst (λ (s : List TypeTree). IsSet s) (sym c.members-2.ensures.members) (c.know_numbers.ensures.set_ascends c.args.b)
 
 pub add_set-requires-clause-range : goal.add_set-requires-clause-range
 add_set-requires-clause-range c = subst (λ (zs : List ℕ). All (λ t. t < length c.args.self.now.types) zs) (sym c.as_slice.ensures.value) c.in_ok-merged.ensures.range

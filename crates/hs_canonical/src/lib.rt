@@ -1,0 +1,7 @@
+//! The canonical core of a problem: a core whose log with its supports is the canonical log.
+#![tactic(auto)]
+
+mod publishing;
+
+pub use hs_core::Core;
+pub use publishing::canonical;

@@ -1,8 +1,0 @@
-pub mod Same
-pub mod Realizing
-pub mod Arrows
-pub mod Failures
-pub mod Bodies
-pub mod Cases
-pub mod Ending
-pub mod Deciding

@@ -1,5 +1,0 @@
-use Rattle.hs_naming.proofs.Ending.{start_leads}
-use Rattle.hs_naming.proofs.laws.namings_lead_the_start.Goals as goal
-
-pub returns : goal.returns
-returns c = λ p T supports known log has. start_leads p known T supports log has

@@ -1,4 +1,0 @@
-pub mod Evidence
-pub mod Naming
-pub mod Leading
-pub mod NamingExamples

@@ -1,0 +1,11 @@
+pub mod Transition
+pub mod Automaton
+pub mod Transitions
+pub mod Replacement
+pub mod Cut
+pub mod Run
+pub mod Steps
+pub mod FailingPath
+pub mod Failing
+pub mod StepsExamples
+pub mod RunExamples
