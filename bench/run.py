@@ -195,6 +195,49 @@ def iterated(order, steps):
     return framed(rules, ["q0 a -> q1.\n", "q1 a -> q0.\n", "q0 c -> .\n"])
 
 
+def numerals(twos, modulus=3):
+    """Numerals of the orders 2 to 5, each of so many twos composed, that are applied to one another. The tree's length is told by
+    its remainder."""
+    lines = ["S -> C5 C4 C3 C2 A c.\n"]
+    for order in range(5, 1, -1):
+        own, more = f"x{order - 2}", "".join(f" x{i}" for i in range(order - 3, -1, -1))
+        lines.append(f"T{order} f {own}{more} -> f (f {own}){more}.\n")
+        applied = "f"
+        for _ in range(twos):
+            applied = f"(T{order} {applied})"
+        lines.append(f"C{order} f {own}{more} -> {applied[1:-1]} {own}{more}.\n")
+    moves = [f"q{i} a -> q{(i + 1) % modulus}.\n" for i in range(modulus)]
+    return framed([*lines, "A z -> a z.\n"], [*moves, "q1 c -> .\n"])
+
+
+def booleans(rules, count=10):
+    """Rules that hand on booleans as selectors: each turns one of them, or opens a file where it is set, that is closed behind it."""
+    kept = [f"b{j}" for j in range(count)]
+    lines = ["S -> R0 end" + " F" * count + ".\n"]
+    for i in range(rules):
+        own = i % count
+        turned = " ".join(f"(Not b{own})" if j == own else b for j, b in enumerate(kept))
+        opened = f"(b{own} (open (R{(i * 7 + 3) % rules} (close k) {' '.join(kept)})) k)"
+        lines.append(f"R{i} k {' '.join(kept)} -> br (R{(i + 1) % rules} k {turned}) {opened}.\n")
+    lines += ["Not b x y -> b y x.\n", "T x y -> x.\n", "F x y -> y.\n"]
+    moves = ["q0 br -> q0 q0.\n", "q1 br -> q1 q1.\n", "q0 open -> q1.\n", "q1 open -> q1.\n", "q1 close -> q0.\n", "q0 close -> q0.\n"]
+    return framed(lines, [*moves, "q0 end -> .\n"])
+
+
+def tested(rules, count=10):
+    """Rules that hand on booleans as selectors: each tests one of them and sets it the other way. A file is open while the first is
+    set."""
+    kept = [f"b{j}" for j in range(count)]
+    lines = ["S -> R0" + " F" * count + ".\n"]
+    for i in range(rules):
+        own = i % count
+        left, right = (f"R{(i + 1) % rules} " + " ".join(to if j == own else b for j, b in enumerate(kept)) for to in "FT")
+        one, other = (f"(close ({left}))", f"(open ({right}))") if own == 0 else (f"({left})", f"({right})")
+        lines.append(f"R{i} {' '.join(kept)} -> br (b{own} {one} {other}) (R{(i * 7 + 3) % rules} {' '.join(kept)}).\n")
+    lines += ["T x y -> x.\n", "F x y -> y.\n"]
+    return framed(lines, ["q0 br -> q0 q0.\n", "q0 open -> q1.\n", "q1 br -> q1 q1.\n", "q1 close -> q0.\n"])
+
+
 def cycle(k):
     """The file of --gen K, for any K."""
     lines = []
@@ -241,9 +284,18 @@ FAMILIES = {
     "aliases": (aliases, [2_000, 4_000, 8_000], "rules", "horsat"),
     "gen": (cycle, [100, 200, 300], "states", "horsat"),
     "million": (cycle, [350, 500, 700], "states", "horsat"),
+    "iterated_2": (lambda steps: iterated(2, steps), [50, 100, 200], "steps", "horsat"),
     "iterated_3": (lambda steps: iterated(3, steps), [64, 128, 256], "steps", "horsat --quick"),
     "iterated_4": (lambda steps: iterated(4, steps), [64, 128, 256], "steps", "horsat --quick"),
     "iterated_5": (lambda steps: iterated(5, steps), [64, 128, 256], "steps", "horsat --quick"),
+    "budget_3": (lambda steps: iterated(3, steps), [2, 11, 20], "steps", "horsat --entries 200000"),
+    "budget_4": (lambda steps: iterated(4, steps), [1, 4], "steps", "horsat --entries 200000"),
+    "budget_5": (lambda steps: iterated(5, steps), [1, 4], "steps", "horsat --entries 200000"),
+    "numerals": (numerals, [1, 2, 3], "twos", "horsat --quick"),
+    "numerals_5": (lambda twos: numerals(twos, 5), [2, 3], "twos", "horsat --quick"),
+    "booleans": (booleans, [50, 100, 200], "rules", "horsat --quick"),
+    "booleans_20": (lambda rules: booleans(rules, 20), [100, 200], "rules", "horsat --quick"),
+    "tested": (tested, [50, 100, 200], "rules", "horsat --quick"),
 }
 
 
@@ -254,8 +306,10 @@ def program(name):
 def words_of(words, path):
     """Our program with its words. Only horsat is told the file's name; the others read standard input."""
     name, *others = words
-    own = ["--workers", WORKERS, "--entries", "1000000", *others, path] if name == "horsat" else others
-    return [program(name), *own]
+    if name != "horsat":
+        return [program(name), *others]
+    entries = [] if "--entries" in others else ["--entries", "1000000"]
+    return [program(name), "--workers", WORKERS, *entries, *others, path]
 
 
 def programs_of(family):

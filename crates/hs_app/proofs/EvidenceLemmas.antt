@@ -1,13 +1,15 @@
 -- Lists that ascend, and what evidence decides.
-use Rattle.std.proofs.Common.{◌≡◌, ◌≢◌, sym, ◌∙◌, ap, subst, ℕ, true, false, Option, Some, None, List, Result, Ok, Err, get_or, AllPairs, inl, inr}
+use Rattle.std.proofs.Common.{◌≡◌, ◌≢◌, sym, ◌∙◌, ap, subst, ℕ, ◌+◌, ◌<◌, true, false, Option, Some, None, List, length, map, Result, Ok, Err, get_or, AllPairs, inl, inr, arith}
 use Rattle.std.specs.Prelude.{OnOk, is_err}
 use Rattle.std.specs.Option.{IfSome}
 use Rattle.std.specs.Cmp.{IsTotalOrder}
 use Rattle.std.specs.declared.cmp.Ordering.{Ordering}
 use Rattle.std.specs.declared.cmp.Ordering.TheVariants.{Less, Equal}
 use Rattle.std.proofs.lemmas.Cmp.{tied_itself}
+use Rattle.std.proofs.lemmas.List.{get_or-map, length-map}
 use Rattle.hs_scheme.specs.declared.term.Head.TheVariants.{Tm}
 use Rattle.hs_scheme.specs.flow.Flow.{IsAscending}
+use Rattle.hs_checker.proofs.Ordered.{ascending_from}
 use Rattle.hs_scheme.specs.acceptance.FailingPath.{FailingPathData}
 use Rattle.hs_scheme.specs.Problem.{ProblemData}
 use Rattle.hs_scheme.specs.acceptance.Run.{start}
@@ -30,6 +32,17 @@ distinct R total xs up i j d less within e =
     let b = get_or xs j d in
     let f : Less ≡ Equal = sym (up i j d less within) ∙ (ap (λ c. R c b) e ∙ tied_itself total b) in
     (cc)
+
+-- a list whose items are told by rows ascends where each row's item is less than the next one's
+pub ascending_rows : {A X : Type 0} (R : X → X → Ordering) → IsTotalOrder R → ((a b : X) → R a b ≡ Equal → a ≡ b) → (f : A → X) (d : A) (rows : List A) (xs : List X)
+    → map f rows ≡ xs → ((k : ℕ) (e : A) → k + 1 < length rows → R (f (get_or rows k e)) (f (get_or rows (k + 1) e)) ≡ Less) → IsAscending R xs
+ascending_rows R total same f d rows xs is near =
+    let count = length-map rows f in
+    subst (λ ys. IsAscending R ys) is (ascending_from R total same (map f rows) (λ k e lt.
+    let two : k + 1 < length rows = subst (λ n. k + 1 < n) count lt in
+    let first = get_or-map f rows k d e (omega (arith, two)) in
+    let second = get_or-map f rows (k + 1) d e two in
+    ap (λ x. R x (get_or (map f rows) (k + 1) e)) first ∙ (ap (λ y. R (f (get_or rows k d)) y) second ∙ near k d two)))
 
 -- what holds where no fault is answered
 pub without_fault : {A E : Type 0} (r : Result A E) (P : Type 0) → is_err r ≡ false → OnOk r P → P

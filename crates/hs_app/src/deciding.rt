@@ -12,8 +12,8 @@ ghost use Rattle.hs_core.specs.Saturation.{IsVerdict};
 ghost use Rattle.hs_workers.specs.Answers.{IsShared, IsSharedDone};
 ghost use Rattle.hs_rank.specs.Canonical.{IsCanonicalLog};
 ghost use Rattle.hs_checker.specs.Checked.{IsCount};
+ghost use Rattle.hs_words.specs.Settings.{AreSettingsWithin};
 ghost use Rattle.hs_app.specs.Problems.{IsReportedTable};
-ghost use Rattle.hs_words.specs.Words.{AreSettingsWithin};
 ghost use Rattle.hs_app.specs.Verdict.{IsSought, IsShown, Decides, DecidesProblem};
 
 use crate::proposed::decide_by_search;
@@ -42,7 +42,6 @@ fn minimal_of(
     problem: &Problem,
     settings: Settings,
 ) -> Result<Option<Minimal>, OutOfMemory>
-    requires { AreSettingsWithin settings }
     ensures { IfOk result (IsSought settings problem.now) }
 {
     if !settings.minimal {
@@ -67,7 +66,6 @@ fn report_by(
     verdict: &Verdict,
     removed: Option<u64>,
 ) -> Result<Vec<u8>, OutOfMemory>
-    requires settings { AreSettingsWithin settings }
     requires problem { problem.now ≡ core.now.base.problem }
     requires table { option_map (λ t. t.now) table ≡ if settings.table then Some (log_of core.now) else None }
     ensures { IfOk result (λ text. IsShown settings problem.now verdict.now (log_of core.now) removed
@@ -91,7 +89,6 @@ fn report_with(
     verdict: &Verdict,
     removed: Option<u64>,
 ) -> Result<Vec<u8>, OutOfMemory>
-    requires settings { AreSettingsWithin settings }
     requires problem { problem.now ≡ core.now.base.problem }
     requires entries { entries.now ≡ log_of core.now }
     ensures { IfOk result (λ text. IsShown settings problem.now verdict.now (log_of core.now) removed
@@ -120,7 +117,6 @@ fn report_of(
     verdict: &Verdict,
     removed: Option<u64>,
 ) -> Result<Vec<u8>, OutOfMemory>
-    requires settings { AreSettingsWithin settings }
     requires problem { problem.now ≡ core.now.base.problem }
     ensures { IfOk result (λ text. IsShown settings problem.now verdict.now (log_of core.now) removed
         text.items) }
@@ -164,7 +160,6 @@ fn accepted(
     removed: Option<u64>,
 ) -> Result<Decided, OutOfMemory>
     requires flow { HasClosedFlow problem.now }
-    requires settings { AreSettingsWithin settings }
     requires problem { problem.now ≡ core.now.base.problem }
     requires budget { core.now.base.budget ≡ settings.entries }
     requires least { IsLeastTable problem.now (log_of core.now) }
@@ -215,7 +210,6 @@ fn rejected(
 ) -> Result<Decided, OutOfMemory>
     requires problem { problem.now ≡ core.now.base.problem }
     requires few { length (log_of core.now) ≤ settings.entries }
-    requires settings { AreSettingsWithin settings }
     requires reported { IsReportedTable settings.first problem.now (log_of core.now) }
     requires canonical { settings.first ≡ false
         → IsCanonicalLog problem.now (log_of core.now) (state_of core.now).supports }
@@ -275,7 +269,6 @@ fn first(
     settings: Settings,
     removed: Option<u64>,
 ) -> Result<Decided, OutOfMemory>
-    requires settings { AreSettingsWithin settings }
     requires sorted { IsSortedProblem problem.now }
     requires shared { IsShared (record {
       problem = problem.now;
@@ -305,6 +298,13 @@ fn canonical_core<'p>(
     canonical(alloc, problem)
 }
 
+/// What holds of all settings.
+fn know_settings(settings: &Settings)
+    ensures { AreSettingsWithin settings.now }
+{
+    let _ = &settings.entries;
+}
+
 /// The verdict where the least table has the start entry: the path is the one that the canonical log
 /// names.
 fn by_canonical_log<'p>(
@@ -314,13 +314,13 @@ fn by_canonical_log<'p>(
     settings: Settings,
     removed: Option<u64>,
 ) -> Result<Decided, OutOfMemory>
-    requires settings { AreSettingsWithin settings }
     requires all { settings.first ≡ false }
     requires few { Exceeds problem.now settings.entries → ⊥ }
     requires start { (T : List EntryData) → IsLeastTable problem.now T → HasStart problem.now T }
     requires rejects { Accepts problem.now.sorted.scheme.rules problem.now.sorted.automaton.transitions → ⊥ }
     ensures { IfOk result (λ decided. DecidesProblem settings problem.now removed (Ok decided)) }
 {
+    know_settings(&settings);
     let ranked = canonical_core(alloc, problem, core)?;
     let decided = rejected(alloc, problem, &ranked, settings, removed);
     forget(ranked);
@@ -336,7 +336,6 @@ fn least<'p>(
     removed: Option<u64>,
 ) -> Result<Decided, OutOfMemory>
     requires flow { HasClosedFlow problem.now }
-    requires settings { AreSettingsWithin settings }
     requires sorted { IsSortedProblem problem.now }
     requires shared { IsShared (record {
       problem = problem.now;
@@ -369,7 +368,6 @@ fn of_done<'p>(
     removed: Option<u64>,
 ) -> Result<Decided, Refusal>
     requires flow { HasClosedFlow problem.now }
-    requires settings { AreSettingsWithin settings }
     requires sorted { IsSortedProblem problem.now }
     requires done { IsSharedDone (record {
       problem = problem.now;
@@ -403,7 +401,6 @@ pub(crate) fn by_table<R: Threads + Wait + Sync, G: Gate + Sync>(
     settings: Settings,
     gate: &G,
 ) -> Result<Decided, Refusal>
-    requires settings { AreSettingsWithin settings }
     requires flow { HasClosedFlow problem.now }
     ensures { DecidesProblem settings problem.now removed result }
 {
@@ -433,7 +430,6 @@ pub(crate) fn decide_problem<R: Threads + Wait + Sync, G: Gate + Sync>(
     settings: Settings,
     gate: &G,
 ) -> Result<Decided, Refusal>
-    requires settings { AreSettingsWithin settings }
     requires flow { HasClosedFlow problem.now }
     requires quick { IfSome before (λ _. settings.quick ≡ true) }
     ensures { (source : SortedData) → IfSome (option_map (λ s. s.now) before.entry) (λ s. s ≡ source)

@@ -8,7 +8,6 @@ ghost use Rattle.std.specs.Prelude.{◌≡◌, true};
 ghost use Rattle.hs_verdict.specs.Premises.{HasClosedFlow};
 ghost use Rattle.hs_weak.specs.Reads.{IsClosedReads};
 ghost use Rattle.hs_reads.specs.Own.{AreReadsOf};
-ghost use Rattle.hs_words.specs.Words.{AreSettingsWithin};
 ghost use Rattle.hs_app.specs.Verdict.{Decides};
 
 use crate::deciding::by_table;
@@ -21,7 +20,6 @@ use hs_scheme::{Problem, Sorted};
 use hs_words::Settings;
 use hs_workers::Gate;
 use std::alloc::Global;
-use std::mem::forget;
 use std::sync::Wait;
 use std::thread::Threads;
 
@@ -47,25 +45,17 @@ pub fn decide_on<R: Threads + Wait + Sync, G: Gate + Sync>(
     settings: Settings,
     gate: &G,
 ) -> Result<Decided, Refusal>
-    requires settings { AreSettingsWithin settings }
     requires quick { settings.quick ≡ true }
     requires flow { HasClosedFlow problem.now }
     requires reads { IsClosedReads problem.now reads }
     requires own { AreReadsOf problem.now reads }
     ensures { Decides settings before.now problem.now removed result }
 {
-    let decided = by_proposal(alloc, before, problem, &reads, &proposal, removed, settings);
+    let decided = by_proposal(alloc, before, problem, &reads, proposal, removed, settings);
     drop(reads);
     match decided {
-        Some(decided) => {
-            // A run ends here. To give back all types one by one would take longer than the system does.
-            forget(proposal);
-            Ok(decided)
-        }
-        None => {
-            drop(proposal);
-            by_table(rt, alloc, problem, removed, settings, gate)
-        }
+        Some(decided) => Ok(decided),
+        None => by_table(rt, alloc, problem, removed, settings, gate),
     }
 }
 
@@ -88,7 +78,6 @@ pub(crate) fn decide_by_search<R: Threads + Wait + Sync, G: Gate + Sync>(
     settings: Settings,
     gate: &G,
 ) -> Result<Decided, Refusal>
-    requires settings { AreSettingsWithin settings }
     requires quick { settings.quick ≡ true }
     requires flow { HasClosedFlow problem.now }
     ensures { Decides settings before.now problem.now removed result }

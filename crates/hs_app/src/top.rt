@@ -1,7 +1,7 @@
 //! The top call.
 
 ghost use Rattle.std.specs.Prelude.{◌≡◌, ◌≢◌, ◌⊎◌, ◌≤◌, ◌^◌, [], map, Some, All};
-ghost use Rattle.hs_words.specs.Words.{texts, AreSettingsWithin};
+ghost use Rattle.hs_words.specs.Words.{texts};
 ghost use Rattle.hs_front.specs.Files.{IsAccepted, IsRejected};
 ghost use Rattle.hs_front.specs.Outside.{source_run, sink_run, IsCalm, KeepsSource};
 ghost use Rattle.hs_app.specs.Order.{read_file, ordered, ReadsNothing};
@@ -47,7 +47,6 @@ fn verdict_on<R: Threads + Wait + Sync, S: Source, G: Gate + Sync>(
     gate: &G,
     told: &mut Vec<u8>,
 ) -> Result<Decided, Refusal>
-    requires settings { AreSettingsWithin settings }
     requires tallies { All (λ p. taken p ≡ 0) passes.old.items }
     requires untold { told.old.items ≡ [] }
     ensures explains { IsExplanation settings.explain (S.reading source.new).given result told.new.items }
@@ -87,7 +86,6 @@ fn verdict_on_cycle<R: Threads + Wait + Sync, G: Gate + Sync>(
 ) -> Result<Decided, Refusal>
     requires least { 1 ≤ k }
     requires most { k ≤ 300 }
-    requires settings { AreSettingsWithin settings }
     requires tallies { All (λ p. taken p ≡ 0) passes.old.items }
     requires untold { told.old.items ≡ [] }
     ensures explains { IsExplanation settings.explain (cycle_file_text k) result told.new.items }

@@ -3,7 +3,6 @@
 ghost use Rattle.std.specs.Prelude.{◌≡◌, ◌≤◌, ◌^◌, true, false, length, map, All, IfSome, option_map};
 ghost use Rattle.hs_scheme.specs.sorting.Sorted.{SortedData, IsSorted};
 ghost use Rattle.hs_app.specs.Problems.{asked_of};
-ghost use Rattle.hs_words.specs.Words.{AreSettingsWithin};
 ghost use Rattle.hs_app.specs.Verdict.{DecidesForm, DecidesSorted, IsAnsweredWith};
 
 use crate::deciding::decide_problem;
@@ -88,7 +87,6 @@ fn decide_form<R: Threads + Wait + Sync, G: Gate + Sync>(
     settings: Settings,
     gate: &G,
 ) -> Result<Decided, Refusal>
-    requires settings { AreSettingsWithin settings }
     ensures { (before : SortedData) → (settings.simplify ≡ false → before ≡ form)
         → IfSome (option_map (λ s. s.now) copy.entry) (λ s. s ≡ before)
         → DecidesForm settings before form removed result }
@@ -114,7 +112,6 @@ fn decide_smaller<R: Threads + Wait + Sync, G: Gate + Sync>(
     passes: &mut Vec<Box<dyn Pass>>,
     gate: &G,
 ) -> Result<Decided, Refusal>
-    requires settings { AreSettingsWithin settings }
     requires simplify { settings.simplify ≡ true }
     requires copy { IfSome (option_map (λ s. s.now) copy) (λ s. s ≡ sorted) }
     requires tallies { All (λ p. taken p ≡ 0) passes.old.items }
@@ -136,7 +133,6 @@ fn decide_simplified<R: Threads + Wait + Sync, G: Gate + Sync>(
     passes: &mut Vec<Box<dyn Pass>>,
     gate: &G,
 ) -> Result<Decided, Refusal>
-    requires settings { AreSettingsWithin settings }
     requires simplify { settings.simplify ≡ true }
     requires tallies { All (λ p. taken p ≡ 0) passes.old.items }
     ensures { DecidesSorted (asked_of settings (map (λ p. image p) passes.old.items)) sorted result }
@@ -156,7 +152,6 @@ fn decide_scheme<R: Threads + Wait + Sync, G: Gate + Sync>(
     passes: &mut Vec<Box<dyn Pass>>,
     gate: &G,
 ) -> Result<Decided, Refusal>
-    requires settings { AreSettingsWithin settings }
     requires tallies { All (λ p. taken p ≡ 0) passes.old.items }
     ensures { DecidesSorted (asked_of settings (map (λ p. image p) passes.old.items)) sorted result }
 {
@@ -178,7 +173,6 @@ pub(crate) fn decide<R: Threads + Wait + Sync, G: Gate + Sync>(
     gate: &G,
 ) -> Result<Decided, Refusal>
     requires length { length bytes.now ≤ MAX_BYTES }
-    requires settings { AreSettingsWithin settings }
     requires tallies { All (λ p. taken p ≡ 0) passes.old.items }
     ensures { IsAnsweredWith (asked_of settings (map (λ p. image p) passes.old.items)) bytes.now result }
 {

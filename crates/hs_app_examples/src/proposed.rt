@@ -3,18 +3,17 @@
 
 ghost use Rattle.std.specs.Prelude.{◌≡◌, true, IfOk};
 ghost use Rattle.hs_verdict.specs.Premises.{HasClosedFlow};
-ghost use Rattle.hs_words.specs.Words.{AreSettingsWithin};
 
 use crate::running::{REJECTED, REPORT};
 use crate::seeing::see;
 use hs_app::{Decided, decide_on};
 use hs_front::{Refusal, problem_of, sorted_of};
+use hs_numbered::NumberedCertificate;
 use hs_quick::Proposal;
 use hs_reader::MAX_BYTES;
 use hs_reads::Reads;
 use hs_scheme::{OutOfMemory, Problem};
-use hs_table::{Entry, Ty, TypeSet};
-use hs_weak::Void;
+use hs_types::{EnvId, SetId};
 use hs_words::Settings;
 use hs_workers::Open;
 use std::alloc::Global;
@@ -34,57 +33,73 @@ type ShortEntry = (u32, ShortEnv, u32);
 type ShortVoid = (u32, ShortEnv);
 
 /// The set of these states.
-fn set_of(alloc: Global, states: &[u32]) -> Result<TypeSet, OutOfMemory> {
+fn set_of(
+    alloc: Global,
+    certificate: &mut NumberedCertificate,
+    states: &[u32],
+) -> Result<Option<SetId>, OutOfMemory> {
     let mut types = Vec::new(alloc);
     for q in states {
-        types.push(Ty::state(*q))?;
+        types.push(certificate.base(*q)?)?;
     }
-    Ok(TypeSet { types })
+    certificate.set(types.as_slice())
 }
 
-fn env_of(alloc: Global, sets: &[&[u32]]) -> Result<Vec<TypeSet>, OutOfMemory> {
-    let mut env = Vec::new(alloc);
-    for states in sets {
-        env.push(set_of(alloc, states)?)?;
+/// The environment of these sets.
+fn env_of(
+    alloc: Global,
+    certificate: &mut NumberedCertificate,
+    shorts: &[&[u32]],
+) -> Result<Option<EnvId>, OutOfMemory> {
+    let mut sets = Vec::new(alloc);
+    for states in shorts {
+        match set_of(alloc, certificate, states)? {
+            Some(set) => sets.push(set)?,
+            None => return Ok(None),
+        }
     }
-    Ok(env)
+    certificate.env(sets.as_slice())
 }
 
-/// These entries, in their order.
-fn table_of(alloc: Global, shorts: &[ShortEntry]) -> Result<Vec<Entry>, OutOfMemory> {
-    let mut table = Vec::new(alloc);
-    for (point, sets, q) in shorts {
-        let env = env_of(alloc, sets)?;
-        table.push(Entry {
-            point: *point,
-            env,
-            ty: Ty::state(*q),
-        })?;
+/// Adds the entry.
+fn add_entry(
+    alloc: Global,
+    certificate: &mut NumberedCertificate,
+    short: ShortEntry,
+) -> Result<bool, OutOfMemory> {
+    let ty = certificate.base(short.2)?;
+    match env_of(alloc, certificate, short.1)? {
+        Some(env) => certificate.add_entry(short.0, env, ty),
+        None => Ok(false),
     }
-    Ok(table)
 }
 
-/// These void environments, in their order.
-fn void_of(alloc: Global, shorts: &[ShortVoid]) -> Result<Vec<Void>, OutOfMemory> {
-    let mut void = Vec::new(alloc);
-    for (rule, sets) in shorts {
-        let env = env_of(alloc, sets)?;
-        void.push(Void { rule: *rule, env })?;
+/// Adds the void environment.
+fn add_void(
+    alloc: Global,
+    certificate: &mut NumberedCertificate,
+    short: ShortVoid,
+) -> Result<bool, OutOfMemory> {
+    match env_of(alloc, certificate, short.1)? {
+        Some(env) => certificate.add_void(short.0, env),
+        None => Ok(false),
     }
-    Ok(void)
 }
 
-/// A certificate of these entries and void environments.
+/// A certificate of these entries and void environments, in their order.
 fn certificate_of(
     alloc: Global,
     entries: &[ShortEntry],
     pairs: &[ShortVoid],
 ) -> Result<Proposal, OutOfMemory> {
-    let void = void_of(alloc, pairs)?;
-    Ok(Proposal::Accepted {
-        table: table_of(alloc, entries)?,
-        void,
-    })
+    let mut certificate = NumberedCertificate::new(alloc);
+    for entry in entries {
+        add_entry(alloc, &mut certificate, *entry)?;
+    }
+    for pair in pairs {
+        add_void(alloc, &mut certificate, *pair)?;
+    }
+    Ok(Proposal::Accepted(certificate))
 }
 
 /// A path along these children.
@@ -98,7 +113,6 @@ fn path_of(alloc: Global, children: &[u32]) -> Result<Proposal, OutOfMemory> {
 
 /// What a run asks for with `--quick`, for a path of at most three steps or of as many as without `--steps`.
 fn settings(three: bool) -> Settings
-    ensures within { AreSettingsWithin result }
     ensures quick { result.quick ≡ true }
 {
     Settings {

@@ -6,7 +6,7 @@ use Rattle.std.specs.declared.cmp.Ordering.TheVariants.{Less}
 use Rattle.hs_scheme.specs.flow.Flow.{IsAscending}
 use Rattle.hs_scheme.proofs.Lists.{none_in, here, later, uncons, only, pairs_append}
 use Rattle.hs_table_laws.proofs.Places.{pairs_tail, pairs_head, pairs_cons}
-use Rattle.hs_cert.specs.Front.{IsAboveLast}
+use Rattle.hs_numbered.specs.Certificates.{IsAboveLast}
 use Rattle.hs_cert.proofs.Fronts.{behind_first}
 
 abbrev first_or : {X : Type 0} → X → List X → X

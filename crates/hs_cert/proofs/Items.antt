@@ -10,7 +10,7 @@ use Rattle.hs_cert.proofs.Above.{above_before}
 use Rattle.hs_cert.proofs.Fronts.{all_behind}
 use Rattle.hs_cert.proofs.LineLemmas.{line_at, same_text, next_line}
 
-item_here : {X : Type 0} (items : List X) (i : ℕ) → i < length items → (front : List X) × (x : X) × (behind : List X) × (items ≡ front ++ x ∷ behind) × (length front ≡ i)
+pub item_here : {X : Type 0} (items : List X) (i : ℕ) → i < length items → (front : List X) × (x : X) × (behind : List X) × (items ≡ front ++ x ∷ behind) × (length front ≡ i)
 item_here [] i lt = absurd (omega (arith, lt))
 item_here (x ∷ items) zero lt = ([], x, items, refl, refl)
 item_here (x ∷ items) (suc i) lt = let r = item_here items i (omega (arith, lt)) in (x ∷ r.0, r.1, r.2, ap (λ ys. x ∷ ys) r.3, ap suc r.4)

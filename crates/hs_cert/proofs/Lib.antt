@@ -14,3 +14,4 @@ pub mod Heads
 pub mod NameLemmas
 pub mod OneTable
 pub mod Clear
+pub mod PairLines

@@ -9,7 +9,8 @@ use Rattle.hs_table.specs.Types.{TypeTree, state, arrow, type_cmp, IsSet, AreTyp
 use Rattle.hs_table_laws.proofs.Orders.{type_cmp_total}
 use Rattle.hs_text.specs.Canonical.{name_at}
 use Rattle.hs_cert.specs.Certificate.{AreNames}
-use Rattle.hs_cert.specs.Front.{IsAboveLast, type_then, members_then, others_then, IsTypeFront, IsMembersFront}
+use Rattle.hs_numbered.specs.Certificates.{IsAboveLast}
+use Rattle.hs_cert.specs.Front.{type_then, members_then, others_then, IsTypeFront, IsMembersFront}
 use Rattle.hs_cert.proofs.Fronts.{behind_first, run_split, first_of_word, word_some, word_all}
 use Rattle.hs_cert.proofs.Unique.{others_end, type_unique, members_unique, listed_then, listed_more, listed_all, left_of, shape_at, shapes_more, low_at, low_more}
 use Rattle.hs_cert.proofs.Above.{above_before, ascending_push}

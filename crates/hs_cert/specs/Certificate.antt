@@ -1,5 +1,5 @@
 -- Evidence of acceptance in a file: the verdict, two numbers by the form of the evidence, and the entries, each on a line. In the full form
--- the numbers are those of the entries and of their instances; in the compact form those of the entries and of the void environments, which
+-- the numbers are those of the entries and, as the file says, of their instances; in the compact form those of the entries and of the void environments, which
 -- stand behind the entries, each on a line.
 --     AreNames               names of a file, of which no two are equal
 --     nesting, IsNested      how deep a type is nested; an entry whose types are nested at most 1,000 deep
@@ -104,7 +104,7 @@ abbrev pub count_line : Form → ℕ → List ℕ
 count_line Full n = codes "entries " ++ decimal n
 count_line Compact n = codes "compact " ++ decimal n
 
--- line 2: how many instances, or how many void environments
+-- line 2: how many instances there are, as the file says, or how many void environments
 abbrev pub number_line : Form → ℕ → List ℕ
 number_line Full m = codes "checked " ++ decimal m
 number_line Compact k = codes "void " ++ decimal k
@@ -199,4 +199,4 @@ IsCompactCertificate p bytes table void = IsCertificateIn Compact p bytes (lengt
 -- the file is a certificate, and this is what it says
 abbrev pub IsCert : ProblemData → List ℕ → Cert → Type 0
 IsCert p bytes (cert.Full table checked) = IsCertificate p bytes table.items checked
-IsCert p bytes (cert.Compact table void) = IsCompactCertificate p bytes table.items void.items
+IsCert p bytes (cert.Compact certificate) = IsCompactCertificate p bytes certificate.table certificate.void

@@ -1,5 +1,4 @@
 -- What stands at the front of a text, and what behind it; only private contracts cite it.
---     IsAboveLast                            an element is greater than the last of a list
 --     type_then, members_then, sets_then     the text of a type, of the types of a set behind its brace, of the sets of an environment
 --                                            behind its bracket, and this rest
 --     IsTypeFront, IsMembersFront            such a type or set stands at the front
@@ -10,7 +9,6 @@
 use Rattle.std.specs.Prelude.{◌≡◌, ℕ, ◌+◌, ◌<◌, ◌≤◌, ◌^◌, ◌==◌, List, [], ◌∷◌, ◌++◌, length, map, codes, decimal, Option, Some, None, All, if◌then◌else◌}
 use Rattle.std.specs.List.{flat_map}
 use Rattle.std.specs.declared.cmp.Ordering.{Ordering}
-use Rattle.std.specs.declared.cmp.Ordering.TheVariants.{Less}
 use Rattle.hs_scheme.specs.Tree.{Tree, Trees, node, none, more, forest, height, heights}
 use Rattle.hs_scheme.specs.flow.Flow.{IsAscending}
 use Rattle.hs_scheme.specs.flow.Points.{point_at}
@@ -20,13 +18,11 @@ use Rattle.hs_table.specs.Types.{TypeTree, IsSet, IsType, AreTypes}
 use Rattle.hs_table.specs.Entries.{Env, EntryData, InShape, entry_cmp}
 use Rattle.hs_text.specs.Canonical.{name_at}
 use Rattle.hs_weak.specs.Void.{VoidData, void_cmp, IsVoidShape}
+use Rattle.hs_numbered.specs.Certificates.{IsAboveLast}
 use Rattle.hs_cert.specs.declared.heading.Heading.{Heading}
 use Rattle.hs_cert.specs.Certificate.{AreNames, ended, IsInLine, AreNested, IsNested, verdict_line, count_line, number_line, IsWithin, pairs_of, line_text, pair_text}
 
 -- the element is greater than the last of the list, where it has one
-abbrev pub IsAboveLast : {X : Type 0} → (X → X → Ordering) → List X → X → Type 0
-IsAboveLast {X} cmp xs x = (front : List X) (last : X) → xs ≡ front ++ last ∷ [] → cmp last x ≡ Less
-
 -- names with numbers below 2 ^ 32
 pub record AreIndexed (names : List (List ℕ)) : Type 0 where
   pub are : AreNames names

@@ -58,6 +58,16 @@ impl<T: Drop> From<AllocFailed<T>> for Misread {
     }
 }
 
+impl From<hs_scheme::OutOfMemory> for Misread {
+    ghost use Rattle.hs_cert.specs.declared.fault.Misread.TheVariants as misread;
+
+    ghost from_gives = { λ _ e. e ≡ misread.OutOfMemory };
+
+    fn from(_refused: hs_scheme::OutOfMemory) -> Misread {
+        Misread::OutOfMemory
+    }
+}
+
 impl From<AllocError> for TableFault {
     ghost use Rattle.hs_cert.specs.declared.fault.TableFault.TheVariants as fault;
 

@@ -2,7 +2,7 @@
 
 ghost use Rattle.std.specs.Prelude.{◌≡◌, ◌≢◌, ◌≤◌, ◌++◌, ◌==◌, not, ℕ, List, [], length, IfSome, IfNone, IsTrue, ◌↔◌};
 ghost use Rattle.std.specs.List.{prefix_len};
-ghost use Rattle.hs_cert.specs.Certificate.{ended, IsInLine};
+ghost use Rattle.hs_cert.specs.Certificate.{ended, IsInLine, IsLine};
 
 /// How many bytes stand before the first LF.
 fn line_length(bytes: &[u8]) -> usize
@@ -45,4 +45,17 @@ impl<'a> Lines<'a> {
     {
         self.rest.is_empty()
     }
+}
+
+/// The line of this number, counted from 0, without its LF; none where there is no such line. Time is in the
+/// bytes up to its end.
+pub fn line_at(bytes: &[u8], number: u32) -> Option<&[u8]>
+    ensures some { IfSome result (λ line. IsLine bytes.now number line.now) }
+    ensures none { IfNone result ((text : List ℕ) → IsLine bytes.now number text → ⊥) }
+{
+    let mut lines = Lines::new(bytes);
+    for _ in 0..number {
+        lines.next()?;
+    }
+    lines.next()
 }

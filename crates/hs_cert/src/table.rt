@@ -1,28 +1,29 @@
 //! The lines of a certificate.
 
 ghost use Rattle.std.specs.Prelude.{◌≡◌, ◌≤◌, ◌<◌, ◌^◌, ℕ, List, [], length, IfOk, OnOk, IfErr};
-ghost use Rattle.hs_scheme.specs.Problem.{ProblemData};
-ghost use Rattle.hs_cert.specs.Certificate.{AreNames, HasOwnNames, IsWithin, IsTableFault, IsCertificateIn, IsCert};
+ghost use Rattle.hs_cert.specs.declared.heading.Form.TheVariants.{Full, Compact};
+ghost use Rattle.hs_cert.specs.Certificate.{AreNames, HasOwnNames, IsTableFault, IsCertificateIn, IsCert};
 ghost use Rattle.hs_cert.specs.Front.{AreIndexed, IsOfProblem, AreOfRules, HasHead};
 
 use crate::fault::TableFault;
 use crate::heading::{Form, Heading, read_heading};
 use crate::lines::Lines;
 use crate::names::NameTable;
-use crate::rows::{pair_count, read_entries, read_pairs};
+use crate::numbered::{read_numbered_entries, read_pairs};
+use crate::rows::read_entries;
+use hs_numbered::NumberedCertificate;
 use hs_scheme::{Name, Problem};
 use hs_table::Entry;
-use hs_weak::Void;
 use std::alloc::Global;
 
 /// What a file with evidence says. Entries are ascending and in shape, and so are void environments;
 /// types are nested at most 1,000 deep.
-#[derive(Debug, Drop)]
+#[derive(Drop)]
 pub enum Cert {
     /// The entries of a table, and how many instances it is to have.
     Full { table: Vec<Entry>, checked: u64 },
-    /// Entries of a certificate of acceptance, and its void environments.
-    Compact { table: Vec<Entry>, void: Vec<Void> },
+    /// A certificate of acceptance, with its entries and its void environments.
+    Compact { certificate: NumberedCertificate },
 }
 
 /// The names of the states, one for each.
@@ -51,15 +52,44 @@ fn rule_names(problem: &Problem) -> &[Name]
     names.rules.as_slice()
 }
 
-/// The rows behind the heading, to the end of the file.
-fn read_rows(
+/// The entries behind a heading of the full form, to the end of the file.
+fn read_full_rows(
+    alloc: Global,
+    problem: &Problem,
+    states: &NameTable,
+    heading: Heading,
+    table: &mut Vec<Entry>,
+    lines: &mut Lines<'_>,
+) -> Result<(), TableFault>
+    requires states { AreIndexed states.now }
+    requires same { IsOfProblem problem.now states.now }
+    requires names { HasOwnNames problem.now }
+    requires full { heading.form ≡ Full }
+    requires few { heading.entries ≤ 1000000 }
+    requires table { table.old.items ≡ [] }
+    ensures read { OnOk result ((bytes : List ℕ) → HasHead bytes heading lines.old.rest.now
+        → IsCertificateIn heading.form problem.now bytes heading.number table.new.items []) }
+    ensures fault { IfErr result (λ e. (bytes : List ℕ)
+        → HasHead bytes heading lines.old.rest.now → IsTableFault problem.now bytes e) }
+{
+    read_entries(alloc, problem, states, heading, table, lines)?;
+    if lines.is_empty() {
+        Ok(())
+    } else {
+        Err(TableFault::Line {
+            line: heading.entries + 4,
+        })
+    }
+}
+
+/// The entries and void environments behind a heading of the compact form, to the end of the file.
+fn read_compact_rows(
     alloc: Global,
     problem: &Problem,
     states: &NameTable,
     rules: &NameTable,
     heading: Heading,
-    table: &mut Vec<Entry>,
-    void: &mut Vec<Void>,
+    certificate: &mut NumberedCertificate,
     lines: &mut Lines<'_>,
 ) -> Result<(), TableFault>
     requires states { AreIndexed states.now }
@@ -67,18 +97,29 @@ fn read_rows(
     requires rules { AreIndexed rules.now }
     requires own { AreOfRules problem.now rules.now }
     requires names { HasOwnNames problem.now }
+    requires compact { heading.form ≡ Compact }
     requires few { heading.entries ≤ 1000000 }
-    requires within { IsWithin heading.form heading.number }
-    requires table { table.old.items ≡ [] }
-    requires void { void.old.items ≡ [] }
+    requires few_pairs { heading.number ≤ 1000000 }
+    requires table { certificate.old.table ≡ [] }
+    requires void { certificate.old.void ≡ [] }
     ensures read { OnOk result ((bytes : List ℕ) → HasHead bytes heading lines.old.rest.now
-        → IsCertificateIn heading.form problem.now bytes heading.number table.new.items void.new.items) }
+        → IsCertificateIn heading.form problem.now bytes heading.number certificate.new.table
+        certificate.new.void) }
     ensures fault { IfErr result (λ e. (bytes : List ℕ)
         → HasHead bytes heading lines.old.rest.now → IsTableFault problem.now bytes e) }
 {
-    read_entries(alloc, problem, states, heading, table, lines)?;
-    let count = pair_count(heading);
-    read_pairs(alloc, problem, states, rules, heading, count, void, lines)?;
+    read_numbered_entries(alloc, problem, states, heading, certificate, lines)?;
+    let count = heading.number as u32;
+    read_pairs(
+        alloc,
+        problem,
+        states,
+        rules,
+        heading,
+        count,
+        certificate,
+        lines,
+    )?;
     if lines.is_empty() {
         Ok(())
     } else {
@@ -88,17 +129,70 @@ fn read_rows(
     }
 }
 
-/// What a file with this heading, these entries and these void environments says.
-fn cert_of(heading: Heading, table: Vec<Entry>, void: Vec<Void>) -> Cert
-    ensures { (p : ProblemData) (bytes : List ℕ)
-        → IsCertificateIn heading.form p bytes heading.number table.items void.items → IsCert p bytes result }
+/// What a file with this heading, of the full form, says.
+fn read_full(
+    alloc: Global,
+    problem: &Problem,
+    states: &NameTable,
+    heading: Heading,
+    lines: &mut Lines<'_>,
+) -> Result<Cert, TableFault>
+    requires states { AreIndexed states.now }
+    requires same { IsOfProblem problem.now states.now }
+    requires names { HasOwnNames problem.now }
+    requires full { heading.form ≡ Full }
+    requires few { heading.entries ≤ 1000000 }
+    ensures cert { IfOk result (λ cert. (bytes : List ℕ) → HasHead bytes heading lines.old.rest.now
+        → IsCert problem.now bytes cert) }
+    ensures fault { IfErr result (λ e. (bytes : List ℕ)
+        → HasHead bytes heading lines.old.rest.now → IsTableFault problem.now bytes e) }
 {
-    match heading.form {
-        Form::Full => Cert::Full {
-            table,
-            checked: heading.number,
-        },
-        Form::Compact => Cert::Compact { table, void },
+    let mut table = Vec::new(alloc);
+    read_full_rows(alloc, problem, states, heading, &mut table, lines)?;
+    Ok(Cert::Full {
+        table,
+        checked: heading.number,
+    })
+}
+
+/// What a file with this heading, of the compact form, says.
+fn read_compact(
+    alloc: Global,
+    problem: &Problem,
+    states: &NameTable,
+    rules: &NameTable,
+    heading: Heading,
+    lines: &mut Lines<'_>,
+) -> Result<Cert, TableFault>
+    requires states { AreIndexed states.now }
+    requires same { IsOfProblem problem.now states.now }
+    requires rules { AreIndexed rules.now }
+    requires own { AreOfRules problem.now rules.now }
+    requires names { HasOwnNames problem.now }
+    requires compact { heading.form ≡ Compact }
+    requires few { heading.entries ≤ 1000000 }
+    requires few_pairs { heading.number ≤ 1000000 }
+    ensures cert { IfOk result (λ cert. (bytes : List ℕ) → HasHead bytes heading lines.old.rest.now
+        → IsCert problem.now bytes cert) }
+    ensures fault { IfErr result (λ e. (bytes : List ℕ)
+        → HasHead bytes heading lines.old.rest.now → IsTableFault problem.now bytes e) }
+{
+    let mut certificate = NumberedCertificate::new(alloc);
+    let read = read_compact_rows(
+        alloc,
+        problem,
+        states,
+        rules,
+        heading,
+        &mut certificate,
+        lines,
+    );
+    match read {
+        Ok(()) => Ok(Cert::Compact { certificate }),
+        Err(fault) => {
+            drop(certificate);
+            Err(fault)
+        }
     }
 }
 
@@ -118,10 +212,8 @@ pub fn read_table(alloc: Global, problem: &Problem, bytes: &[u8]) -> Result<Cert
     let rules = NameTable::of(alloc, rule_names(problem))?;
     let mut lines = Lines::new(bytes);
     let heading = read_heading(&mut lines)?;
-    let mut table = Vec::new(alloc);
-    let mut void = Vec::new(alloc);
-    read_rows(
-        alloc, problem, &states, &rules, heading, &mut table, &mut void, &mut lines,
-    )?;
-    Ok(cert_of(heading, table, void))
+    match heading.form {
+        Form::Full => read_full(alloc, problem, &states, heading, &mut lines),
+        Form::Compact => read_compact(alloc, problem, &states, &rules, heading, &mut lines),
+    }
 }

@@ -6,7 +6,8 @@ ghost use Rattle.hs_table.specs.Types as types;
 ghost use Rattle.hs_table.specs.Types.{TypeTree};
 ghost use Rattle.hs_text.specs.Canonical.{name_at};
 ghost use Rattle.hs_cert.specs.declared.fault.Misread.TheVariants.{Faulty};
-ghost use Rattle.hs_cert.specs.Front.{AreIndexed, IsTypeFront, IsMembersFront, IsAboveLast};
+ghost use Rattle.hs_numbered.specs.Certificates.{IsAboveLast};
+ghost use Rattle.hs_cert.specs.Front.{AreIndexed, IsTypeFront, IsMembersFront};
 
 use crate::ahead::Ahead;
 use crate::fault::Misread;

@@ -9,7 +9,8 @@ use Rattle.hs_weak.specs.Reads.{IsClosedReads}
 use Rattle.hs_weak.specs.Void.{VoidData, IsVoidShape, IsVoidPair, IsVoidList}
 use Rattle.hs_weak.specs.Certificate.{IsAcceptanceCertificate}
 use Rattle.hs_types.specs.Interned.{InternerData, RowData, IsRow, entry_of, Grows}
-use Rattle.hs_choices.specs.Numbered.{VoidRowData, void_of, AreNumbered}
+use Rattle.hs_numbered.specs.Certificates.{VoidRowData, void_of}
+use Rattle.hs_choices.specs.Numbered.{AreNumbered}
 use Rattle.hs_choices.proofs.Staying.{numbered_stays}
 use Rattle.hs_void.specs.Voids.{BasisData, VoidsData, Fits, IsFirstWithout}
 use Rattle.hs_certificate_checker.specs.declared.fault.CertificateFault.{CertificateFault}

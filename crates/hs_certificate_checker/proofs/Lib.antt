@@ -1,4 +1,3 @@
-pub mod TreeLemmas
 pub mod RowLemmas
 pub mod CoverLemmas
 pub mod ShapeLemmas

@@ -10,12 +10,14 @@ use Rattle.hs_scheme.proofs.Lists.{none_in, here, read-slice_get, at_append, sli
 use Rattle.hs_table.specs.Entries.{Env, EntryData, InShape}
 use Rattle.hs_table.specs.Follows.{IsAt}
 use Rattle.hs_table_laws.proofs.Members.{taken_next, pushed_cases}
-use Rattle.hs_weak.specs.Void.{VoidData}
+use Rattle.hs_weak.specs.Void.{VoidData, IsVoidShape}
+use Rattle.hs_numbered.specs.Trees.{IsSomeEnv}
 use Rattle.hs_types.specs.Interned.{InternerData, RowData, IsRow, entry_of, Grows}
 use Rattle.hs_types.proofs.Numbers.{Grows-refl, Grows-trans, env_within}
 use Rattle.hs_types.proofs.RowLemmas.{rows_known}
 use Rattle.hs_choices.proofs.Staying.{rows_stay, voids_stay}
-use Rattle.hs_choices.specs.Numbered.{AreTableRows, VoidRowData, void_of}
+use Rattle.hs_numbered.specs.Certificates.{VoidRowData, void_of}
+use Rattle.hs_choices.specs.Numbered.{AreTableRows}
 
 module _ (p : ProblemData) (C : List EntryData) where
   pub no_rows : (I : InternerData) → AreTableRows p (take 0 C) I []
@@ -112,3 +114,7 @@ module _ (J K : InternerData) (g : Grows J K) where
 
 pub voids_long : (I : InternerData) (rows : List VoidRowData) (V : List VoidData) (k : ℕ) → map (void_of I) rows ≡ take k V → length rows ≤ k
 voids_long I rows V k same = omega (arith, ap length same, length-map rows (void_of I), length-take k V)
+
+-- its environment is in shape
+pub void_some : (p : ProblemData) (v : VoidData) → IsVoidShape p v → IsSomeEnv v.env
+void_some p v h = record { states = p.sorted.automaton.states; sets = h.env.sets; types = h.types }

@@ -19,7 +19,8 @@ use Rattle.hs_weak.specs.Void.{VoidData}
 use Rattle.hs_weak.specs.Certificate.{Matters, IsVoidEntry}
 use Rattle.hs_types.specs.Interned.{InternerData, type_of_id, env_of_id, RowData, IsRow, entry_of}
 use Rattle.hs_choices.specs.Slots.{IsSettled}
-use Rattle.hs_choices.specs.Numbered.{VoidRowData, AreNumbered}
+use Rattle.hs_numbered.specs.Certificates.{VoidRowData}
+use Rattle.hs_choices.specs.Numbered.{AreNumbered}
 use Rattle.hs_heads.specs.HeadTypes.{HeadTypeData, IsHeadRow}
 use Rattle.hs_void.specs.Voids.{BasisData}
 use Rattle.hs_certificate_checker.specs.Faults.{IsUncovered}

@@ -1,13 +1,15 @@
 //! The check of a certificate.
 
-ghost use Rattle.std.specs.Prelude.{IfErr, OnOk};
+ghost use Rattle.std.specs.Prelude.{List, IfErr, OnOk};
 ghost use Rattle.hs_scheme.specs.acceptance.Run.{Accepts};
 ghost use Rattle.hs_verdict.specs.Premises.{HasClosedFlow};
 ghost use Rattle.hs_weak.specs.Reads.{IsClosedReads};
-ghost use Rattle.hs_weak.specs.Void.{IsVoidList};
+ghost use Rattle.hs_table.specs.Entries.{EntryData};
+ghost use Rattle.hs_weak.specs.Void.{VoidData, IsVoidList};
 ghost use Rattle.hs_weak.specs.Certificate.{IsAcceptanceCertificate};
 ghost use Rattle.hs_certificate_checker.specs.Faults.{AreInVoidShape, HasCause, IsFlaw};
-ghost use Rattle.hs_certificate_checker.specs.Settled.{AreSettled};
+ghost use Rattle.hs_choices.specs.Numbered.{AreNumbered};
+ghost use Rattle.hs_certificate_checker.specs.Settled.{IsNumbered, AreSettled};
 
 use crate::fault::CertificateFault;
 use crate::flow::check_flow;
@@ -15,15 +17,39 @@ use crate::numbers::numbered;
 use crate::rows::check_rows;
 use crate::shape::first_out_of_shape;
 use hs_checker::has_start;
-use hs_choices::Known;
+use hs_choices::Compared;
+use hs_numbered::VoidRow;
 use hs_reads::Reads;
 use hs_scheme::Problem;
 use hs_table::Entry;
-use hs_types::Interner;
+use hs_types::{Interner, Row};
 use hs_verdict::know_sorted_problem;
 use hs_weak::Void;
 use hs_weak_laws::certificates_accept;
 use std::alloc::Global;
+
+/// The check of the rows of a table and of void pairs, which are in shape.
+pub(crate) fn check_numbers(
+    alloc: Global,
+    problem: &Problem,
+    reads: &Reads,
+    interner: Interner,
+    table: &[Row],
+    void: &[VoidRow],
+) -> Result<(), CertificateFault>
+    requires { IsNumbered problem.now interner table.now void.now }
+    ensures whole { (C : List EntryData) (V : List VoidData)
+        → AreNumbered problem.now C V interner table.now void.now → AreInVoidShape problem.now V
+        → OnOk result (IsVoidList problem.now C V × AreSettled problem.now C V reads.now) }
+    ensures flaw { (C : List EntryData) (V : List VoidData)
+        → AreNumbered problem.now C V interner table.now void.now → AreInVoidShape problem.now V
+        → IfErr result (IsFlaw problem.now C V reads.now) }
+{
+    let mut types = Compared::new(alloc, interner);
+    let checked = check_rows(alloc, problem, reads, &mut types, table, void);
+    drop(types);
+    checked
+}
 
 /// The check of a table and of void pairs, which are in shape.
 fn check_pairs(
@@ -39,20 +65,16 @@ fn check_pairs(
     ensures flaw { IfErr result (IsFlaw problem.now table.now void.now reads.now) }
 {
     let mut interner = Interner::new(alloc);
-    let numbers = numbered(alloc, problem, &mut interner, table, void)?;
-    let mut types = Known::new(alloc, interner);
-    let rows = numbers.table.as_slice();
-    let checked = check_rows(
-        alloc,
-        problem,
-        reads,
-        &mut types,
-        rows,
-        numbers.void.as_slice(),
-    );
-    drop(types);
-    drop(numbers);
-    checked
+    match numbered(alloc, problem, &mut interner, table, void) {
+        Ok(numbers) => {
+            let (rows, pairs) = (numbers.table.as_slice(), numbers.void.as_slice());
+            check_numbers(alloc, problem, reads, interner, rows, pairs)
+        }
+        Err(_) => {
+            drop(interner);
+            Err(CertificateFault::OutOfMemory)
+        }
+    }
 }
 
 /// Whether the table, the void pairs and the read pairs, which are closed, are a certificate of

@@ -13,10 +13,14 @@ mod idle;
 mod import;
 mod laws;
 mod missing;
+mod numbered;
 mod numbers;
+mod row_shape;
 mod rows;
 mod shape;
 
 pub use checking::check_certificate;
 pub use fault::CertificateFault;
 pub use laws::certificates_have_no_fault;
+pub use numbered::check_numbered;
+pub use row_shape::is_row_in_shape;

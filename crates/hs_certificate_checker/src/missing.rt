@@ -15,7 +15,7 @@ ghost use Rattle.hs_certificate_checker.specs.Settled.{AreSettledBy, AreSettledA
 
 use crate::covered::is_covered;
 use crate::idle::is_idle;
-use hs_choices::{Known, rows_of_arguments_are_of_one_rule, slots_for};
+use hs_choices::{Compared, rows_of_arguments_are_of_one_rule, slots_for};
 use hs_heads::{HeadType, head_types};
 use hs_reads::Reads;
 use hs_scheme::{OutOfMemory, Problem};
@@ -43,7 +43,7 @@ fn args_at(problem: &Problem, point: u32) -> &[u32]
 /// Whether an entry of the table covers the one of this row, or its environment is void for the rule. The
 /// table is the one by which environments are void.
 fn is_settled(
-    types: &mut Known,
+    types: &mut Compared,
     voids: &mut Voids,
     table: &[Row],
     rule: u32,
@@ -69,7 +69,7 @@ fn is_settled(
 /// The first of the environments with which an entry of this type at the point, which is one of the rule's,
 /// is neither covered nor void, in that entry.
 fn first_open(
-    types: &mut Known,
+    types: &mut Compared,
     voids: &mut Voids,
     table: &[Row],
     rule: u32,
@@ -107,7 +107,7 @@ fn first_open(
 fn open_by(
     alloc: Global,
     problem: &Problem,
-    types: &mut Known,
+    types: &mut Compared,
     voids: &mut Voids,
     table: &[Row],
     point: u32,
@@ -142,7 +142,7 @@ fn open_by(
 fn open_among(
     alloc: Global,
     problem: &Problem,
-    types: &mut Known,
+    types: &mut Compared,
     voids: &mut Voids,
     table: &[Row],
     point: u32,
@@ -176,7 +176,7 @@ fn open_at(
     alloc: Global,
     problem: &Problem,
     reads: &Reads,
-    types: &mut Known,
+    types: &mut Compared,
     voids: &mut Voids,
     table: &[Row],
     point: u32,
@@ -209,7 +209,7 @@ pub(crate) fn first_missing(
     alloc: Global,
     problem: &Problem,
     reads: &Reads,
-    types: &mut Known,
+    types: &mut Compared,
     voids: &mut Voids,
     table: &[Row],
 ) -> Result<Option<Row>, OutOfMemory>

@@ -6,7 +6,7 @@ ghost use Rattle.hs_choices.specs.Numbered.{AreNumbered};
 ghost use Rattle.hs_certificate_checker.specs.Faults.{AreInVoidShape};
 
 use crate::import::{table_rows, void_rows};
-use hs_choices::VoidRow;
+use hs_numbered::VoidRow;
 use hs_scheme::{OutOfMemory, Problem};
 use hs_table::Entry;
 use hs_types::{Interner, Row};

@@ -11,7 +11,8 @@ ghost use Rattle.hs_certificate_checker.specs.Settled.{StandFor, IsNumbered, Are
 
 use crate::fault::CertificateFault;
 use crate::missing::first_missing;
-use hs_choices::{Known, VoidRow};
+use hs_choices::Compared;
+use hs_numbered::VoidRow;
 use hs_reads::Reads;
 use hs_scheme::Problem;
 use hs_sites::Sites;
@@ -20,7 +21,7 @@ use hs_void::Voids;
 use std::alloc::Global;
 
 /// The fault of the row's entry, which is missing.
-fn missing(alloc: Global, types: &Known, row: Row) -> CertificateFault
+fn missing(alloc: Global, types: &Compared, row: Row) -> CertificateFault
     requires { IsRow types.now row }
     ensures { NamesRow types.now row result }
 {
@@ -35,7 +36,7 @@ fn check_voids(
     alloc: Global,
     problem: &Problem,
     reads: &Reads,
-    types: &mut Known,
+    types: &mut Compared,
     voids: &mut Voids,
     table: &[Row],
 ) -> Result<(), CertificateFault>
@@ -62,7 +63,7 @@ pub(crate) fn check_rows(
     alloc: Global,
     problem: &Problem,
     reads: &Reads,
-    types: &mut Known,
+    types: &mut Compared,
     table: &[Row],
     void: &[VoidRow],
 ) -> Result<(), CertificateFault>

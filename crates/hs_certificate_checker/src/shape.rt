@@ -9,7 +9,7 @@ use hs_scheme::Problem;
 use hs_weak::Void;
 
 /// How many rules there are.
-fn rule_count(problem: &Problem) -> usize
+pub(crate) fn rule_count(problem: &Problem) -> usize
     ensures { result ≡ length problem.now.sorted.scheme.rules }
 {
     problem.sorted.scheme.rules.len()

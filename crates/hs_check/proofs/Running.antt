@@ -1,5 +1,5 @@
 -- From the calls to what a run comes to.
-use Rattle.std.proofs.Common.{◌≡◌, sym, ap, subst, ℕ, ◌<◌, ◌≤◌, true, List, length, Option, Some, None, Result, Ok, Err, ◌⊎◌, inl, inr, Vec, arith}
+use Rattle.std.proofs.Common.{◌≡◌, sym, ◌∙◌, ap, subst, ℕ, ◌+◌, ◌<◌, ◌≤◌, true, List, length, slice_get, Option, Some, None, Result, Ok, Err, ◌⊎◌, inl, inr, Vec, arith}
 use Rattle.std.specs.Prelude.{MatchResult, OnOk}
 use Rattle.std.specs.Option.{IsSomeAnd}
 use Rattle.std.proofs.lemmas.Option.{slice_get_within}
@@ -11,7 +11,8 @@ use Rattle.hs_certificate_checker.specs.Faults.{IsFirstNotVoid}
 use Rattle.hs_text.specs.Report.{entry_line, void_line}
 use Rattle.hs_cert.specs.declared.table.Cert.{Cert}
 use Rattle.hs_cert.specs.declared.table.Cert.TheVariants as cert
-use Rattle.hs_cert.specs.Certificate.{IsCertificate, IsCompactCertificate, IsCert}
+use Rattle.hs_cert.specs.Certificate.{IsLine, IsCertificate, IsCompactCertificate, IsCert, pair_text}
+use Rattle.hs_cert.proofs.PairLines.{compact_pair_line}
 use Rattle.hs_front.specs.declared.refusal.Refusal.{Refusal}
 use Rattle.hs_front.specs.declared.refusal.Refusal.TheVariants.{Usage, Source, FileTooLong, Syntax, Limit, Names, IllSorted, NotFirstOrder, SortTooLarge, RuleTooLong, PointLimit, FlowLimit, EntryLimit, Sink, OutOfMemory}
 use Rattle.hs_front.specs.Files.{max_bytes}
@@ -21,7 +22,6 @@ use Rattle.hs_front.specs.Telling.{IsReadWhole, IsReadFault}
 use Rattle.hs_check.specs.declared.fault.Fault.{Fault}
 use Rattle.hs_check.specs.declared.fault.Fault.TheVariants.{Front, TableTooLong, TableLine, Missing, HasStart, NotVoid, Instances}
 use Rattle.hs_check.specs.declared.verified.Shown.{Shown}
-use Rattle.hs_check.specs.declared.verified.Shown.TheVariants.{Full, Compact}
 use Rattle.hs_check.specs.Words.{FilePair}
 use Rattle.hs_check.specs.Fault.{no_memory, table_fault, line_of, HasFixedLine}
 use Rattle.hs_check.specs.Evidence.{max_table, TellsMissing, TellsNotVoid, TableShows, CompactShows, CertShows, OwnReads, OfCertificate, OfCompact, TextShows, ComesTo}
@@ -174,7 +174,24 @@ told_not_void p v P shows (Missing entry) (inr h) = absurd h
 told_not_void p v P shows HasStart (inr h) = absurd h
 told_not_void p v P shows (Instances count) (inr h) = absurd h
 
--- the first pair that isn't void stands in the list
+-- the first pair that isn't void stands in the list, and on a line
+pub first_item : (p : ProblemData) (table : List EntryData) (void : List VoidData) (place : ℕ) → IsFirstNotVoid p table void place → (v : VoidData) × (slice_get void place ≡ Some v)
+first_item p table void place (inl f) = (f.item, f.at)
+first_item p table void place (inr h) = (h.1.item, h.1.at)
+
+module _ (p : ProblemData) (bytes : List ℕ) (table : List EntryData) (void : List VoidData) (text : IsCompactCertificate p bytes table void) (place : ℕ) (first : IsFirstNotVoid p table void place) (entries number : ℕ) (count : entries ≡ length table)
+    (is : number ≡ 3 + entries + place) where
+  abbrev pub told_pair : VoidData
+  told_pair = (first_item p table void place first).0
+
+  pub pair_at : slice_get void place ≡ Some told_pair
+  pair_at = (first_item p table void place first).1
+
+  pub told_line : IsLine bytes number (pair_text p told_pair)
+  told_line =
+      subst (λ n. IsLine bytes n (pair_text p told_pair)) (ap (λ n. 3 + n + place) (sym count) ∙ sym is)
+      (compact_pair_line p bytes table void text place told_pair pair_at)
+
 pub first_within : (p : ProblemData) (table : List EntryData) (void : List VoidData) (place : ℕ) → IsFirstNotVoid p table void place → place < length void
 first_within p table void place (inl f) = slice_get_within void place f.item f.at
 first_within p table void place (inr h) = slice_get_within void place h.1.item h.1.at
@@ -205,8 +222,8 @@ module _ (p : ProblemData) (bytes : List ℕ) where
   pub certificate_answers : (c : Cert) → IsCert p bytes c → (a : Result Shown Fault) → CertShows p c a → (a ≡ Err no_memory) ⊎ TextShows p bytes a
   certificate_answers (cert.Full table checked) certificate a (inl is) = inl is
   certificate_answers (cert.Full table checked) certificate a (inr h) = inr (full table.items checked certificate a h)
-  certificate_answers (cert.Compact table void) certificate a (inl is) = inl is
-  certificate_answers (cert.Compact table void) certificate a (inr h) = inr (compact table.items void.items certificate a h)
+  certificate_answers (cert.Compact d) certificate a (inl is) = inl is
+  certificate_answers (cert.Compact d) certificate a (inr h) = inr (compact d.table d.void certificate a h)
 
 -- ---- memory that is refused for the report
 

@@ -14,7 +14,7 @@ use Rattle.hs_weak.specs.Strength.{AsStrongAs}
 use Rattle.hs_weak.specs.Weak.{WeaklyChosen, done, next_argument, choose, WeaklyFollows, IsCoveredIn}
 use Rattle.hs_weak.specs.Sites.{SiteData}
 use Rattle.hs_weak.specs.Reads.{last_state}
-use Rattle.hs_weak.specs.Void.{VoidData, HasEntry, Misses, IsMissed, IsVoid, IsBlocked, IsVoidPair, IsVoidList}
+use Rattle.hs_weak.specs.Void.{VoidData, HasEntry, IsMissed, IsVoid, IsBlocked, IsVoidPair, IsVoidList}
 use Rattle.hs_weak.specs.Certificate.{IsVoidEntry, IsAcceptanceCertificate}
 use Rattle.hs_reads.proofs.ReadLemmas.{read_more}
 

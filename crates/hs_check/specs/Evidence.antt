@@ -82,7 +82,7 @@ OwnReads p P = (reads : List (ℕ × ℕ)) × (AreReadsOf p reads × P reads)
 -- what a certificate shows, or that memory was refused; only private contracts cite it
 abbrev pub CertShows : ProblemData → Cert → Result Shown Fault → Type 0
 CertShows p (cert.Full table checked) answer = (answer ≡ Err no_memory) ⊎ TableShows p table.items checked answer
-CertShows p (cert.Compact table void) answer = (answer ≡ Err no_memory) ⊎ OwnReads p (λ reads. CompactShows p table.items void.items reads answer)
+CertShows p (cert.Compact certificate) answer = (answer ≡ Err no_memory) ⊎ OwnReads p (λ reads. CompactShows p certificate.table certificate.void reads answer)
 
 -- the text is a certificate of such a table
 pub record OfCertificate (p : ProblemData) (bytes : List ℕ) (answer : Result Shown Fault) : Type 0 where

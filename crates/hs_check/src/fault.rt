@@ -1,6 +1,6 @@
 //! Why a table isn't verified.
 
-ghost use Rattle.std.specs.Prelude.{◌≡◌, ◌++◌, IfOk, IsOk};
+ghost use Rattle.std.specs.Prelude.{◌≡◌, ◌++◌, IfOk, IsOk, codes};
 ghost use Rattle.hs_front.specs.Line.{bytes_of};
 ghost use Rattle.hs_check.specs.Fault as defined;
 
@@ -64,6 +64,16 @@ pub(crate) fn status(fault: &Fault) -> u8
         Fault::NotVoid { pair: _ } => 1,
         Fault::Instances { count: _ } => 1,
     }
+}
+
+/// This text, and behind it an LF.
+pub(crate) fn ended(alloc: Global, text: &[u8]) -> Result<Vec<u8>, OutOfMemory>
+    ensures { IfOk result (λ line. line.items ≡ text.now ++ codes "\n") }
+{
+    let mut line = Vec::with_capacity(alloc, text.len() + 1)?;
+    line.extend_from_slice(text)?;
+    line.push(b'\n')?;
+    Ok(line)
 }
 
 /// These words, and behind them a line.

@@ -8,7 +8,8 @@ use Rattle.hs_table.specs.Follows.{IsAt}
 use Rattle.hs_weak.specs.Void.{VoidData}
 use Rattle.hs_types.specs.Interned.{InternerData, RowData, IsRow, Grows}
 use Rattle.hs_types.proofs.Numbers.{env_within, env_stays, row_within, row_stays}
-use Rattle.hs_choices.specs.Numbered.{VoidRowData, void_of, AreTableRows, AreNumbered}
+use Rattle.hs_numbered.specs.Certificates.{VoidRowData, void_of}
+use Rattle.hs_choices.specs.Numbered.{AreTableRows, AreNumbered}
 
 map_same : {X Y : Type 0} (f g : X → Y) (xs : List X) → ((x : X) → Contains xs x → f x ≡ g x) → map f xs ≡ map g xs
 map_same f g [] h = refl

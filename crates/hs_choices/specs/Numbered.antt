@@ -9,7 +9,6 @@
 --     AreRowsAt, AreTableRows       the rows of the table's entries at a point; of all
 --     AreAtPoint                    the rows at a point, of some
 --     AreOfArguments                slots for the types of the sets of arguments
---     VoidRowData, void_of          a row stands for a pair of a nonterminal and an environment
 --     AreNumbered                   rows of the entries that count, by point, and of the void pairs
 use Rattle.std.specs.Prelude.{◌≡◌, ℕ, ◌<◌, List, [], ◌∷◌, ◌++◌, length, map, Contains, All, ◌⊎◌, ◌↔◌}
 use Rattle.std.specs.List.Sorted.{IsNonDecreasingBy}
@@ -20,7 +19,7 @@ use Rattle.hs_table.specs.Follows.{IsAt}
 use Rattle.hs_weak.specs.Strength.{AsStrongAs, AsksAtLeast}
 use Rattle.hs_weak.specs.Void.{VoidData}
 use Rattle.hs_types.specs.Interned.{InternerData, type_of_id, env_of_id, RowData, IsRow, entry_of, IsUnionEnv}
-use Rattle.hs_choices.specs.declared.void_rows.VoidRow.{VoidRow}
+use Rattle.hs_numbered.specs.Certificates.{VoidRowData, void_of}
 use Rattle.hs_choices.specs.Unions.{AsksOneOf}
 
 abbrev pub envs_of : InternerData → List ℕ → List Env
@@ -90,13 +89,6 @@ pub data AreOfArguments (I : InternerData) (table : List RowData) : List ℕ →
   no_arguments : AreOfArguments I table [] [] []
   one_argument : {u : ℕ} {us : List ℕ} {s : List TypeTree} {ss : Env} {rows : List RowData} {first slots : List (List ℕ)}
       → AreAtPoint table u rows → AreOfEach I rows s first → AreOfArguments I table us ss slots → AreOfArguments I table (u ∷ us) (s ∷ ss) (first ++ slots)
-
--- what contracts see of a void row: its two numbers
-abbrev pub VoidRowData : Type 0
-VoidRowData = VoidRow
-
-abbrev pub void_of : InternerData → VoidRowData → VoidData
-void_of I row = record { rule = row.rule; env = env_of_id I row.env }
 
 -- The rows stand for the entries of C that count, in the order of points, and the void rows for the pairs of V, in their order.
 pub record AreNumbered (p : ProblemData) (C : List EntryData) (V : List VoidData) (I : InternerData) (table : List RowData) (void : List VoidRowData) : Type 0 where

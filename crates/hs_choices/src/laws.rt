@@ -17,7 +17,8 @@ ghost use Rattle.hs_types.specs.Interned.{InternerData, RowData, IsRow, Grows};
 ghost use Rattle.hs_choices.specs.Unions.{AreLeastUnions};
 ghost use Rattle.hs_choices.specs.Slots.{AreSlots, IsHeadEnv, AscendAll, IsSettled};
 ghost use Rattle.hs_choices.specs.Numbered.{slot_envs, AreOfLength, AreTableRows, AreOfArguments};
-ghost use Rattle.hs_choices.specs.Numbered.{VoidRowData, AreNumbered};
+ghost use Rattle.hs_numbered.specs.Certificates.{VoidRowData};
+ghost use Rattle.hs_choices.specs.Numbered.{AreNumbered};
 
 /// An environment that asks at least what a void one asks is void. Does nothing.
 pub fn what_asks_more_is_void()

@@ -37,13 +37,13 @@ use Rattle.hs_core.specs.declared.answers.Published.TheVariants.{Known, Added, O
 use Rattle.hs_core.specs.Core.{CoreData, state_of, log_of, deduction_of, stepped}
 use Rattle.hs_core.specs.Answers.{IsFound, Takes, Publishes, AddsOrPasses, IsLeastAnswer, IsOverAnswer, AreOfWorker}
 use Rattle.hs_core.specs.Saturation.{IsAlone, GivesBack}
-use Rattle.hs_core.specs.Draining.{weight, GoesAlone, SameFlight, NothingFlies, IsReady, IsThere, EndsAtRest}
+use Rattle.hs_core.specs.Draining.{work_left, GoesAlone, SameFlight, NothingFlies, IsReady, IsThere, EndsAtRest}
 
 -- a worker did some steps, after which the same works are in flight and not more are left
 pub record Moves (me : ℕ) (old new : CoreData) : Type 0 where
   pub alone : GoesAlone me old new
   pub flight : SameFlight old new
-  pub lighter : weight new ≤ weight old
+  pub lighter : work_left new ≤ work_left old
 
 -- the state is that of the base and the story
 pub state_same : (a b : CoreData) → b.base ≡ a.base → b.story ≡ a.story → state_of b ≡ state_of a
@@ -89,10 +89,10 @@ module _ {me : ℕ} where
   moves_same a b base story = record {
     alone = alone_same a b base story;
     flight = λ t. ap (λ (s : State). s.flight t) (state_same a b base story);
-    lighter = subst (λ n. n ≤ weight a) (sym same) (omega arith);
+    lighter = subst (λ n. n ≤ work_left a) (sym same) (omega arith);
   }
     where
-      same : weight b ≡ weight a
+      same : work_left b ≡ work_left a
       same = λ i. 2 * ((base i).budget - length (state_after (base i) (story i)).log) + length (state_after (base i) (story i)).pending
 
 pub state_stepped : (a b : CoreData) (worker : ℕ) (action : Action) (spare : ℕ) → b ≡ stepped a worker action spare → state_of b ≡ acted (state_of a) worker action
@@ -123,8 +123,8 @@ module _ (me : ℕ) (old new : CoreData) (ticket : ℕ) (d : Deduction) where
       record {
         alone = alone_step old new (passes ticket d) (old.spare - 1) is;
         flight = λ t. ap (λ (x : State). x.flight t) s;
-        lighter = subst (λ (x : State). 2 * (new.base.budget - length x.log) + length x.pending ≤ weight old) (sym s)
-            (subst (λ (b : Base). 2 * (b.budget - length (log_of old)) + length (state_of old).pending ≤ weight old) (sym (ap (λ (c : CoreData). c.base) is)) (omega arith));
+        lighter = subst (λ (x : State). 2 * (new.base.budget - length x.log) + length x.pending ≤ work_left old) (sym s)
+            (subst (λ (b : Base). 2 * (b.budget - length (log_of old)) + length (state_of old).pending ≤ work_left old) (sym (ap (λ (c : CoreData). c.base) is)) (omega arith));
       }
   passes_moves (Some k) is = moves_same old new (ap (λ (c : CoreData). c.base) is) (ap (λ (c : CoreData). c.story) is)
 
@@ -135,8 +135,8 @@ module _ (me : ℕ) (old new : CoreData) (ticket : ℕ) (d : Deduction) where
       record {
         alone = alone_step old new (adds ticket d) (old.spare - 1) h.3;
         flight = λ t. ap (λ (x : State). x.flight t) s;
-        lighter = subst (λ (x : State). 2 * (new.base.budget - length x.log) + length x.pending ≤ weight old) (sym s)
-            (subst (λ (b : Base). 2 * (b.budget - length (log_of old ++ d.entry ∷ [])) + length ((state_of old).pending ++ Place (length (log_of old)) ∷ []) ≤ weight old) (sym (ap (λ (c : CoreData). c.base) h.3))
+        lighter = subst (λ (x : State). 2 * (new.base.budget - length x.log) + length x.pending ≤ work_left old) (sym s)
+            (subst (λ (b : Base). 2 * (b.budget - length (log_of old ++ d.entry ∷ [])) + length ((state_of old).pending ++ Place (length (log_of old)) ∷ []) ≤ work_left old) (sym (ap (λ (c : CoreData). c.base) h.3))
             (lighter_with old.base.budget (log_of old) d.entry (state_of old).pending (Place (length (log_of old))) h.1));
       }
     where

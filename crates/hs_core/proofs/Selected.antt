@@ -31,7 +31,7 @@ use Rattle.hs_core.specs.declared.selecting.Progress.{Progress}
 use Rattle.hs_core.specs.declared.selecting.Progress.TheVariants.{More, Done, Ended}
 use Rattle.hs_core.specs.Core.{CoreData, state_of, log_of, stepped}
 use Rattle.hs_core.specs.Answers.{Takes, Publishes}
-use Rattle.hs_core.specs.Draining.{weight, GoesAlone, NothingFlies, IsReady, EndsAtRest, Closes}
+use Rattle.hs_core.specs.Draining.{work_left, GoesAlone, NothingFlies, IsReady, EndsAtRest, Closes}
 use Rattle.hs_core.specs.Waiting.{IsThereOrWaits}
 use Rattle.hs_core.specs.Selecting.{AreReady, AreOwn, IsFormedWork, AreFormedWorks, IsSelecting, AreClosed, IsEnded, IsIdleCore, IsStill, IsSpent, After, EndsAs}
 use Rattle.hs_core.proofs.Moving.{Moves, longer, longer_has, alone_same, alone_step, alone_trans, moves_same, state_same, state_stepped, taken_work, ready_still}
@@ -181,13 +181,13 @@ module _ {me : ℕ} (a b e : CoreData) (work : Work) (ticket k last : ℕ) (W V 
     | inr was ↦ formed_then a e took_goes W V took_known f.work (selecting.formed t f was)
   ]
 
-  took_lighter : weight e < weight a
+  took_lighter : work_left e < work_left a
   took_lighter =
       let s = state_stepped a b me (takes work ticket) k took in
       let base : b.base.budget ≡ a.base.budget = ap (λ (x : CoreData). x.base.budget) took in
       let log : length (log_of b) ≡ length (log_of a) = ap (λ (x : State). length x.log) s in
       let pending : length (state_of b).pending ≡ length (without work (state_of a).pending) = ap (λ (x : State). length x.pending) s in
-      let less : weight b < weight a = lighter_with b.base.budget a.base.budget (length (log_of b)) (length (log_of a)) (length (state_of b).pending) (length (without work (state_of a).pending)) (length (state_of a).pending) base log pending (shorter work (state_of a).pending can.pending) in
+      let less : work_left b < work_left a = lighter_with b.base.budget a.base.budget (length (log_of b)) (length (log_of a)) (length (state_of b).pending) (length (without work (state_of a).pending)) (length (state_of a).pending) base log pending (shorter work (state_of a).pending can.pending) in
       let last = (moves_same {me = me} b e e-base e-story).lighter in
       omega (arith, less, last)
     where
@@ -220,11 +220,11 @@ module _ {me : ℕ} (a b : CoreData) (ticket : ℕ) (d : DeducedData) (W V : Ded
   }
 
 -- an entry that was added
-pub added_lighter : (me : ℕ) (old new : CoreData) (ticket place : ℕ) (d : Deduction) → Publishes old me ticket d (Added place) new → weight new < weight old
+pub added_lighter : (me : ℕ) (old new : CoreData) (ticket place : ℕ) (d : Deduction) → Publishes old me ticket d (Added place) new → work_left new < work_left old
 added_lighter me old new ticket place d h =
     let s = state_stepped old new me (adds ticket d) (old.spare - 1) h.3 in
-    subst (λ (x : State). 2 * (new.base.budget - length x.log) + length x.pending < weight old) (sym s)
-    (subst (λ (b : Base). 2 * (b.budget - length (log_of old ++ d.entry ∷ [])) + length ((state_of old).pending ++ Place (length (log_of old)) ∷ []) < weight old) (sym (ap (λ (c : CoreData). c.base) h.3))
+    subst (λ (x : State). 2 * (new.base.budget - length x.log) + length x.pending < work_left old) (sym s)
+    (subst (λ (b : Base). 2 * (b.budget - length (log_of old ++ d.entry ∷ [])) + length ((state_of old).pending ++ Place (length (log_of old)) ∷ []) < work_left old) (sym (ap (λ (c : CoreData). c.base) h.3))
     (lighter_with old.base.budget (log_of old) d.entry (state_of old).pending (Place (length (log_of old))) h.1))
   where
     lighter_with : (budget : ℕ) (log : List EntryData) (e : EntryData) (pending : List Work) (w : Work) → length log < budget
@@ -272,12 +272,12 @@ spent_still me last a e V More h = h
 spent_still me last a e V Done h = h.still
 spent_still me last a e V Ended h = h
 
-pub surplus_after : (done still : Type 0) (me last : ℕ) (a r e : CoreData) (V : DeducedData → Type 0) (o : Progress) → (o ≡ Done → ⊥) → weight r ≤ weight a → After still o me r e V last → After done o me a e V last
+pub surplus_after : (done still : Type 0) (me last : ℕ) (a r e : CoreData) (V : DeducedData → Type 0) (o : Progress) → (o ≡ Done → ⊥) → work_left r ≤ work_left a → After still o me r e V last → After done o me a e V last
 surplus_after done still me last a r e V More other le h = (omega (arith, h.0, le), h.1)
 surplus_after done still me last a r e V Done other le h = absurd (other refl)
 surplus_after done still me last a r e V Ended other le h = h
 
-pub idle_after : (me last : ℕ) (a b e : CoreData) (V : DeducedData → Type 0) (o : Progress) → weight b ≤ weight a → IsIdleCore b → After (IsSpent me b e V last) o me b e V last → After (AreClosed e × IsIdleCore e) o me a e V last
+pub idle_after : (me last : ℕ) (a b e : CoreData) (V : DeducedData → Type 0) (o : Progress) → work_left b ≤ work_left a → IsIdleCore b → After (IsSpent me b e V last) o me b e V last → After (AreClosed e × IsIdleCore e) o me a e V last
 idle_after me last a b e V More le idle h = (omega (arith, h.0, le), h.1)
 idle_after me last a b e V Done le idle h = (all_closed e V h.none h.still.selecting.formed, subst (λ (c : CoreData). IsIdleCore c) (sym h.still.same) idle)
 idle_after me last a b e V Ended le idle h = h

@@ -14,7 +14,7 @@ use Rattle.hs_history.specs.declared.step.Work.TheVariants.{Seed}
 use Rattle.hs_history.specs.Story.{takes, finishes, gives_back, Base, Deduction, Action}
 use Rattle.hs_history.specs.CoreStep.{IsClosedSeed, CanTake, State, without, is_work, put}
 use Rattle.hs_core.specs.Core.{CoreData, state_of, stepped, log_of}
-use Rattle.hs_core.specs.Draining.{weight, GoesAlone, NothingFlies, EndsAtRest, IsNextSeed, passed_by, Closes}
+use Rattle.hs_core.specs.Draining.{work_left, GoesAlone, NothingFlies, EndsAtRest, IsNextSeed, passed_by, Closes}
 use Rattle.hs_history.proofs.Works.{put_here, put_other, is_work_itself}
 use Rattle.hs_core.proofs.Moving.{Moves, moves_same, alone_same, alone_trans, alone_step, state_stepped, given_free, given_other, seed_closed}
 
@@ -58,19 +58,19 @@ module _ {me : ℕ} (a b c d : CoreData) (work : Work) (ticket k l : ℕ) (free 
     | inr ne ↦ given_other c d me ticket l is t (taken_flight t ne)
   ]
 
-  pub turn_lighter : d ≡ stepped c me (finishes ticket) l → weight d < weight a
+  pub turn_lighter : d ≡ stepped c me (finishes ticket) l → work_left d < work_left a
   turn_lighter is =
-      let first : weight b < weight a = taken_lighter in
-      let last : weight d ≡ weight c = (λ i. weight_of (((ap (λ (x : CoreData). x.base) is) i)) ((state_stepped c d me (finishes ticket) l is) i)) in
+      let first : work_left b < work_left a = taken_lighter in
+      let last : work_left d ≡ work_left c = (λ i. left_of (((ap (λ (x : CoreData). x.base) is) i)) ((state_stepped c d me (finishes ticket) l is) i)) in
       omega (arith, first, last, moves.lighter)
     where
-      weight_of : Base → State → ℕ
-      weight_of base s = 2 * (base.budget - length s.log) + length s.pending
+      left_of : Base → State → ℕ
+      left_of base s = 2 * (base.budget - length s.log) + length s.pending
 
       lighter_with : (m n i j p q r : ℕ) → m ≡ n → i ≡ j → p ≡ q → suc q ≡ r → 2 * (m - i) + p < 2 * (n - j) + r
       lighter_with m n i j p q r e f g h = let same : m - i ≡ n - j = λ t. e t - f t in omega (arith, same, g, h)
 
-      taken_lighter : weight b < weight a
+      taken_lighter : work_left b < work_left a
       taken_lighter =
           let s = state_stepped a b me (takes work ticket) k took in
           let base : b.base.budget ≡ a.base.budget = ap (λ (x : CoreData). x.base.budget) took in
@@ -90,7 +90,7 @@ module _ (me : ℕ) where
 pub record TurnEnds {E : Type 0} (me : ℕ) (old new : CoreData) (answer : Result Bool E) : Type 0 where
   pub goes : GoesAlone me old new
   pub flight : NothingFlies new
-  pub more : IfOk answer (λ more. MatchBool more (weight new < weight old) (EndsAtRest new))
+  pub more : IfOk answer (λ more. MatchBool more (work_left new < work_left old) (EndsAtRest new))
 
 -- a work is taken, something is published, and the work is closed or given back
 module _ {E : Type 0} {me : ℕ} (a b c d : CoreData) (work : Work) (ticket k : ℕ) (free : NothingFlies a) (can : CanTake a.base (state_of a) work ticket) (took : b ≡ stepped a me (takes work ticket) k) (moves : Moves me b c) (P : Type 0) where
@@ -116,10 +116,10 @@ module _ {E : Type 0} {me : ℕ} (o a : CoreData) (base : a.base ≡ o.base) (st
   pub turn_behind : (d : CoreData) (answer : Result Bool E) → TurnEnds me a d answer → TurnEnds me o d answer
   turn_behind d answer ends = record { goes = alone_trans o a d (alone_same o a base story) ends.goes; flight = ends.flight; more = go answer ends.more }
     where
-      not_heavier : weight a ≤ weight o
+      not_heavier : work_left a ≤ work_left o
       not_heavier = (moves_same {me = me} o a base story).lighter
 
-      go : (r : Result Bool E) → IfOk r (λ more. MatchBool more (weight d < weight a) (EndsAtRest d)) → IfOk r (λ more. MatchBool more (weight d < weight o) (EndsAtRest d))
+      go : (r : Result Bool E) → IfOk r (λ more. MatchBool more (work_left d < work_left a) (EndsAtRest d)) → IfOk r (λ more. MatchBool more (work_left d < work_left o) (EndsAtRest d))
       go (Ok true) less = omega (arith, less, not_heavier)
       go (Ok false) ends = ends
       go (Err e) h = tt

@@ -1,5 +1,5 @@
 -- What one worker does alone.
---     weight          how many works can still be done: it falls with each work that is done
+--     work_left       how many works can still be done: it falls with each work that is done
 --     GoesAlone       this worker alone did some steps
 --     EndsAtRest      nothing is left to do, or no work is given out any more
 --     IsNextSeed      the seed of the point is the work that is given out next
@@ -17,8 +17,8 @@ use Rattle.hs_history.specs.History.{IsAtRest}
 use Rattle.hs_core.specs.Core.{CoreData, state_of, log_of, stepped}
 use Rattle.hs_core.specs.Answers.{AreOfWorker}
 
-abbrev pub weight : CoreData → ℕ
-weight c = 2 * (c.base.budget - length (log_of c)) + length (state_of c).pending
+abbrev pub work_left : CoreData → ℕ
+work_left c = 2 * (c.base.budget - length (log_of c)) + length (state_of c).pending
 
 pub record GoesAlone (worker : ℕ) (old new : CoreData) : Type 0 where
   pub base : new.base ≡ old.base

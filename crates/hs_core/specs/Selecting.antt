@@ -17,7 +17,7 @@ use Rattle.hs_history.specs.Following.{HasWork}
 use Rattle.hs_core.specs.declared.selecting.Progress.{Progress}
 use Rattle.hs_core.specs.declared.selecting.Progress.TheVariants.{More, Done, Ended}
 use Rattle.hs_core.specs.Core.{CoreData, state_of, log_of}
-use Rattle.hs_core.specs.Draining.{weight, IsReady}
+use Rattle.hs_core.specs.Draining.{work_left, IsReady}
 use Rattle.hs_core.specs.Waiting.{IsThereOrWaits}
 
 abbrev pub AreReady : CoreData → (DeducedData → Type 0) → Type 0
@@ -61,7 +61,7 @@ pub record IsSpent (worker : ℕ) (old new : CoreData) (W : DeducedData → Type
 
 -- less is left to do; or this; or no work is given out any more
 abbrev pub After : Type 0 → Progress → ℕ → CoreData → CoreData → (DeducedData → Type 0) → ℕ → Type 0
-After done More worker old new W last = (weight new < weight old) × IsSelecting worker new W last
+After done More worker old new W last = (work_left new < work_left old) × IsSelecting worker new W last
 After done Done worker old new W last = done
 After done Ended worker old new W last = IsEnded new
 

@@ -12,8 +12,8 @@ use hs_verdict::know_sorted_problem;
 use std::alloc::Global;
 
 impl<'p> Core<'p> {
-    /// What follows at the point from no entry.
-    pub(crate) fn at_seed(&mut self, alloc: Global, point: u32) -> Result<Vec<Deduced>, OutOfMemory>
+    /// What follows at the point from no entry. The log stays, and nothing is published.
+    pub fn at_seed(&mut self, alloc: Global, point: u32) -> Result<Vec<Deduced>, OutOfMemory>
         requires { point < length self.old.base.problem.points.points }
         ensures found { IfOk result (λ found.
             AreConclusions self.old.base.problem self.new.ids [] point AnySupport found.items) }
@@ -23,8 +23,9 @@ impl<'p> Core<'p> {
         seed_conclusions(alloc, self.problem, &mut self.replica, point)
     }
 
-    /// What follows at the point from the log up to this place, with the entry at the place.
-    pub(crate) fn at_place(
+    /// What follows at the point from the log up to this place, with the entry at the place, each with
+    /// the least support of this kind. The log stays, and nothing is published.
+    pub fn at_place(
         &mut self,
         alloc: Global,
         point: u32,

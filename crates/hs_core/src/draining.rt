@@ -6,7 +6,7 @@ ghost use Rattle.hs_history.specs.Story.{Story};
 ghost use Rattle.hs_history.specs.CoreStep.{Holds, CanFinish, IsClosedWork, IsClosedPlace, put};
 ghost use Rattle.hs_history.specs.History.{IsWork};
 ghost use Rattle.hs_core.specs.Core.{state_of, log_of};
-ghost use Rattle.hs_core.specs.Draining.{weight, GoesAlone, SameFlight, NothingFlies, IsReady, IsThere, EndsAtRest, IsNextSeed, Closes};
+ghost use Rattle.hs_core.specs.Draining.{work_left, GoesAlone, SameFlight, NothingFlies, IsReady, IsThere, EndsAtRest, IsNextSeed, Closes};
 ghost use Rattle.hs_core.specs.Saturation.{IsDrained, GivesBack, Drains};
 
 use crate::answers::{Drained, Published, Taken};
@@ -45,7 +45,7 @@ fn publish_all(
     requires ready { All (IsReady core.old) found.items }
     ensures goes { GoesAlone worker core.old core.new }
     ensures flight { SameFlight core.old core.new }
-    ensures weight { weight core.new ≤ weight core.old }
+    ensures work_left { work_left core.new ≤ work_left core.old }
     ensures ids { core.new.ids ≡ core.old.ids }
     ensures all { IfOk result (λ all. MatchBool all
         (All (IsThere core.new) found.items) (IsSome (state_of core.new).kept)) }
@@ -76,7 +76,7 @@ fn conclude_place(
         dependents.now }
     ensures goes { GoesAlone worker core.old core.new }
     ensures flight { SameFlight core.old core.new }
-    ensures weight { weight core.new ≤ weight core.old }
+    ensures work_left { work_left core.new ≤ work_left core.old }
     ensures closed { IfOk result (λ all. MatchBool all
         (IsClosedPlace core.new.base.problem (log_of core.new) place) (IsSome (state_of core.new).kept)) }
 {
@@ -109,7 +109,7 @@ fn conclude(
         dependents.now }
     ensures goes { GoesAlone worker core.old core.new }
     ensures flight { SameFlight core.old core.new }
-    ensures weight { weight core.new ≤ weight core.old }
+    ensures work_left { work_left core.new ≤ work_left core.old }
     ensures closed { IfOk result (λ all. MatchBool all
         (IsClosedWork core.new.base.problem (log_of core.new) work) (IsSome (state_of core.new).kept)) }
 {
@@ -164,7 +164,7 @@ fn seed_turn(alloc: Global, core: &mut Core, worker: u32, point: u32) -> Result<
     requires spare { 1 ≤ core.old.spare }
     ensures goes { GoesAlone worker core.old core.new }
     ensures flight { NothingFlies core.new }
-    ensures more { IfOk result (λ more. MatchBool more (weight core.new < weight core.old)
+    ensures more { IfOk result (λ more. MatchBool more (work_left core.new < work_left core.old)
         (EndsAtRest core.new)) }
 {
     core.know_core();
@@ -193,7 +193,7 @@ fn turn<G: Gate>(
         dependents.now }
     ensures goes { GoesAlone worker core.old core.new }
     ensures flight { NothingFlies core.new }
-    ensures more { IfOk result (λ more. MatchBool more (weight core.new < weight core.old)
+    ensures more { IfOk result (λ more. MatchBool more (work_left core.new < work_left core.old)
         (EndsAtRest core.new)) }
 {
     core.reserve_some()?;

@@ -7,15 +7,13 @@ use Rattle.hs_scheme.specs.declared.flow.FlowPair.{FlowPair}
 use Rattle.hs_scheme.specs.declared.term.Head.TheVariants.{Var, Nt, Tm}
 use Rattle.hs_scheme.specs.Problem.{ProblemData}
 use Rattle.hs_scheme.proofs.Lists.{filter_has, filter_passes, filter_keeps}
-use Rattle.hs_table.specs.Types.{TypeTree, state, arrow, arrows}
+use Rattle.hs_table.specs.Types.{TypeTree, state, arrows}
 use Rattle.hs_table.specs.Entries.{Env}
-use Rattle.hs_table_laws.proofs.Arrows.{state_no_arrow}
 use Rattle.hs_weak.specs.Reads.{last_state}
 use Rattle.hs_types.specs.Interned.{InternerData, type_of_id, env_of_id, RowData, IsRow, Grows}
 use Rattle.hs_types.proofs.Numbers.{type_stays, env_stays}
 use Rattle.hs_choices.specs.Numbered.{AreAtPoint}
 use Rattle.hs_heads.specs.Sources.{FromSome, InState, BodySays, FlowSays, AtRow, HeadSays}
-use Rattle.hs_heads.proofs.Ends.{same_state}
 
 -- a row of them is in use, and so are those at a point
 pub row_at : (I : InternerData) (rows : List RowData) (k : ℕ) (row : RowData) → k < length rows → row ≡ get_or rows k row → All (IsRow I) rows → IsRow I row
@@ -25,25 +23,12 @@ pub part_within : (I : InternerData) (table : List RowData) (u : ℕ) (rows : Li
 part_within I table u rows at all = λ k d lt. All-contains (IsRow I) table (get_or rows k d) all ((at (get_or rows k d)).0 (Contains-get_or rows k d lt)).0
 
 module _ (I : InternerData) (R : List (ℕ × ℕ)) (point : ℕ) (row : RowData) where
-  -- a row whose type is an arrow says nothing of a nonterminal
-  pub no_body : (s : List TypeTree) (t : TypeTree) → type_of_id I row.ty ≡ arrow s t → (ty : TypeTree) → BodySays I R point row ty → ⊥
-  no_body s t is ty b = state_no_arrow b.q s t (sym b.is_state ∙ is)
-
   module _ (q : ℕ) (is : type_of_id I row.ty ≡ state q) where
-    same : (ty : TypeTree) (b : BodySays I R point row ty) → b.q ≡ q
-    same ty b = same_state b.q q (sym b.is_state ∙ is)
-
-    pub body_unread : (Contains R (point, q) → ⊥) → (ty : TypeTree) → BodySays I R point row ty → ⊥
-    body_unread never ty b = never (subst (λ z. Contains R (point, z)) (same ty b) b.read)
-
     pub body_says : Contains R (point, q) → (ty : TypeTree) → (ty ≡ arrows (env_of_id I row.env) (type_of_id I row.ty)) ↔ BodySays I R point row ty
     body_says read ty = (
       λ e. record { q = q; is_state = is; read = read; is = e ∙ ap (λ t. arrows (env_of_id I row.env) t) is },
       λ b. b.is ∙ ap (λ t. arrows (env_of_id I row.env) t) (sym b.is_state),
     )
-
-  pub flow_unread : (Contains R (point, last_state (type_of_id I row.ty)) → ⊥) → (ty : TypeTree) → FlowSays I R point row ty → ⊥
-  flow_unread never ty f = never (subst (λ t. Contains R (point, last_state t)) f.is f.read)
 
   pub flow_says : Contains R (point, last_state (type_of_id I row.ty)) → FlowSays I R point row (type_of_id I row.ty)
   flow_says read = record { is = refl; read = read }

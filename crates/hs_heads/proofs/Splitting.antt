@@ -57,14 +57,6 @@ module _ (I J : InternerData) (g : Grows I J) where
 -- ---- one type
 
 module _ (head : Head) (params count : ℕ) (I : InternerData) (ty : TypeTree) (old : List HeadTypeData) where
-  pub split_none : ((sets : Env) (rest : TypeTree) → length sets ≡ count → ty ≡ arrows sets rest → ⊥) → GainsSplit head params count I I ty old old
-  split_none never = record {
-    grows = Grows-refl I;
-    come = λ h c. inl c;
-    keeps = λ h c. c;
-    all = λ sets rest long is. absurd (never sets rest long is);
-  }
-
   pub split_one : (J : InternerData) (new : List HeadTypeData) (h : HeadTypeData) → Grows I J → new ≡ old ++ h ∷ [] → IsSplitOf head params count J ty h → GainsSplit head params count I J ty old new
   split_one J new h g is s = record {
     grows = g;

@@ -1,28 +1,16 @@
-//! Types that are made of the sets of an environment, and the state at the end of a type.
+//! Types that are made of the sets of an environment.
 
 ghost use Rattle.std.specs.Prelude.{◌≡◌, ◌<◌, ◌↔◌, ◌⊎◌, ℕ, length, Contains, IfOk, OnOk};
 ghost use Rattle.hs_table.specs.Types as trees;
 ghost use Rattle.hs_table.specs.Types.{TypeTree};
 ghost use Rattle.hs_table.specs.Entries.{set_at};
-ghost use Rattle.hs_weak.specs.Reads.{last_state};
 ghost use Rattle.hs_types.specs.Interned.{type_of_id, set_of_id, env_of_id, Grows};
 ghost use Rattle.hs_heads.specs.Sources.{GainsTypes};
 
-use hs_choices::Known;
+use hs_choices::Compared;
 use hs_scheme::OutOfMemory;
-use hs_types::{EnvId, Interner, SetId, TyId, View};
+use hs_types::{EnvId, Interner, SetId, TyId};
 use indexmap::IndexSet;
-
-/// The state at the end of the type. Walks its results.
-pub(crate) fn end_of(types: &Interner, ty: TyId) -> u32
-    requires { ty < length types.now.types }
-    ensures { result ≡ last_state (type_of_id types.now ty) }
-{
-    match types.view(ty) {
-        View::State(q) => q,
-        View::Arrow(_, rest) => end_of(types, rest),
-    }
-}
 
 /// How many parameters the environment is for.
 fn count_of(types: &Interner, env: EnvId) -> usize
@@ -43,7 +31,7 @@ fn set_of(types: &Interner, env: EnvId, parameter: usize) -> SetId
 }
 
 /// The type with the environment's sets, and then the other. Makes a type for each of the sets.
-fn arrows_over(types: &mut Known, env: EnvId, rest: TyId) -> Result<TyId, OutOfMemory>
+fn arrows_over(types: &mut Compared, env: EnvId, rest: TyId) -> Result<TyId, OutOfMemory>
     requires env { env < length types.old.envs }
     requires rest { rest < length types.old.types }
     ensures range { IfOk result (λ id. id < length types.new.types) }
@@ -71,7 +59,7 @@ pub(crate) fn add(found: &mut IndexSet<TyId>, ty: TyId) -> Result<(), OutOfMemor
 
 /// Adds the type with the environment's sets, and then the other.
 pub(crate) fn add_arrows(
-    types: &mut Known,
+    types: &mut Compared,
     env: EnvId,
     rest: TyId,
     found: &mut IndexSet<TyId>,

@@ -14,7 +14,7 @@ ghost use Rattle.hs_heads.specs.Splits.{IsHeadWithin};
 use crate::rows::{add_bodies, add_flow};
 use crate::splits::{HeadType, split_all};
 use crate::terminals::add_terminal;
-use hs_choices::{Known, rows_at};
+use hs_choices::{Compared, rows_at};
 use hs_reads::Reads;
 use hs_scheme::{FlowPair, Head, OutOfMemory, Problem};
 use hs_table::parameters;
@@ -68,7 +68,7 @@ fn flow_of(problem: &Problem, rule: u32, parameter: u32) -> &[FlowPair]
 
 /// Adds the types of the point's head in whose last states it is read.
 fn add_types(
-    types: &mut Known,
+    types: &mut Compared,
     problem: &Problem,
     reads: &Reads,
     table: &[Row],
@@ -108,7 +108,7 @@ fn add_types(
 /// logarithm of the table's length.
 pub fn head_types(
     alloc: Global,
-    types: &mut Known,
+    types: &mut Compared,
     problem: &Problem,
     reads: &Reads,
     table: &[Row],

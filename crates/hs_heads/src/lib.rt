@@ -1,7 +1,5 @@
-//! The types of the head of a point that matter for a certificate of acceptance, by numbers.
-//!
-//! `head_types` finds them, split at the point's arguments; `specs/HeadTypes` says which they are. `Sources`
-//! and `Splits` are cited by private contracts.
+//! The types of the head of a point that matter for a certificate of acceptance, by numbers: `head_types`
+//! finds them, split at the point's arguments, and `specs/HeadTypes` says which they are.
 #![tactic(auto)]
 
 mod arrows;

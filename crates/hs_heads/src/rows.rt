@@ -6,17 +6,18 @@ ghost use Rattle.hs_scheme.specs.declared.flow.FlowPair.{FlowPair as AnyFlow};
 ghost use Rattle.hs_types.specs.Interned.{RowData, IsRow};
 ghost use Rattle.hs_heads.specs.Sources.{GainsTypes, FromSome, BodySays, FlowSays, AtRow};
 
-use crate::arrows::{add, add_arrows, end_of};
-use hs_choices::{Known, rows_at};
+use crate::arrows::{add, add_arrows};
+use hs_choices::{Compared, rows_at};
 use hs_reads::Reads;
 use hs_scheme::{FlowPair, OutOfMemory};
+use hs_strength::last_state;
 use hs_types::{Interner, Row, TyId, View};
 use indexmap::IndexSet;
 
 /// Adds the type of a nonterminal that the row, one at its body, says, where the point is read in its
 /// state. A row whose type is no state says none.
 fn add_body(
-    types: &mut Known,
+    types: &mut Compared,
     reads: &Reads,
     point: u32,
     row: &Row,
@@ -37,7 +38,7 @@ fn add_body(
 
 /// So for each of the rows at the body.
 pub(crate) fn add_bodies(
-    types: &mut Known,
+    types: &mut Compared,
     reads: &Reads,
     point: u32,
     rows: &[Row],
@@ -65,7 +66,7 @@ fn add_row(
     ensures { OnOk result (GainsTypes types.now types.now found.old.keys found.new.keys
         (FlowSays types.now reads.now point row.now)) }
 {
-    if !reads.holds(point, end_of(types, row.ty)) {
+    if !reads.holds(point, last_state(types, row.ty)) {
         return Ok(());
     }
     add(found, row.ty)

@@ -9,7 +9,7 @@ ghost use Rattle.hs_choices.specs.Slots.{IsHeadEnv};
 ghost use Rattle.hs_heads.specs.HeadTypes.{HeadTypeData};
 ghost use Rattle.hs_heads.specs.Splits.{IsHeadWithin, IsSplitAt, IsSplitOf, GainsSplit, AreSplits};
 
-use hs_choices::Known;
+use hs_choices::Compared;
 use hs_scheme::{Head, OutOfMemory};
 use hs_types::{EnvId, Interner, SetId, TyId, View};
 use std::alloc::Global;
@@ -64,7 +64,7 @@ fn split(
 }
 
 /// The environment for so many parameters that asks what the head asks, where its type is this one.
-fn env_of(types: &mut Known, head: Head, params: u32, ty: TyId) -> Result<EnvId, OutOfMemory>
+fn env_of(types: &mut Compared, head: Head, params: u32, ty: TyId) -> Result<EnvId, OutOfMemory>
     requires head { IsHeadWithin params head }
     requires ty { ty < length types.old.types }
     ensures range { IfOk result (λ env. env < length types.new.envs) }
@@ -82,7 +82,7 @@ fn env_of(types: &mut Known, head: Head, params: u32, ty: TyId) -> Result<EnvId,
 /// Adds what the type is split to, where it has so many sets.
 fn add_split(
     alloc: Global,
-    types: &mut Known,
+    types: &mut Compared,
     head: Head,
     params: u32,
     count: usize,
@@ -109,7 +109,7 @@ fn add_split(
 /// What those of the types are split to that have so many sets.
 pub(crate) fn split_all(
     alloc: Global,
-    types: &mut Known,
+    types: &mut Compared,
     head: Head,
     params: u32,
     count: usize,

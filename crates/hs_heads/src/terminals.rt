@@ -8,7 +8,7 @@ ghost use Rattle.hs_table.specs.Follows.{rank_of};
 ghost use Rattle.hs_heads.specs.Sources.{GainsTypes, FromSome, FromPlace, ByChild, InState};
 
 use crate::arrows::add_arrows;
-use hs_choices::Known;
+use hs_choices::Compared;
 use hs_scheme::{OutOfMemory, Problem};
 use hs_table::rank;
 use hs_types::TyId;
@@ -16,7 +16,7 @@ use indexmap::IndexSet;
 
 /// Adds the type of a terminal of this rank without transition in state q.
 fn add_lacking(
-    types: &mut Known,
+    types: &mut Compared,
     rank: u32,
     q: u32,
     found: &mut IndexSet<TyId>,
@@ -31,7 +31,7 @@ fn add_lacking(
 
 /// Adds the type of a terminal in state q whose child at this place is rejected.
 fn add_child(
-    types: &mut Known,
+    types: &mut Compared,
     to: &[u32],
     place: u32,
     q: u32,
@@ -49,7 +49,7 @@ fn add_child(
 
 /// Adds the types of a terminal of this rank in state q, by its children.
 fn add_children(
-    types: &mut Known,
+    types: &mut Compared,
     to: &[u32],
     rank: u32,
     q: u32,
@@ -84,7 +84,7 @@ fn states(problem: &Problem) -> u32
 
 /// Adds the types of the terminal in state q, where it is one.
 fn add_in_state(
-    types: &mut Known,
+    types: &mut Compared,
     problem: &Problem,
     terminal: u32,
     q: u32,
@@ -106,7 +106,7 @@ fn add_in_state(
 /// Adds the types of the terminal in these states: where one has a transition a type for each child, and
 /// else one type.
 pub(crate) fn add_terminal(
-    types: &mut Known,
+    types: &mut Compared,
     problem: &Problem,
     terminal: u32,
     states: &[u32],

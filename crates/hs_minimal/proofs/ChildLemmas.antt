@@ -1,5 +1,5 @@
 -- What weakly follows at a terminal with all its arguments, from an entry at one of them.
-use Rattle.std.proofs.Common.{◌≡◌, refl, sym, ◌∙◌, subst, ℕ, zero, suc, ◌+◌, ◌<◌, List, [], ◌∷◌, ◌++◌, length, slice_get, set, replicate, Some, true, false, cond, nat_eq, find, option_map, arith, Contains, inl, inr}
+use Rattle.std.proofs.Common.{◌≡◌, refl, sym, ◌∙◌, ap, subst, ℕ, zero, suc, ◌+◌, ◌<◌, List, [], ◌∷◌, ◌++◌, length, slice_get, set, replicate, Some, None, true, false, cond, nat_eq, find, option_map, arith, Contains, inl, inr}
 use Rattle.std.proofs.lemmas.Bool.{eqb-true, and_parts}
 use Rattle.std.proofs.lemmas.List.Elements.{All-contains}
 use Rattle.std.proofs.lemmas.Option.{same_Some, slice_get_within, get_or_from_slice_get}
@@ -13,15 +13,16 @@ use Rattle.hs_scheme.specs.Problem.{ProblemData}
 use Rattle.hs_scheme.proofs.Lists.{none_in, here, later, Contains-at}
 use Rattle.hs_table.specs.declared.support.HeadBy.TheVariants.{Terminal}
 use Rattle.hs_table.specs.Types.{TypeTree, state, arrows}
-use Rattle.hs_table.specs.Entries.{Env, EntryData, InShape}
+use Rattle.hs_table.specs.Entries.{Env, EntryData, InShape, params_of}
 use Rattle.hs_table.specs.Follows.{IsAt, IsHeadType, HeadHas, rank_of}
+use Rattle.hs_table_laws.proofs.Arrows.{length-empties, empties_set, empties_has}
 use Rattle.hs_table_laws.proofs.Members.{into_map, pushed_cases}
 use Rattle.hs_table_laws.proofs.Places.{place_of}
 use Rattle.hs_verdict.specs.Premises.{IsSortedProblem}
 use Rattle.hs_weak.specs.Strength.{AsStrongAs, same_state}
 use Rattle.hs_weak.specs.Weak.{WeaklyChosen, done, next_argument, choose, WeaklyFollows}
 use Rattle.hs_types.specs.Interned.{InternerData, RowData, type_of_id, env_of_id, entry_of, Grows}
-use Rattle.hs_types.proofs.Numbers.{type_stays}
+use Rattle.hs_types.proofs.Numbers.{type_stays, env_stays}
 use Rattle.hs_choices.proofs.Pruning.{argument_long}
 use Rattle.hs_heads.proofs.TerminalLemmas.{ranks_agree}
 use Rattle.hs_minimal.specs.Growing.{GrowingData, entries, IsGrowing}
@@ -38,15 +39,48 @@ state_within n (t ∷ ts) q a to h e = elim (is_of q a t) as (λ b. is_of q a t 
   | false ↦ λ is k. state_within n ts q a to (λ x m. h x (later t x ts m)) k
 ] refl e
 
+chosen_none : (p : ProblemData) (E : List EntryData) (i : ℕ) (us : List ℕ) → WeaklyChosen AsStrongAs p E i us (replicate (length us) []) [] []
+chosen_none p E i [] = done
+chosen_none p E i (u ∷ us) = next_argument (chosen_none p E (suc i) us)
+
+-- in a state without a transition the terminal is rejected, whatever its arguments are
+module _ (p : ProblemData) (E : List EntryData) (point : ℕ) (lt : point < length p.points.points) (a q : ℕ) (head : (point_at p.points point).head ≡ Tm a) (full : length (point_at p.points point).args ≡ rank_of p a) (within : q < p.sorted.automaton.states)
+    (none : next p.sorted.automaton.transitions q a ≡ None) where
+  abbrev at_point : PointData
+  at_point = point_at p.points point
+
+  abbrev no_sets : Env
+  no_sets = replicate (length at_point.args) []
+
+  lacking_head : IsHeadType p E at_point.rule at_point.head (Terminal q None) (arrows no_sets (state q))
+  lacking_head = subst (λ (h : Head). IsHeadType p E at_point.rule h (Terminal q None) (arrows no_sets (state q))) (sym head) (within, record { moves = none; is = ap (λ n. arrows (replicate n []) (state q)) full })
+
+  pub lacking_follows : WeaklyFollows AsStrongAs p E (record { point = point; env = replicate (params_of p at_point.rule) []; ty = state q })
+  lacking_follows = (
+    record { head = Terminal q None; args = [] },
+    record {
+      of = at_point;
+      at = own_point p point lt;
+      sets = no_sets;
+      head = lacking_head;
+      chosen = [];
+      are = chosen_none p E 0 at_point.args;
+      env = record { long = length-empties (params_of p at_point.rule); sets = empties_set (params_of p at_point.rule) };
+      union = λ j c below. (
+        λ h. absurd (empties_has (params_of p at_point.rule) j c h),
+        λ x. elim x [
+          | inl own ↦ absurd (subst (λ (h : Head). HeadHas h (arrows no_sets (state q)) j c) head own)
+          | inr none ↦ absurd none
+        ],
+      );
+    },
+  )
+
 -- an entry that is chosen for a type of one argument
 module _ (p : ProblemData) (E : List EntryData) (at_place : ℕ) (e : EntryData) (holds : IsAt p E at_place e) (b : TypeTree) (strong : AsStrongAs e.ty b) where
-  chosen_none : (i : ℕ) (us : List ℕ) → WeaklyChosen AsStrongAs p E i us (replicate (length us) []) [] []
-  chosen_none i [] = done
-  chosen_none i (u ∷ us) = next_argument (chosen_none (suc i) us)
-
   chosen_one : (i : ℕ) (us : List ℕ) (k : ℕ) → slice_get us k ≡ Some e.point → (args : List (ℕ × ℕ)) × WeaklyChosen AsStrongAs p E i us (set (replicate (length us) []) k (b ∷ [])) args (e ∷ [])
   chosen_one i [] k at = let lt = slice_get_within [] k e.point at in absurd (omega (arith, lt))
-  chosen_one i (u ∷ us) zero at = ((i, at_place) ∷ [], choose holds (sym (same_Some u e.point at)) strong (next_argument (chosen_none (suc i) us)))
+  chosen_one i (u ∷ us) zero at = ((i, at_place) ∷ [], choose holds (sym (same_Some u e.point at)) strong (next_argument (chosen_none p E (suc i) us)))
   chosen_one i (u ∷ us) (suc k) at = let r = chosen_one (suc i) us k at in (r.0, next_argument r.1)
 
 module _ (p : ProblemData) (given : IsSortedProblem p) (E : List EntryData) (point : ℕ) (lt : point < length p.points.points) (a place s q : ℕ) (head : (point_at p.points point).head ≡ Tm a) (full : length (point_at p.points point).args ≡ rank_of p a)
@@ -129,3 +163,25 @@ module _ (g : GrowingData) (given : IsSortedProblem g.problem) (I : InternerData
         (child_follows g.problem given (entries J g.history) point lt a place s q head full (entry_of J row) (into_map (entry_of J) g.history row there) (added_shape J g at_now given.automaton.to row there)
         (type_stays I J grows row.ty (added_in_use I g h row there).1 ∙ state_is) at_arg read);
   }
+
+-- and its entry
+pub child_entry : {g : GrowingData} (I J : InternerData) → Grows I J → IsGrowing I g → (row : RowData) → Contains g.history row → (point q ty : ℕ) → slice_get J.types ty ≡ Some (state q)
+    → entry_of J (record { point = point; env = row.env; ty = ty }) ≡ record { point = point; env = env_of_id I row.env; ty = state q }
+child_entry {g = g} I J grows h row there point q ty ty_is =
+    let env = env_stays I J grows row.env (added_in_use I g h row there).0 in
+    let is = get_or_from_slice_get J.types ty (state q) (state 0) ty_is in
+    λ i. record { point = point; env = env i; ty = is i }
+
+-- the row for a state without a transition
+pub lacking_row : (g : GrowingData) (J : InternerData) (point : ℕ) → point < length g.problem.points.points → (a q : ℕ) → (point_at g.problem.points point).head ≡ Tm a → length (point_at g.problem.points point).args ≡ rank_of g.problem a → q < g.problem.sorted.automaton.states
+    → next g.problem.sorted.automaton.transitions q a ≡ None → (env ty : ℕ) → env < length J.envs → env_of_id J env ≡ replicate (params_of g.problem (point_at g.problem.points point).rule) [] → slice_get J.types ty ≡ Some (state q)
+    → IsFollowing g.problem (entries J g.history) point J (record { point = point; env = env; ty = ty })
+lacking_row g J point lt a q head full within none env ty env_in env_is ty_is = record {
+  in_use = (env_in, slice_get_within J.types ty (state q) ty_is);
+  at = refl;
+  follows = subst (λ (t : TypeTree). WeaklyFollows AsStrongAs g.problem (entries J g.history) (record { point = point; env = env_of_id J env; ty = t })) (sym (get_or_from_slice_get J.types ty (state q) (state 0) ty_is))
+      (subst (λ (E : Env). WeaklyFollows AsStrongAs g.problem (entries J g.history) (record { point = point; env = E; ty = state q })) (sym env_is) (lacking_follows g.problem (entries J g.history) point lt a q head full within none));
+}
+
+pub lacking_entry : (J : InternerData) (point q env ty : ℕ) (E : Env) → env_of_id J env ≡ E → slice_get J.types ty ≡ Some (state q) → entry_of J (record { point = point; env = env; ty = ty }) ≡ record { point = point; env = E; ty = state q }
+lacking_entry J point q env ty E env_is ty_is = let is = get_or_from_slice_get J.types ty (state q) (state 0) ty_is in λ i. record { point = point; env = env_is i; ty = is i }

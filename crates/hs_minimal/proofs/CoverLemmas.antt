@@ -1,31 +1,14 @@
 -- Which of some rows a row covers, and which cover it.
-use Rattle.std.proofs.Common.{◌≡◌, refl, Option, map, sym, ◌∙◌, subst, ℕ, ◌+◌, ◌<◌, ◌≤◌, Bool, true, false, List, [], ◌∷◌, ◌++◌, length, get_or, take, All, Contains, IsTrue, ◌↔◌, ◌⊎◌, inl, inr}
+use Rattle.std.proofs.Common.{◌≡◌, sym, ◌∙◌, subst, ℕ, ◌+◌, ◌<◌, ◌≤◌, Bool, true, false, List, [], ◌∷◌, ◌++◌, length, get_or, take, All, Contains, IsTrue, ◌↔◌, ◌⊎◌, inl, inr}
 use Rattle.std.proofs.lemmas.List.{take_all}
 use Rattle.std.proofs.lemmas.List.Elements.{Contains-append_left, Contains-append_right}
 use Rattle.hs_scheme.proofs.Lists.{none_in, here}
 use Rattle.hs_table_laws.proofs.Members.{taken_next, pushed_cases}
-use Rattle.hs_scheme.specs.Tree.{Tree}
-use Rattle.hs_table.specs.Types.{TypeTree}
-use Rattle.hs_weak.specs.Reads.{last_state}
-use Rattle.hs_weak.specs.Strength.{AsStrongAs, same_state, stronger_arrow, AsksEach, Covers}
-use Rattle.hs_types.specs.Interned.{InternerData, RowData, IsRow, type_of_id, entry_of}
+use Rattle.hs_weak.specs.Strength.{AsStrongAs, Covers}
+use Rattle.hs_types.specs.Interned.{InternerData, RowData, IsRow, entry_of}
 use Rattle.hs_strength.specs.Remembered.{IsCovered}
-use Rattle.hs_strength.proofs.Rows.{each_all, each_mapped}
+use Rattle.hs_strength.proofs.Rows.{each_all}
 use Rattle.hs_minimal.specs.Growing.{AreLeft}
-
--- a type has the same state at its end as one as which it is as strong
-pub strong_last : {t u : Tree (Option ℕ)} → AsStrongAs t u → last_state t ≡ last_state u
-strong_last same_state = refl
-strong_last (stronger_arrow h f) = strong_last h
-
--- none of the types of a set has the state at its end
-pub none_ends : (I : InternerData) (members : List ℕ) (set : List TypeTree) (q : ℕ) → map (type_of_id I) members ≡ set → (k : ℕ) → length members ≤ k
-    → ((t : ℕ) → Contains (take k members) t → last_state (type_of_id I t) ≡ q → ⊥) → (a : TypeTree) → Contains set a → last_state a ≡ q → ⊥
-none_ends I members set q is k past none = each_mapped (type_of_id I) (λ (a : TypeTree). last_state a ≡ q → ⊥) members set is (each_all (λ t. last_state (type_of_id I t) ≡ q → ⊥) members k past none)
-
--- a set that asks at least what another asks, asks for a type with the same last state as one of that one's
-pub asks_last : (s r : List TypeTree) (b : Bool) (a : TypeTree) → Contains r a → ((c : TypeTree) → Contains s c → last_state c ≡ last_state a → IsTrue b) → AsksEach AsStrongAs s r → IsTrue b
-asks_last s r b a m tells asks = let c = asks a m in tells c.0 c.1.0 (strong_last c.1.1)
 
 pub row_in : (I J : InternerData) → J ≡ I → (row : RowData) → IsRow I row → IsRow J row
 row_in I J same row h = subst (λ (K : InternerData). IsRow K row) (sym same) h

@@ -22,7 +22,7 @@ use Rattle.hs_reads.specs.Lists.{list_of, IsPushed}
 use Rattle.hs_minimal.specs.Compact.{NoneIsCovered}
 use Rattle.hs_minimal.specs.Ends.{EndData, rows_ending}
 use Rattle.hs_minimal.specs.Growing.{GrowingData, entries, IsCoveredAt, AreEnding, IsGrowing, AreLeft, IsLeftBy}
-use Rattle.hs_minimal.proofs.CoverLemmas.{strong_last}
+use Rattle.hs_strength.proofs.LastStates.{strong_last}
 use Rattle.hs_minimal.proofs.EndLemmas.{key_parts, same_key, gained, still, now_there}
 use Rattle.hs_minimal.proofs.Elsewhere.{weakly_more}
 use Rattle.hs_minimal.proofs.Shapes.{weakly_shape}
@@ -47,15 +47,9 @@ module _ (I : InternerData) (g : GrowingData) (h : IsGrowing I g) where
   pub kept_rows : (u : ℕ) (rows : List RowData) → rows ≡ list_of g.rows u → All (IsRow I) rows
   kept_rows u rows is = all_members (IsRow I) rows (λ r m. kept_in_use u r (subst (λ (z : List RowData). Contains z r) is m))
 
-  pub kept_at : (u : ℕ) (rows : List RowData) → rows ≡ list_of g.rows u → All (λ (r : RowData). r.point ≡ u) rows
-  kept_at u rows is = all_members (λ (r : RowData). r.point ≡ u) rows (λ r m. (h.taken u r (subst (λ (z : List RowData). Contains z r) is m)).0)
-
   -- and those of them with a state at the end of their type
   pub ending_rows : (u q : ℕ) (rows : List RowData) → rows ≡ rows_ending g.ends u q → All (IsRow I) rows
   ending_rows u q rows is = all_members (IsRow I) rows (λ r m. kept_in_use u r ((h.ended u q r).0 (subst (λ (z : List RowData). Contains z r) is m)).0)
-
-  pub ending_at : (u q : ℕ) (rows : List RowData) → rows ≡ rows_ending g.ends u q → All (λ (r : RowData). r.point ≡ u) rows
-  ending_at u q rows is = all_members (λ (r : RowData). r.point ≡ u) rows (λ r m. (h.taken u r ((h.ended u q r).0 (subst (λ (z : List RowData). Contains z r) is m)).0).0)
 
   -- those like a row are enough to see whether it is kept, and whether one covers it
   pub alike_kept : (row : RowData) (rows : List RowData) → rows ≡ rows_ending g.ends row.point (last_state (type_of_id I row.ty)) → Contains rows row ↔ Contains (list_of g.rows row.point) row

@@ -8,3 +8,5 @@ pub mod FollowingLemmas
 pub mod SettlingLemmas
 pub mod CompactingLemmas
 pub mod ChildLemmas
+pub mod ChoosingLemmas
+pub mod CompleteLemmas

@@ -6,24 +6,32 @@
 --     row_with            the row with a point, a type and an environment
 --     IsSplitAtArgs       a type of the point's head, split at its arguments
 --     IsCoveredAmong      one of the rows covers the entry
+--     HasStrong           one of the rows has a type that is as strong; HasStrongAt: one at this point
 --     AreCoveredByType    whatever follows by a type of the head is covered by one of the rows
+--     HasEntry            one of the rows, which are in use, has the entry
+--     KeepsEntries        the rows have all entries that others had
+--     rejected_in         the entry at a point with an environment and a state
+--     HasByRow            the rows have the entries at a terminal, for the states whose transition reads a child in the row's state
+--     HasLacking          and those for the states without a transition
 --     IsFollowing         the row's entry weakly follows at the point
 --     AreFollowingAt      so the entries of rows, from those that were added
 --     AddsFollowing       what follows by a type of the head was added, as much as it takes
 --     AddsFollowingAll    so for each type of the head, and nothing else is there
 --     AreFollowingFrom    rows that weakly follow at the point, one of which covers each entry that does so from some of the entries
 --     AreLeastFollowing   rows that weakly follow at the point, one of which covers each entry that does
-use Rattle.std.specs.Prelude.{◌≡◌, ℕ, ◌<◌, List, length, Contains, ◌⊎◌, ◌↔◌}
+use Rattle.std.specs.Prelude.{◌≡◌, ℕ, ◌<◌, List, [], length, replicate, None, Contains, ◌⊎◌, ◌↔◌}
+use Rattle.hs_scheme.specs.acceptance.Automaton.{next}
+use Rattle.hs_scheme.specs.acceptance.Transitions.{Reads}
 use Rattle.hs_scheme.specs.declared.term.Head.{Head}
 use Rattle.hs_scheme.specs.flow.Dependents.{HeadReads}
 use Rattle.hs_scheme.specs.flow.Points.{PointData, point_at}
 use Rattle.hs_scheme.specs.Problem.{ProblemData}
-use Rattle.hs_table.specs.Types.{TypeTree, arrows}
+use Rattle.hs_table.specs.Types.{TypeTree, state, arrows}
 use Rattle.hs_table.specs.Entries.{Env, EntryData, Has, IsEnv, params_of}
 use Rattle.hs_table.specs.Follows.{HeadHas, AnyHas}
 use Rattle.hs_weak.specs.Strength.{AsStrongAs, Covers}
 use Rattle.hs_weak.specs.Weak.{WeaklyChosen, WeaklyFollows}
-use Rattle.hs_types.specs.Interned.{InternerData, type_of_id, RowData, IsRow, entry_of}
+use Rattle.hs_types.specs.Interned.{InternerData, type_of_id, env_of_id, RowData, IsRow, entry_of}
 use Rattle.hs_heads.specs.HeadTypes.{HeadTypeData, sets_of, IsHeadRow}
 use Rattle.hs_reads.specs.Lists.{list_of}
 use Rattle.hs_minimal.specs.Growing.{GrowingData, entries, AreOfRows}
@@ -50,10 +58,34 @@ pub record IsSplitAtArgs (p : ProblemData) (point : ℕ) (I : InternerData) (h :
 abbrev pub IsCoveredAmong : InternerData → List RowData → EntryData → Type 0
 IsCoveredAmong I rows e = (by : RowData) × (Contains rows by × Covers AsStrongAs (entry_of I by) e)
 
+abbrev pub HasStrong : InternerData → List RowData → TypeTree → Type 0
+HasStrong I rows a = (r : RowData) × (Contains rows r × AsStrongAs (type_of_id I r.ty) a)
+
+abbrev pub HasStrongAt : InternerData → List RowData → ℕ → TypeTree → Type 0
+HasStrongAt I rows u a = (r : RowData) × (Contains rows r × (r.point ≡ u) × AsStrongAs (type_of_id I r.ty) a)
+
 abbrev pub AreCoveredByType : ProblemData → List EntryData → ℕ → PointData → InternerData → Env → TypeTree → List RowData → Type 0
 AreCoveredByType p C point of J sets ty rows =
     (places : List (ℕ × ℕ)) (es : List EntryData) → WeaklyChosen AsStrongAs p C 0 of.args sets places es → (E : Env) → IsEnv (params_of p of.rule) E
     → ((j : ℕ) (a : TypeTree) → j < length E → Has E j a ↔ (HeadHas of.head (arrows sets ty) j a ⊎ AnyHas es j a)) → IsCoveredAmong J rows (record { point = point; env = E; ty = ty })
+
+abbrev pub HasEntry : InternerData → List RowData → EntryData → Type 0
+HasEntry J rows e = (r : RowData) × (Contains rows r × IsRow J r × (entry_of J r ≡ e))
+
+abbrev pub KeepsEntries : InternerData → InternerData → List RowData → List RowData → Type 0
+KeepsEntries I J old new = (e : EntryData) → HasEntry I old e → HasEntry J new e
+
+abbrev pub rejected_in : ℕ → Env → ℕ → EntryData
+rejected_in point env q = record { point = point; env = env; ty = state q }
+
+-- the row is read in I, those that are found in J
+abbrev pub HasByRow : ProblemData → InternerData → InternerData → List RowData → ℕ → ℕ → ℕ → RowData → Type 0
+HasByRow p I J found point a place row =
+    (s q : ℕ) → type_of_id I row.ty ≡ state s → Reads p.sorted.automaton.transitions a place s q → HasEntry J found (rejected_in point (env_of_id I row.env) q)
+
+abbrev pub HasLacking : ProblemData → InternerData → List RowData → ℕ → ℕ → ℕ → Type 0
+HasLacking p J found point a q =
+    next p.sorted.automaton.transitions q a ≡ None → HasEntry J found (rejected_in point (replicate (params_of p (point_at p.points point).rule) []) q)
 
 pub record IsFollowing (p : ProblemData) (C : List EntryData) (point : ℕ) (J : InternerData) (r : RowData) : Type 0 where
   pub in_use : IsRow J r

@@ -10,7 +10,7 @@ use crate::answer::Compact;
 use crate::covered::has_row;
 use crate::growing::Growing;
 use crate::settling::fill;
-use hs_choices::Known;
+use hs_choices::Compared;
 use hs_flow::Dependents;
 use hs_reads::Reads;
 use hs_scheme::{OutOfMemory, Problem};
@@ -20,7 +20,7 @@ use hs_verdict::know_sorted_problem;
 use std::alloc::Global;
 
 /// All entries that were added, in their order.
-fn added(types: &Known, growing: &Growing) -> Result<Vec<Entry>, OutOfMemory>
+fn added(types: &Compared, growing: &Growing) -> Result<Vec<Entry>, OutOfMemory>
     requires { IsGrowing types.now growing.now }
     ensures { IfOk result (λ all. all.items ≡ entries types.now growing.now.history) }
 {
@@ -32,7 +32,7 @@ fn added(types: &Known, growing: &Growing) -> Result<Vec<Entry>, OutOfMemory>
 }
 
 /// The entries that are kept, in the order in which they were added.
-fn kept(types: &Known, growing: &Growing) -> Result<Vec<Entry>, OutOfMemory>
+fn kept(types: &Compared, growing: &Growing) -> Result<Vec<Entry>, OutOfMemory>
     requires { IsGrowing types.now growing.now }
     ensures { IfOk result (λ kept. AreKept types.now growing.now growing.now.history kept.items) }
 {
@@ -48,7 +48,7 @@ fn kept(types: &Known, growing: &Growing) -> Result<Vec<Entry>, OutOfMemory>
 }
 
 /// The entries that are kept, ascending.
-fn table(types: &Known, growing: &Growing) -> Result<Vec<Entry>, OutOfMemory>
+fn table(types: &Compared, growing: &Growing) -> Result<Vec<Entry>, OutOfMemory>
     requires growing { IsGrowing types.now growing.now }
     requires settled { CoversAll types.now growing.now }
     requires room { length growing.now.history ≤ growing.now.budget }
@@ -62,7 +62,7 @@ fn table(types: &Known, growing: &Growing) -> Result<Vec<Entry>, OutOfMemory>
 
 /// What the search comes to.
 fn answer(
-    types: &mut Known,
+    types: &mut Compared,
     growing: &mut Growing,
     reads: &Reads,
     dependents: &Dependents,
@@ -91,7 +91,8 @@ fn answer(
 ///
 /// An entry is formed for each least union of what may be chosen for the sets of a type of a point's head,
 /// whenever a point on which that one depends has got entries, and compared with those that are kept at its
-/// point. Calls recurse as deep as types. The technique is that of antichains, after De Wulf, Doyen,
+/// point; at a terminal with all its arguments, for each entry at one of them and each state whose
+/// transition reads it. Calls recurse as deep as types. The technique is that of antichains, after De Wulf, Doyen,
 /// Henzinger and Raskin, "Antichains: a new algorithm for checking universality of finite automata" (CAV
 /// 2006).
 pub fn compact(alloc: Global, problem: &Problem, budget: u32) -> Result<Compact, OutOfMemory>
@@ -102,7 +103,7 @@ pub fn compact(alloc: Global, problem: &Problem, budget: u32) -> Result<Compact,
     let dependents = Dependents::of(alloc, problem)?;
     let reads = Reads::all(alloc, problem)?;
     let mut growing = Growing::new(alloc, problem, budget)?;
-    let mut types = Known::new(alloc, Interner::new(alloc));
+    let mut types = Compared::new(alloc, Interner::new(alloc));
     let answer = answer(&mut types, &mut growing, &reads, &dependents);
     drop(types);
     drop(growing);

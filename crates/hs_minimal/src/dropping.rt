@@ -1,6 +1,6 @@
 //! Unions of which none is left out.
 
-use hs_choices::{Dropping, Known};
+use hs_choices::{Compared, Dropping};
 use hs_scheme::OutOfMemory;
 use hs_types::EnvId;
 
@@ -8,14 +8,19 @@ use hs_types::EnvId;
 #[derive(Drop)]
 pub(crate) struct NoneDropped;
 
-impl Dropping<Known> for NoneDropped {
+impl Dropping<Compared> for NoneDropped {
     ghost dropped = { λ d I rule E. ⊥ };
 
     ghost fits = { λ d I. Unit {0} };
 
     ghost stays = { λ d e. Unit {0} };
 
-    fn drops(&mut self, _types: &mut Known, _rule: u32, _env: EnvId) -> Result<bool, OutOfMemory> {
+    fn drops(
+        &mut self,
+        _types: &mut Compared,
+        _rule: u32,
+        _env: EnvId,
+    ) -> Result<bool, OutOfMemory> {
         Ok(false)
     }
 

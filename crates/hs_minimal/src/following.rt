@@ -11,13 +11,15 @@ ghost use Rattle.hs_reads.specs.Own.{AreAllPairs};
 ghost use Rattle.hs_minimal.specs.Growing.{IsGrowing, AreAdded};
 ghost use Rattle.hs_minimal.specs.Following.{row_with, IsSplitAtArgs, AddsFollowing, AddsFollowingAll, AreFollowingFrom, AreLeastFollowing};
 
+use crate::children::{by_children, has_all_arguments};
+use crate::choosing::may_choose;
 use crate::dropping::NoneDropped;
-use crate::gathering::{args_at, gathered};
+use crate::gathering::{args_at, gathered, head_at};
 use crate::growing::Growing;
-use hs_choices::{Known, least_unions, rows_of_arguments_are_of_one_rule, slots_for};
+use hs_choices::{Compared, least_unions, rows_of_arguments_are_of_one_rule, slots_for};
 use hs_heads::{HeadType, head_types};
 use hs_reads::Reads;
-use hs_scheme::{OutOfMemory, Problem};
+use hs_scheme::{Head, OutOfMemory, Problem};
 use hs_types::{EnvId, Row, TyId};
 use hs_verdict::know_sorted_problem;
 use std::alloc::Global;
@@ -41,7 +43,7 @@ fn add_rows(point: u32, ty: TyId, envs: &[EnvId], found: &mut Vec<Row>) -> Resul
 fn add_following(
     alloc: Global,
     problem: &Problem,
-    types: &mut Known,
+    types: &mut Compared,
     rows: &[Row],
     point: u32,
     head: &HeadType,
@@ -77,11 +79,41 @@ fn add_following(
     add_rows(point, head.ty, envs.as_slice(), found)
 }
 
+/// Adds them, unless there is nothing to choose for a type that is asked of an argument.
+fn add_by_head(
+    alloc: Global,
+    problem: &Problem,
+    types: &mut Compared,
+    rows: &[Row],
+    point: u32,
+    head: &HeadType,
+    found: &mut Vec<Row>,
+) -> Result<(), OutOfMemory>
+    requires rows { All (IsRow types.old) rows.now }
+    requires shape { (r : RowData) → Contains rows.now r → InShape problem.now (entry_of types.old r) }
+    requires order { IsNonDecreasingBy (λ (r : RowData). r.point) rows.now }
+    requires point { point < length problem.now.points.points }
+    requires head { IsSplitAtArgs problem.now point types.old head.now }
+    ensures added { OnOk result ((C : List EntryData) (R : List (ℕ × ℕ)) (of : PointData)
+        → AreTableRows problem.now C types.old rows.now
+        → slice_get problem.now.points.points point ≡ Some of
+        → IsHeadTypeAt problem.now C R point of (sets_of types.old head.now)
+        (type_of_id types.old head.now.ty)
+        → AddsFollowing problem.now C point of types.new (sets_of types.old head.now)
+        (type_of_id types.old head.now.ty) found.old.items found.new.items) }
+    ensures grows { Grows types.old types.new }
+{
+    if !may_choose(types, rows, args_at(problem, point), head.sets.as_slice())? {
+        return Ok(());
+    }
+    add_following(alloc, problem, types, rows, point, head, found)
+}
+
 /// What follows by the types of the point's head, with least unions.
 fn following_by(
     alloc: Global,
     problem: &Problem,
-    types: &mut Known,
+    types: &mut Compared,
     rows: &[Row],
     point: u32,
     heads: &[HeadType],
@@ -101,7 +133,7 @@ fn following_by(
 {
     let mut found = Vec::new(alloc);
     for head in heads {
-        add_following(alloc, problem, types, rows, point, head, &mut found)?;
+        add_by_head(alloc, problem, types, rows, point, head, &mut found)?;
     }
     Ok(found)
 }
@@ -110,7 +142,7 @@ fn following_by(
 /// their points: for each type of its head the entries with the least unions of what may be chosen for the
 /// type's sets. Each other that weakly follows is covered by one of these.
 pub(crate) fn following_from(
-    types: &mut Known,
+    types: &mut Compared,
     growing: &Growing,
     reads: &Reads,
     point: u32,
@@ -133,7 +165,7 @@ pub(crate) fn following_from(
 
 /// What weakly follows at the point from the entries that are kept.
 pub(crate) fn following(
-    types: &mut Known,
+    types: &mut Compared,
     growing: &Growing,
     reads: &Reads,
     point: u32,
@@ -144,6 +176,12 @@ pub(crate) fn following(
     ensures found { IfOk result (λ found. AreLeastFollowing types.new growing.now point found.items) }
     ensures grows { OnOk result (Grows types.old types.new) }
 {
+    let problem = growing.problem();
+    if let Head::Tm(terminal) = head_at(problem, point) {
+        if has_all_arguments(problem, point, terminal) {
+            return by_children(types, growing, point, terminal);
+        }
+    }
     let rows = gathered(growing, point)?;
     following_from(types, growing, reads, point, rows.as_slice())
 }

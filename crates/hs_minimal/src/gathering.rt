@@ -14,7 +14,7 @@ use hs_types::Row;
 use hs_verdict::know_sorted_problem;
 
 /// The rule in which the point stands.
-fn rule_at(problem: &Problem, point: u32) -> u32
+pub(crate) fn rule_at(problem: &Problem, point: u32) -> u32
     requires { point < length problem.now.points.points }
     ensures { result ≡ (point_at problem.now.points point).rule }
 {

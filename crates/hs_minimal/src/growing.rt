@@ -10,11 +10,12 @@ ghost use Rattle.hs_reads.specs.Lists.{list_of};
 ghost use Rattle.hs_minimal.specs.Ends.{rows_ending};
 ghost use Rattle.hs_minimal.specs.Growing.{entries, IsGrowing, IsCoveredAt, AreAdded, IsLeftBy};
 
-use crate::covered::{covers_some, end_of, has_row, is_covered, not_covered_by};
+use crate::covered::{covers_some, has_row, is_covered, not_covered_by};
 use crate::ends::EndRows;
 use crate::rows::PointRows;
-use hs_choices::Known;
+use hs_choices::Compared;
 use hs_scheme::{OutOfMemory, Problem};
+use hs_strength::last_state;
 use hs_types::{Interner, Row};
 use hs_verdict::know_sorted_problem;
 use std::alloc::Global;
@@ -134,11 +135,11 @@ impl<'a> Growing<'a> {
         ensures { result.now ≡ rows_ending self.now.ends row.now.point
             (last_state (type_of_id types.now row.now.ty)) }
     {
-        self.ends.at(row.point, end_of(types, row.ty))
+        self.ends.at(row.point, last_state(types, row.ty))
     }
 
     /// Whether an entry that is kept covers this one.
-    pub(crate) fn covers(&self, types: &mut Known, row: &Row) -> Result<bool, OutOfMemory>
+    pub(crate) fn covers(&self, types: &mut Compared, row: &Row) -> Result<bool, OutOfMemory>
         requires growing { IsGrowing types.old self.now }
         requires row { IsRow types.old row.now }
         ensures ok { IfOk result (λ covered. IsTrue covered
@@ -153,7 +154,7 @@ impl<'a> Growing<'a> {
     }
 
     /// Lets those of the kept entries go that this one covers.
-    fn let_covered_go(&mut self, types: &mut Known, row: &Row) -> Result<(), OutOfMemory>
+    fn let_covered_go(&mut self, types: &mut Compared, row: &Row) -> Result<(), OutOfMemory>
         requires growing { IsGrowing types.old self.old }
         requires row { IsRow types.old row.now }
         requires point { row.now.point < length self.old.rows }
@@ -169,12 +170,12 @@ impl<'a> Growing<'a> {
         let ends = not_covered_by(self.alloc, types, kept, row)?;
         let rows = not_covered_by(self.alloc, types, self.rows.at(row.point), row)?;
         self.rows.replace(row.point, rows);
-        let end = end_of(types.interner(), row.ty);
+        let end = last_state(types.interner(), row.ty);
         self.ends.replace(row.point, end, ends)
     }
 
     /// Adds an entry that weakly follows and that no other covers. Those that it covers aren't kept.
-    pub(crate) fn add(&mut self, types: &mut Known, row: Row) -> Result<(), OutOfMemory>
+    pub(crate) fn add(&mut self, types: &mut Compared, row: Row) -> Result<(), OutOfMemory>
         requires growing { IsGrowing types.old self.old }
         requires row { IsRow types.old row }
         requires room { length self.old.history ≤ self.old.budget }
@@ -190,7 +191,7 @@ impl<'a> Growing<'a> {
         know_sorted_problem(self.problem);
         self.let_covered_go(types, &row)?;
         self.rows.push(row.point, row)?;
-        let end = end_of(types.interner(), row.ty);
+        let end = last_state(types.interner(), row.ty);
         self.ends.push(self.alloc, row.point, end, row)?;
         self.history.push(row)?;
         Ok(())

@@ -2,11 +2,11 @@
 //! does.
 //!
 //! `specs/Weak` of `hs_weak` says what a compact list is, and `specs/Compact` here what `compact` answers.
-//! `Growing` and `Following` are cited by private contracts.
 #![tactic(auto)]
 
 mod answer;
 mod children;
+mod choosing;
 mod compacting;
 mod covered;
 mod dropping;

@@ -8,10 +8,12 @@ ghost use Rattle.std.specs.List.Sorted.{IsNonDecreasingBy};
 ghost use Rattle.hs_types.specs.Interned.{RowData, IsRow};
 ghost use Rattle.hs_minimal.specs.Growing.{IsGrowing, AreAdded};
 
-use crate::covered::{asks_end, end_of};
+use crate::choosing::has_each;
 use crate::gathering::{add_head, add_rows, args_at, head_at};
 use crate::growing::Growing;
+use hs_choices::Compared;
 use hs_scheme::{Head, OutOfMemory};
+use hs_strength::{has_last_state, last_state};
 use hs_types::{Interner, Row, SetId, TyId, View};
 
 /// The set at this place, counted from 0, of those in front of the type.
@@ -49,7 +51,7 @@ fn asks_some(types: &Interner, set: SetId, new: &[Row]) -> bool
     requires new { (r : RowData) → Contains new.now r → IsRow types.now r }
 {
     for row in new {
-        if asks_end(types, set, end_of(types, row.ty)) {
+        if has_last_state(types, set, last_state(types, row.ty)) {
             return true;
         }
     }
@@ -83,7 +85,7 @@ fn asks_new(
 }
 
 /// The entries that say something of the head of the point and may ask an argument for one of the new
-/// entries; none where these aren't at an argument.
+/// entries.
 fn heads_with(
     types: &Interner,
     growing: &Growing,
@@ -100,9 +102,6 @@ fn heads_with(
     let args = args_at(problem, point);
     let head = head_at(problem, point);
     let mut chosen = Vec::new(growing.alloc);
-    if !args.contains(&source) {
-        return Ok(chosen);
-    }
     let mut all = Vec::new(growing.alloc);
     add_head(growing, point, &mut all)?;
     for said in all.as_slice() {
@@ -136,25 +135,103 @@ fn add_other_args(
     Ok(())
 }
 
+/// Whether for all that an entry that says something of the head asks of the arguments there is an entry to
+/// choose that is kept.
+fn may_be_met(
+    types: &mut Compared,
+    growing: &Growing,
+    head: Head,
+    args: &[u32],
+    said: &Row,
+) -> Result<bool, OutOfMemory>
+    requires growing { IsGrowing types.old growing.now }
+    requires said { IsRow types.old said.now }
+    ensures { types.new ≡ types.old }
+{
+    for (place, arg) in args.iter().enumerate() {
+        let Some(set) = asked_of(types.interner(), head, said, place) else {
+            continue;
+        };
+        if !has_each(types, growing.rows_at(*arg), set)? {
+            return Ok(false);
+        }
+    }
+    Ok(true)
+}
+
+/// Adds those of the entries, which say something of the head of the point, for which that is so.
+fn add_met(
+    types: &mut Compared,
+    growing: &Growing,
+    point: u32,
+    said: &[Row],
+    rows: &mut Vec<Row>,
+) -> Result<(), OutOfMemory>
+    requires growing { IsGrowing types.old growing.now }
+    requires point { point < length growing.now.problem.points.points }
+    requires said { AreAdded growing.now said.now }
+    requires rows { AreAdded growing.now rows.old.items }
+    ensures added { OnOk result (AreAdded growing.now rows.new.items) }
+    ensures same { types.new ≡ types.old }
+{
+    let head = head_at(growing.problem(), point);
+    let args = args_at(growing.problem(), point);
+    for row in said {
+        if !may_be_met(types, growing, head, args, row)? {
+            continue;
+        }
+        rows.push(*row)?;
+    }
+    Ok(())
+}
+
+/// Adds the entries that say something of the head of the point and may be met, and of which one or another
+/// entry is new; and the new ones, where they are at an argument.
+fn add_said(
+    types: &mut Compared,
+    growing: &Growing,
+    point: u32,
+    source: u32,
+    new: &[Row],
+    rows: &mut Vec<Row>,
+) -> Result<(), OutOfMemory>
+    requires growing { IsGrowing types.old growing.now }
+    requires point { point < length growing.now.problem.points.points }
+    requires new { AreAdded growing.now new.now }
+    requires rows { AreAdded growing.now rows.old.items }
+    ensures added { OnOk result (AreAdded growing.now rows.new.items) }
+    ensures same { types.new ≡ types.old }
+{
+    if !args_at(growing.problem(), point).contains(&source) {
+        return add_met(types, growing, point, new, rows);
+    }
+    let said = heads_with(types.interner(), growing, point, source, new)?;
+    add_met(types, growing, point, said.as_slice(), rows)?;
+    rows.extend_from_slice(new)?;
+    Ok(())
+}
+
 /// The new entries, which are at this source of the point, with those that say something of its head and
-/// may ask for them, and with all at its other arguments, in the order of their points.
+/// may ask for them, and with all at its other arguments, in the order of their points. An entry that says
+/// something of the head is left out where nothing is kept that could be chosen for what it asks.
 pub(crate) fn selected(
-    types: &Interner,
+    types: &mut Compared,
     growing: &Growing,
     point: u32,
     source: u32,
     new: &[Row],
 ) -> Result<Vec<Row>, OutOfMemory>
-    requires growing { IsGrowing types.now growing.now }
+    requires growing { IsGrowing types.old growing.now }
     requires point { point < length growing.now.problem.points.points }
     requires new { AreAdded growing.now new.now }
     ensures added { IfOk result (λ rows. AreAdded growing.now rows.items) }
     ensures order { IfOk result (λ rows. IsNonDecreasingBy (λ (r : RowData). r.point) rows.items) }
+    ensures same { types.new ≡ types.old }
 {
-    let mut rows = heads_with(types, growing, point, source, new)?;
-    rows.extend_from_slice(new)?;
+    let mut rows = Vec::new(growing.alloc);
+    add_said(types, growing, point, source, new, &mut rows)?;
     let args = args_at(growing.problem(), point);
-    add_other_args(types, growing, args, source, &mut rows)?;
+    add_other_args(types.interner(), growing, args, source, &mut rows)?;
     rows.sort_unstable_by_key(|row| row.point);
     Ok(rows)
 }

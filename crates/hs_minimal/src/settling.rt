@@ -11,7 +11,7 @@ ghost use Rattle.hs_minimal.specs.Following.{IsFollowing};
 use crate::following::following;
 use crate::growing::Growing;
 use crate::spreading::spread;
-use hs_choices::Known;
+use hs_choices::Compared;
 use hs_flow::Dependents;
 use hs_reads::Reads;
 use hs_scheme::OutOfMemory;
@@ -20,7 +20,7 @@ use hs_types::Row;
 /// Adds those of the entries, which weakly follow, that aren't covered, one after another, up to one more
 /// than are allowed.
 pub(crate) fn add_rows(
-    types: &mut Known,
+    types: &mut Compared,
     growing: &mut Growing,
     rows: &[Row],
 ) -> Result<(), OutOfMemory>
@@ -49,7 +49,7 @@ pub(crate) fn add_rows(
 
 /// Adds what weakly follows at the point and isn't covered.
 fn settle(
-    types: &mut Known,
+    types: &mut Compared,
     growing: &mut Growing,
     reads: &Reads,
     point: u32,
@@ -70,7 +70,11 @@ fn settle(
 }
 
 /// Settles each point once, in their order.
-fn settle_each(types: &mut Known, growing: &mut Growing, reads: &Reads) -> Result<(), OutOfMemory>
+fn settle_each(
+    types: &mut Compared,
+    growing: &mut Growing,
+    reads: &Reads,
+) -> Result<(), OutOfMemory>
     requires growing { IsGrowing types.old growing.old }
     requires reads { AreAllPairs growing.old.problem reads.now }
     ensures growing { OnOk result (IsGrowing types.new growing.new) }
@@ -90,7 +94,7 @@ fn settle_each(types: &mut Known, growing: &mut Growing, reads: &Reads) -> Resul
 /// Each point is settled once, and then from each entry that came what follows with it at the points that
 /// depend on it. A last look at each point shows that nothing is left.
 pub(crate) fn fill(
-    types: &mut Known,
+    types: &mut Compared,
     growing: &mut Growing,
     reads: &Reads,
     dependents: &Dependents,

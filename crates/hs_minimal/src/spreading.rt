@@ -19,7 +19,7 @@ use crate::gathering::head_at;
 use crate::growing::Growing;
 use crate::selecting::selected;
 use crate::settling::add_rows;
-use hs_choices::{Known, rows_at};
+use hs_choices::{Compared, rows_at};
 use hs_flow::Dependents;
 use hs_reads::Reads;
 use hs_scheme::{Head, OutOfMemory};
@@ -29,7 +29,7 @@ use std::alloc::Global;
 /// Adds what weakly follows at the point from these entries, which are in the order of their points, and
 /// isn't covered.
 fn settle_from(
-    types: &mut Known,
+    types: &mut Compared,
     growing: &mut Growing,
     reads: &Reads,
     point: u32,
@@ -52,7 +52,7 @@ fn settle_from(
 
 /// Adds what follows at a terminal that has all its arguments, with each of the new entries at one of them.
 fn settle_children(
-    types: &mut Known,
+    types: &mut Compared,
     growing: &mut Growing,
     point: u32,
     terminal: u32,
@@ -76,7 +76,7 @@ fn settle_children(
 
 /// Adds what weakly follows at the point with the new entries, which are at this one of its sources.
 fn settle_with(
-    types: &mut Known,
+    types: &mut Compared,
     growing: &mut Growing,
     reads: &Reads,
     point: u32,
@@ -95,13 +95,13 @@ fn settle_with(
             return settle_children(types, growing, point, terminal, new);
         }
     }
-    let rows = selected(types.interner(), growing, point, source, new)?;
+    let rows = selected(types, growing, point, source, new)?;
     settle_from(types, growing, reads, point, rows.as_slice())
 }
 
 /// So at each of the points that depend on it.
 fn settle_dependents(
-    types: &mut Known,
+    types: &mut Compared,
     growing: &mut Growing,
     reads: &Reads,
     points: &[u32],
@@ -138,7 +138,7 @@ fn points_of(alloc: Global, rows: &[Row]) -> Result<Vec<u32>, OutOfMemory>
 
 /// Adds what follows with the new entries, which are in the order of their points, and are at these.
 fn settle_new(
-    types: &mut Known,
+    types: &mut Compared,
     growing: &mut Growing,
     reads: &Reads,
     dependents: &Dependents,
@@ -166,7 +166,7 @@ fn settle_new(
 /// Adds what follows with the entries from this place on, and with those that are added thereby, until
 /// there are no more, or more than are allowed: round by round, and in each by point.
 pub(crate) fn spread(
-    types: &mut Known,
+    types: &mut Compared,
     growing: &mut Growing,
     reads: &Reads,
     dependents: &Dependents,

@@ -9,9 +9,9 @@
 //! has to give, so that the union of what they ask is backed at the rule where the site stands.
 //!
 //! Questions form circles. One that is still being asked is taken for void by those that are asked for its
-//! sake; so their "no" is *provisional*, and relies on it. Where it is backed in the end, they are open again;
-//! where it is void and relies on no earlier one, so are they, for good (the strongly connected components
-//! of Tarjan, "Depth-first search and linear graph algorithms", SIAM Journal on Computing 1972).
+//! sake; so their "no" is *provisional*, and relies on it. Where it is backed in the end, they are open
+//! again; where it is void and relies on no earlier one, so are they, for good (the strongly connected
+//! components of Tarjan, "Depth-first search and linear graph algorithms", SIAM Journal on Computing 1972).
 
 use crate::ended::{Ended, number_at, put};
 use crate::envs::{EMPTY, Status};
@@ -271,7 +271,7 @@ impl<'a> Search<'a> {
     fn answer(&mut self, stack: &mut Vec<Question>) {
         for _ in 0..u64::MAX {
             self.envs.count(1);
-            if self.ended().is_some() || !self.step(stack) {
+            if self.refused || self.envs.ended().is_some() || !self.step(stack) {
                 return;
             }
         }

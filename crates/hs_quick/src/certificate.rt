@@ -1,207 +1,305 @@
-//! What was found, as entries and environments of types.
+//! What was found, as a certificate in which each type, set and environment is told once.
+//!
+//! The numbers of the search ascend: a type comes behind its set and its result, and a set behind its types. So
+//! they are told in the order of their numbers.
 
-use crate::ended::{number_at, put};
-use crate::envs::Status;
+use crate::ended::{numbered, put};
+use crate::envs::EMPTY;
+use crate::listing::{Line, Listed, Listing, Place};
 use crate::look::{at_point, params_of};
 use crate::search::Search;
-use crate::types::{MOST_DEPTH, Shape, Types};
-use hs_table::{Entry, Shape as TreeShape, Ty, TypeSet};
-use hs_weak::Void;
+use crate::types::{Shape, Types};
+use hs_numbered::NumberedCertificate;
+use hs_scheme::{OutOfMemory, Problem};
+use hs_types::{EnvId, SetId, TyId};
 use std::alloc::Global;
 
-/// So many types are made at most, those in other ones counted with them.
-const MOST_TREES: u64 = 6_000_000;
+/// So many types are told at most, those in other ones counted with them.
+const MOST_TYPES: u64 = 6_000_000;
 
-/// What is left to make types.
+/// A type of the search in a certificate, and how many types it is made of, with itself.
+#[derive(Clone, Copy, Default)]
+struct ToldType {
+    id: TyId,
+    size: u64,
+}
+
+/// An environment of the search in a certificate, and how many types its types are made of.
+#[derive(Clone, Copy, Default)]
+struct ToldEnv {
+    id: EnvId,
+    size: u64,
+}
+
+/// What the types, the sets and the environments of a search are in a certificate, as far as they were told.
 #[derive(Drop)]
-pub(crate) struct Making {
-    /// So many types may still be made.
+struct Numbers {
+    types: Vec<ToldType>,
+    sets: Vec<SetId>,
+    envs: Vec<ToldEnv>,
+    /// The environment without types, for each number of parameters.
+    empty: Vec<EnvId>,
+}
+
+/// A certificate that is being told.
+#[derive(Drop)]
+pub(crate) struct Telling {
+    alloc: Global,
+    pub(crate) certificate: NumberedCertificate,
+    numbers: Numbers,
+    /// The set without types.
+    none: SetId,
+    /// So many types may still be told.
     pub(crate) left: u64,
     /// Whether memory was refused.
     pub(crate) refused: bool,
-    /// How many types an environment has at each parameter.
-    counts: Vec<usize>,
 }
 
-impl Making {
-    /// Nothing is made yet. Takes no memory.
-    pub(crate) fn new(alloc: Global) -> Making {
-        Making {
-            left: MOST_TREES,
+/// The item at the place, the first number where there is none.
+fn item_at<T: Copy + Default>(list: &[T], place: u32) -> T {
+    match list.get(place as usize) {
+        Some(item) => *item,
+        None => T::default(),
+    }
+}
+
+impl Telling {
+    /// Nothing is told yet. Takes no memory.
+    pub(crate) fn new(alloc: Global) -> Telling {
+        let numbers = Numbers {
+            types: Vec::new(alloc),
+            sets: Vec::new(alloc),
+            envs: Vec::new(alloc),
+            empty: Vec::new(alloc),
+        };
+        Telling {
+            alloc,
+            certificate: NumberedCertificate::new(alloc),
+            numbers,
+            none: SetId::default(),
+            left: MOST_TYPES,
             refused: false,
-            counts: Vec::new(alloc),
         }
     }
 
-    /// How many types the environment has at the parameter.
-    fn count_at(&self, param: u32) -> usize {
-        match self.counts.get(param as usize) {
-            Some(count) => *count,
-            None => 0,
+    /// The number that the certificate gave. Where it gave none, nothing is proposed.
+    fn given<T: Default>(&mut self, told: Result<Option<T>, OutOfMemory>) -> T {
+        match told {
+            Ok(Some(number)) => return number,
+            Ok(None) => self.left = 0,
+            Err(OutOfMemory) => self.refused = true,
+        }
+        T::default()
+    }
+
+    /// Notes whether what stands in a line was told before.
+    fn added(&mut self, told: Result<bool, OutOfMemory>) {
+        match told {
+            Ok(true) => (),
+            Ok(false) => self.left = 0,
+            Err(OutOfMemory) => self.refused = true,
         }
     }
-}
 
-/// The type of this number, as far as types are nested so deep.
-#[cycle(trees)]
-fn tree(types: &Types, alloc: Global, depth: u32, ty: u32, making: &mut Making) -> Ty {
-    making.left = making.left.saturating_sub(1);
-    match types.shape(ty) {
-        Shape::Arrow(set, rest) if depth > 0 && making.left > 0 => {
-            let own = trees(types, alloc, depth - 1, types.members(set), making);
-            match Box::new(alloc, tree(types, alloc, depth - 1, rest, making)) {
-                Ok(rest) => Ty {
-                    shape: TreeShape::Arrow(own, rest),
-                },
-                Err(_) => {
-                    making.refused = true;
-                    Ty::state(0)
+    /// The type of the search of this number.
+    fn ty(&self, ty: u32) -> ToldType {
+        item_at(self.numbers.types.as_slice(), ty)
+    }
+
+    /// The set of these types of the search.
+    fn set(&mut self, types: &[u32]) -> SetId {
+        let mut members = Vec::new(self.alloc);
+        for ty in types {
+            let member = self.ty(*ty).id;
+            put(&mut members, member, &mut self.refused);
+        }
+        let told = self.certificate.set(members.as_slice());
+        self.given(told)
+    }
+
+    /// Tells the sets up to this one, and answers it.
+    fn set_up_to(&mut self, types: &Types, last: u32) -> SetId {
+        for set in numbered(self.numbers.sets.len())..last.saturating_add(1) {
+            let own = self.set(types.members(set));
+            put(&mut self.numbers.sets, own, &mut self.refused);
+        }
+        item_at(self.numbers.sets.as_slice(), last)
+    }
+
+    /// The state as a type.
+    fn state(&mut self, state: u32) -> ToldType {
+        let told = match self.certificate.base(state) {
+            Ok(ty) => Ok(Some(ty)),
+            Err(OutOfMemory) => Err(OutOfMemory),
+        };
+        ToldType {
+            id: self.given(told),
+            size: 1,
+        }
+    }
+
+    /// The type with this set and this result of the search.
+    fn arrow(&mut self, types: &Types, set: u32, rest: u32) -> ToldType {
+        let own = self.set_up_to(types, set);
+        let rest = self.ty(rest);
+        let told = self.certificate.arrow(own, rest.id);
+        let mut size = rest.size.saturating_add(1);
+        for member in types.members(set) {
+            size = size.saturating_add(self.ty(*member).size);
+        }
+        ToldType {
+            id: self.given(told),
+            size,
+        }
+    }
+
+    /// Tells the types.
+    fn tell_types(&mut self, types: &Types) {
+        for ty in 0..numbered(types.len()) {
+            let told = match types.shape(ty) {
+                Shape::State(state) => self.state(state),
+                Shape::Arrow(set, rest) => self.arrow(types, set, rest),
+            };
+            put(&mut self.numbers.types, told, &mut self.refused);
+        }
+    }
+
+    /// Tells the environments without types, of at most so many parameters.
+    fn tell_empty(&mut self, most: u32) {
+        self.none = self.set(&[]);
+        let mut sets = Vec::new(self.alloc);
+        for _ in 0..most.saturating_add(1) {
+            let told = self.certificate.env(sets.as_slice());
+            let own = self.given(told);
+            put(&mut self.numbers.empty, own, &mut self.refused);
+            put(&mut sets, self.none, &mut self.refused);
+        }
+    }
+
+    /// The set of the types at the places from the `next` one on, as far as these are of one parameter, from
+    /// which on there are so many.
+    fn set_at(&mut self, places: &[Place], next: &mut usize, params: u32) -> SetId {
+        let mut types = Vec::new(self.alloc);
+        for number in *next..places.len() {
+            match places.get(number) {
+                Some(place) if place.params == params => {
+                    put(&mut types, place.ty, &mut self.refused);
+                    *next = number.saturating_add(1);
                 }
+                _ => break,
             }
         }
-        _ => Ty::state(types.last_state(ty)),
+        self.set(types.as_slice())
     }
-}
 
-/// Sorts the types.
-fn sort(all: &mut Vec<Ty>) {
-    if all.len() > 1 {
-        all.sort_unstable_by(|a: &Ty, b: &Ty| a.compare(b));
-    }
-}
-
-/// The types of these numbers, ascending.
-#[cycle(trees)]
-fn trees(types: &Types, alloc: Global, depth: u32, list: &[u32], making: &mut Making) -> Vec<Ty> {
-    let Ok(mut all) = Vec::with_capacity(alloc, list.len()) else {
-        making.refused = true;
-        return Vec::new(alloc);
-    };
-    if depth > 0 {
-        for ty in list {
-            let member = tree(types, alloc, depth - 1, *ty, making);
-            put(&mut all, member, &mut making.refused);
-        }
-    }
-    sort(&mut all);
-    all
-}
-
-/// An empty list with room for so many.
-fn room<T: Drop>(alloc: Global, count: usize, making: &mut Making) -> Vec<T> {
-    match Vec::with_capacity(alloc, count) {
-        Ok(list) => list,
-        Err(_) => {
-            making.refused = true;
-            Vec::new(alloc)
-        }
-    }
-}
-
-impl<'a> Search<'a> {
-    /// Counts the types of the environment at each of so many parameters.
-    fn count(&self, making: &mut Making, env: u32, params: u32) {
-        making.counts.clear();
-        for _ in 0..params {
-            put(&mut making.counts, 0, &mut making.refused);
-        }
-        for number in self.envs.atoms(env) {
-            let param = self.envs.atom(*number).param;
-            if let Some(count) = making.counts.get_mut(param as usize) {
-                *count = count.saturating_add(1);
+    /// The sets of so many parameters with these types.
+    fn sets(&mut self, places: &[Place], params: u32) -> Vec<SetId> {
+        let Ok(mut sets) = Vec::from_elem(self.alloc, self.none, params as usize) else {
+            self.refused = true;
+            return Vec::new(self.alloc);
+        };
+        let mut next = 0;
+        for _ in 0..places.len() {
+            let Some(place) = places.get(next) else {
+                break;
+            };
+            let set = self.set_at(places, &mut next, place.params);
+            if let Some(own) = sets.get_mut(params.saturating_sub(place.params) as usize) {
+                *own = set;
             }
         }
-    }
-
-    /// Adds the environment's types to the sets of its parameters.
-    fn fill(&self, making: &mut Making, env: u32, sets: &mut Vec<TypeSet>) {
-        for number in self.envs.atoms(env) {
-            let atom = self.envs.atom(*number);
-            if let Some(set) = sets.get_mut(atom.param as usize) {
-                let ty = tree(&self.envs.types, self.alloc, MOST_DEPTH, atom.ty, making);
-                put(&mut set.types, ty, &mut making.refused);
-            }
-        }
-        for set in sets.iter_mut() {
-            sort(&mut set.types);
-        }
-    }
-
-    /// The environment, one set for each parameter of the rule.
-    fn env_tree(&self, making: &mut Making, rule: u32, env: u32) -> Vec<TypeSet> {
-        let params = params_of(self.problem, rule);
-        self.count(making, env, params);
-        let mut sets = room(self.alloc, params as usize, making);
-        for param in 0..params {
-            let types = room(self.alloc, making.count_at(param), making);
-            put(&mut sets, TypeSet { types }, &mut making.refused);
-        }
-        self.fill(making, env, &mut sets);
         sets
     }
 
-    fn entry(&self, making: &mut Making, place: u32) -> Entry {
-        let row = self.table.row(place);
-        let rule = at_point(self.problem, row.point).rule;
-        let env = self.env_tree(making, rule, row.env);
-        let types = &self.envs.types;
-        Entry {
-            point: row.point,
-            env,
-            ty: tree(types, self.alloc, MOST_DEPTH, row.ty, making),
+    /// The environment of so many parameters with these types.
+    fn env(&mut self, places: &[Place], params: u32) -> ToldEnv {
+        let sets = self.sets(places, params);
+        let told = self.certificate.env(sets.as_slice());
+        let mut size: u64 = 0;
+        for place in places {
+            size = size.saturating_add(self.ty(place.ty).size);
+        }
+        ToldEnv {
+            id: self.given(told),
+            size,
         }
     }
 
-    /// Adds the entries of a kind.
-    fn add_kind(&self, making: &mut Making, rows: u32, table: &mut Vec<Entry>) {
-        for number in 0..self.table.rows.list(rows).len() {
-            let place = number_at(self.table.rows.list(rows), number);
-            let entry = self.entry(making, place);
-            put(table, entry, &mut making.refused);
+    /// Tells the environments that are listed.
+    fn tell_envs(&mut self, search: &Search, listed: &[Listed]) {
+        for _ in 0..search.envs.len() {
+            put(
+                &mut self.numbers.envs,
+                ToldEnv::default(),
+                &mut self.refused,
+            );
         }
-    }
-
-    /// Adds the entries of the point that none covers, in ascending order, by way of an empty list.
-    fn add_point(
-        &self,
-        making: &mut Making,
-        point: u32,
-        own: &mut Vec<Entry>,
-        table: &mut Vec<Entry>,
-    ) {
-        for kind in self.table.kinds.list(point) {
-            self.add_kind(making, kind.rows, own);
-        }
-        if own.len() > 1 {
-            own.sort_unstable_by(|a: &Entry, b: &Entry| a.compare(b));
-        }
-        if table.append(own).is_err() {
-            making.refused = true;
-        }
-    }
-
-    /// The entries that none covers, in ascending order.
-    pub(crate) fn entries(&self, making: &mut Making) -> Vec<Entry> {
-        let mut table = room(self.alloc, self.table.kept(), making);
-        let mut own = Vec::new(self.alloc);
-        let problem = self.problem;
-        for point in 0..problem.points.count() {
-            self.add_point(making, point, &mut own, &mut table);
-        }
-        table
-    }
-
-    /// The environments that are void by way of others, in ascending order.
-    pub(crate) fn void_list(&self, making: &mut Making) -> Vec<Void> {
-        let mut void = room(self.alloc, self.envs.count_with(Status::Void), making);
-        for env in 0..self.envs.len() {
-            if self.envs.status(env) == Status::Void {
-                let rule = self.envs.rule(env);
-                let env = self.env_tree(making, rule, env);
-                put(&mut void, Void { rule, env }, &mut making.refused);
+        for env in listed {
+            let params = params_of(search.problem, search.envs.rule(env.env));
+            let told = self.env(env.places.as_slice(), params);
+            if let Some(own) = self.numbers.envs.get_mut(env.env as usize) {
+                *own = told;
             }
         }
-        void.sort_unstable_by(|a: &Void, b: &Void| a.compare(b));
-        void
     }
+
+    /// The environment of a rule with so many parameters: the one without types is any rule's.
+    fn env_at(&self, env: u32, params: u32) -> ToldEnv {
+        if env != EMPTY {
+            return item_at(self.numbers.envs.as_slice(), env);
+        }
+        ToldEnv {
+            id: item_at(self.numbers.empty.as_slice(), params),
+            size: 0,
+        }
+    }
+
+    /// Counts so many types.
+    fn count(&mut self, types: u64) {
+        self.left = self.left.saturating_sub(types);
+    }
+
+    /// Adds the entries.
+    fn add_entries(&mut self, problem: &Problem, entries: &[Line]) {
+        for line in entries {
+            let rule = at_point(problem, line.at).rule;
+            let env = self.env_at(line.env, params_of(problem, rule));
+            let ty = self.ty(line.ty);
+            self.count(env.size.saturating_add(ty.size));
+            let told = self.certificate.add_entry(line.at, env.id, ty.id);
+            self.added(told);
+        }
+    }
+
+    /// Adds the void environments.
+    fn add_void(&mut self, problem: &Problem, void: &[Line]) {
+        for line in void {
+            let env = self.env_at(line.env, params_of(problem, line.at));
+            self.count(env.size);
+            let told = self.certificate.add_void(line.at, env.id);
+            self.added(told);
+        }
+    }
+
+    /// Tells what the search proposes.
+    pub(crate) fn tell(&mut self, search: &Search) {
+        let listing = Listing::of(self.alloc, search);
+        self.tell_types(&search.envs.types);
+        self.tell_empty(most_params(search.problem));
+        self.tell_envs(search, listing.envs.as_slice());
+        self.add_entries(search.problem, listing.entries.as_slice());
+        self.add_void(search.problem, listing.void.as_slice());
+        if listing.is_refused() {
+            self.refused = true;
+        }
+    }
+}
+
+/// The greatest number of parameters that a rule has.
+fn most_params(problem: &Problem) -> u32 {
+    let mut most = 0;
+    for rule in 0..numbered(problem.points.params().rules()) {
+        most = params_of(problem, rule).max(most);
+    }
+    most
 }

@@ -133,7 +133,7 @@ impl Envs {
 
     /// Why the search ends, if it does.
     pub(crate) fn ended(&self) -> Option<Ended> {
-        if self.types.refused {
+        if self.types.is_refused() {
             return Some(Ended::OutOfMemory);
         }
         self.ended

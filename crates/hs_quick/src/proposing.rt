@@ -1,46 +1,61 @@
 //! The proposal.
 
-use crate::certificate::Making;
+use crate::certificate::Telling;
 use crate::ended::Ended;
 use crate::limits::Limits;
 use crate::naming::path_of;
 use crate::search::Search;
+use hs_numbered::NumberedCertificate;
 use hs_reads::Reads;
 use hs_scheme::{OutOfMemory, Problem};
-use hs_table::Entry;
-use hs_weak::Void;
 use std::alloc::Global;
 
 /// What a search found.
-#[derive(Debug, Drop)]
+#[derive(Drop)]
 pub enum Proposal {
     /// That the scheme is accepted, by these entries and these void environments, both in ascending
     /// order and without repeats.
-    Accepted { table: Vec<Entry>, void: Vec<Void> },
+    Accepted(NumberedCertificate),
     /// That it is rejected along the path with these child numbers, counted from 1.
     Rejected(Vec<u32>),
     /// Nothing.
     None,
 }
 
-/// The entries and the void environments that were found.
-fn accepting(search: &mut Search, making: &mut Making) -> Proposal {
+/// What a search came to.
+#[derive(Drop)]
+enum Found {
+    /// What is told.
+    Certificate,
+    Path(Vec<u32>),
+    Nothing,
+}
+
+/// Tells what the search found.
+fn accepting(search: &mut Search, telling: &mut Telling) -> Found {
     search.release();
-    Proposal::Accepted {
-        table: search.entries(making),
-        void: search.void_list(making),
+    telling.tell(search);
+    Found::Certificate
+}
+
+/// Runs the search, and reads what it found from it.
+fn find(search: &mut Search, telling: &mut Telling, limits: Limits) -> Found {
+    match search.run() {
+        None => accepting(search, telling),
+        Some(Ended::StartFound) => match path_of(search, limits.moves) {
+            Some(path) => Found::Path(path),
+            None => Found::Nothing,
+        },
+        Some(_) => Found::Nothing,
     }
 }
 
-/// Runs the search, and reads the proposal from it.
-fn find(search: &mut Search, making: &mut Making, limits: Limits) -> Proposal {
-    match search.run() {
-        None => accepting(search, making),
-        Some(Ended::StartFound) => match path_of(search, limits.moves) {
-            Some(path) => Proposal::Rejected(path),
-            None => Proposal::None,
-        },
-        Some(_) => Proposal::None,
+/// The proposal of what was found. There is none where too much was to be told.
+fn proposal_of(found: Found, telling: Telling) -> Proposal {
+    match found {
+        Found::Certificate if telling.left > 0 => Proposal::Accepted(telling.certificate),
+        Found::Path(path) => Proposal::Rejected(path),
+        _ => Proposal::None,
     }
 }
 
@@ -64,18 +79,15 @@ pub fn propose(
     limits: Limits,
 ) -> Result<Proposal, OutOfMemory> {
     let mut search = Search::new(alloc, problem, reads, limits);
-    let mut making = Making::new(alloc);
-    let proposal = find(&mut search, &mut making, limits);
+    let mut telling = Telling::new(alloc);
+    let found = find(&mut search, &mut telling, limits);
     let refused = match search.ended() {
         Some(Ended::OutOfMemory) => true,
-        _ => making.refused,
+        _ => telling.refused,
     };
     drop(search);
     if refused {
         return Err(OutOfMemory);
     }
-    if making.left == 0 {
-        return Ok(Proposal::None);
-    }
-    Ok(proposal)
+    Ok(proposal_of(found, telling))
 }

@@ -103,7 +103,7 @@ impl<'a> Search<'a> {
     pub(crate) fn prepare(&mut self) {
         let problem = self.problem;
         let points = problem.points.count() as usize;
-        self.uses.fill(problem);
+        self.uses.fill(self.alloc, problem);
         self.table.kinds.grow(points);
         self.pools.cells.grow(points);
         self.sites.grow(problem);

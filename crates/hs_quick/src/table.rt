@@ -62,13 +62,9 @@ impl Table {
         self.log.len()
     }
 
-    /// How many entries no other one covers.
-    pub(crate) fn kept(&self) -> usize {
-        let mut kept: usize = 0;
-        for rows in 0..numbered(self.count) {
-            kept = kept.saturating_add(self.rows.list(rows).len());
-        }
-        kept
+    /// How many lists of places there are, numbered from 0.
+    pub(crate) fn lists(&self) -> u32 {
+        numbered(self.count)
     }
 
     /// The entry at the place.

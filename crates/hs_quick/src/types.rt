@@ -1,11 +1,23 @@
 //! Types by number, and which of them are as strong as others.
 
 use crate::ended::{number_at, numbered, put};
+use crate::lists::Lists;
 use indexmap::{IndexMap, IndexSet};
 use std::alloc::Global;
 
 /// Types are nested at most so deep: no sort has more than 1,000 levels.
 pub(crate) const MOST_DEPTH: u32 = 4_000;
+
+/// What is known of the strength of types of lesser numbers than this stands in rows.
+const NEAR: u32 = 1_000;
+
+/// What is known of whether a type is as strong as another one.
+#[derive(Clone, Copy, PartialEq, Eq)]
+enum Strength {
+    Unknown,
+    AsStrong,
+    Weaker,
+}
 
 /// What a type is: a state, or a set of types with a result. Sets and results are named by number.
 #[derive(Clone, Copy, PartialEq, Eq, Hash)]
@@ -25,6 +37,9 @@ pub(crate) struct Types {
     /// The state at the end of each type.
     last: Vec<u32>,
     sets: IndexSet<Vec<u32>>,
+    /// What is known of the strength of each type beside those of lesser numbers than its row is long.
+    near: Lists<Strength>,
+    /// What is known of other types.
     strengths: IndexMap<(u32, u32), bool>,
     /// Whether memory was refused.
     pub(crate) refused: bool,
@@ -38,9 +53,25 @@ impl Types {
             states: 0,
             last: Vec::new(alloc),
             sets: IndexSet::new(alloc),
+            near: Lists::new(alloc),
             strengths: IndexMap::new(alloc),
             refused: false,
         }
+    }
+
+    /// Whether memory was refused.
+    pub(crate) fn is_refused(&self) -> bool {
+        self.refused || self.near.refused
+    }
+
+    /// How many types there are.
+    pub(crate) fn len(&self) -> usize {
+        self.shapes.len()
+    }
+
+    /// How many sets there are.
+    pub(crate) fn sets(&self) -> usize {
+        self.sets.len()
     }
 
     /// What the type is.
@@ -126,9 +157,39 @@ impl Types {
         if self.last_state(ty) != self.last_state(other) {
             return Some(false);
         }
-        match self.strengths.get(&(ty, other)) {
-            Some(known) => Some(*known),
-            None => None,
+        match self.near.list(ty).get(other as usize) {
+            Some(Strength::AsStrong) => Some(true),
+            Some(Strength::Weaker) => Some(false),
+            _ if ty < NEAR && other < NEAR => None,
+            _ => self.strengths.get(&(ty, other)).copied(),
+        }
+    }
+
+    /// Keeps what is known of two types whose numbers are small.
+    fn keep_near(&mut self, ty: u32, other: u32, strength: Strength) {
+        self.near.reach(ty);
+        let row = (other as usize).saturating_add(1);
+        for _ in self.near.list(ty).len()..row {
+            self.near.push(ty, Strength::Unknown);
+        }
+        if let Some(row) = self.near.list_mut(ty) {
+            if let Some(known) = row.get_mut(other as usize) {
+                *known = strength;
+            }
+        }
+    }
+
+    /// Keeps whether the type is as strong as the other one.
+    fn keep(&mut self, ty: u32, other: u32, strong: bool) {
+        if ty < NEAR && other < NEAR {
+            let strength = if strong {
+                Strength::AsStrong
+            } else {
+                Strength::Weaker
+            };
+            self.keep_near(ty, other, strength);
+        } else if self.strengths.insert((ty, other), strong).is_err() {
+            self.refused = true;
         }
     }
 
@@ -146,9 +207,7 @@ impl Types {
             }
             _ => false,
         };
-        if self.strengths.insert((ty, other), strong).is_err() {
-            self.refused = true;
-        }
+        self.keep(ty, other, strong);
         strong
     }
 

@@ -2,8 +2,10 @@
 
 ghost use Rattle.std.specs.Prelude.{◌<◌, length};
 
+use crate::ended::numbered;
 use crate::lists::Lists;
-use crate::look::number_of;
+use crate::look::{number_of, params_of};
+use crate::sites::{holds, set};
 use hs_scheme::{Head, HeadPair, Problem};
 use std::alloc::Global;
 
@@ -24,6 +26,7 @@ pub(crate) struct Uses {
     pub(crate) applied: Lists<u32>,
     pub(crate) flows: Lists<Parameter>,
     pub(crate) becoming: Lists<HeadPair>,
+    refused: bool,
 }
 
 impl Uses {
@@ -35,12 +38,14 @@ impl Uses {
             applied: Lists::new(alloc),
             flows: Lists::new(alloc),
             becoming: Lists::new(alloc),
+            refused: false,
         }
     }
 
     /// Whether memory was refused.
     pub(crate) fn is_refused(&self) -> bool {
-        self.of_rule.refused
+        self.refused
+            || self.of_rule.refused
             || self.of_param.refused
             || self.applied.refused
             || self.flows.refused
@@ -48,7 +53,7 @@ impl Uses {
     }
 
     /// Finds the uses in the problem, in time in proportion to its points and its pairs.
-    pub(crate) fn fill(&mut self, problem: &Problem) {
+    pub(crate) fn fill(&mut self, alloc: Global, problem: &Problem) {
         let rules = problem.points.params().rules();
         self.of_rule.grow(rules);
         self.becoming.grow(rules);
@@ -57,7 +62,10 @@ impl Uses {
         self.applied.grow(params);
         self.flows.grow(problem.points.count() as usize);
         self.add_heads(problem);
-        self.add_pairs(problem);
+        match Vec::from_elem(alloc, false, problem.points.count() as usize) {
+            Ok(mut heading) => self.add_pairs(problem, &mut heading),
+            Err(_) => self.refused = true,
+        }
     }
 
     /// Adds a point with a parameter of its rule as its head.
@@ -87,26 +95,26 @@ impl Uses {
         self.applied.list(number)
     }
 
-    /// Whether the point may stand at the head of a point with arguments.
-    fn is_applied(&self, problem: &Problem, point: u32) -> bool {
-        for parameter in self.flows.list(point) {
-            if !self.applied(problem, *parameter).is_empty() {
-                return true;
+    /// Adds the flow of the parameter, and sets the flags of its points where it heads points with arguments.
+    fn add_flow(&mut self, problem: &Problem, parameter: Parameter, heading: &mut Vec<bool>) {
+        let is_applied = !self.applied(problem, parameter).is_empty();
+        for pair in problem.flow.flow_of(parameter.rule, parameter.param) {
+            self.flows.push(pair.point, parameter);
+            if is_applied {
+                set(heading, pair.point);
             }
         }
-        false
     }
 
-    fn add_pairs(&mut self, problem: &Problem) {
-        for pair in problem.flow.pairs.iter() {
-            let parameter = Parameter {
-                rule: pair.rule,
-                param: pair.param,
-            };
-            self.flows.push(pair.point, parameter);
+    /// Adds the flow, and the head pairs of the points that may stand at the head of a point with arguments.
+    fn add_pairs(&mut self, problem: &Problem, heading: &mut Vec<bool>) {
+        for rule in 0..numbered(problem.points.params().rules()) {
+            for param in 0..params_of(problem, rule) {
+                self.add_flow(problem, Parameter { rule, param }, heading);
+            }
         }
         for pair in problem.flow.heads.iter() {
-            if self.is_applied(problem, pair.point) {
+            if holds(heading.as_slice(), pair.point) {
                 self.becoming.push(pair.rule, *pair);
             }
         }

@@ -163,6 +163,9 @@ row_pushed found pushed row head args given same is =
     }
 
 -- with one more found, what was there stays, and nothing else comes
+pub pushed_there : (found pushed : List DeducedData) (d : DeducedData) → pushed ≡ found ++ d ∷ [] → HasNoGreater pushed d.row d.support
+pushed_there found pushed d is = record { item = d; there = subst (λ (ds : List DeducedData). Contains ds d) (sym is) (Contains-push found d); is = refl; least = no_greater_itself (premises d.support) }
+
 pub found_keeps : (found pushed : List DeducedData) (d : DeducedData) → pushed ≡ found ++ d ∷ [] → (x : DeducedData) → Contains found x → Contains pushed x
 found_keeps found pushed d is x there = subst (λ (ds : List DeducedData). Contains ds x) (sym is) (Contains-append_left found (d ∷ []) x there)
 

@@ -17,7 +17,7 @@ use Rattle.hs_types.proofs.Numbers.{env_within, env_stays}
 use Rattle.hs_table_laws.proofs.Places.{within_from, place_of, at_take}
 use Rattle.hs_rules.specs.Order.{chosen_places, IsLess, IsNoGreater}
 use Rattle.hs_rules.specs.Slots.{FilledData, Picked, none_left, pick, IsJoin}
-use Rattle.hs_rules.specs.Joins.{PartialData, FillsBy, IsPlaced, ArePlaced, SeenAre, HasLesserPlaces, AreAscending, ComeBefore, AreAsLong, IsMade, IsMadeOf, IsCovered, CanFill, AreJoined}
+use Rattle.hs_rules.specs.Joins.{PartialData, FillsBy, IsPlaced, ArePlaced, SeenAre, HasLesserPlaces, AreAscending, ComeBefore, AreAsLong, IsMade, IsMadeOf, IsAmongJoined, CanFill, AreJoined}
 use Rattle.hs_rules.proofs.Lists.{read_other}
 use Rattle.hs_rules.proofs.OrderLemmas.{less_no_greater, no_greater_same, no_greater_then, less_append, less_last, no_greater_push, places_push}
 use Rattle.hs_rules.proofs.SetLemmas.{env_same}
@@ -115,7 +115,7 @@ module _ (I J K : InternerData) (log : List EntryData) (from : PartialData) (f :
     union = subst (λ (e : Env). IsUnionEnv (env_of_id I from.env) m.entry.env e) (sym (env_stays J K h x.env m.within)) m.union;
   }
 
-  pub covered_stays : (place : ℕ) (entry : EntryData) (old new : List PartialData) → ((x : PartialData) → Contains old x → Contains new x) → IsCovered I J from place entry old → IsCovered I K from place entry new
+  pub covered_stays : (place : ℕ) (entry : EntryData) (old new : List PartialData) → ((x : PartialData) → Contains old x → Contains new x) → IsAmongJoined I J from place entry old → IsAmongJoined I K from place entry new
   covered_stays place entry old new keeps c = record {
     item = c.item;
     there = keeps c.item c.there;
@@ -147,8 +147,8 @@ module _ (I J K : InternerData) (log : List EntryData) (from : PartialData) (f :
       }))
     ]
 
-    pub covered_next : (new : List PartialData) → IsThere new id from.args place → (e : EntryData) → slice_get log place ≡ Some e → IsCovered I K from place e new
-    covered_next new found e is = subst (λ (y : EntryData). IsCovered I K from place y new) (same_Some (entry_of J row) e (sym at ∙ is)) (record {
+    pub covered_next : (new : List PartialData) → IsThere new id from.args place → (e : EntryData) → slice_get log place ≡ Some e → IsAmongJoined I K from place e new
+    covered_next new found e is = subst (λ (y : EntryData). IsAmongJoined I K from place y new) (same_Some (entry_of J row) e (sym at ∙ is)) (record {
       item = found.0;
       there = found.1;
       within = subst (λ (n : ℕ). n < length K.envs) (sym found.2) within;
@@ -176,7 +176,7 @@ joined_as_long I log n own fs found joined x y cx cy =
 -- one more slot
 module _ (I K : InternerData) (log : List EntryData) (n : ℕ) (own : Env) (fs : List FilledData) (f : FilledData) (old new : List PartialData) (joined : AreJoined I log n own fs old)
     (some : (x : PartialData) → Contains new x → IsMadeOf I K log old f x)
-    (all : (from : PartialData) → Contains old from → (place : ℕ) (e : EntryData) → FillsBy log f place e → IsCovered I K from place e new) (up : AreAscending new) where
+    (all : (from : PartialData) → Contains old from → (place : ℕ) (e : EntryData) → FillsBy log f place e → IsAmongJoined I K from place e new) (up : AreAscending new) where
   next_join : (env : Env) (e : EntryData) (union : Env) (chosen : List EntryData) → IsUnionEnv env e.env union → IsJoin n own chosen env → IsJoin n own (chosen ++ e ∷ []) union
   next_join env e union chosen u j =
       join_more n own env union chosen e j (record { long = u.long ∙ j.is_env.long; sets = λ k. (u.sets k).ascends }) (λ k a. (u.sets k).exact a)
@@ -221,40 +221,10 @@ single [] e = absurd (omega (arith, e))
 single (x ∷ []) e = refl
 single (x ∷ y ∷ xs) e = absurd (omega (arith, e))
 
--- one more slot with one candidate
-pub joined_more : (I K : InternerData) (log : List EntryData) (n : ℕ) (own : Env) (fs : List FilledData) (f : FilledData) (old new : PartialData) → AreJoined I log n own fs (old ∷ [])
-    → (place : ℕ) (entry : EntryData) → f.places ≡ place ∷ [] → slice_get log place ≡ Some entry → new.args ≡ old.args ++ (f.arg, place) ∷ [] → new.env < length K.envs → IsUnionEnv (env_of_id I old.env) entry.env (env_of_id K new.env)
-    → AreJoined K log n own (fs ++ f ∷ []) (new ∷ [])
-joined_more I K log n own fs f old new joined place entry is at args within union =
-    joined_next I K log n own fs f (old ∷ []) (new ∷ []) joined
-    (λ x there. subst (λ (y : PartialData). IsMadeOf I K log (old ∷ []) f y) (sym (only new x there)) (record {
-      from = old;
-      among = here old [];
-      made = record {
-        place = place;
-        entry = entry;
-        fills = record { among = subst (λ (ps : List ℕ). Contains ps place) (sym is) (here place []); at = at };
-        args = args;
-        within = within;
-        union = union;
-      };
-    }))
-    (λ from there k e fills.
-    let place_is = only place k (subst (λ (ps : List ℕ). Contains ps k) is fills.among) in
-    let same : entry ≡ e = same_Some entry e (sym at ∙ (ap (λ (i : ℕ). slice_get log i) (sym place_is) ∙ fills.at)) in
-    subst (λ (y : PartialData). IsCovered I K y k e (new ∷ [])) (sym (only old from there)) (record {
-      item = new;
-      there = here new [];
-      within = within;
-      union = subst (λ (x : EntryData). IsUnionEnv (env_of_id I old.env) x.env (env_of_id K new.env)) same union;
-      least = no_greater_same (chosen_places new.args) (chosen_places old.args ++ k ∷ []) (ap chosen_places args ∙ (places_push old.args f.arg place ∙ ap (λ (i : ℕ). chosen_places old.args ++ i ∷ []) (sym place_is)));
-    }))
-    (one_ascending new)
-
 -- no slots
-pub joined_none : (I : InternerData) (log : List EntryData) (own : ℕ) (found : List PartialData) (x : PartialData) → own < length I.envs → IsEnv (length (env_of_id I own)) (env_of_id I own)
-    → found ≡ x ∷ [] → x.env ≡ own → x.args ≡ [] → AreJoined I log (length (env_of_id I own)) (env_of_id I own) [] found
-joined_none I log own found x known is_env is env args = record {
+pub joined_none : (I : InternerData) (log : List EntryData) (n own : ℕ) (found : List PartialData) (x : PartialData) → own < length I.envs → IsEnv n (env_of_id I own)
+    → found ≡ x ∷ [] → x.env ≡ own → x.args ≡ [] → AreJoined I log n (env_of_id I own) [] found
+joined_none I log n own found x known is_env is env args = record {
   sound = λ y c.
       let e = only x y (subst (λ (ys : List PartialData). Contains ys y) is c) in
       let same : y.env ≡ own = ap (λ (z : PartialData). z.env) e ∙ env in
@@ -263,16 +233,16 @@ joined_none I log own found x known is_env is env args = record {
         within = subst (λ (k : ℕ). k < length I.envs) (sym same) known;
         chosen = [];
         picked = subst (λ (bs : List (ℕ × ℕ)). Picked (λ (z : FilledData). z.arg) (FillsBy log) [] bs []) (sym nothing) none_left;
-        join = subst (λ (k : ℕ). IsJoin (length (env_of_id I own)) (env_of_id I own) [] (env_of_id I k)) (sym same) (join_none (length (env_of_id I own)) (env_of_id I own) is_env);
+        join = subst (λ (k : ℕ). IsJoin n (env_of_id I own) [] (env_of_id I k)) (sym same) (join_none n (env_of_id I own) is_env);
       };
   all = λ bs chosen p.
-      let n = none_of (λ (z : FilledData). z.arg) (FillsBy log) bs chosen p in
+      let m = none_of (λ (z : FilledData). z.arg) (FillsBy log) bs chosen p in
       record {
         item = x;
         there = subst (λ (ys : List PartialData). Contains ys x) (sym is) (here x []);
-        join = subst (λ (es : List EntryData). IsJoin (length (env_of_id I own)) (env_of_id I own) es (env_of_id I x.env)) (sym n.1)
-            (subst (λ (k : ℕ). IsJoin (length (env_of_id I own)) (env_of_id I own) [] (env_of_id I k)) (sym env) (join_none (length (env_of_id I own)) (env_of_id I own) is_env));
-        least = no_greater_same (chosen_places x.args) (chosen_places bs) (ap chosen_places args ∙ ap chosen_places (sym n.0));
+        join = subst (λ (es : List EntryData). IsJoin n (env_of_id I own) es (env_of_id I x.env)) (sym m.1)
+            (subst (λ (k : ℕ). IsJoin n (env_of_id I own) [] (env_of_id I k)) (sym env) (join_none n (env_of_id I own) is_env));
+        least = no_greater_same (chosen_places x.args) (chosen_places bs) (ap chosen_places args ∙ ap chosen_places (sym m.0));
       };
   ascending = subst (λ (ys : List PartialData). AreAscending ys) (sym is) (one_ascending x);
 }
@@ -310,7 +280,7 @@ module _ (I J K : InternerData) (log later : List EntryData) (from : PartialData
     union = subst (λ (e : Env). IsUnionEnv e m.entry.env (env_of_id K x.env)) (env_stays I J g from.env known) m.union;
   }
 
-  pub covered_earlier : (place : ℕ) (entry : EntryData) (found : List PartialData) → IsCovered J K from place entry found → IsCovered I K from place entry found
+  pub covered_earlier : (place : ℕ) (entry : EntryData) (found : List PartialData) → IsAmongJoined J K from place entry found → IsAmongJoined I K from place entry found
   covered_earlier place entry found c = record {
     item = c.item;
     there = c.there;

@@ -1,5 +1,5 @@
 -- Conclusions as they are gathered.
-use Rattle.std.proofs.Common.{◌≡◌, ◌≢◌, refl, sym, ◌∙◌, ap, subst, ℕ, zero, suc, ◌<◌, List, [], ◌∷◌, length, map, drop, get_or, slice_get, slice_index, Option, Some, arith, AllPairs, Contains, ◌⊎◌, inl, inr, ◌↔◌}
+use Rattle.std.proofs.Common.{◌≡◌, ◌≢◌, refl, sym, ◌∙◌, ap, subst, ℕ, zero, suc, ◌<◌, List, [], ◌∷◌, length, map, take, drop, get_or, slice_get, slice_index, Option, Some, arith, All, AllPairs, Contains, ◌⊎◌, inl, inr, ◌↔◌}
 use Rattle.std.proofs.lemmas.Option.{slice_get-get_or, same_Some}
 use Rattle.std.proofs.lemmas.Bool.{cases_order}
 use Rattle.std.proofs.lemmas.List.{length-map, get_or_default}
@@ -27,7 +27,8 @@ use Rattle.hs_rules.specs.Found.{HaveEnvs, RowsAre, Lowers}
 use Rattle.hs_rules.specs.Parts.{ArePart, HasAll, UsesArgument, IsInRule, IsOnlyPlaceOf}
 use Rattle.hs_rules.proofs.Lists.{all_from}
 use Rattle.hs_rules.proofs.OrderLemmas.{no_greater_then}
-use Rattle.hs_rules.specs.Heads.{IsHeadWithin}
+use Rattle.hs_rules.specs.declared.head_search.HeadSearch.{HeadSearch}
+use Rattle.hs_rules.specs.Seeking.{IsHeadWithin, CanSeekHeads, CanGather}
 use Rattle.hs_rules.proofs.PointLemmas.{params_are}
 use Rattle.hs_scheme.specs.declared.points.Argument.{Argument}
 
@@ -110,6 +111,22 @@ can_search_later r t args limit fixed k h = record {
   limited = omega (arith, h.limited, ap (λ (l : List EntryData). length l) k.log);
   few = h.few;
   fixed_within = subst (λ (l : List EntryData). IsWithin l args limit fixed) (sym k.log) h.fixed_within;
+}
+
+pub can_seek_later : (r t : ReplicaData) (at : HeadSearch) → KeepsLog r t → CanSeekHeads r at → CanSeekHeads t at
+can_seek_later r t at k h = record {
+  search = can_search_later r t at.search.args.now at.search.limit at.search.fixed k h.search;
+  params_are = h.params_are;
+  shapes = subst (λ (l : List EntryData). All (InShape at.problem.now) (take at.search.limit l)) (sym k.log) h.shapes;
+  head = h.head;
+}
+
+pub can_gather_later : (r t : ReplicaData) (at : HeadSearch) → KeepsLog r t → CanGather r at → CanGather t at
+can_gather_later r t at k h = record {
+  heads = can_seek_later r t at k h.heads;
+  free = h.free;
+  is_point = h.is_point;
+  envs = subst (λ (l : List EntryData). HaveEnvs (take at.search.limit l) at.search.args.now at.params) (sym k.log) h.envs;
 }
 
 -- entries at the arguments of a point have an environment for its rule

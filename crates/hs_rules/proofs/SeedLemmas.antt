@@ -32,6 +32,9 @@ chosen_nothing p (next_argument c) zero t h = none_in t h
 chosen_nothing p (next_argument c) (suc j) t h = chosen_nothing p c j t h
 chosen_nothing p (choose at point ty c) j t h = absurd (let e = at.at in cc)
 
+pub chosen_nothing_in : (p : ProblemData) (E : List EntryData) → E ≡ [] → (i : ℕ) (us : List ℕ) (ss : Env) (args : List (ℕ × ℕ)) (es : List EntryData) → Chosen p E i us ss args es → (j : ℕ) (t : TypeTree) → Has ss j t → ⊥
+chosen_nothing_in p E none i us ss args es c = chosen_nothing p (subst (λ (l : List EntryData). Chosen p l i us ss args es) none c)
+
 module _ (p : ProblemData) (log : List EntryData) (rule : ℕ) (args : List ℕ) (ids : InternerData) (heads : List HeadData) where
   -- nonterminals and parameters have no types
   pub bodies_nothing : (f : ℕ) → heads ≡ [] → AreHeads p [] (record { rule = rule; head = Nt f; args = args }) ids AsksNothing heads

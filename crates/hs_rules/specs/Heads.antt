@@ -7,14 +7,12 @@
 --     BodyAt, ParamAt                             the sources at a place of the log: an entry at a nonterminal's body, and one at a point that may stand for a parameter
 --     AtSome, AtRange                             a source at one of these places; at one in a range
 --     ChildAt, ChildIn, ReadIn, StopsIn, InState  the sources of a terminal: a child that is rejected, or no transition
+--     IsRankOf                                    how many children a terminal has
 --     AtFlow                                      a source at a point that may stand for a parameter
 --     IsSplit                                     a type is that with these sets
 --     IsHeadAt, AreHeads                          a type of the point's head; just those that are wanted
---     IsParameterSpot, IsHeadWithin               what the searches for types rely on
 --     Asks, ComesFrom, AsksNothing, AnyHead       what is wanted: a type in the set of an argument; that they come from a place; anything
 use Rattle.std.specs.Prelude.{◌≡◌, ℕ, ◌+◌, ◌<◌, ◌≤◌, List, [], ◌∷◌, ◌++◌, length, map, replicate, set, slice_get, None, Some, All, Contains, ◌⊎◌}
-use Rattle.hs_scheme.specs.declared.term.Head.{Head}
-use Rattle.hs_scheme.specs.declared.term.Head.TheVariants.{Var, Nt, Tm}
 use Rattle.hs_scheme.specs.declared.flow.FlowPair.{FlowPair}
 use Rattle.hs_scheme.specs.flow.Points.{PointData}
 use Rattle.hs_scheme.specs.Problem.{ProblemData}
@@ -23,7 +21,7 @@ use Rattle.hs_scheme.specs.acceptance.Automaton.{next}
 use Rattle.hs_table.specs.declared.support.HeadBy.{HeadBy}
 use Rattle.hs_table.specs.declared.support.HeadBy.TheVariants.{Terminal, Rule, Param}
 use Rattle.hs_table.specs.Types.{TypeTree, state, arrows}
-use Rattle.hs_table.specs.Entries.{Env, EntryData, Has, InShape, params_of}
+use Rattle.hs_table.specs.Entries.{Env, EntryData, Has, params_of}
 use Rattle.hs_types.specs.Interned.{InternerData, type_of_id, set_of_id, env_of_id}
 use Rattle.hs_table.specs.Follows.{IsHeadType, head_premise}
 use Rattle.hs_replica.specs.Places.{Question, IsState, Answers}
@@ -79,6 +77,10 @@ pub record AtRange (Source : ℕ → HeadBy → Env → TypeTree → Type 0) (fr
   pub least : from ≤ place
   pub most : place < until
   pub source : Source place b o t
+
+-- the terminal's transitions have so many children
+abbrev pub IsRankOf : List TransitionData → ℕ → ℕ → Type 0
+IsRankOf ts a rank = (q : ℕ) (to : List ℕ) → next ts q a ≡ Some to → length to ≡ rank
 
 -- a terminal in state q, whose transition leads to these states: its child at this place is rejected
 pub record ChildAt (own : Env) (q : ℕ) (to : List ℕ) (place : ℕ) (b : HeadBy) (o : Env) (t : TypeTree) : Type 0 where
@@ -150,14 +152,3 @@ AsksNothing by sets = (j : ℕ) (a : TypeTree) → Has sets j a → ⊥
 
 abbrev pub AnyHead : HeadBy → Env → Type 0
 AnyHead by sets = Unit {0}
-
--- the rule has so many parameters, and the entries that count are in shape
-pub record IsParameterSpot (p : ProblemData) (rule params : ℕ) (E : List EntryData) : Type 0 where
-  pub params_are : params ≡ params_of p rule
-  pub shapes : All (InShape p) E
-
--- a nonterminal or a parameter at the head is one of the problem's
-abbrev pub IsHeadWithin : ProblemData → ℕ → Head → Type 0
-IsHeadWithin p params (Var x) = x < params
-IsHeadWithin p params (Nt f) = f < length p.points.bodies
-IsHeadWithin p params (Tm a) = Unit {0}

@@ -5,10 +5,14 @@
 --     HasLesserPlaces, AreAscending   a choice of places comes before another one; each before those behind it
 --     ComeBefore               each choice comes before one with one more place
 --     AreAsLong                they are for the same number of slots
---     IsMade, IsCovered        what comes of one joined environment and a candidate for one more slot
+--     IsMade, IsAmongJoined    what comes of one joined environment and a candidate for one more slot
+--     with_choice              a joined environment with one more place
+--     HaveSole                 joined environments ask for what a slot's only candidate asks for
+--     SoleAsks, IsWithSole     what slots' only candidates ask for; an environment with that
 --     IsJoined, AreJoined      the environments that slots lead to
-use Rattle.std.specs.Prelude.{◌≡◌, ℕ, ◌<◌, List, [], ◌∷◌, ◌++◌, length, slice_get, Some, AllPairs, Contains}
-use Rattle.hs_table.specs.Entries.{Env, EntryData, IsEnv}
+use Rattle.std.specs.Prelude.{◌≡◌, ℕ, ◌<◌, List, [], ◌∷◌, ◌++◌, length, slice_get, Some, AllPairs, Contains, ◌⊎◌, ◌↔◌}
+use Rattle.hs_table.specs.Types.{TypeTree}
+use Rattle.hs_table.specs.Entries.{Env, EntryData, Has, IsEnv}
 use Rattle.hs_types.specs.Interned.{InternerData, env_of_id, IsUnionEnv}
 use Rattle.hs_rules.specs.Order.{chosen_places, IsLess, IsNoGreater}
 use Rattle.hs_rules.specs.Slots.{FilledData, Picked, IsJoin}
@@ -65,12 +69,35 @@ abbrev pub CanFill : InternerData → List EntryData → List PartialData → Fi
 CanFill ids log partials f = (x : PartialData) → Contains partials x → (x.env < length ids.envs) × ArePlaced log (length (env_of_id ids x.env)) f
 
 -- the environment that comes of the old one and the entry at the place is there, by no greater choice
-pub record IsCovered (old new : InternerData) (from : PartialData) (place : ℕ) (entry : EntryData) (found : List PartialData) : Type 0 where
+pub record IsAmongJoined (old new : InternerData) (from : PartialData) (place : ℕ) (entry : EntryData) (found : List PartialData) : Type 0 where
   pub item : PartialData
   pub there : Contains found item
   pub within : item.env < length new.envs
   pub union : IsUnionEnv (env_of_id old from.env) entry.env (env_of_id new item.env)
   pub least : IsNoGreater (chosen_places item.args) (chosen_places from.args ++ place ∷ [])
+
+abbrev pub with_choice : ℕ → ℕ → PartialData → PartialData
+with_choice arg place x = record { env = x.env; args = x.args ++ (arg, place) ∷ [] }
+
+-- where the slot has only one candidate, nothing comes to these environments by it
+abbrev pub HaveSole : InternerData → List EntryData → List PartialData → FilledData → Type 0
+HaveSole ids log partials f = (x : PartialData) → Contains partials x → (place : ℕ) (e : EntryData) → f.places ≡ place ∷ [] → slice_get log place ≡ Some e
+    → IsUnionEnv (env_of_id ids x.env) e.env (env_of_id ids x.env)
+
+-- the only candidate of one of the slots asks for the type
+pub record SoleAsks (log : List EntryData) (fs : List FilledData) (j : ℕ) (a : TypeTree) : Type 0 where
+  pub slot : FilledData
+  pub among : Contains fs slot
+  pub place : ℕ
+  pub alone : slot.places ≡ place ∷ []
+  pub entry : EntryData
+  pub at : slice_get log place ≡ Some entry
+  pub has : Has entry.env j a
+
+-- the environment asks for just what `own` and the only candidates of slots ask for
+pub record IsWithSole (log : List EntryData) (n : ℕ) (own : Env) (fs : List FilledData) (env : Env) : Type 0 where
+  pub is_env : IsEnv n env
+  pub has : (j : ℕ) (a : TypeTree) → Has env j a ↔ (Has own j a ⊎ SoleAsks log fs j a)
 
 pub record IsJoined (ids : InternerData) (log : List EntryData) (n : ℕ) (own : Env) (fs : List FilledData) (x : PartialData) : Type 0 where
   pub within : x.env < length ids.envs

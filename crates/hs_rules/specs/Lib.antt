@@ -7,4 +7,5 @@ pub mod Found
 pub mod Heads
 pub mod Shut
 pub mod Parts
+pub mod Seeking
 pub mod Listed

@@ -11,9 +11,9 @@ ghost use Rattle.hs_rules.specs.Parts.{IsInRule};
 use crate::deduced::Deduced;
 use crate::found::none_found;
 use crate::gathering::{add_all, add_seeds, add_with};
+use crate::head_search::HeadSearch;
 use crate::search::Search;
 use crate::seeds::starts_nothing;
-use crate::spot::Spot;
 use hs_replica::Replica;
 use hs_scheme::{OutOfMemory, Problem};
 use hs_table::parameters;
@@ -60,19 +60,22 @@ pub fn conclusions(
     let points = &problem.points;
     let rule = points.rule_of(point);
     let head = points.head_of(point);
-    let spot = Spot {
-        problem,
-        rule,
-        params: parameters(problem, rule),
-    };
     let search = Search {
+        alloc,
         point,
         args: arguments(problem, point),
         limit,
         fixed: None,
     };
+    let at = HeadSearch {
+        problem,
+        rule,
+        params: parameters(problem, rule),
+        head,
+        search,
+    };
     let mut found = none_found(alloc);
-    add_all(alloc, &spot, replica, &search, head, &mut found)?;
+    add_all(&at, replica, &mut found)?;
     replica.interner().know_numbers();
     Ok(found.list)
 }
@@ -107,13 +110,22 @@ pub fn seed_conclusions(
         return Ok(Vec::new(alloc));
     }
     replica.index()?;
-    let spot = Spot {
+    let search = Search {
+        alloc,
+        point,
+        args,
+        limit: 0,
+        fixed: None,
+    };
+    let at = HeadSearch {
         problem,
         rule,
         params: parameters(problem, rule),
+        head,
+        search,
     };
     let mut found = none_found(alloc);
-    add_seeds(alloc, &spot, replica, point, args, head, &mut found)?;
+    add_seeds(&at, replica, &mut found)?;
     replica.interner().know_numbers();
     Ok(found.list)
 }
@@ -149,19 +161,22 @@ pub fn conclusions_with(
     let points = &problem.points;
     let rule = points.rule_of(point);
     let head = points.head_of(point);
-    let spot = Spot {
-        problem,
-        rule,
-        params: parameters(problem, rule),
-    };
     let search = Search {
+        alloc,
         point,
         args: arguments(problem, point),
         limit: place + 1,
         fixed: None,
     };
+    let at = HeadSearch {
+        problem,
+        rule,
+        params: parameters(problem, rule),
+        head,
+        search,
+    };
     let mut found = none_found(alloc);
-    add_with(alloc, &spot, replica, &search, head, place, &mut found)?;
+    add_with(&at, replica, place, &mut found)?;
     replica.interner().know_numbers();
     Ok(found.list)
 }

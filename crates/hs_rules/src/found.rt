@@ -163,6 +163,60 @@ fn keep(rows: &mut IndexSet<Row>, place: usize, row: Row) -> Result<(), OutOfMem
     Ok(())
 }
 
+/// Keeps the lesser one of the supports of the two.
+fn keep_lesser(there: &mut Deduced, other: Deduced)
+    ensures row { there.new.row ≡ there.old.row }
+    ensures one { (there.new ≡ there.old) ⊎ (there.new.support ≡ other.support) }
+    ensures least { IsNoGreater (premises there.new.support) (premises there.old.support) }
+    ensures new_least { IsNoGreater (premises there.new.support) (premises other.support) }
+{
+    let args = other.args.as_slice();
+    let ordering = compare(other.head, args, there.head, there.args.as_slice());
+    if ordering != Ordering::Less {
+        return;
+    }
+    let Deduced { head, args, .. } = other;
+    there.head = head;
+    there.args = args;
+}
+
+/// Adds what was deduced, whose row isn't there.
+fn push_new(found: &mut Found, deduced: Deduced) -> Result<(), OutOfMemory>
+    requires rows { RowsAre found.old.rows.keys found.old.list.items }
+    requires absent { Contains (map (λ d. d.row) found.old.list.items) deduced.row → ⊥ }
+    ensures rows { OnOk result (RowsAre found.new.rows.keys found.new.list.items) }
+    ensures added { OnOk result (found.new.list.items ≡ found.old.list.items ++ deduced ∷ []) }
+{
+    let Deduced { row, head, args } = deduced;
+    let key = Row {
+        point: row.point,
+        env: row.env,
+        ty: row.ty,
+    };
+    keep(&mut found.rows, found.list.len(), key)?;
+    found.list.push(Deduced { row, head, args })?;
+    Ok(())
+}
+
+/// Adds what was deduced; where its row is there, by the lesser of the two supports. Nothing is copied.
+///
+/// Takes constant time on average, and a comparison of two supports where the row is there.
+pub fn add_deduced(found: &mut Found, deduced: Deduced) -> Result<(), OutOfMemory>
+    requires { RowsAre found.old.rows.keys found.old.list.items }
+    ensures rows { OnOk result (RowsAre found.new.rows.keys found.new.list.items) }
+    ensures lowers { OnOk result (Lowers found.old.list.items found.new.list.items) }
+    ensures only { OnOk result ((d : DeducedData) → Contains found.new.list.items d
+        → Contains found.old.list.items d ⊎ (d ≡ deduced)) }
+    ensures there { OnOk result (HasNoGreater found.new.list.items deduced.row deduced.support) }
+{
+    if let Some(place) = find_deduced(found, &deduced.row) {
+        let there = &mut found.list[place];
+        keep_lesser(there, deduced);
+        return Ok(());
+    }
+    push_new(found, deduced)
+}
+
 /// Adds the row with its support; where the row is there, with the lesser one.
 ///
 /// Takes constant time on average, and a comparison of two supports where the row is there.
@@ -191,11 +245,8 @@ pub fn add_found(
         let there = &mut found.list[place];
         return lower(alloc, there, head, args);
     }
-    keep(&mut found.rows, found.list.len(), key)?;
-    found.list.reserve(1)?;
     let args = args.to_vec(alloc)?;
-    found.list.push_reserved(Deduced { row, head, args });
-    Ok(())
+    push_new(found, Deduced { row, head, args })
 }
 
 /// Adds a row for each of these environments.
@@ -231,7 +282,6 @@ fn add_all(
 /// Adds what one type of the head leads to. Its slots and their environments are listed in the two lists,
 /// whatever was there.
 fn conclude(
-    alloc: Global,
     replica: &mut Replica,
     search: &Search,
     head: &HeadType,
@@ -257,19 +307,18 @@ fn conclude(
     slots.clear();
     partials.clear();
     let sets = head.sets.as_slice();
-    let complete = fill(alloc, replica, search, sets, slots)?;
+    let complete = fill(replica, search, sets, slots)?;
     if !complete {
         return Ok(());
     }
     let filled = slots.as_slice();
-    joined(alloc, replica, head.own, filled, partials)?;
+    joined(search.alloc, replica, head.own, filled, partials)?;
     let joins = partials.as_slice();
-    add_all(alloc, found, search.point, head, joins)
+    add_all(search.alloc, found, search.point, head, joins)
 }
 
 /// Adds what these types of the head lead to.
 pub(crate) fn conclude_all(
-    alloc: Global,
     replica: &mut Replica,
     search: &Search,
     heads: &[HeadType],
@@ -293,18 +342,10 @@ pub(crate) fn conclude_all(
         HasEnvFound replica.new.ids (seek search.now) h args env found.new.list.items) }
     ensures kept { KeepsLog replica.old replica.new }
 {
-    let mut slots = SmallVec::new(alloc);
-    let mut partials = SmallVec::new(alloc);
+    let mut slots = SmallVec::new(search.alloc);
+    let mut partials = SmallVec::new(search.alloc);
     for head in heads {
-        conclude(
-            alloc,
-            replica,
-            search,
-            head,
-            &mut slots,
-            &mut partials,
-            found,
-        )?;
+        conclude(replica, search, head, &mut slots, &mut partials, found)?;
     }
     Ok(())
 }

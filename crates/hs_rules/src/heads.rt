@@ -10,6 +10,7 @@ ghost use Rattle.hs_replica.specs.Replica.{KeepsLog};
 ghost use Rattle.hs_rules.specs.Heads.{GainsHeads, Just, BodyAt, ParamAt, AtSome, IsSplit};
 
 use crate::found::{HeadType, HeadTypes, Sets};
+use crate::head_search::HeadSearch;
 use hs_replica::Replica;
 use hs_scheme::OutOfMemory;
 use hs_table::HeadBy;
@@ -69,33 +70,34 @@ fn rest_of(
     Ok(rest)
 }
 
-/// Adds the type that asks for these sets and then is a state, where it has `count` sets.
+/// Adds the type that asks for these sets and then is a state, where it has a set for each
+/// argument.
 pub(crate) fn push_given(
-    alloc: Global,
+    at: &HeadSearch,
     replica: &mut Replica,
     by: HeadBy,
     own: EnvId,
     full: &[SetId],
     ty: TyId,
-    count: usize,
     out: &mut HeadTypes,
 ) -> Result<(), OutOfMemory>
     requires own { own < length replica.old.ids.envs }
     requires full { All (λ s. s < length replica.old.ids.sets) full.now }
     requires ty { ty < length replica.old.ids.types }
     requires state { IsState (type_of_id replica.old.ids ty) }
-    ensures gains { OnOk result (GainsHeads replica.new.ids count
+    ensures gains { OnOk result (GainsHeads replica.new.ids (length at.now.search.args.now)
         (Just by (env_of_id replica.old.ids own)
         (types.arrows (map (set_of_id replica.old.ids) full.now) (type_of_id replica.old.ids ty)))
         out.old.items out.new.items) }
     ensures kept { KeepsLog replica.old replica.new }
 {
+    let count = at.search.args.len();
     if full.len() < count {
         return Ok(());
     }
     let rest = rest_of(replica, full, count, ty)?;
     out.reserve(1)?;
-    let sets = SmallVec::from_slice(alloc, &full[..count])?;
+    let sets = SmallVec::from_slice(at.search.alloc, &full[..count])?;
     out.push_reserved(HeadType {
         by,
         own,
@@ -107,16 +109,15 @@ pub(crate) fn push_given(
 
 /// Adds the type of a nonterminal that the entry at this place, one at its body, gives.
 fn push_body(
-    alloc: Global,
+    at: &HeadSearch,
     replica: &mut Replica,
     place: u32,
     own: EnvId,
-    count: usize,
     out: &mut HeadTypes,
 ) -> Result<(), OutOfMemory>
     requires place { place < length replica.old.log }
     requires own { own < length replica.old.ids.envs }
-    ensures gains { OnOk result (GainsHeads replica.new.ids count
+    ensures gains { OnOk result (GainsHeads replica.new.ids (length at.now.search.args.now)
         (BodyAt replica.old.log (env_of_id replica.old.ids own) place) out.old.items out.new.items) }
     ensures kept { KeepsLog replica.old replica.new }
 {
@@ -124,64 +125,54 @@ fn push_body(
     if let View::Arrow(_, _) = replica.interner().view(row.ty) {
         return Ok(());
     }
-    let full: Sets = SmallVec::from_slice(alloc, replica.interner().sets(row.env))?;
-    push_given(
-        alloc,
-        replica,
-        HeadBy::Rule { place },
-        own,
-        full.as_slice(),
-        row.ty,
-        count,
-        out,
-    )
+    let full: Sets = SmallVec::from_slice(at.search.alloc, replica.interner().sets(row.env))?;
+    let by = HeadBy::Rule { place };
+    push_given(at, replica, by, own, full.as_slice(), row.ty, out)
 }
 
 /// Adds the types of a nonterminal that the entries at these places, all at its body, give.
 pub(crate) fn push_bodies(
-    alloc: Global,
+    at: &HeadSearch,
     replica: &mut Replica,
     places: &[u32],
     own: EnvId,
-    count: usize,
     out: &mut HeadTypes,
 ) -> Result<(), OutOfMemory>
     requires places { All (λ place. place < length replica.old.log) places.now }
     requires own { own < length replica.old.ids.envs }
-    ensures gains { OnOk result (GainsHeads replica.new.ids count
+    ensures gains { OnOk result (GainsHeads replica.new.ids (length at.now.search.args.now)
         (AtSome (BodyAt replica.old.log
         (env_of_id replica.old.ids own)) places.now) out.old.items out.new.items) }
     ensures kept { KeepsLog replica.old replica.new }
 {
     for place in places {
-        push_body(alloc, replica, *place, own, count, out)?;
+        push_body(at, replica, *place, own, out)?;
     }
     Ok(())
 }
 
-/// Adds the type of the parameter x of `params` that the entry at this place, one at a point that
+/// Adds the type of the parameter x that the entry at this place, one at a point that
 /// may stand for it, gives.
 fn push_param(
-    alloc: Global,
+    at: &HeadSearch,
     replica: &mut Replica,
     place: u32,
-    params: usize,
     x: u32,
-    count: usize,
     out: &mut HeadTypes,
 ) -> Result<(), OutOfMemory>
     requires place { place < length replica.old.log }
-    requires x { x < params }
-    ensures gains { OnOk result (GainsHeads replica.new.ids count
-        (ParamAt replica.old.log params x place) out.old.items out.new.items) }
+    requires x { x < at.now.params }
+    ensures gains { OnOk result (GainsHeads replica.new.ids (length at.now.search.args.now)
+        (ParamAt replica.old.log at.now.params x place) out.old.items out.new.items) }
     ensures kept { KeepsLog replica.old replica.new }
 {
     let row = replica.row(place);
+    let count = at.search.args.len();
     out.reserve(1)?;
-    let Some((sets, rest)) = split(alloc, replica.interner(), row.ty, count)? else {
+    let Some((sets, rest)) = split(at.search.alloc, replica.interner(), row.ty, count)? else {
         return Ok(());
     };
-    let own = replica.single_env(params, x, row.ty)?;
+    let own = replica.single_env(at.params as usize, x, row.ty)?;
     out.push_reserved(HeadType {
         by: HeadBy::Param { param: x, place },
         own,
@@ -194,22 +185,20 @@ fn push_param(
 /// Adds the types of the parameter that the entries at these places, all at points that may stand
 /// for it, give.
 pub(crate) fn push_params(
-    alloc: Global,
+    at: &HeadSearch,
     replica: &mut Replica,
     places: &[u32],
-    params: usize,
     x: u32,
-    count: usize,
     out: &mut HeadTypes,
 ) -> Result<(), OutOfMemory>
     requires places { All (λ place. place < length replica.old.log) places.now }
-    requires x { x < params }
-    ensures gains { OnOk result (GainsHeads replica.new.ids count
-        (AtSome (ParamAt replica.old.log params x) places.now) out.old.items out.new.items) }
+    requires x { x < at.now.params }
+    ensures gains { OnOk result (GainsHeads replica.new.ids (length at.now.search.args.now)
+        (AtSome (ParamAt replica.old.log at.now.params x) places.now) out.old.items out.new.items) }
     ensures kept { KeepsLog replica.old replica.new }
 {
     for place in places {
-        push_param(alloc, replica, *place, params, x, count, out)?;
+        push_param(at, replica, *place, x, out)?;
     }
     Ok(())
 }

@@ -1,14 +1,14 @@
 //! Environments joined slot by slot.
 
-ghost use Rattle.std.specs.Prelude.{◌≡◌, ◌<◌, ◌++◌, ◌∷◌, ◌⊎◌, [], ℕ, length, Contains, IfOk, IfSome, OnOk};
+ghost use Rattle.std.specs.Prelude.{◌≡◌, ◌<◌, ◌++◌, ◌∷◌, ◌⊎◌, [], ℕ, length, map, Contains, IfOk, OnOk};
 ghost use Rattle.std.specs.List.Sorted.{IsStrictlyIncreasing};
 ghost use Rattle.hs_table.specs.Entries.{EntryData, IsEnv};
 ghost use Rattle.hs_types.specs.Interned.{env_of_id};
 ghost use Rattle.hs_replica.specs.Replica.{KeepsLog};
 ghost use Rattle.hs_rules.specs.Slots.{FilledData};
-ghost use Rattle.std.specs.Bool.{OnFalse, OnTrue};
+ghost use Rattle.std.specs.Bool.{OnTrue};
 ghost use Rattle.hs_rules.specs.Order.{chosen_places, IsNoGreater};
-ghost use Rattle.hs_rules.specs.Joins.{PartialData, FillsBy, ArePlaced, SeenAre, AreAscending, ComeBefore, AreAsLong, IsMade, IsMadeOf, IsCovered, CanFill, AreJoined};
+ghost use Rattle.hs_rules.specs.Joins.{PartialData, FillsBy, ArePlaced, SeenAre, AreAscending, ComeBefore, AreAsLong, IsMade, IsMadeOf, IsAmongJoined, CanFill, HaveSole, IsWithSole, with_choice, AreJoined};
 
 use crate::search::Filled;
 use hs_replica::Replica;
@@ -154,7 +154,7 @@ fn extend(
         Contains out.old.list.items x ⊎ IsMade replica.old.ids replica.new.ids replica.old.log partial.now
         slot.now x) }
     ensures all { OnOk result ((place : ℕ) (e : EntryData) → FillsBy replica.old.log slot.now place e →
-        IsCovered replica.old.ids replica.new.ids partial.now place e out.new.list.items) }
+        IsAmongJoined replica.old.ids replica.new.ids partial.now place e out.new.list.items) }
     ensures kept { KeepsLog replica.old replica.new }
 {
     let env = partial.env;
@@ -187,7 +187,7 @@ fn extend_all(
         IsMadeOf replica.old.ids replica.new.ids replica.old.log partials.now slot.now x) }
     ensures all { OnOk result ((from : PartialData) → Contains partials.now from →
         (place : ℕ) (e : EntryData) → FillsBy replica.old.log slot.now place e →
-        IsCovered replica.old.ids replica.new.ids from place e out.new.list.items) }
+        IsAmongJoined replica.old.ids replica.new.ids from place e out.new.list.items) }
     ensures kept { KeepsLog replica.old replica.new }
 {
     for partial in partials {
@@ -212,7 +212,7 @@ fn extended(
         IsMadeOf replica.old.ids replica.new.ids replica.old.log partials.old.items slot.now x) }
     ensures all { OnOk result ((from : PartialData) → Contains partials.old.items from →
         (place : ℕ) (e : EntryData) → FillsBy replica.old.log slot.now place e →
-        IsCovered replica.old.ids replica.new.ids from place e partials.new.items) }
+        IsAmongJoined replica.old.ids replica.new.ids from place e partials.new.items) }
     ensures kept { KeepsLog replica.old replica.new }
 {
     let mut out = Partials {
@@ -224,71 +224,75 @@ fn extended(
     Ok(())
 }
 
-/// The environment that the slots lead to where each has just one candidate, with the choice of these added
-/// to a list. `None` where a slot has more or none.
-fn only_env(
+/// Adds a slot's only candidate to the choice of each environment.
+fn choose_sole(partials: &mut [Partial], arg: u32, place: u32) -> Result<(), OutOfMemory>
+    ensures { OnOk result (partials.new ≡ map (λ x. with_choice arg place x) partials.old) }
+{
+    for partial in partials.iter_mut() {
+        partial.args.push((arg, place))?;
+    }
+    Ok(())
+}
+
+/// Puts what comes of each environment and each candidate for a slot in the place of the environments. What
+/// a slot's only candidate asks for, they ask for before.
+fn join_slot(
+    alloc: Global,
     replica: &mut Replica,
-    own: EnvId,
-    slots: &[Filled],
-    args: &mut Chosen,
-) -> Result<Option<EnvId>, OutOfMemory>
+    slot: &Filled,
+    partials: &mut PartialList,
+) -> Result<(), OutOfMemory>
+    requires can { CanFill replica.old.ids replica.old.log partials.old.items slot.now }
+    requires sole { HaveSole replica.old.ids replica.old.log partials.old.items slot.now }
+    requires rises { IsStrictlyIncreasing slot.now.places }
+    requires ascending { AreAscending partials.old.items }
+    requires long { AreAsLong partials.old.items }
+    ensures ascending { OnOk result (AreAscending partials.new.items) }
+    ensures only { OnOk result ((x : PartialData) → Contains partials.new.items x →
+        IsMadeOf replica.old.ids replica.new.ids replica.old.log partials.old.items slot.now x) }
+    ensures all { OnOk result ((from : PartialData) → Contains partials.old.items from →
+        (place : ℕ) (e : EntryData) → FillsBy replica.old.log slot.now place e →
+        IsAmongJoined replica.old.ids replica.new.ids from place e partials.new.items) }
+    ensures kept { KeepsLog replica.old replica.new }
+{
+    let places = slot.places.as_slice();
+    if places.len() == 1 {
+        return choose_sole(partials.as_mut_slice(), slot.arg, places[0]);
+    }
+    extended(alloc, replica, slot, partials)
+}
+
+/// The environment that asks for what the head's own and the only candidates of slots ask for.
+fn own_with_sole(replica: &mut Replica, own: EnvId, slots: &[Filled]) -> Result<EnvId, OutOfMemory>
     requires own { own < length replica.old.ids.envs }
     requires is_env { IsEnv (length (env_of_id replica.old.ids own)) (env_of_id replica.old.ids own) }
     requires placed { (f : FilledData) → Contains slots.now f
         → ArePlaced replica.old.log (length (env_of_id replica.old.ids own)) f }
-    requires none { args.old.items ≡ [] }
-    ensures joined { IfOk result (λ only. IfSome only (λ env. AreJoined replica.new.ids replica.old.log
+    ensures known { IfOk result (λ env. env < length replica.new.ids.envs) }
+    ensures asks { IfOk result (λ env. IsWithSole replica.old.log
         (length (env_of_id replica.old.ids own)) (env_of_id replica.old.ids own) slots.now
-        (record { env = env; args = args.new.items } ∷ []))) }
+        (env_of_id replica.new.ids env)) }
     ensures kept { KeepsLog replica.old replica.new }
 {
     let mut env = own;
     for slot in slots {
         let places = slot.places.as_slice();
         if places.len() != 1 {
-            return Ok(None);
+            continue;
         }
         let candidate = replica.row(places[0]).env;
         env = replica.union_envs(env, candidate)?;
-        args.push((slot.arg, places[0]))?;
     }
-    Ok(Some(env))
-}
-
-/// Adds the environment that the slots lead to where each has just one candidate, as most have, and answers
-/// whether it is so.
-fn joined_only(
-    alloc: Global,
-    replica: &mut Replica,
-    own: EnvId,
-    slots: &[Filled],
-    out: &mut PartialList,
-) -> Result<bool, OutOfMemory>
-    requires own { own < length replica.old.ids.envs }
-    requires is_env { IsEnv (length (env_of_id replica.old.ids own)) (env_of_id replica.old.ids own) }
-    requires placed { (f : FilledData) → Contains slots.now f
-        → ArePlaced replica.old.log (length (env_of_id replica.old.ids own)) f }
-    requires none { out.old.items ≡ [] }
-    ensures joined { IfOk result (λ one. OnTrue one (AreJoined replica.new.ids replica.old.log
-        (length (env_of_id replica.old.ids own)) (env_of_id replica.old.ids own) slots.now out.new.items)) }
-    ensures none { IfOk result (λ one. OnFalse one (out.new.items ≡ [])) }
-    ensures kept { KeepsLog replica.old replica.new }
-{
-    out.reserve(1)?;
-    let mut args = SmallVec::new(alloc);
-    let Some(env) = only_env(replica, own, slots, &mut args)? else {
-        return Ok(false);
-    };
-    out.push_reserved(Partial { env, args });
-    Ok(true)
+    Ok(env)
 }
 
 /// Adds the environments that the slots lead to from the head's own, each once, with the choice of
 /// candidates that has the least list of places.
 ///
 /// Slot by slot, so that time is in the number of distinct environments and the candidates, and not
-/// in the number of choices. The choices are met in ascending order, so the first one that leads to
-/// an environment is its least one.
+/// in the number of choices. A slot's only candidate is in each choice, so these are joined first, once
+/// for all choices. The choices are met in ascending order, so the first one that leads to an environment
+/// is its least one.
 pub(crate) fn joined(
     alloc: Global,
     replica: &mut Replica,
@@ -306,17 +310,14 @@ pub(crate) fn joined(
         (length (env_of_id replica.old.ids own)) (env_of_id replica.old.ids own) slots.now out.new.items) }
     ensures kept { KeepsLog replica.old replica.new }
 {
-    let alone = joined_only(alloc, replica, own, slots, out)?;
-    if alone {
-        return Ok(());
-    }
+    let env = own_with_sole(replica, own, slots)?;
     out.reserve(1)?;
     out.push_reserved(Partial {
-        env: own,
+        env,
         args: SmallVec::new(alloc),
     });
     for slot in slots {
-        extended(alloc, replica, slot, out)?;
+        join_slot(alloc, replica, slot, out)?;
     }
     Ok(())
 }

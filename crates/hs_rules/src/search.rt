@@ -25,9 +25,11 @@ pub(crate) struct Fixed {
     pub(crate) place: u32,
 }
 
-/// A point with the points of its arguments, and how many places of the log count, from the first.
-#[derive(Clone, Copy, Debug)]
+/// A point with the points of its arguments, and how many places of the log count, from the first. What is
+/// listed there is allocated so.
+#[derive(Clone, Copy)]
 pub(crate) struct Search<'a> {
+    pub(crate) alloc: Global,
     pub(crate) point: u32,
     pub(crate) args: &'a [u32],
     pub(crate) limit: u32,
@@ -86,7 +88,6 @@ pub(crate) fn below(alloc: Global, places: &[u32], limit: u32) -> Result<Places,
 
 /// The places of the candidates for the slot of this type at this argument.
 fn places_for(
-    alloc: Global,
     replica: &mut Replica,
     search: &Search,
     arg: u32,
@@ -105,19 +106,18 @@ fn places_for(
     replica.interner().know_numbers();
     if let Some(fixed) = search.fixed {
         if fixed.arg == arg && replica.row(fixed.place).ty == ty {
-            let mut only = SmallVec::new(alloc);
+            let mut only = SmallVec::new(search.alloc);
             only.push_reserved(fixed.place);
             return Ok(only);
         }
     }
     replica.list_types(point)?;
-    below(alloc, replica.with_type(point, ty), search.limit)
+    below(search.alloc, replica.with_type(point, ty), search.limit)
 }
 
 /// Adds the slots of one argument, and answers whether each has candidates. It ends at the first
 /// that has none.
 fn fill_set(
-    alloc: Global,
     replica: &mut Replica,
     search: &Search,
     arg: u32,
@@ -139,7 +139,7 @@ fn fill_set(
     for number in 0..count {
         let ty = replica.interner().members(set)[number];
         out.reserve(1)?;
-        let places = places_for(alloc, replica, search, arg, point, ty)?;
+        let places = places_for(replica, search, arg, point, ty)?;
         if places.is_empty() {
             return Ok(false);
         }
@@ -216,7 +216,6 @@ pub(crate) fn is_open(replica: &Replica, search: &Search, sets: &[SetId]) -> boo
 /// Adds the slots for these sets, one set for each argument, and answers whether each has candidates. It
 /// ends at the first that has none.
 pub(crate) fn fill(
-    alloc: Global,
     replica: &mut Replica,
     search: &Search,
     sets: &[SetId],
@@ -236,7 +235,7 @@ pub(crate) fn fill(
 {
     let args = search.args;
     for (arg, set) in sets.iter().enumerate() {
-        let complete = fill_set(alloc, replica, search, arg as u32, args[arg], *set, out)?;
+        let complete = fill_set(replica, search, arg as u32, args[arg], *set, out)?;
         if !complete {
             return Ok(false);
         }

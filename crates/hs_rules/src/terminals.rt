@@ -1,24 +1,20 @@
 //! The types of a terminal, in numbers.
 
-ghost use Rattle.std.specs.Prelude.{◌≡◌, ◌<◌, ◌^◌, ◌∷◌, [], ℕ, List, All, IfOk, OnOk, None, Some, length, map, replicate, set, slice_index, take};
+ghost use Rattle.std.specs.Prelude.{◌≡◌, ◌<◌, ◌^◌, ◌∷◌, [], All, IfOk, OnOk, length, map, replicate, set, slice_index};
 ghost use Rattle.hs_scheme.specs.declared.term.Head.TheVariants.{Tm};
-ghost use Rattle.hs_scheme.specs.acceptance.Automaton.{next as next_states};
-ghost use Rattle.hs_table.specs.declared.support.HeadBy.TheVariants.{Terminal};
 ghost use Rattle.hs_table.specs.Types as types;
-ghost use Rattle.hs_table.specs.Entries.{params_of};
 ghost use Rattle.hs_types.specs.Interned.{type_of_id, set_of_id, env_of_id};
 ghost use Rattle.hs_replica.specs.Replica.{KeepsLog};
-ghost use Rattle.hs_rules.specs.Filling.{CanSearch};
-ghost use Rattle.hs_rules.specs.Heads.{GainsHeads, Just, AtSome, AtRange, ChildAt, ReadIn, InState, AreHeads, Asks, AsksNothing, AnyHead, IsParameterSpot};
+ghost use Rattle.hs_rules.specs.Heads.{GainsHeads, Just, AtSome, AtRange, ChildAt, ReadIn, InState, IsRankOf, AreHeads, Asks, AsksNothing, AnyHead};
+ghost use Rattle.hs_rules.specs.Seeking.{CanSeekHeads, with_head, AreHeadsFor};
 
 use crate::found::{HeadTypes, Sets};
+use crate::head_search::{AskedType, HeadSearch};
 use crate::heads::push_given;
-use crate::search::Search;
-use crate::spot::Spot;
 use hs_replica::Replica;
 use hs_scheme::{Automaton, OutOfMemory};
 use hs_table::{HeadBy, rank};
-use hs_types::{EnvId, SetId, TyId, View};
+use hs_types::{EnvId, SetId, View};
 use smallvec::SmallVec;
 use std::alloc::Global;
 
@@ -81,320 +77,274 @@ fn child_sets(
     Ok(sets)
 }
 
-/// Adds the type that asks for these sets and then is the state, where it has `count` sets.
+/// A terminal of this rank at the head of a point, with what its types ask of the parameters themselves:
+/// nothing, for each of them.
+#[derive(Clone, Copy)]
+pub(crate) struct TerminalHead<'a> {
+    at: &'a HeadSearch<'a>,
+    automaton: &'a Automaton,
+    number: u32,
+    rank: u32,
+    own: EnvId,
+}
+
+/// Adds the type that asks for these sets and then is the state, where it has a set for each argument.
+#[inline]
 fn push_state(
-    alloc: Global,
+    terminal: &TerminalHead,
     replica: &mut Replica,
     by: HeadBy,
-    own: EnvId,
     full: &[SetId],
     q: u32,
-    count: usize,
     out: &mut HeadTypes,
 ) -> Result<(), OutOfMemory>
-    requires own { own < length replica.old.ids.envs }
+    requires own { terminal.now.own < length replica.old.ids.envs }
     requires full { All (λ s. s < length replica.old.ids.sets) full.now }
-    ensures gains { OnOk result (GainsHeads replica.new.ids count
-        (Just by (env_of_id replica.old.ids own)
+    ensures gains { OnOk result (GainsHeads replica.new.ids (length terminal.now.at.now.search.args.now)
+        (Just by (env_of_id replica.old.ids terminal.now.own)
         (types.arrows (map (set_of_id replica.old.ids) full.now) (types.state q)))
         out.old.items out.new.items) }
     ensures kept { KeepsLog replica.old replica.new }
 {
     let ty = replica.base(q)?;
-    push_given(alloc, replica, by, own, full, ty, count, out)
+    push_given(terminal.at, replica, by, terminal.own, full, ty, out)
 }
 
-/// Adds the type of a terminal in state q whose child at this place is rejected.
+/// Adds the type of the terminal in state q whose child at this place is rejected.
 fn push_child(
-    alloc: Global,
+    terminal: &TerminalHead,
     replica: &mut Replica,
     q: u32,
     to: &[u32],
     place: u32,
-    own: EnvId,
-    count: usize,
     out: &mut HeadTypes,
 ) -> Result<(), OutOfMemory>
     requires place { place < length to.now }
     requires few { length to.now < 2 ^ 32 }
-    requires own { own < length replica.old.ids.envs }
-    ensures gains { OnOk result (GainsHeads replica.new.ids count
-        (ChildAt (env_of_id replica.old.ids own) q to.now place) out.old.items out.new.items) }
+    requires own { terminal.now.own < length replica.old.ids.envs }
+    ensures gains { OnOk result (GainsHeads replica.new.ids (length terminal.now.at.now.search.args.now)
+        (ChildAt (env_of_id replica.old.ids terminal.now.own) q to.now place) out.old.items out.new.items) }
     ensures kept { KeepsLog replica.old replica.new }
 {
-    let full = child_sets(alloc, replica, to, place as usize)?;
+    let full = child_sets(terminal.at.search.alloc, replica, to, place as usize)?;
     let by = HeadBy::Terminal {
         state: q,
         child: Some(place + 1),
     };
-    push_state(alloc, replica, by, own, full.as_slice(), q, count, out)
+    push_state(terminal, replica, by, full.as_slice(), q, out)
 }
 
-/// Adds the types of a terminal in state q whose children from a place on are rejected.
+/// Adds the types of the terminal in state q whose children from a place on are rejected.
 fn push_children(
-    alloc: Global,
+    terminal: &TerminalHead,
     replica: &mut Replica,
     q: u32,
     to: &[u32],
     from: u32,
-    own: EnvId,
-    count: usize,
     out: &mut HeadTypes,
 ) -> Result<(), OutOfMemory>
     requires few { length to.now < 2 ^ 32 }
-    requires own { own < length replica.old.ids.envs }
-    ensures gains { OnOk result (GainsHeads replica.new.ids count
-        (AtRange (ChildAt (env_of_id replica.old.ids own) q to.now) from
+    requires own { terminal.now.own < length replica.old.ids.envs }
+    ensures gains { OnOk result (GainsHeads replica.new.ids (length terminal.now.at.now.search.args.now)
+        (AtRange (ChildAt (env_of_id replica.old.ids terminal.now.own) q to.now) from
         (length to.now)) out.old.items out.new.items) }
     ensures kept { KeepsLog replica.old replica.new }
 {
     for place in from..to.len() as u32 {
-        push_child(alloc, replica, q, to, place, own, count, out)?;
+        push_child(terminal, replica, q, to, place, out)?;
     }
     Ok(())
 }
 
-/// Adds the types of the terminal of this rank in state q, where it has a transition only those by
-/// its children from a place on.
+/// Adds the types of the terminal in state q, where it has a transition only those by its children from
+/// a place on.
 fn push_in_state(
-    alloc: Global,
-    automaton: &Automaton,
+    terminal: &TerminalHead,
     replica: &mut Replica,
-    terminal: u32,
-    rank: u32,
     from: u32,
     q: u32,
-    own: EnvId,
-    count: usize,
     out: &mut HeadTypes,
 ) -> Result<(), OutOfMemory>
-    requires ranks { (to : List ℕ) → next_states automaton.now.transitions q terminal ≡ Some to
-        → length to ≡ rank }
-    requires own { own < length replica.old.ids.envs }
-    ensures gains { OnOk result (GainsHeads replica.new.ids count
-        (InState automaton.now.transitions terminal rank from
-        (env_of_id replica.old.ids own) q) out.old.items out.new.items) }
+    requires ranks { IsRankOf terminal.now.automaton.now.transitions terminal.now.number terminal.now.rank }
+    requires own { terminal.now.own < length replica.old.ids.envs }
+    ensures gains { OnOk result (GainsHeads replica.new.ids (length terminal.now.at.now.search.args.now)
+        (InState terminal.now.automaton.now.transitions terminal.now.number terminal.now.rank from
+        (env_of_id replica.old.ids terminal.now.own) q) out.old.items out.new.items) }
     ensures kept { KeepsLog replica.old replica.new }
 {
-    match automaton.next(q, terminal) {
+    let automaton = terminal.automaton;
+    let rank = terminal.rank as usize;
+    match automaton.next(q, terminal.number) {
         None => {
-            let full = empty_sets(alloc, replica, rank as usize)?;
+            let full = empty_sets(terminal.at.search.alloc, replica, rank)?;
             let by = HeadBy::Terminal {
                 state: q,
                 child: None,
             };
-            push_state(alloc, replica, by, own, full.as_slice(), q, count, out)
+            push_state(terminal, replica, by, full.as_slice(), q, out)
         }
-        Some(to) => push_children(alloc, replica, q, to, from, own, count, out),
+        Some(to) => push_children(terminal, replica, q, to, from, out),
     }
 }
 
-/// Adds the types of the terminal of this rank, where it has a transition only those by its
-/// children from a place on.
+/// Adds the types of the terminal, where it has a transition only those by its children from a place on.
 fn push_terminal(
-    alloc: Global,
-    automaton: &Automaton,
+    terminal: &TerminalHead,
     replica: &mut Replica,
-    terminal: u32,
-    rank: u32,
     from: u32,
-    own: EnvId,
-    count: usize,
     out: &mut HeadTypes,
 ) -> Result<(), OutOfMemory>
-    requires ranks { (q : ℕ) (to : List ℕ) → next_states automaton.now.transitions q terminal ≡ Some to
-        → length to ≡ rank }
-    requires own { own < length replica.old.ids.envs }
-    ensures gains { OnOk result (GainsHeads replica.new.ids count
-        (AtRange (InState automaton.now.transitions terminal rank from
-        (env_of_id replica.old.ids own)) 0 automaton.now.states) out.old.items out.new.items) }
+    requires ranks { IsRankOf terminal.now.automaton.now.transitions terminal.now.number terminal.now.rank }
+    requires own { terminal.now.own < length replica.old.ids.envs }
+    ensures gains { OnOk result (GainsHeads replica.new.ids (length terminal.now.at.now.search.args.now)
+        (AtRange (InState terminal.now.automaton.now.transitions terminal.now.number terminal.now.rank from
+        (env_of_id replica.old.ids terminal.now.own)) 0 terminal.now.automaton.now.states)
+        out.old.items out.new.items) }
     ensures kept { KeepsLog replica.old replica.new }
 {
+    let automaton = terminal.automaton;
     for q in 0..automaton.states() {
-        push_in_state(
-            alloc, automaton, replica, terminal, rank, from, q, own, count, out,
-        )?;
+        push_in_state(terminal, replica, from, q, out)?;
     }
     Ok(())
 }
 
 /// Adds the types of the terminal in these states, by its child at this place.
 fn push_reading(
-    alloc: Global,
-    automaton: &Automaton,
+    terminal: &TerminalHead,
     replica: &mut Replica,
-    terminal: u32,
-    rank: u32,
     place: u32,
     states: &[u32],
-    own: EnvId,
-    count: usize,
     out: &mut HeadTypes,
 ) -> Result<(), OutOfMemory>
-    requires ranks { (q : ℕ) (to : List ℕ) → next_states automaton.now.transitions q terminal ≡ Some to
-        → length to ≡ rank }
-    requires own { own < length replica.old.ids.envs }
-    ensures gains { OnOk result (GainsHeads replica.new.ids count
-        (AtSome (ReadIn automaton.now.states automaton.now.transitions terminal
-        (env_of_id replica.old.ids own) place) states.now) out.old.items out.new.items) }
+    requires ranks { IsRankOf terminal.now.automaton.now.transitions terminal.now.number terminal.now.rank }
+    requires own { terminal.now.own < length replica.old.ids.envs }
+    ensures gains { OnOk result (GainsHeads replica.new.ids (length terminal.now.at.now.search.args.now)
+        (AtSome (ReadIn terminal.now.automaton.now.states terminal.now.automaton.now.transitions
+        terminal.now.number (env_of_id replica.old.ids terminal.now.own) place) states.now)
+        out.old.items out.new.items) }
     ensures kept { KeepsLog replica.old replica.new }
 {
     for q in states {
-        push_reads(
-            alloc, automaton, replica, terminal, rank, place, *q, own, count, out,
-        )?;
+        push_reads(terminal, replica, place, *q, out)?;
     }
     Ok(())
 }
 
 /// Adds the type of the terminal in state q, by its child at this place, where it has one.
 fn push_reads(
-    alloc: Global,
-    automaton: &Automaton,
+    terminal: &TerminalHead,
     replica: &mut Replica,
-    terminal: u32,
-    rank: u32,
     place: u32,
     q: u32,
-    own: EnvId,
-    count: usize,
     out: &mut HeadTypes,
 ) -> Result<(), OutOfMemory>
-    requires ranks { (to : List ℕ) → next_states automaton.now.transitions q terminal ≡ Some to
-        → length to ≡ rank }
-    requires own { own < length replica.old.ids.envs }
-    ensures gains { OnOk result (GainsHeads replica.new.ids count
-        (ReadIn automaton.now.states automaton.now.transitions terminal
-        (env_of_id replica.old.ids own) place q) out.old.items out.new.items) }
+    requires ranks { IsRankOf terminal.now.automaton.now.transitions terminal.now.number terminal.now.rank }
+    requires own { terminal.now.own < length replica.old.ids.envs }
+    ensures gains { OnOk result (GainsHeads replica.new.ids (length terminal.now.at.now.search.args.now)
+        (ReadIn terminal.now.automaton.now.states terminal.now.automaton.now.transitions
+        terminal.now.number (env_of_id replica.old.ids terminal.now.own) place q)
+        out.old.items out.new.items) }
     ensures kept { KeepsLog replica.old replica.new }
 {
-    let Some(to) = automaton.next(q, terminal) else {
+    let automaton = terminal.automaton;
+    let Some(to) = automaton.next(q, terminal.number) else {
         return Ok(());
     };
-    if q >= automaton.states() || place >= rank {
+    if q >= automaton.states() || place >= terminal.rank {
         return Ok(());
     }
-    push_child(alloc, replica, q, to, place, own, count, out)
+    push_child(terminal, replica, q, to, place, out)
 }
 
-/// Adds the types of a terminal at the head that ask for the type at the argument.
+/// Adds the types of the terminal of this number at the head that ask for the type at the argument.
 pub(crate) fn terminal_asking(
-    alloc: Global,
-    spot: &Spot,
+    at: &HeadSearch,
     replica: &mut Replica,
-    search: &Search,
-    terminal: u32,
-    arg: u32,
-    ty: TyId,
+    number: u32,
+    asked: &AskedType,
     out: &mut HeadTypes,
 ) -> Result<(), OutOfMemory>
-    requires search { CanSearch replica.old search.now.args.now search.now.limit search.now.fixed }
-    requires spot { IsParameterSpot spot.now.problem.now spot.now.rule spot.now.params
-        (take search.now.limit replica.old.log) }
-    requires arg { arg < length search.now.args.now }
-    requires ty { ty < length replica.old.ids.types }
+    requires can { CanSeekHeads replica.old at.now }
+    requires arg { asked.now.arg < length at.now.search.args.now }
+    requires ty { asked.now.ty < length replica.old.ids.types }
     requires none { out.old.items ≡ [] }
-    ensures heads { OnOk result (AreHeads spot.now.problem.now
-        (take search.now.limit replica.old.log)
-        (record { rule = spot.now.rule; head = Tm terminal; args = search.now.args.now })
-        replica.new.ids (Asks arg (type_of_id replica.old.ids ty)) out.new.items) }
+    ensures heads { OnOk result (AreHeadsFor at.now (Tm number) replica.old.log replica.new.ids
+        (Asks asked.now.arg (type_of_id replica.old.ids asked.now.ty)) out.new.items) }
     ensures kept { KeepsLog replica.old replica.new }
 {
-    let View::State(state) = replica.interner().view(ty) else {
+    let View::State(state) = replica.interner().view(asked.ty) else {
         return Ok(());
     };
-    let problem = spot.problem;
-    let rank = rank(problem, terminal);
+    let problem = at.problem;
+    let rank = rank(problem, number);
     let sorted = &problem.sorted;
     let automaton = &sorted.automaton;
-    let own = replica.empty_env(spot.params as usize)?;
-    let states = automaton.reading(terminal, arg as usize, state);
-    push_reading(
-        alloc,
+    let own = replica.empty_env(at.params as usize)?;
+    let states = automaton.reading(number, asked.arg as usize, state);
+    let terminal = TerminalHead {
+        at,
         automaton,
-        replica,
-        terminal,
+        number,
         rank,
-        arg,
-        states,
         own,
-        search.args.len(),
-        out,
-    )
+    };
+    push_reading(&terminal, replica, asked.arg, states, out)
 }
 
-/// Adds all types of a terminal at the head.
+/// Adds all types of the terminal of this number at the head.
 pub(crate) fn terminal_all(
-    alloc: Global,
-    spot: &Spot,
+    at: &HeadSearch,
     replica: &mut Replica,
-    search: &Search,
-    terminal: u32,
+    number: u32,
     out: &mut HeadTypes,
 ) -> Result<(), OutOfMemory>
-    requires search { CanSearch replica.old search.now.args.now search.now.limit search.now.fixed }
-    requires spot { IsParameterSpot spot.now.problem.now spot.now.rule spot.now.params
-        (take search.now.limit replica.old.log) }
+    requires can { CanSeekHeads replica.old at.now }
     requires none { out.old.items ≡ [] }
-    ensures heads { OnOk result (AreHeads spot.now.problem.now
-        (take search.now.limit replica.old.log)
-        (record { rule = spot.now.rule; head = Tm terminal; args = search.now.args.now })
-        replica.new.ids AnyHead out.new.items) }
+    ensures heads { OnOk result (AreHeadsFor at.now (Tm number) replica.old.log replica.new.ids
+        AnyHead out.new.items) }
     ensures kept { KeepsLog replica.old replica.new }
 {
-    let problem = spot.problem;
-    let rank = rank(problem, terminal);
+    let problem = at.problem;
+    let rank = rank(problem, number);
     let sorted = &problem.sorted;
     let automaton = &sorted.automaton;
-    let own = replica.empty_env(spot.params as usize)?;
-    push_terminal(
-        alloc,
+    let own = replica.empty_env(at.params as usize)?;
+    let terminal = TerminalHead {
+        at,
         automaton,
-        replica,
-        terminal,
+        number,
         rank,
-        0,
         own,
-        search.args.len(),
-        out,
-    )
+    };
+    push_terminal(&terminal, replica, 0, out)
 }
 
-/// Adds the types of a terminal at the head that ask for no argument.
+/// Adds the types of the terminal of this number at the head that ask for no argument.
 pub(crate) fn terminal_nothing(
-    alloc: Global,
-    spot: &Spot,
+    at: &HeadSearch,
     replica: &mut Replica,
-    args: &[u32],
-    terminal: u32,
+    number: u32,
     out: &mut HeadTypes,
 ) -> Result<(), OutOfMemory>
-    requires few { length args.now < 2 ^ 32 }
-    requires params { spot.now.params ≡ params_of spot.now.problem.now spot.now.rule }
+    requires can { CanSeekHeads replica.old at.now }
     requires none { out.old.items ≡ [] }
-    ensures heads { OnOk result (AreHeads spot.now.problem.now []
-        (record {
-          rule = spot.now.rule;
-          head = Tm terminal;
-          args = args.now;
-        }) replica.new.ids AsksNothing out.new.items) }
+    ensures heads { OnOk result (AreHeads at.now.problem.now [] (with_head at.now (Tm number))
+        replica.new.ids AsksNothing out.new.items) }
     ensures kept { KeepsLog replica.old replica.new }
 {
-    let problem = spot.problem;
-    let rank = rank(problem, terminal);
+    let problem = at.problem;
+    let rank = rank(problem, number);
     let sorted = &problem.sorted;
     let automaton = &sorted.automaton;
-    let own = replica.empty_env(spot.params as usize)?;
-    let from = args.len() as u32;
-    push_terminal(
-        alloc,
+    let own = replica.empty_env(at.params as usize)?;
+    let from = at.search.args.len() as u32;
+    let terminal = TerminalHead {
+        at,
         automaton,
-        replica,
-        terminal,
+        number,
         rank,
-        from,
         own,
-        args.len(),
-        out,
-    )
+    };
+    push_terminal(&terminal, replica, from, out)
 }

@@ -20,7 +20,7 @@ use Rattle.hs_sites.specs.declared.sites.Site.{Site}
 use Rattle.hs_sites.specs.declared.bases.Base.{Base}
 use Rattle.hs_sites.specs.declared.collecting.CollectingOrder.{CollectingOrder}
 use Rattle.hs_sites.specs.Listed.{AreSites}
-use Rattle.hs_sites.specs.Collecting.{AddsTo, AreBases, IsFrom, IsSiteAt, AreTurns}
+use Rattle.hs_sites.specs.Collecting.{AddsTo, AreBases, IsFrom, IsSiteAt, AreOrders}
 use Rattle.hs_sites.proofs.Adding.{ByAny}
 
 abbrev IsHeadBase : ProblemData → PointData → Site → Type 0
@@ -70,10 +70,10 @@ module _ (p : ProblemData) (point : ℕ) (lt : point < length p.points.points) w
   )
 
 -- those of all points
-pub all_sites : (p : ProblemData) (turns : List CollectingOrder) (old new : List Site) → length old ≡ 0 → AreTurns p turns → AddsTo (ByAny turns (λ (t : CollectingOrder) (s : Site). IsSiteAt p t.point s)) old new → AreSites p new
-all_sites p turns old new none are adds s = (
+pub all_sites : (p : ProblemData) (orders : List CollectingOrder) (old new : List Site) → length old ≡ 0 → AreOrders p orders → AddsTo (ByAny orders (λ (t : CollectingOrder) (s : Site). IsSiteAt p t.point s)) old new → AreSites p new
+all_sites p orders old new none are adds s = (
   λ m. elim ((adds s).0 m) [ inl before ↦ absurd (nothing_in old s none before) | inr by ↦ by.1.1.1 ],
-  λ own. let turn = are.all s.point (within_from p.points.points s.point own.0 own.1.at) in (adds s).1 (inr (turn.0, (turn.1.0, (sym turn.1.1, own)))),
+  λ own. let order = are.all s.point (within_from p.points.points s.point own.0 own.1.at) in (adds s).1 (inr (order.0, (order.1.0, (sym order.1.1, own)))),
 )
 
 -- the point of the flow pair may become it
@@ -105,22 +105,22 @@ of_parameter p rule x row old new is none adds b =
       λ base. let l = leads.1 base in (adds b).1 (inr (l.pair, (subst (λ (fs : List FlowPair). Contains fs l.pair) (sym is) l.there, l.becomes))),
     )
 
--- ---- the turns
+-- ---- the orders
 
-pub turns_more : (turns new : List CollectingOrder) (n : ℕ) (t : CollectingOrder) → new ≡ turns ++ t ∷ [] → t.point ≡ n → ((u : CollectingOrder) → Contains turns u → u.point < n) → (u : CollectingOrder) → Contains new u → u.point < n + 1
-turns_more turns new n t is own below u m = elim (pushed_cases turns t u (subst (λ (ts : List CollectingOrder). Contains ts u) is m)) [
+pub orders_more : (orders new : List CollectingOrder) (n : ℕ) (t : CollectingOrder) → new ≡ orders ++ t ∷ [] → t.point ≡ n → ((u : CollectingOrder) → Contains orders u → u.point < n) → (u : CollectingOrder) → Contains new u → u.point < n + 1
+orders_more orders new n t is own below u m = elim (pushed_cases orders t u (subst (λ (ts : List CollectingOrder). Contains ts u) is m)) [
   | inl was ↦ let lt = below u was in omega (arith, lt)
   | inr last ↦ omega (arith, own, ap (λ (v : CollectingOrder). v.point) last)
 ]
 
-pub turns_all : (turns new : List CollectingOrder) (n : ℕ) (t : CollectingOrder) → new ≡ turns ++ t ∷ [] → t.point ≡ n → ((k : ℕ) → k < n → (u : CollectingOrder) × (Contains turns u × (u.point ≡ k))) → (k : ℕ) → k < n + 1 → (u : CollectingOrder) × (Contains new u × (u.point ≡ k))
-turns_all turns new n t is own all k lt = elim (cases_lt k n) [
-  | inl before ↦ let u = all k before in (u.0, (subst (λ (ts : List CollectingOrder). Contains ts u.0) (sym is) (Contains-append_left turns (t ∷ []) u.0 u.1.0), u.1.1))
-  | inr after ↦ (t, (subst (λ (ts : List CollectingOrder). Contains ts t) (sym is) (Contains-push turns t), omega (arith, own, lt, after)))
+pub orders_all : (orders new : List CollectingOrder) (n : ℕ) (t : CollectingOrder) → new ≡ orders ++ t ∷ [] → t.point ≡ n → ((k : ℕ) → k < n → (u : CollectingOrder) × (Contains orders u × (u.point ≡ k))) → (k : ℕ) → k < n + 1 → (u : CollectingOrder) × (Contains new u × (u.point ≡ k))
+orders_all orders new n t is own all k lt = elim (cases_lt k n) [
+  | inl before ↦ let u = all k before in (u.0, (subst (λ (ts : List CollectingOrder). Contains ts u.0) (sym is) (Contains-append_left orders (t ∷ []) u.0 u.1.0), u.1.1))
+  | inr after ↦ (t, (subst (λ (ts : List CollectingOrder). Contains ts t) (sym is) (Contains-push orders t), omega (arith, own, lt, after)))
 ]
 
-pub turns_moved : (p : ProblemData) (old new : List CollectingOrder) → IsPermutation old new → AreTurns p old → AreTurns p new
-turns_moved p old new moved are = record {
+pub orders_moved : (p : ProblemData) (old new : List CollectingOrder) → IsPermutation old new → AreOrders p old → AreOrders p new
+orders_moved p old new moved are = record {
   points = λ t m. are.points t (Contains-permutation new old t (IsPermutation-sym old new moved) m);
   all = λ point lt. let t = are.all point lt in (t.0, (Contains-permutation old new t.0 moved t.1.0, t.1.1));
 }

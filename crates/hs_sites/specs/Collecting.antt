@@ -4,7 +4,7 @@
 --     HasBases p bases            so of the parameter that is named with them
 --     IsFrom bases point s        the site is at the point, by one of the bases
 --     IsSiteAt p point s          s is a site at the point
---     AreTurns p turns            each point has its turn
+--     AreOrders p orders            each point stands in them
 use Rattle.std.specs.Prelude.{◌≡◌, ℕ, ◌<◌, List, length, Contains, ◌⊎◌, ◌↔◌}
 use Rattle.hs_scheme.specs.declared.term.Head.TheVariants.{Var}
 use Rattle.hs_scheme.specs.flow.Flow.{IsBase, pairs_of}
@@ -18,8 +18,8 @@ use Rattle.hs_sites.specs.Listed.{IsOwnSite}
 abbrev pub AnyBase : Type 0
 AnyBase = Base
 
-abbrev pub AnyTurn : Type 0
-AnyTurn = CollectingOrder
+abbrev pub AnyOrder : Type 0
+AnyOrder = CollectingOrder
 
 abbrev pub AddsTo : {X : Type 0} → (X → Type 0) → List X → List X → Type 0
 AddsTo {X} S old new = (x : X) → Contains new x ↔ (Contains old x ⊎ S x)
@@ -36,6 +36,6 @@ IsFrom bases point s = (b : Base) × (Contains bases b × (s ≡ record { nonter
 abbrev pub IsSiteAt : ProblemData → ℕ → Site → Type 0
 IsSiteAt p point s = (s.point ≡ point) × IsOwnSite p s
 
-pub record AreTurns (p : ProblemData) (turns : List CollectingOrder) : Type 0 where
-  pub points : (t : CollectingOrder) → Contains turns t → t.point < length p.points.points
-  pub all : (point : ℕ) → point < length p.points.points → (t : CollectingOrder) × (Contains turns t × (t.point ≡ point))
+pub record AreOrders (p : ProblemData) (orders : List CollectingOrder) : Type 0 where
+  pub points : (t : CollectingOrder) → Contains orders t → t.point < length p.points.points
+  pub all : (point : ℕ) → point < length p.points.points → (t : CollectingOrder) × (Contains orders t × (t.point ≡ point))

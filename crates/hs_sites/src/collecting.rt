@@ -4,7 +4,7 @@ ghost use Rattle.std.specs.Prelude.{◌≡◌, ◌<◌, Contains, OnOk, IfOk, le
 ghost use Rattle.hs_scheme.specs.declared.term.Head.TheVariants.{Var};
 ghost use Rattle.hs_scheme.specs.flow.Points.{point_at};
 ghost use Rattle.hs_sites.specs.Listed.{AnySite, AreSites};
-ghost use Rattle.hs_sites.specs.Collecting.{AnyTurn, IsSiteAt, HasBases, AddsTo, IsFrom, AreTurns};
+ghost use Rattle.hs_sites.specs.Collecting.{AnyOrder, IsSiteAt, HasBases, AddsTo, IsFrom, AreOrders};
 
 use crate::bases::{Base, ParameterBases};
 use crate::sites::Site;
@@ -22,8 +22,8 @@ struct CollectingOrder {
     point: u32,
 }
 
-/// The point's turn.
-fn turn_of(problem: &Problem, point: u32) -> CollectingOrder
+/// Where the point stands in that order.
+fn order_of(problem: &Problem, point: u32) -> CollectingOrder
     requires { point < length problem.now.points.points }
     ensures { result.point ≡ point }
 {
@@ -35,17 +35,17 @@ fn turn_of(problem: &Problem, point: u32) -> CollectingOrder
     CollectingOrder { rule, param, point }
 }
 
-/// The turns of all points, one behind the other.
-fn turns_of(alloc: Global, problem: &Problem) -> Result<Vec<CollectingOrder>, OutOfMemory>
-    ensures { IfOk result (λ turns. AreTurns problem.now turns.items) }
+/// All points in that order.
+fn orders_of(alloc: Global, problem: &Problem) -> Result<Vec<CollectingOrder>, OutOfMemory>
+    ensures { IfOk result (λ orders. AreOrders problem.now orders.items) }
 {
     let count = problem.points.count();
-    let mut turns = Vec::with_capacity(alloc, count as usize)?;
+    let mut orders = Vec::with_capacity(alloc, count as usize)?;
     for point in 0..count {
-        turns.push_reserved(turn_of(problem, point));
+        orders.push_reserved(order_of(problem, point));
     }
-    turns.sort_unstable();
-    Ok(turns)
+    orders.sort_unstable();
+    Ok(orders)
 }
 
 /// Adds the sites at the point by these bases of its head.
@@ -120,24 +120,24 @@ fn add_at(
     }
 }
 
-/// Adds the sites at the points that have a turn.
-fn add_in_turn(
+/// Adds the sites at the points in this order.
+fn add_in_order(
     alloc: Global,
     problem: &Problem,
     heads: &HeadPairs,
-    turns: &[CollectingOrder],
+    orders: &[CollectingOrder],
     bases: &mut ParameterBases,
     sites: &mut Vec<Site>,
 ) -> Result<(), OutOfMemory>
-    requires points { (t : AnyTurn) → Contains turns.now t → t.point < length problem.now.points.points }
+    requires points { (t : AnyOrder) → Contains orders.now t → t.point < length problem.now.points.points }
     requires heads { heads.now ≡ problem.now.flow.heads }
     requires bases { HasBases problem.now bases.old }
-    ensures { OnOk result (AddsTo (λ (s : AnySite). (t : AnyTurn) × (Contains turns.now t
+    ensures { OnOk result (AddsTo (λ (s : AnySite). (t : AnyOrder) × (Contains orders.now t
         × IsSiteAt problem.now t.point s))
         sites.old.items sites.new.items) }
 {
-    for turn in turns {
-        add_at(alloc, problem, heads, bases, sites, turn.point)?;
+    for order in orders {
+        add_at(alloc, problem, heads, bases, sites, order.point)?;
     }
     Ok(())
 }
@@ -147,13 +147,13 @@ fn add_all(alloc: Global, problem: &Problem, sites: &mut Vec<Site>) -> Result<()
     requires { length sites.old.items ≡ 0 }
     ensures { OnOk result (AreSites problem.now sites.new.items) }
 {
-    let turns = turns_of(alloc, problem)?;
+    let orders = orders_of(alloc, problem)?;
     let heads = HeadPairs::of(alloc, problem)?;
     let mut bases = ParameterBases::of(alloc, problem, &heads, 0, 0)?;
-    add_in_turn(alloc, problem, &heads, turns.as_slice(), &mut bases, sites)
+    add_in_order(alloc, problem, &heads, orders.as_slice(), &mut bases, sites)
 }
 
-/// All sites of the problem, in the order of the turns of their points.
+/// All sites of the problem, by rule, by the parameter at the head of their points, and by point.
 pub(crate) fn collect(alloc: Global, problem: &Problem) -> Result<Vec<Site>, OutOfMemory>
     ensures { IfOk result (λ sites. AreSites problem.now sites.items) }
 {

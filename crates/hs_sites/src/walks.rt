@@ -61,7 +61,7 @@ fn first_reached(alloc: Global, count: usize) -> Result<Vec<bool>, OutOfMemory>
 }
 
 /// Goes on by each of the sites that isn't marked. Each gives at least one argument, and a site before
-/// which fewer were given stands before the others: so what a site begins at is known when its turn comes.
+/// which fewer were given stands before the others: so what a site begins at is known when it is its turn.
 fn walk(problem: &Problem, sites: &[Site], marks: &[bool], reached: &mut Vec<bool>)
     requires { (s : AnySite) → Contains sites.now s → s.point < length problem.now.points.points }
     ensures len { length reached.new.items ≡ length reached.old.items }

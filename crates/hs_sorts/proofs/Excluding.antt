@@ -11,7 +11,7 @@ use Rattle.hs_scheme.proofs.Sortings.{least_first_order, least_unique}
 use Rattle.hs_sorts.specs.declared.fault.SortFault.{SortFault}
 use Rattle.hs_sorts.specs.declared.fault.SortFault.TheVariants.{IllSorted, TerminalNotFirstOrder, SortTooLarge, RuleTooLong, OutOfMemory}
 use Rattle.hs_sorts.specs.Inference.{IsInferable, IsInferred, IsFirstIllSorted, IsFirstHigherTerminal, IsFirstTooLarge, IsTooLong, IsFirstTooLong, IsSortFault}
-use Rattle.hs_sorts.proofs.Weighing.{first_order_more}
+use Rattle.hs_sorts.proofs.Measuring.{first_order_more}
 
 -- a sorting of all rules is one of the first k
 fewer : (rules : List Rule) (ranks : List (Option ℕ)) (k : ℕ) → HasSorting rules ranks (length rules) → HasSorting rules ranks k

@@ -12,11 +12,11 @@ use Rattle.hs_scheme.specs.Scheme.{HeadInRange, TermInRange, AreRules}
 use Rattle.hs_scheme.specs.sorting.Sorting.{SortTree, o, arrow, arrows, behind, ranked, size, arguments, IsFirstOrder, Sorts, heads, HasSort, IsSorting, HasSorting, AreFirstOrder, IsLeastSorting}
 use Rattle.hs_scheme.specs.sorting.Sorted.{sort_at, sorts_of, known}
 use Rattle.hs_scheme.proofs.Sortings.{length-ranked}
-use Rattle.hs_sorts.specs.declared.finding.WeighedNodes.{WeighedNodes}
+use Rattle.hs_sorts.specs.declared.finding.MeasuredNodes.{MeasuredNodes}
 use Rattle.hs_sorts.specs.declared.store.Node.{Node}
-use Rattle.hs_sorts.specs.declared.weights.Weight.{Weight}
+use Rattle.hs_sorts.specs.declared.measures.Measure.{Measure}
 use Rattle.hs_sorts.specs.Nodes.{Valuation}
-use Rattle.hs_sorts.specs.Weights.{Describes}
+use Rattle.hs_sorts.specs.Measures.{Describes}
 use Rattle.hs_sorts.specs.Reading.{size_at}
 use Rattle.hs_sorts.specs.Solving.{sorts_at}
 use Rattle.hs_sorts.specs.Finding.{FindsSorting, IsFinding, IsFirstHigherOrder, IsFirstLarge, IsFirstLong, AreSorts, AreArities}
@@ -51,10 +51,10 @@ no_rules_sorted rules ranks are = (
     rank_of (Some (Some n)) = n
 
 -- what was found is a sorting
-pub found_sorting : (rules : List Rule) (ranks : List (Option ℕ)) (k : ℕ) (found : WeighedNodes) → FindsSorting rules ranks k found → HasSorting rules ranks k
+pub found_sorting : (rules : List Rule) (ranks : List (Option ℕ)) (k : ℕ) (found : MeasuredNodes) → FindsSorting rules ranks k found → HasSorting rules ranks k
 found_sorting rules ranks k found f = (
-  sorts_at (length rules) f.weighing.valuation,
-  f.solves.sound f.weighing.valuation (reading_respects f.weighing.valuation found.store f.weighing.reading),
+  sorts_at (length rules) f.measuring.valuation,
+  f.solves.sound f.measuring.valuation (reading_respects f.measuring.valuation found.store f.measuring.reading),
 )
 
 ranked_row : (ks : Trees (Unit {0})) → IsFirstOrder (node tt ks) → node tt ks ≡ ranked (length (children ks))
@@ -105,18 +105,18 @@ module _ (rules : List Rule) (ranks : List (Option ℕ)) (are : AreRules rules (
         };
   }
 
-module _ (rules : List Rule) (ranks : List (Option ℕ)) (are : AreRules rules (length ranks)) (found : WeighedNodes) (f : FindsSorting rules ranks (length rules) found) where
+module _ (rules : List Rule) (ranks : List (Option ℕ)) (are : AreRules rules (length ranks)) (found : MeasuredNodes) (f : FindsSorting rules ranks (length rules) found) where
   abbrev nodes : List Node
   nodes = found.store
 
   abbrev number : ℕ
   number = length rules
 
-  abbrev weights : List Weight
-  weights = found.weights
+  abbrev measures : List Measure
+  measures = found.measures
 
   abbrev low : Valuation
-  low = f.weighing.valuation
+  low = f.measuring.valuation
 
   abbrev pub least_sorts : Sorts
   least_sorts = sorts_at number low
@@ -128,84 +128,84 @@ module _ (rules : List Rule) (ranks : List (Option ℕ)) (are : AreRules rules (
   rule_below g h = omega (arith, f.solves.room)
 
   least_sorting : IsSorting rules ranks (length rules) least_sorts
-  least_sorting = f.solves.sound low (reading_respects low nodes f.weighing.reading)
+  least_sorting = f.solves.sound low (reading_respects low nodes f.measuring.reading)
 
   pub least_found : IsLeastSorting rules ranks least_sorts
   least_found = record {
     sorting = least_sorting;
     least = λ t ts.
         let v = f.solves.complete t ts in
-        let smaller = reading_least nodes f.store low v.valuation f.weighing.reading v.respects in
+        let smaller = reading_least nodes f.store low v.valuation f.measuring.reading v.respects in
         record {
           nonterminals = λ g below. omega (arith, smaller g (rule_below g below), ap size (v.realizes.nonterminals g below));
           parameters = λ g j rule at below.
               let in_rules = slice_get_within rules g rule at in
-              least_argument nodes f.store low v.valuation f.weighing.reading v.respects f.flat rule.params g (least_sorts.parameter g) (t.parameter g) (behind rule.params (low g)) (behind rule.params (t.nonterminal g)) (rule_below g in_rules)
+              least_argument nodes f.store low v.valuation f.measuring.reading v.respects f.flat rule.params g (least_sorts.parameter g) (t.parameter g) (behind rule.params (low g)) (behind rule.params (t.nonterminal g)) (rule_below g in_rules)
               (least_sorting.nonterminals g rule at) (v.realizes.nonterminals g in_rules ∙ ts.nonterminals g rule at) j below;
           terminals = λ a below. omega (arith, smaller (number + a) (terminal_below a below), ap size (v.realizes.terminals a below));
         };
   }
 
-  -- each node has a weight
-  pub record Weighed (i : ℕ) : Type 0 where
-    pub weight : Weight
-    pub at : slice_get weights i ≡ Some weight
-    pub describes : Describes weight (low i)
+  -- each node has a measure
+  pub record Measured (i : ℕ) : Type 0 where
+    pub measure : Measure
+    pub at : slice_get measures i ≡ Some measure
+    pub describes : Describes measure (low i)
 
-  weighed : (i : ℕ) → i < length nodes → Weighed i
-  weighed i h =
-      let w = get_or weights i (record { size = 0; arity = 0; first_order = false }) in
-      let at = slice_get-get_or weights i (record { size = 0; arity = 0; first_order = false }) (omega (arith, f.weighing.as_long)) in
-      record { weight = w; at = at; describes = f.weighing.describes i w at }
+  measured : (i : ℕ) → i < length nodes → Measured i
+  measured i h =
+      let w = get_or measures i (record { size = 0; arity = 0; first_order = false }) in
+      let at = slice_get-get_or measures i (record { size = 0; arity = 0; first_order = false }) (omega (arith, f.measuring.as_long)) in
+      record { measure = w; at = at; describes = f.measuring.describes i w at }
 
-  pub higher_found : (a : ℕ) → IsFirstHigherOrder weights number (length ranks) (Some a) → IsFirstHigherTerminal rules ranks a
+  pub higher_found : (a : ℕ) → IsFirstHigherOrder measures number (length ranks) (Some a) → IsFirstHigherTerminal rules ranks a
   higher_found a (below, fails, before) = record {
     sorts = least_sorts;
     least = least_found;
     in_range = below;
-    higher = let w = weighed (number + a) (terminal_below a below) in w.describes.higher_order (fails w.weight w.at);
-    before = λ b less. let w = weighed (number + b) (terminal_below b (omega arith)) in w.describes.first_order (before b w.weight less w.at);
+    higher = let w = measured (number + a) (terminal_below a below) in w.describes.higher_order (fails w.measure w.at);
+    before = λ b less. let w = measured (number + b) (terminal_below b (omega arith)) in w.describes.first_order (before b w.measure less w.at);
   }
 
-  pub all_first_order : IsFirstHigherOrder weights number (length ranks) None → AreFirstOrder ranks least_sorts
-  all_first_order all b less = let w = weighed (number + b) (terminal_below b less) in w.describes.first_order (all b w.weight less w.at)
+  pub all_first_order : IsFirstHigherOrder measures number (length ranks) None → AreFirstOrder ranks least_sorts
+  all_first_order all b less = let w = measured (number + b) (terminal_below b less) in w.describes.first_order (all b w.measure less w.at)
 
-  pub large_found : (g : ℕ) → IsFirstHigherOrder weights number (length ranks) None → IsFirstLarge weights 0 number (Some g) → IsFirstTooLarge rules ranks g
+  pub large_found : (g : ℕ) → IsFirstHigherOrder measures number (length ranks) None → IsFirstLarge measures 0 number (Some g) → IsFirstTooLarge rules ranks g
   large_found g all (below, fails, before) = record {
     sorts = least_sorts;
     least = least_found;
     first_order = all_first_order all;
     in_range = omega (arith, below);
     large =
-        let w = weighed g (rule_below g (omega (arith, below))) in
+        let w = measured g (rule_below g (omega (arith, below))) in
         let e : 0 + g ≡ g = omega arith in
-        omega (arith, fails w.weight (ap (slice_get weights) e ∙ w.at), w.describes.sized);
+        omega (arith, fails w.measure (ap (slice_get measures) e ∙ w.at), w.describes.sized);
     before = λ h less.
-        let w = weighed h (rule_below h (omega (arith, below))) in
+        let w = measured h (rule_below h (omega (arith, below))) in
         let e : 0 + h ≡ h = omega arith in
-        omega (arith, before h w.weight less (ap (slice_get weights) e ∙ w.at), w.describes.sized);
+        omega (arith, before h w.measure less (ap (slice_get measures) e ∙ w.at), w.describes.sized);
   }
 
-  pub weights_many : length rules ≤ length weights
-  weights_many = omega (arith, f.weighing.as_long, f.solves.room)
+  pub measures_many : length rules ≤ length measures
+  measures_many = omega (arith, f.measuring.as_long, f.solves.room)
 
-  none_long : IsFirstLong rules weights None → (g : ℕ) (rule : Rule) → slice_get rules g ≡ Some rule → IsTooLong rule (low g) → ⊥
+  none_long : IsFirstLong rules measures None → (g : ℕ) (rule : Rule) → slice_get rules g ≡ Some rule → IsTooLong rule (low g) → ⊥
   none_long passed g rule at =
-      let w = weighed g (rule_below g (slice_get_within rules g rule at)) in
-      passed g rule w.weight at w.at (low g) w.describes.arity
+      let w = measured g (rule_below g (slice_get_within rules g rule at)) in
+      passed g rule w.measure at w.at (low g) w.describes.arity
 
-  module _ (all : IsFirstHigherOrder weights number (length ranks) None) (small : IsFirstLarge weights 0 number None) where
+  module _ (all : IsFirstHigherOrder measures number (length ranks) None) (small : IsFirstLarge measures 0 number None) where
     small_at : (g : ℕ) → g < number → size (low g) ≤ 1000
     small_at g below =
-        let w = weighed g (rule_below g (omega (arith, below))) in
+        let w = measured g (rule_below g (omega (arith, below))) in
         let e : 0 + g ≡ g = omega arith in
-        omega (arith, small g w.weight below (ap (slice_get weights) e ∙ w.at), w.describes.sized)
+        omega (arith, small g w.measure below (ap (slice_get measures) e ∙ w.at), w.describes.sized)
 
-    pub long_found : (g : ℕ) → IsFirstLong rules weights (Some g) → IsFirstTooLong rules ranks g
+    pub long_found : (g : ℕ) → IsFirstLong rules measures (Some g) → IsFirstTooLong rules ranks g
     long_found g (tells, below, before) =
         let rule = get_or rules g (record { params = 0; body = node (Nt 0) none }) in
         let at = slice_get-get_or rules g (record { params = 0; body = node (Nt 0) none }) below in
-        let w = weighed g (rule_below g below) in
+        let w = measured g (rule_below g below) in
         record {
           sorts = least_sorts;
           least = least_found;
@@ -213,20 +213,20 @@ module _ (rules : List Rule) (ranks : List (Option ℕ)) (are : AreRules rules (
           small = λ h inside. small_at h (omega (arith, inside));
           rule = rule;
           at = at;
-          long = tells rule w.weight at w.at (low g) w.describes.arity;
+          long = tells rule w.measure at w.at (low g) w.describes.arity;
           before = λ h r less there.
-              let x = weighed h (rule_below h (omega (arith, less, below))) in
-              before h r x.weight less there x.at (low h) x.describes.arity;
+              let x = measured h (rule_below h (omega (arith, less, below))) in
+              before h r x.measure less there x.at (low h) x.describes.arity;
         }
 
-    pub counted_small : (g : ℕ) → g < number → size_at weights g ≤ 1000
-    counted_small g below = omega (arith, counted nodes weights f.weighing g (rule_below g (omega (arith, below))), small_at g below)
+    pub counted_small : (g : ℕ) → g < number → size_at measures g ≤ 1000
+    counted_small g below = omega (arith, counted nodes measures f.measuring g (rule_below g (omega (arith, below))), small_at g below)
 
-    module _ (passed : IsFirstLong rules weights None) (sorts : List SortTree) (arities : List ℕ) (are_sorts : AreSorts nodes number sorts) (are_arities : AreArities weights number (length ranks) arities) where
+    module _ (passed : IsFirstLong rules measures None) (sorts : List SortTree) (arities : List ℕ) (are_sorts : AreSorts nodes number sorts) (are_arities : AreArities measures number (length ranks) arities) where
       same_nonterminals : (g : ℕ) → g < length rules → sort_at sorts g ≡ low g
       same_nonterminals g below =
           let at = slice_get-get_or sorts g o (omega (arith, are_sorts.as_long)) in
-          ap (λ k. unwrap_or k o) at ∙ are_sorts.reads low f.weighing.reading g (get_or sorts g o) at
+          ap (λ k. unwrap_or k o) at ∙ are_sorts.reads low f.measuring.reading g (get_or sorts g o) at
 
       same_parameters : (g j : ℕ) (rule : Rule) → slice_get rules g ≡ Some rule → j < rule.params → sort_at (arguments (sort_at sorts g)) j ≡ sort_at (arguments (low g)) j
       same_parameters g j rule at below = ap (λ k. sort_at (arguments k) j) (same_nonterminals g (slice_get_within rules g rule at))
@@ -234,8 +234,8 @@ module _ (rules : List Rule) (ranks : List (Option ℕ)) (are : AreRules rules (
       arity_of : (a : ℕ) → a < length ranks → slice_get arities a ≡ Some (length (arguments (low (number + a))))
       arity_of a below =
           let at = slice_get-get_or arities a 0 (omega (arith, are_arities.as_long)) in
-          let w = weighed (number + a) (terminal_below a below) in
-          at ∙ ap (λ n. Some n) (are_arities.at a (get_or arities a 0) w.weight at w.at ∙ w.describes.arity)
+          let w = measured (number + a) (terminal_below a below) in
+          at ∙ ap (λ n. Some n) (are_arities.at a (get_or arities a 0) w.measure at w.at ∙ w.describes.arity)
 
       same_terminals : (a : ℕ) → a < length ranks → ranked (unwrap_or (slice_get arities a) 0) ≡ low (number + a)
       same_terminals a below = ap (λ k. ranked (unwrap_or k 0)) (arity_of a below) ∙ sym (first_order_ranked (low (number + a)) (all_first_order all a below))
@@ -260,6 +260,6 @@ module _ (rules : List Rule) (ranks : List (Option ℕ)) (are : AreRules rules (
         none_too_long = λ g rule at long. none_long passed g rule at (subst (IsTooLong rule) (same_nonterminals g (slice_get_within rules g rule at)) long);
       }
 
-pub found_if : (rules : List Rule) (ranks : List (Option ℕ)) (k : ℕ) (answer : Option WeighedNodes) → IsFinding rules ranks k answer → true ≡ is_some answer → HasSorting rules ranks k
+pub found_if : (rules : List Rule) (ranks : List (Option ℕ)) (k : ℕ) (answer : Option MeasuredNodes) → IsFinding rules ranks k answer → true ≡ is_some answer → HasSorting rules ranks k
 found_if rules ranks k None f h = absurd (cc)
 found_if rules ranks k (Some found) f h = found_sorting rules ranks k found f

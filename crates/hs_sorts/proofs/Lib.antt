@@ -11,7 +11,7 @@ pub mod Laying
 pub mod Ranges
 pub mod Ruling
 pub mod Solutions
-pub mod Weighing
+pub mod Measuring
 pub mod Searching
 pub mod Readings
 pub mod Lengthenings

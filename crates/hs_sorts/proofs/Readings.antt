@@ -9,14 +9,14 @@ use Rattle.hs_sorts.specs.declared.store.Shape.{Shape}
 use Rattle.hs_sorts.specs.declared.store.Shape.TheVariants.{Open, Base, Arrow}
 use Rattle.hs_sorts.specs.declared.store.Node.{Node}
 use Rattle.hs_sorts.specs.declared.store.Node.TheVariants.{Root, Link}
-use Rattle.hs_sorts.specs.declared.weights.Weight.{Weight}
+use Rattle.hs_sorts.specs.declared.measures.Measure.{Measure}
 use Rattle.hs_sorts.specs.Nodes.{Valuation, FitsNode, IsValuationOf, IsStore, IsFlat}
-use Rattle.hs_sorts.specs.Weights.{ReadsNode, IsReading}
-use Rattle.hs_sorts.specs.Search.{rank, Weighing}
+use Rattle.hs_sorts.specs.Measures.{ReadsNode, IsReading}
+use Rattle.hs_sorts.specs.Search.{rank, Measuring}
 use Rattle.hs_sorts.specs.Reading.{size_at, parts, IsArrowAt, IsSplitAt}
 use Rattle.hs_sorts.proofs.Applying.{no_arrow}
 use Rattle.hs_sorts.proofs.Joining.{arrow_parts}
-use Rattle.hs_sorts.proofs.Weighing.{size-arrow, size_positive}
+use Rattle.hs_sorts.proofs.Measuring.{size-arrow, size_positive}
 use Rattle.hs_sorts.proofs.Searching.{child_lower, child_below}
 
 read_fits : (v : Valuation) (s : SortTree) (n : Node) → ReadsNode v s n → FitsNode v s n
@@ -108,22 +108,22 @@ pub with_arguments-o : (args : List SortTree) → with_arguments args o ≡ node
 with_arguments-o [] = refl
 with_arguments-o (a ∷ args) = ap (arrow a) (with_arguments-o args)
 
--- the counted size of a sort that was weighed
-pub counted : (nodes : List Node) (weights : List Weight) (w : Weighing nodes weights) (i : ℕ) → i < length nodes → size_at weights i ≡ min 1001 (size (w.valuation i))
-counted nodes weights w i within = by_get (slice_get weights i) refl
+-- the counted size of a sort that was measured
+pub counted : (nodes : List Node) (measures : List Measure) (w : Measuring nodes measures) (i : ℕ) → i < length nodes → size_at measures i ≡ min 1001 (size (w.valuation i))
+counted nodes measures w i within = by_get (slice_get measures i) refl
   where
-    by_get : (found : Option Weight) → slice_get weights i ≡ found → size_at weights i ≡ min 1001 (size (w.valuation i))
-    by_get None e = absurd (let at = slice_get-get_or weights i (record { size = 0; arity = 0; first_order = Rattle.std.proofs.Common.false }) (omega (arith, w.as_long)) in cc)
+    by_get : (found : Option Measure) → slice_get measures i ≡ found → size_at measures i ≡ min 1001 (size (w.valuation i))
+    by_get None e = absurd (let at = slice_get-get_or measures i (record { size = 0; arity = 0; first_order = Rattle.std.proofs.Common.false }) (omega (arith, w.as_long)) in cc)
     by_get (Some x) e = ap (λ f. unwrap_or (option_map (λ y. y.size) f) 0) e ∙ (w.describes i x e).sized
 
 -- the parts of a small arrow are smaller
-pub parts_smaller : (nodes : List Node) (weights : List Weight) (w : Weighing nodes weights) (i a b : ℕ) → i < length nodes → IsArrowAt nodes i a b → size_at weights i ≤ 1000
-    → (size_at weights a < size_at weights i) × (size_at weights b < size_at weights i)
-parts_smaller nodes weights w i a b within s small =
+pub parts_smaller : (nodes : List Node) (measures : List Measure) (w : Measuring nodes measures) (i a b : ℕ) → i < length nodes → IsArrowAt nodes i a b → size_at measures i ≤ 1000
+    → (size_at measures a < size_at measures i) × (size_at measures b < size_at measures i)
+parts_smaller nodes measures w i a b within s small =
     let e = s.reads w.valuation w.reading in
-    let whole = counted nodes weights w i within in
-    let left = counted nodes weights w a s.argument in
-    let right = counted nodes weights w b s.rest in
+    let whole = counted nodes measures w i within in
+    let left = counted nodes measures w a s.argument in
+    let right = counted nodes measures w b s.rest in
     let sum = ap size e ∙ size-arrow (w.valuation a) (w.valuation b) in
     (omega (arith, whole, left, right, sum, small, size_positive (w.valuation b)), omega (arith, whole, left, right, sum, small, size_positive (w.valuation a)))
 

@@ -1,4 +1,4 @@
--- The steps of the walk that weighs the nodes.
+-- The steps of the walk that measures the nodes.
 use Rattle.std.proofs.Common.{◌≡◌, ◌≢◌, refl, sym, ◌∙◌, ap, subst, cond, ℕ, ◌+◌, ◌*◌, ◌<◌, ◌≤◌, List, [], ◌∷◌, ◌++◌, length, slice_get, get_or, set, take, replicate, ◌-◌, length-set, length-append, Some, Bool, true, false, nat_eq, ◌⊎◌, inl, inr, arith}
 use Rattle.std.proofs.Math.Nat.{mul-le-mul_left}
 use Rattle.std.proofs.lemmas.Bool.{eqb-true, eq-eqb}
@@ -11,16 +11,16 @@ use Rattle.hs_scheme.proofs.Lists.{at_append, back_at, place-append}
 use Rattle.hs_sorts.specs.declared.store.Shape.TheVariants.{Open, Base, Arrow}
 use Rattle.hs_sorts.specs.declared.store.Node.{Node}
 use Rattle.hs_sorts.specs.declared.store.Node.TheVariants.{Root, Link}
-use Rattle.hs_sorts.specs.declared.weights.Weight.{Weight}
-use Rattle.hs_sorts.specs.declared.weights.Mark.{Mark}
-use Rattle.hs_sorts.specs.declared.weights.Mark.TheVariants.{New, Entered, Weighed}
-use Rattle.hs_sorts.specs.declared.weights.Step.TheVariants.{Done, Child}
+use Rattle.hs_sorts.specs.declared.measures.Measure.{Measure}
+use Rattle.hs_sorts.specs.declared.measures.Mark.{Mark}
+use Rattle.hs_sorts.specs.declared.measures.Mark.TheVariants.{New, Entered, Measured}
+use Rattle.hs_sorts.specs.declared.measures.Step.TheVariants.{Done, Child}
 use Rattle.hs_sorts.specs.Nodes.{Valuation, IsValuationOf, IsStore}
-use Rattle.hs_sorts.specs.Weights.{ReadsNode, Describes, weighed, weight_in, weights_in, IsWeighed, IsChildOf, ChildrenBelow, IsWeighingStep}
-use Rattle.hs_sorts.specs.Search.{rank, newness, new_count, PartReading, IsSearch, IsStarted, IsLastOnPath, AdvancesSearch, IsAdvance, IsEntry, Weighing}
+use Rattle.hs_sorts.specs.Measures.{ReadsNode, Describes, measured, measure_in, measures_in, IsMeasured, IsChildOf, ChildrenBelow, IsMeasuringStep}
+use Rattle.hs_sorts.specs.Search.{rank, newness, new_count, PartReading, IsSearch, IsStarted, IsLastOnPath, AdvancesSearch, IsAdvance, IsEntry, Measuring}
 use Rattle.hs_sorts.proofs.Lists.{get_set_same, get_set_other, get_replicate}
 use Rattle.hs_sorts.proofs.NodeLemmas.{here_or_not, written, one_place}
-use Rattle.hs_sorts.proofs.Weighing.{size-arrow}
+use Rattle.hs_sorts.proofs.Measuring.{size-arrow}
 
 -- a child's number is below the number of nodes
 pub child_below : (nodes : List Node) (i : ℕ) (n : Node) → IsStore nodes → slice_get nodes i ≡ Some n → ChildrenBelow (length nodes) n
@@ -47,11 +47,11 @@ child_lower nodes v i c (Link up) is r at e =
     let low : up < i = is.in_range i (Link up) at in
     omega (arith, ap (λ s. size s * (length nodes + 1)) fit, ap (λ j. size (v j) * (length nodes + 1)) e, e)
 
-entered_not_weighed : (w : Weight) → Some Entered ≡ Some (weighed w) → ⊥
-entered_not_weighed w h = cc
+entered_not_measured : (w : Measure) → Some Entered ≡ Some (measured w) → ⊥
+entered_not_measured w h = cc
 
-new_not_weighed : (w : Weight) → Some New ≡ Some (weighed w) → ⊥
-new_not_weighed w h = cc
+new_not_measured : (w : Measure) → Some New ≡ Some (measured w) → ⊥
+new_not_measured w h = cc
 
 new_not_entered : Some New ≡ Some Entered → ⊥
 new_not_entered h = cc
@@ -61,17 +61,17 @@ count_set marks i x y h =
     subst (λ (z : Mark). new_count (set marks i y) + newness z ≡ new_count marks + newness y) (get_or_from_slice_get marks i x x h)
     (sum_by-set newness marks i y x (slice_get_within marks i x h))
 
--- a mark that is weighed after a node was put on the path was so before
-weighed_before : (marks : List Mark) (i j : ℕ) → i < length marks → IsWeighed (set marks i Entered) j → IsWeighed marks j
-weighed_before marks i j within (w, h) =
-    let x = written marks i j Entered (weighed w) within h in
+-- a mark that is measured after a node was put on the path was so before
+measured_before : (marks : List Mark) (i j : ℕ) → i < length marks → IsMeasured (set marks i Entered) j → IsMeasured marks j
+measured_before marks i j within (w, h) =
+    let x = written marks i j Entered (measured w) within h in
     elim (here_or_not i j) [
-      | inl same ↦ absurd (entered_not_weighed w (ap (λ m. Some m) (sym (x.there same))))
+      | inl same ↦ absurd (entered_not_measured w (ap (λ m. Some m) (sym (x.there same))))
       | inr other ↦ (w, x.elsewhere other)
     ]
 
-weighed_after : (marks : List Mark) (i j : ℕ) (y : Mark) → ((w : Weight) → slice_get marks i ≡ Some (weighed w) → ⊥) → IsWeighed marks j → IsWeighed (set marks i y) j
-weighed_after marks i j y never (w, h) = (w, get_set_other marks i j y (λ e. never w (subst (λ (k : ℕ). slice_get marks k ≡ Some (weighed w)) e h)) ∙ h)
+measured_after : (marks : List Mark) (i j : ℕ) (y : Mark) → ((w : Measure) → slice_get marks i ≡ Some (measured w) → ⊥) → IsMeasured marks j → IsMeasured (set marks i y) j
+measured_after marks i j y never (w, h) = (w, get_set_other marks i j y (λ e. never w (subst (λ (k : ℕ). slice_get marks k ≡ Some (measured w)) e h)) ∙ h)
 
 module _ (nodes : List Node) (marks : List Mark) (path : List ℕ) (s : IsSearch nodes marks path) where
   -- a new node is put on the path
@@ -121,10 +121,10 @@ module _ (nodes : List Node) (marks : List Mark) (path : List ℕ) (s : IsSearch
       ];
       reading = record {
         valuation = s.reading.valuation;
-        describes = λ i w h. let b = weighed_before marks c i in_marks (w, h) in
-            s.reading.describes i w ((written marks c i Entered (weighed w) in_marks h).elsewhere (λ e. new_not_weighed b.0 (sym is_new ∙ (ap (slice_get marks) (sym e) ∙ b.1))));
-        reads = λ i n h at. s.reading.reads i n (weighed_before marks c i in_marks h) at;
-        children = λ i n h at d child. weighed_after marks c d Entered (λ w e. new_not_weighed w (sym is_new ∙ e)) (s.reading.children i n (weighed_before marks c i in_marks h) at d child);
+        describes = λ i w h. let b = measured_before marks c i in_marks (w, h) in
+            s.reading.describes i w ((written marks c i Entered (measured w) in_marks h).elsewhere (λ e. new_not_measured b.0 (sym is_new ∙ (ap (slice_get marks) (sym e) ∙ b.1))));
+        reads = λ i n h at. s.reading.reads i n (measured_before marks c i in_marks h) at;
+        children = λ i n h at d child. measured_after marks c d Entered (λ w e. new_not_measured w (sym is_new ∙ e)) (s.reading.children i n (measured_before marks c i in_marks h) at d child);
       };
     }
 
@@ -179,13 +179,13 @@ put_other v top x i other = elim (nat_eq i top) as (λ b. nat_eq i top ≡ b →
   | false ↦ λ e. refl
 ] refl
 
-pub mark_cases : (marks : List Mark) (i : ℕ) → i < length marks → (slice_get marks i ≡ Some New) ⊎ ((slice_get marks i ≡ Some Entered) ⊎ IsWeighed marks i)
+pub mark_cases : (marks : List Mark) (i : ℕ) → i < length marks → (slice_get marks i ≡ Some New) ⊎ ((slice_get marks i ≡ Some Entered) ⊎ IsMeasured marks i)
 mark_cases marks i within = by_mark (get_or marks i New) (slice_get-get_or marks i New within)
   where
-    by_mark : (m : Mark) → slice_get marks i ≡ Some m → (slice_get marks i ≡ Some New) ⊎ ((slice_get marks i ≡ Some Entered) ⊎ IsWeighed marks i)
+    by_mark : (m : Mark) → slice_get marks i ≡ Some m → (slice_get marks i ≡ Some New) ⊎ ((slice_get marks i ≡ Some Entered) ⊎ IsMeasured marks i)
     by_mark New h = inl h
     by_mark Entered h = inr (inl h)
-    by_mark (Weighed first_order size arity) h = inr (inr (record { size = size; arity = arity; first_order = first_order }, h))
+    by_mark (Measured first_order size arity) h = inr (inr (record { size = size; arity = arity; first_order = first_order }, h))
 
 module _ (nodes : List Node) (marks : List Mark) (path rest : List ℕ) (top : ℕ) (n : Node) (s : IsSearch nodes marks path) (last : path ≡ rest ++ top ∷ []) (at_node : slice_get nodes top ≡ Some n) where
   at_top : slice_get path (length rest) ≡ Some top
@@ -203,7 +203,7 @@ module _ (nodes : List Node) (marks : List Mark) (path rest : List ℕ) (top : �
   top_below = slice_get_within marks top Entered top_entered
 
   -- a child that is on the path is a part of itself
-  pub cycle : (c : ℕ) → IsStore nodes → IsChildOf n c → IsStarted marks c → ((w : Weight) → slice_get marks c ≡ Some (weighed w) → ⊥) → (v : Valuation) → IsValuationOf v nodes → ⊥
+  pub cycle : (c : ℕ) → IsStore nodes → IsChildOf n c → IsStarted marks c → ((w : Measure) → slice_get marks c ≡ Some (measured w) → ⊥) → (v : Valuation) → IsValuationOf v nodes → ⊥
   cycle c store child started never v r =
       let below = child_below nodes top n store at_node c child in
       elim (mark_cases marks c (omega (arith, s.as_long, below))) [
@@ -225,9 +225,9 @@ module _ (nodes : List Node) (marks : List Mark) (path rest : List ℕ) (top : �
       let le : p ≤ length rest = omega (arith, place, ap length last, length-append rest (top ∷ [])) in
       omega (arith, child_lower nodes v top c n store r at_node child, s.falling v r p (length rest) i top le h at_top))
 
-  module _ (w : Weight) (step : IsWeighingStep marks n (Done w)) where
-    never_weighed : (u : Weight) → slice_get marks top ≡ Some (weighed u) → ⊥
-    never_weighed u h = entered_not_weighed u (sym top_entered ∙ h)
+  module _ (w : Measure) (step : IsMeasuringStep marks n (Done w)) where
+    never_measured : (u : Measure) → slice_get marks top ≡ Some (measured u) → ⊥
+    never_measured u h = entered_not_measured u (sym top_entered ∙ h)
 
     abbrev value : SortTree
     value = reading_of s.reading.valuation n
@@ -235,26 +235,26 @@ module _ (nodes : List Node) (marks : List Mark) (path rest : List ℕ) (top : �
     abbrev more_valuation : Valuation
     more_valuation = put s.reading.valuation top value
 
-    -- a weighed node keeps its sort
-    keeps : (i : ℕ) → IsWeighed marks i → more_valuation i ≡ s.reading.valuation i
-    keeps i (u, h) = put_other s.reading.valuation top value i (λ e. never_weighed u (subst (λ (k : ℕ). slice_get marks k ≡ Some (weighed u)) e h))
+    -- a measured node keeps its sort
+    keeps : (i : ℕ) → IsMeasured marks i → more_valuation i ≡ s.reading.valuation i
+    keeps i (u, h) = put_other s.reading.valuation top value i (λ e. never_measured u (subst (λ (k : ℕ). slice_get marks k ≡ Some (measured u)) e h))
 
     describes_value : Describes w value
     describes_value = step.1 s.reading.valuation value s.reading.describes (reads_of s.reading.valuation n)
 
-    still_weighed : (c : ℕ) → IsWeighed marks c → IsWeighed (set marks top (weighed w)) c
-    still_weighed c h = weighed_after marks top c (weighed w) never_weighed h
+    still_measured : (c : ℕ) → IsMeasured marks c → IsMeasured (set marks top (measured w)) c
+    still_measured c h = measured_after marks top c (measured w) never_measured h
 
-    weighed_place : (i : ℕ) (u : Weight) → slice_get (set marks top (weighed w)) i ≡ Some (weighed u) → ((i ≡ top) × (u ≡ w)) ⊎ (slice_get marks i ≡ Some (weighed u))
-    weighed_place i u h =
-        let x = written marks top i (weighed w) (weighed u) top_below h in
+    measured_place : (i : ℕ) (u : Measure) → slice_get (set marks top (measured w)) i ≡ Some (measured u) → ((i ≡ top) × (u ≡ w)) ⊎ (slice_get marks i ≡ Some (measured u))
+    measured_place i u h =
+        let x = written marks top i (measured w) (measured u) top_below h in
         elim (here_or_not top i) [
-          | inl same ↦ inl (same, same_weight u w (x.there same))
+          | inl same ↦ inl (same, same_measure u w (x.there same))
           | inr other ↦ inr (x.elsewhere other)
         ]
       where
-        same_weight : (a b : Weight) → weighed a ≡ weighed b → a ≡ b
-        same_weight a b e = ap weight_in e
+        same_measure : (a b : Measure) → measured a ≡ measured b → a ≡ b
+        same_measure a b e = ap measure_in e
 
     not_top_in_front : (p i : ℕ) → slice_get rest p ≡ Some i → i ≢ top
     not_top_in_front p i h e =
@@ -264,16 +264,16 @@ module _ (nodes : List Node) (marks : List Mark) (path rest : List ℕ) (top : �
     same_node : (m : Node) → slice_get nodes top ≡ Some m → n ≡ m
     same_node m h = same_Some n m (sym at_node ∙ h)
 
-    more_reading : PartReading nodes (set marks top (weighed w))
+    more_reading : PartReading nodes (set marks top (measured w))
     more_reading = record {
       valuation = more_valuation;
-      describes = λ i u h. elim (weighed_place i u h) [
+      describes = λ i u h. elim (measured_place i u h) [
         | inl (same, is) ↦
-            subst (λ (x : Weight). Describes x (more_valuation i)) (sym is)
+            subst (λ (x : Measure). Describes x (more_valuation i)) (sym is)
             (subst (Describes w) (sym (ap more_valuation same ∙ put_same s.reading.valuation top value)) describes_value)
         | inr before ↦ subst (Describes u) (sym (keeps i (u, before))) (s.reading.describes i u before)
       ];
-      reads = λ i m h there. elim (weighed_place i h.0 h.1) [
+      reads = λ i m h there. elim (measured_place i h.0 h.1) [
         | inl (same, is) ↦
             let e = same_node m (ap (slice_get nodes) (sym same) ∙ there) in
             subst (λ (x : Node). ReadsNode more_valuation (more_valuation i) x) e
@@ -283,23 +283,23 @@ module _ (nodes : List Node) (marks : List Mark) (path rest : List ℕ) (top : �
             reads_same s.reading.valuation more_valuation (more_valuation i) m (λ c child. keeps c (s.reading.children i m (h.0, before) there c child))
             (subst (λ (x : SortTree). ReadsNode s.reading.valuation x m) (sym (keeps i (h.0, before))) (s.reading.reads i m (h.0, before) there))
       ];
-      children = λ i m h there c child. elim (weighed_place i h.0 h.1) [
+      children = λ i m h there c child. elim (measured_place i h.0 h.1) [
         | inl (same, is) ↦
             let e = same_node m (ap (slice_get nodes) (sym same) ∙ there) in
-            still_weighed c (step.0 c (subst (λ (x : Node). IsChildOf x c) (sym e) child))
-        | inr before ↦ still_weighed c (s.reading.children i m (h.0, before) there c child)
+            still_measured c (step.0 c (subst (λ (x : Node). IsChildOf x c) (sym e) child))
+        | inr before ↦ still_measured c (s.reading.children i m (h.0, before) there c child)
       ];
     }
 
-    entered_elsewhere : (i : ℕ) → slice_get (set marks top (weighed w)) i ≡ Some Entered → (slice_get marks i ≡ Some Entered) × (i ≢ top)
+    entered_elsewhere : (i : ℕ) → slice_get (set marks top (measured w)) i ≡ Some Entered → (slice_get marks i ≡ Some Entered) × (i ≢ top)
     entered_elsewhere i h =
-        let other : i ≢ top = λ e. entered_not_weighed w (sym h ∙ (ap (slice_get (set marks top (weighed w))) e ∙ get_set_same marks top (weighed w) top_below)) in
-        ((written marks top i (weighed w) Entered top_below h).elsewhere other, other)
+        let other : i ≢ top = λ e. entered_not_measured w (sym h ∙ (ap (slice_get (set marks top (measured w))) e ∙ get_set_same marks top (measured w) top_below)) in
+        ((written marks top i (measured w) Entered top_below h).elsewhere other, other)
 
-    weighed_search : IsSearch nodes (set marks top (weighed w)) rest
-    weighed_search = record {
-      as_long = length-set marks top (weighed w) ∙ s.as_long;
-      entered = λ p i h. get_set_other marks top i (weighed w) (not_top_in_front p i h) ∙ s.entered p i (in_front p i h);
+    measured_search : IsSearch nodes (set marks top (measured w)) rest
+    measured_search = record {
+      as_long = length-set marks top (measured w) ∙ s.as_long;
+      entered = λ p i h. get_set_other marks top i (measured w) (not_top_in_front p i h) ∙ s.entered p i (in_front p i h);
       on_path = λ i h.
           let x = entered_elsewhere i h in
           let p = s.on_path i x.0 in
@@ -312,19 +312,19 @@ module _ (nodes : List Node) (marks : List Mark) (path rest : List ℕ) (top : �
       reading = more_reading;
     }
 
-    pub weighed_advances : AdvancesSearch nodes marks path (set marks top (weighed w)) rest
-    weighed_advances = record {
-      search = weighed_search;
-      smaller = omega (arith, count_set marks top Entered (weighed w) top_entered, ap length last, length-append rest (top ∷ []));
+    pub measured_advances : AdvancesSearch nodes marks path (set marks top (measured w)) rest
+    measured_advances = record {
+      search = measured_search;
+      smaller = omega (arith, count_set marks top Entered (measured w) top_entered, ap length last, length-append rest (top ∷ []));
       kept = λ i h e. elim (here_or_not top i) [
-        | inl same ↦ new_not_weighed w (sym e ∙ (ap (slice_get (set marks top (weighed w))) same ∙ get_set_same marks top (weighed w) top_below))
-        | inr other ↦ h (sym (get_set_other marks top i (weighed w) other) ∙ e)
+        | inl same ↦ new_not_measured w (sym e ∙ (ap (slice_get (set marks top (measured w))) same ∙ get_set_same marks top (measured w) top_below))
+        | inr other ↦ h (sym (get_set_other marks top i (measured w) other) ∙ e)
       ];
     }
 
--- where the path is empty, what was come to is weighed
-pub started_weighed : (nodes : List Node) (marks : List Mark) (i : ℕ) → IsSearch nodes marks [] → i < length marks → IsStarted marks i → IsWeighed marks i
-started_weighed nodes marks i s within started = elim (mark_cases marks i within) [
+-- where the path is empty, what was come to is measured
+pub started_measured : (nodes : List Node) (marks : List Mark) (i : ℕ) → IsSearch nodes marks [] → i < length marks → IsStarted marks i → IsMeasured marks i
+started_measured nodes marks i s within started = elim (mark_cases marks i within) [
   | inl e ↦ absurd (started e)
   | inr (inl e) ↦ let p = s.on_path i e in absurd (nothing_there p.0 i p.1)
   | inr (inr e) ↦ e
@@ -346,7 +346,7 @@ popped path now rest top m last is long =
 
 -- a child that is put on the path, or was on it
 pub child_advances : (nodes : List Node) (marks : List Mark) (path : List ℕ) (top : ℕ) (n : Node) (c : ℕ) (new : List Mark) (longer : List ℕ) (answer : Bool) → IsSearch nodes marks path → IsLastOnPath path top → slice_get nodes top ≡ Some n
-    → IsStore nodes → IsWeighingStep marks n (Child c) → IsEntry marks path c new longer answer → IsAdvance nodes marks path new longer answer
+    → IsStore nodes → IsMeasuringStep marks n (Child c) → IsEntry marks path c new longer answer → IsAdvance nodes marks path new longer answer
 child_advances nodes marks path top n c new longer true s (rest, last) at store step (is_new, marked, pushed) =
     subst (λ (ms : List Mark). AdvancesSearch nodes marks path ms longer) (sym marked)
     (subst (λ (xs : List ℕ). AdvancesSearch nodes marks path (set marks c Entered) xs) (sym pushed) (child_entered nodes marks path rest top n s last at c store step.0 is_new))
@@ -375,29 +375,29 @@ search_none nodes marks path all empty = record {
   falling = λ v r p q i j l h k. absurd (nothing_on path p i empty h);
   reading = record {
     valuation = λ _. o;
-    describes = λ i w h. absurd (new_not_weighed w (ap (λ m. Some m) (sym (is_new i (weighed w) h))));
-    reads = λ i n h at. absurd (new_not_weighed h.0 (ap (λ m. Some m) (sym (is_new i (weighed h.0) h.1))));
-    children = λ i n h at. absurd (new_not_weighed h.0 (ap (λ m. Some m) (sym (is_new i (weighed h.0) h.1))));
+    describes = λ i w h. absurd (new_not_measured w (ap (λ m. Some m) (sym (is_new i (measured w) h))));
+    reads = λ i n h at. absurd (new_not_measured h.0 (ap (λ m. Some m) (sym (is_new i (measured h.0) h.1))));
+    children = λ i n h at. absurd (new_not_measured h.0 (ap (λ m. Some m) (sym (is_new i (measured h.0) h.1))));
   };
 }
   where
     is_new : (i : ℕ) (m : Mark) → slice_get marks i ≡ Some m → m ≡ New
     is_new i m h = get_replicate (length nodes) i New m (ap (λ (ms : List Mark). slice_get ms i) (sym all) ∙ h)
 
--- after a walk from each node all are weighed
-pub all_weighed : (nodes : List Node) (marks : List Mark) (path : List ℕ) → IsSearch nodes marks path → path ≡ [] → ((i : ℕ) → i < length nodes → IsStarted marks i) → (i : ℕ) → i < length marks → IsWeighed marks i
-all_weighed nodes marks path s empty started i within =
-    started_weighed nodes marks i (subst (IsSearch nodes marks) empty s) within (started i (omega (arith, s.as_long)))
+-- after a walk from each node all are measured
+pub all_measured : (nodes : List Node) (marks : List Mark) (path : List ℕ) → IsSearch nodes marks path → path ≡ [] → ((i : ℕ) → i < length nodes → IsStarted marks i) → (i : ℕ) → i < length marks → IsMeasured marks i
+all_measured nodes marks path s empty started i within =
+    started_measured nodes marks i (subst (IsSearch nodes marks) empty s) within (started i (omega (arith, s.as_long)))
 
-pub weighing : (nodes : List Node) (marks : List Mark) (path : List ℕ) → IsSearch nodes marks path → path ≡ [] → ((i : ℕ) → i < length nodes → IsStarted marks i) → Weighing nodes (weights_in marks)
-weighing nodes marks path s empty started =
-    let all = all_weighed nodes marks path s empty started in
+pub measuring : (nodes : List Node) (marks : List Mark) (path : List ℕ) → IsSearch nodes marks path → path ≡ [] → ((i : ℕ) → i < length nodes → IsStarted marks i) → Measuring nodes (measures_in marks)
+measuring nodes marks path s empty started =
+    let all = all_measured nodes marks path s empty started in
     record {
-      as_long = length-map marks weight_in ∙ s.as_long;
+      as_long = length-map marks measure_in ∙ s.as_long;
       valuation = s.reading.valuation;
       reading = record { reads = λ i n h. s.reading.reads i n (all i (omega (arith, slice_get_within nodes i n h, s.as_long))) h };
       describes = λ i w h.
-          let x = all i (omega (arith, slice_get_within (weights_in marks) i w h, length-map marks weight_in)) in
-          let same : x.0 ≡ w = same_Some x.0 w (sym (slice_get-map weight_in marks i ∙ ap (option_map weight_in) x.1) ∙ h) in
-          subst (λ (y : Weight). Describes y (s.reading.valuation i)) same (s.reading.describes i x.0 x.1);
+          let x = all i (omega (arith, slice_get_within (measures_in marks) i w h, length-map marks measure_in)) in
+          let same : x.0 ≡ w = same_Some x.0 w (sym (slice_get-map measure_in marks i ∙ ap (option_map measure_in) x.1) ∙ h) in
+          subst (λ (y : Measure). Describes y (s.reading.valuation i)) same (s.reading.describes i x.0 x.1);
     }

@@ -3,7 +3,7 @@ pub mod Nodes
 pub mod Constraints
 pub mod Solving
 pub mod Solution
-pub mod Weights
+pub mod Measures
 pub mod Search
 pub mod Reading
 pub mod Naming

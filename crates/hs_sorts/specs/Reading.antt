@@ -1,17 +1,17 @@
--- What is read from weighed nodes.
+-- What is read from measured nodes.
 use Rattle.std.specs.Prelude.{◌≡◌, ℕ, ◌<◌, List, length, Option, Some, None, slice_get, unwrap_or}
 use Rattle.std.specs.Option.{option_map}
 use Rattle.hs_scheme.specs.sorting.Sorting.{o, arrow}
 use Rattle.hs_sorts.specs.declared.store.Shape.{Shape}
 use Rattle.hs_sorts.specs.declared.store.Shape.TheVariants.{Open, Base, Arrow}
 use Rattle.hs_sorts.specs.declared.store.Node.{Node}
-use Rattle.hs_sorts.specs.declared.weights.Weight.{Weight}
+use Rattle.hs_sorts.specs.declared.measures.Measure.{Measure}
 use Rattle.hs_sorts.specs.Nodes.{Valuation}
-use Rattle.hs_sorts.specs.Weights.{IsReading}
+use Rattle.hs_sorts.specs.Measures.{IsReading}
 
 -- the counted size at a node
-abbrev pub size_at : List Weight → ℕ → ℕ
-size_at weights i = unwrap_or (option_map (λ w. w.size) (slice_get weights i)) 0
+abbrev pub size_at : List Measure → ℕ → ℕ
+size_at measures i = unwrap_or (option_map (λ w. w.size) (slice_get measures i)) 0
 
 -- the nodes of an arrow's argument and of the rest
 abbrev pub parts : Shape → Option (ℕ × ℕ)

@@ -1,14 +1,14 @@
--- The walk that weighs the nodes: each node is new, on the path, or weighed after its children.
+-- The walk that measures the nodes: each node is new, on the path, or measured after its children.
 --     rank        falls from a node to its children, whatever respects the nodes
 --     IsSearch    what holds between steps
 use Rattle.std.specs.Prelude.{◌≡◌, ◌≢◌, ℕ, ◌+◌, ◌*◌, ◌<◌, ◌≤◌, List, [], ◌∷◌, ◌++◌, length, slice_get, slice_set, sum_by, Option, Some, None, Bool, true, false}
 use Rattle.hs_scheme.specs.sorting.Sorting.{size}
 use Rattle.hs_sorts.specs.declared.store.Node.{Node}
-use Rattle.hs_sorts.specs.declared.weights.Weight.{Weight}
-use Rattle.hs_sorts.specs.declared.weights.Mark.{Mark}
-use Rattle.hs_sorts.specs.declared.weights.Mark.TheVariants.{New, Entered, Weighed}
+use Rattle.hs_sorts.specs.declared.measures.Measure.{Measure}
+use Rattle.hs_sorts.specs.declared.measures.Mark.{Mark}
+use Rattle.hs_sorts.specs.declared.measures.Mark.TheVariants.{New, Entered, Measured}
 use Rattle.hs_sorts.specs.Nodes.{Valuation, IsValuationOf}
-use Rattle.hs_sorts.specs.Weights.{ReadsNode, IsReading, DescribeAll, MarksDescribe, IsWeighed, ChildrenWeighed}
+use Rattle.hs_sorts.specs.Measures.{ReadsNode, IsReading, DescribeAll, MarksDescribe, IsMeasured, ChildrenMeasured}
 
 abbrev pub rank : Valuation → ℕ → ℕ → ℕ
 rank v count i = size (v i) * (count + 1) + i
@@ -17,17 +17,17 @@ rank v count i = size (v i) * (count + 1) + i
 abbrev pub newness : Mark → ℕ
 newness New = 1
 newness Entered = 0
-newness (Weighed first_order size arity) = 0
+newness (Measured first_order size arity) = 0
 
 abbrev pub new_count : List Mark → ℕ
 new_count marks = sum_by newness marks
 
--- sorts for the weighed nodes, read from them
+-- sorts for the measured nodes, read from them
 pub record PartReading (nodes : List Node) (marks : List Mark) : Type 0 where
   pub valuation : Valuation
   pub describes : MarksDescribe marks valuation
-  pub reads : (i : ℕ) (n : Node) → IsWeighed marks i → slice_get nodes i ≡ Some n → ReadsNode valuation (valuation i) n
-  pub children : (i : ℕ) (n : Node) → IsWeighed marks i → slice_get nodes i ≡ Some n → ChildrenWeighed marks n
+  pub reads : (i : ℕ) (n : Node) → IsMeasured marks i → slice_get nodes i ≡ Some n → ReadsNode valuation (valuation i) n
+  pub children : (i : ℕ) (n : Node) → IsMeasured marks i → slice_get nodes i ≡ Some n → ChildrenMeasured marks n
 
 pub record IsSearch (nodes : List Node) (marks : List Mark) (path : List ℕ) : Type 0 where
   pub as_long : length marks ≡ length nodes
@@ -72,13 +72,13 @@ abbrev pub IsNodeWalk : List Node → List Mark → List Mark → List ℕ → �
 IsNodeWalk nodes old new path start true = Walks nodes old new path start
 IsNodeWalk nodes old new path start false = (v : Valuation) → IsValuationOf v nodes → ⊥
 
--- the sorts that are read from the nodes, with their weights
-pub record Weighing (nodes : List Node) (weights : List Weight) : Type 0 where
-  pub as_long : length weights ≡ length nodes
+-- the sorts that are read from the nodes, with their measures
+pub record Measuring (nodes : List Node) (measures : List Measure) : Type 0 where
+  pub as_long : length measures ≡ length nodes
   pub valuation : Valuation
   pub reading : IsReading valuation nodes
-  pub describes : DescribeAll weights valuation
+  pub describes : DescribeAll measures valuation
 
-abbrev pub IsWeighing : List Node → Option (List Weight) → Type 0
-IsWeighing nodes (Some weights) = Weighing nodes weights
-IsWeighing nodes None = (v : Valuation) → IsValuationOf v nodes → ⊥
+abbrev pub IsMeasuring : List Node → Option (List Measure) → Type 0
+IsMeasuring nodes (Some measures) = Measuring nodes measures
+IsMeasuring nodes None = (v : Valuation) → IsValuationOf v nodes → ⊥

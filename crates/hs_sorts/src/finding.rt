@@ -4,27 +4,27 @@ ghost use Rattle.std.specs.Prelude.{◌≡◌, ◌+◌, ◌≤◌, ◌<◌, ◌^
 ghost use Rattle.hs_scheme.specs.declared.term.Rule.{Rule};
 ghost use Rattle.hs_scheme.specs.Scheme.{AreRules};
 ghost use Rattle.hs_sorts.specs.Nodes.{IsStore, IsFlat};
-ghost use Rattle.hs_sorts.specs.Search.{Weighing};
+ghost use Rattle.hs_sorts.specs.Search.{Measuring};
 ghost use Rattle.hs_sorts.specs.Reading.{size_at};
 ghost use Rattle.hs_sorts.specs.Inference as inference;
 ghost use Rattle.hs_sorts.specs.Finding.{IsFinding, IsFirstHigherOrder, IsFirstLarge, TellsLong, IsFirstLong, AreSorts, AreArities};
 
+use crate::measures::Measures;
 use crate::reading::read_sort;
-use crate::search::weigh;
+use crate::search::measure;
 use crate::solve::solve;
 use crate::store::Store;
-use crate::weights::Weights;
 use hs_scheme::{MAX_ARGUMENTS, MAX_PARAMETERS, OutOfMemory, Rule, Sort, Term};
 use std::alloc::Global;
 
 /// The greatest size that a nonterminal's sort may have.
 pub(crate) const MAX_SORT_SIZE: u16 = 1_000;
 
-/// The nodes of a scheme's first rules, with the weights of their sorts.
+/// The nodes of a scheme's first rules, with the measures of their sorts.
 #[derive(Drop)]
-pub(crate) struct WeighedNodes {
+pub(crate) struct MeasuredNodes {
     pub(crate) store: Store,
-    pub(crate) weights: Weights,
+    pub(crate) measures: Measures,
 }
 
 /// The least sorting of the first `count` rules, as nodes, or `None` where they have no sorting.
@@ -34,7 +34,7 @@ pub(crate) fn find(
     rules: &[Rule],
     ranks: &[Option<u32>],
     count: usize,
-) -> Result<Option<WeighedNodes>, OutOfMemory>
+) -> Result<Option<MeasuredNodes>, OutOfMemory>
     requires rules { AreRules rules.now (length ranks.now) }
     requires count { count ≤ length rules.now }
     ensures { IfOk result (λ found. IsFinding rules.now ranks.now count found) }
@@ -42,20 +42,20 @@ pub(crate) fn find(
     let Some(store) = solve(alloc, rules, ranks, count)? else {
         return Ok(None);
     };
-    let Some(weights) = weigh(alloc, &store)? else {
+    let Some(measures) = measure(alloc, &store)? else {
         return Ok(None);
     };
-    Ok(Some(WeighedNodes { store, weights }))
+    Ok(Some(MeasuredNodes { store, measures }))
 }
 
 /// The first of `count` nodes from `start` on whose sort has an argument other than `o`.
-pub(crate) fn first_higher_order(weights: &Weights, start: u32, count: u32) -> Option<u32>
-    requires { start + count ≤ length weights.now }
-    ensures { IsFirstHigherOrder weights.now start count result }
+pub(crate) fn first_higher_order(measures: &Measures, start: u32, count: u32) -> Option<u32>
+    requires { start + count ≤ length measures.now }
+    ensures { IsFirstHigherOrder measures.now start count result }
 {
     for terminal in 0..count {
-        let weight = weights.at(start as usize + terminal as usize);
-        if !weight.first_order {
+        let measure = measures.at(start as usize + terminal as usize);
+        if !measure.first_order {
             return Some(terminal);
         }
     }
@@ -63,13 +63,13 @@ pub(crate) fn first_higher_order(weights: &Weights, start: u32, count: u32) -> O
 }
 
 /// The first of the first `count` nodes whose sort is larger than a nonterminal's sort may be.
-pub(crate) fn first_large(weights: &Weights, count: u32) -> Option<u32>
-    requires { count ≤ length weights.now }
-    ensures { IsFirstLarge weights.now 0 count result }
+pub(crate) fn first_large(measures: &Measures, count: u32) -> Option<u32>
+    requires { count ≤ length measures.now }
+    ensures { IsFirstLarge measures.now 0 count result }
 {
     for rule in 0..count {
-        let weight = weights.at(rule as usize);
-        if weight.size > MAX_SORT_SIZE {
+        let measure = measures.at(rule as usize);
+        if measure.size > MAX_SORT_SIZE {
             return Some(rule);
         }
     }
@@ -94,14 +94,14 @@ fn is_too_long(rule: &Rule, arity: u32) -> bool
     missing > 0 && (parameters > MAX_PARAMETERS || arguments > MAX_ARGUMENTS)
 }
 
-/// The first rule that is too long, where the weights of the nonterminals come first.
-pub(crate) fn first_too_long(rules: &[Rule], weights: &Weights) -> Option<u32>
-    requires many { length rules.now ≤ length weights.now }
+/// The first rule that is too long, where the measures of the nonterminals come first.
+pub(crate) fn first_too_long(rules: &[Rule], measures: &Measures) -> Option<u32>
+    requires many { length rules.now ≤ length measures.now }
     requires few { length rules.now ≤ 2 ^ 32 }
-    ensures { IsFirstLong rules.now weights.now result }
+    ensures { IsFirstLong rules.now measures.now result }
 {
     for (number, rule) in rules.iter().enumerate() {
-        if is_too_long(rule, weights.at(number).arity) {
+        if is_too_long(rule, measures.at(number).arity) {
             return Some(number as u32);
         }
     }
@@ -112,19 +112,19 @@ pub(crate) fn first_too_long(rules: &[Rule], weights: &Weights) -> Option<u32>
 pub(crate) fn read_sorts(
     alloc: Global,
     store: &Store,
-    weights: &Weights,
+    measures: &Measures,
     count: u32,
 ) -> Result<Vec<Sort>, OutOfMemory>
     requires store { IsStore store.now }
     requires flat { IsFlat store.now }
-    requires weights { Weighing store.now weights.now }
+    requires measures { Measuring store.now measures.now }
     requires count { count ≤ length store.now }
-    requires small { (i : ℕ) → i < count → size_at weights.now i ≤ 1000 }
+    requires small { (i : ℕ) → i < count → size_at measures.now i ≤ 1000 }
     ensures { IfOk result (λ sorts. AreSorts store.now count sorts.items) }
 {
     let mut sorts = Vec::with_capacity(alloc, count as usize)?;
     for node in 0..count {
-        sorts.push_reserved(read_sort(alloc, store, weights, node)?);
+        sorts.push_reserved(read_sort(alloc, store, measures, node)?);
     }
     Ok(sorts)
 }
@@ -132,16 +132,16 @@ pub(crate) fn read_sorts(
 /// The numbers of arguments of the sorts of `count` nodes from `start` on.
 pub(crate) fn arities(
     alloc: Global,
-    weights: &Weights,
+    measures: &Measures,
     start: u32,
     count: usize,
 ) -> Result<Vec<u32>, OutOfMemory>
-    requires { start + count ≤ length weights.now }
-    ensures { IfOk result (λ arities. AreArities weights.now start count arities.items) }
+    requires { start + count ≤ length measures.now }
+    ensures { IfOk result (λ arities. AreArities measures.now start count arities.items) }
 {
     let mut arities = Vec::with_capacity(alloc, count)?;
     for place in 0..count {
-        arities.push_reserved(weights.at(start as usize + place).arity);
+        arities.push_reserved(measures.at(start as usize + place).arity);
     }
     Ok(arities)
 }

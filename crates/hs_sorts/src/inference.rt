@@ -10,7 +10,7 @@ ghost use Rattle.hs_sorts.specs.Least.{AreLeastSorts};
 
 use crate::fault::SortFault;
 use crate::finding::{
-    WeighedNodes, arities, find, first_higher_order, first_large, first_too_long, read_sorts,
+    MeasuredNodes, arities, find, first_higher_order, first_large, first_too_long, read_sorts,
 };
 use crate::lengthening::lengthen;
 use hs_scheme::{OutOfMemory, Rule, Scheme, Sort, Sorted, Unsorted};
@@ -51,7 +51,7 @@ fn read_least(
     alloc: Global,
     rules: &[Rule],
     ranks: &[Option<u32>],
-    found: &WeighedNodes,
+    found: &MeasuredNodes,
 ) -> Result<Least, SortFault>
     requires rules { AreRules rules.now (length ranks.now) }
     requires found { FindsSorting rules.now ranks.now (length rules.now) found.now }
@@ -60,18 +60,18 @@ fn read_least(
     ensures fault { IfErr result (λ fault. IsSortFault rules.now ranks.now fault) }
 {
     let number = rules.len() as u32;
-    let weights = &found.weights;
-    if let Some(terminal) = first_higher_order(weights, number, ranks.len() as u32) {
+    let measures = &found.measures;
+    if let Some(terminal) = first_higher_order(measures, number, ranks.len() as u32) {
         return Err(SortFault::TerminalNotFirstOrder { terminal });
     }
-    if let Some(rule) = first_large(weights, number) {
+    if let Some(rule) = first_large(measures, number) {
         return Err(SortFault::SortTooLarge { rule });
     }
-    if let Some(rule) = first_too_long(rules, weights) {
+    if let Some(rule) = first_too_long(rules, measures) {
         return Err(SortFault::RuleTooLong { rule });
     }
-    let sorts = read_sorts(alloc, &found.store, weights, number)?;
-    let ranks = arities(alloc, weights, number, ranks.len())?;
+    let sorts = read_sorts(alloc, &found.store, measures, number)?;
+    let ranks = arities(alloc, measures, number, ranks.len())?;
     Ok(Least { sorts, ranks })
 }
 

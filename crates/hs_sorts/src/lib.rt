@@ -12,11 +12,11 @@ mod heads;
 mod inference;
 mod laws;
 mod lengthening;
+mod measures;
 mod reading;
 mod search;
 mod solve;
 mod store;
-mod weights;
 
 pub use fault::SortFault;
 pub use inference::infer;

@@ -2,13 +2,13 @@
 
 ghost use Rattle.std.specs.Prelude.{◌≡◌, ◌<◌, ◌≤◌, length, IfOk};
 ghost use Rattle.hs_sorts.specs.Nodes.{Valuation, IsStore, IsFlat};
-ghost use Rattle.hs_sorts.specs.Weights.{IsReading};
-ghost use Rattle.hs_sorts.specs.Search.{Weighing};
+ghost use Rattle.hs_sorts.specs.Measures.{IsReading};
+ghost use Rattle.hs_sorts.specs.Search.{Measuring};
 ghost use Rattle.hs_sorts.specs.Reading as reading;
 ghost use Rattle.hs_sorts.specs.Reading.{size_at, IsSplitAt};
 
+use crate::measures::Measures;
 use crate::store::{Node, Shape, Store};
-use crate::weights::Weights;
 use hs_scheme::{OutOfMemory, Sort};
 use std::alloc::Global;
 
@@ -45,20 +45,20 @@ fn split(store: &Store, node: u32) -> Option<(u32, u32)>
 pub(crate) fn read_sort(
     alloc: Global,
     store: &Store,
-    weights: &Weights,
+    measures: &Measures,
     node: u32,
 ) -> Result<Sort, OutOfMemory>
     requires store { IsStore store.now }
     requires flat { IsFlat store.now }
-    requires weights { Weighing store.now weights.now }
+    requires measures { Measuring store.now measures.now }
     requires node { node < length store.now }
-    requires small { size_at weights.now node ≤ 1000 }
+    requires small { size_at measures.now node ≤ 1000 }
     ensures { IfOk result (λ sort. (v : Valuation) → IsReading v store.now → sort ≡ v node) }
 {
     let mut args = Vec::new(alloc);
     let mut at = node;
     while let Some((argument, rest)) = split(store, at) {
-        args.push(read_sort(alloc, store, weights, argument)?)?;
+        args.push(read_sort(alloc, store, measures, argument)?)?;
         at = rest;
     }
     Ok(Sort { args })

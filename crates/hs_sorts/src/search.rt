@@ -1,11 +1,11 @@
-//! The walk over the nodes that weighs each after its children.
+//! The walk over the nodes that measures each after its children.
 
 ghost use Rattle.std.specs.Prelude.{◌≡◌, ◌<◌, [], length, IfOk};
 ghost use Rattle.hs_sorts.specs.Nodes.{IsStore};
-ghost use Rattle.hs_sorts.specs.Search.{IsSearch, IsLastOnPath, IsAdvance, IsEntry, IsNodeWalk, IsWeighing};
+ghost use Rattle.hs_sorts.specs.Search.{IsSearch, IsLastOnPath, IsAdvance, IsEntry, IsNodeWalk, IsMeasuring};
 
+use crate::measures::{Mark, Measures, Step, step_at};
 use crate::store::Store;
-use crate::weights::{Mark, Step, Weights, step_at};
 use hs_scheme::OutOfMemory;
 use std::alloc::Global;
 
@@ -31,7 +31,7 @@ impl Search {
         Ok(true)
     }
 
-    /// Weighs the last node of the path, or goes on to a child that has to be weighed first.
+    /// Measures the last node of the path, or goes on to a child that has to be measured first.
     /// `false` where that child is on the path, so that a sort would be a part of itself.
     fn advance(&mut self, store: &Store, at: u32) -> Result<bool, OutOfMemory>
         requires search { IsSearch store.now self.old.marks.items self.old.path.items }
@@ -41,8 +41,8 @@ impl Search {
             self.new.marks.items self.new.path.items yes) }
     {
         match step_at(self.marks.as_slice(), store.node_at(at))? {
-            Step::Done(weight) => {
-                self.marks[at as usize] = Mark::weighed(weight);
+            Step::Done(measure) => {
+                self.marks[at as usize] = Mark::measured(measure);
                 let _ = self.path.pop();
                 Ok(true)
             }
@@ -50,7 +50,7 @@ impl Search {
         }
     }
 
-    /// Weighs a node and all nodes that its sort is read from. `false` where a sort would be a
+    /// Measures a node and all nodes that its sort is read from. `false` where a sort would be a
     /// part of itself.
     fn walk(&mut self, store: &Store, start: u32) -> Result<bool, OutOfMemory>
         requires start { start < length store.now }
@@ -72,11 +72,11 @@ impl Search {
     }
 }
 
-/// The weights of the sorts that the nodes stand for, where the sort of an open node is `o`, or
+/// The measures of the sorts that the nodes stand for, where the sort of an open node is `o`, or
 /// `None` where some sort would be a part of itself. Time and memory are linear in the number of
-/// nodes: a sort that many nodes have a part in is weighed once, however large it is as a tree.
-pub(crate) fn weigh(alloc: Global, store: &Store) -> Result<Option<Weights>, OutOfMemory>
-    ensures { IfOk result (λ weights. IsWeighing store.now weights) }
+/// nodes: a sort that many nodes have a part in is measured once, however large it is as a tree.
+pub(crate) fn measure(alloc: Global, store: &Store) -> Result<Option<Measures>, OutOfMemory>
+    ensures { IfOk result (λ measures. IsMeasuring store.now measures) }
 {
     let count = store.len();
     let marks = vec![in alloc; Mark::New; count]?;
@@ -89,5 +89,5 @@ pub(crate) fn weigh(alloc: Global, store: &Store) -> Result<Option<Weights>, Out
             return Ok(None);
         }
     }
-    Ok(Some(Weights::of(search.marks)))
+    Ok(Some(Measures::of(search.marks)))
 }

@@ -2,3 +2,4 @@ pub mod Rows
 pub mod Reading
 pub mod Memory
 pub mod Comparing
+pub mod LastStates

@@ -2,12 +2,11 @@
 --     IsAnswer I q answer       the answer is true exactly where what is asked is so of the trees that the numbers stand for
 --     Remembers I memo          all answers are so, and the types that were seen are as strong as themselves
 --     nothing                   no answers
---     AsksSome I env others     the environment asks at least what one of the others asks
 --     IsCovered I row rows      the entry of one of the rows covers that of the row
 --     IsWithin, Learns, Sees    how calls change what is remembered
 use Rattle.std.specs.Prelude.{◌≡◌, ℕ, ◌<◌, Bool, true, List, [], length, slice_get, Some, IsTrue, Contains, ◌⊎◌, ◌↔◌}
-use Rattle.hs_weak.specs.Strength.{AsStrongAs, AsksEach, AsksAtLeast, Covers}
-use Rattle.hs_types.specs.Interned.{InternerData, type_of_id, set_of_id, env_of_id, RowData, entry_of}
+use Rattle.hs_weak.specs.Strength.{AsStrongAs, AsksEach, Covers}
+use Rattle.hs_types.specs.Interned.{InternerData, type_of_id, set_of_id, RowData, entry_of}
 use Rattle.hs_strength.specs.declared.memo.Question.{Question}
 use Rattle.hs_strength.specs.declared.memo.Question.TheVariants.{Types, Sets}
 use Rattle.hs_strength.specs.Memo.{MemoData}
@@ -22,9 +21,6 @@ pub record Remembers (I : InternerData) (memo : MemoData) : Type 0 where
 
 abbrev pub nothing : MemoData
 nothing = record { answers = []; seen = [] }
-
-abbrev pub AsksSome : InternerData → ℕ → List ℕ → Type 0
-AsksSome I env others = (e : ℕ) × (Contains others e × AsksAtLeast AsStrongAs (env_of_id I env) (env_of_id I e))
 
 abbrev pub IsCovered : InternerData → RowData → List RowData → Type 0
 IsCovered I row rows = (by : RowData) × (Contains rows by × Covers AsStrongAs (entry_of I by) (entry_of I row))

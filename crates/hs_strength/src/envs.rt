@@ -1,10 +1,10 @@
 //! Which environments ask at least what others ask.
 
-ghost use Rattle.std.specs.Prelude.{◌<◌, ◌↔◌, length, All, IfOk, IsTrue};
+ghost use Rattle.std.specs.Prelude.{◌<◌, ◌↔◌, length, IfOk, IsTrue};
 ghost use Rattle.hs_table.specs.Entries.{set_at};
 ghost use Rattle.hs_weak.specs.Strength.{AsStrongAs, AsksEach, AsksAtLeast};
 ghost use Rattle.hs_types.specs.Interned.{set_of_id, env_of_id};
-ghost use Rattle.hs_strength.specs.Remembered.{Remembers, AsksSome};
+ghost use Rattle.hs_strength.specs.Remembered.{Remembers};
 
 use crate::memo::Strengths;
 use hs_scheme::OutOfMemory;
@@ -57,26 +57,5 @@ impl Strengths {
             }
         }
         Ok(true)
-    }
-
-    /// Whether an environment asks at least what one of the others asks. Ends at the first such one.
-    pub fn asks_some(
-        &mut self,
-        types: &Interner,
-        env: EnvId,
-        others: &[EnvId],
-    ) -> Result<bool, OutOfMemory>
-        requires env { env < length types.now.envs }
-        requires others { All (λ e. e < length types.now.envs) others.now }
-        requires memo { Remembers types.now self.old }
-        ensures ok { IfOk result (λ answer. IsTrue answer ↔ AsksSome types.now env others.now) }
-        ensures memo { Remembers types.now self.new }
-    {
-        for other in others {
-            if self.asks_at_least(types, env, *other)? {
-                return Ok(true);
-            }
-        }
-        Ok(false)
     }
 }

@@ -7,9 +7,11 @@
 mod entries;
 mod envs;
 mod itself;
+mod last_states;
 mod laws;
 mod memo;
 mod types;
 
+pub use last_states::{has_last_state, last_state};
 pub use laws::what_is_remembered_stays;
 pub use memo::Strengths;

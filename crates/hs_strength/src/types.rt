@@ -5,6 +5,7 @@ ghost use Rattle.hs_weak.specs.Strength.{AsStrongAs, AsksFor, AsksEach};
 ghost use Rattle.hs_types.specs.Interned.{type_of_id, set_of_id};
 ghost use Rattle.hs_strength.specs.Remembered.{Remembers};
 
+use crate::last_states::may_ask_each;
 use crate::memo::{Question, Strengths};
 use hs_scheme::OutOfMemory;
 use hs_types::{Interner, SetId, TyId, View};
@@ -91,8 +92,9 @@ impl Strengths {
         }
     }
 
-    /// Whether for each type of the other set some type of the set is as strong. Each pair of sets is
-    /// compared once, and where they are equal or the other is empty, no types are compared.
+    /// Whether for each type of the other set some type of the set is as strong. Where they are equal or the
+    /// other is empty, or by the state at the end of its first type, no types are compared. Each other pair
+    /// of sets is compared once.
     #[cycle(strength)]
     pub(crate) fn asks_each(
         &mut self,
@@ -113,6 +115,9 @@ impl Strengths {
         if set == other {
             self.see_set(types, set)?;
             return Ok(true);
+        }
+        if !may_ask_each(types, set, other) {
+            return Ok(false);
         }
         if let Some(answer) = self.find(Question::Sets(set, other)) {
             return Ok(answer);

@@ -111,6 +111,21 @@ pub fn certificate_report(
     text.finish()
 }
 
+/// The report of a certificate of acceptance with so many entries and void environments, without their lines:
+/// that of `certificate_report` where it isn't `listed`.
+pub fn certificate_summary(
+    alloc: Global,
+    entries: usize,
+    void: usize,
+    removed: Option<u64>,
+) -> Result<Vec<u8>, OutOfMemory>
+    ensures { IfOk result (λ text. text.items ≡ lines.certificate_summary entries void removed) }
+{
+    let mut text = Text::new(alloc);
+    push_certificate(entries, void, removed, &mut text);
+    text.finish()
+}
+
 /// The line of a void environment, with the LF at its end. Recurses as deep as its types.
 pub fn void_line(alloc: Global, problem: &Problem, void: &Void) -> Result<Vec<u8>, OutOfMemory>
     ensures { IfOk result (λ text. text.items ≡ lines.void_line problem.now void.now) }

@@ -12,7 +12,7 @@ mod table;
 mod verdict;
 
 pub use canonical::scheme_text;
-pub use evidence::{certificate_report, path_report, void_line};
+pub use evidence::{certificate_report, certificate_summary, path_report, void_line};
 pub use laws::report_is_unique;
 pub use minimal::Minimal;
 pub use pieces::name_of;

@@ -6,7 +6,7 @@ use Rattle.hs_table.specs.Entries.{Env}
 use Rattle.hs_table_laws.proofs.Members.{taken_next, pushed_cases}
 use Rattle.hs_types.specs.Interned.{InternerData, env_of_id}
 use Rattle.hs_weak.specs.Strength.{AsStrongAs, AsksAtLeast}
-use Rattle.hs_choices.specs.Numbered.{VoidRowData}
+use Rattle.hs_numbered.specs.Certificates.{VoidRowData}
 use Rattle.hs_void.specs.Voids.{BasisData}
 use Rattle.hs_void.proofs.ByRows.{AsksVoid}
 

@@ -9,7 +9,8 @@ use Rattle.hs_weak.specs.Sites.{SiteData}
 use Rattle.hs_weak.specs.Void.{HasEntry, Misses, IsMissed, VoidData, IsVoid}
 use Rattle.hs_types.specs.Interned.{InternerData, env_of_id, RowData, entry_of}
 use Rattle.hs_sites.specs.Walks.{EachChainHas}
-use Rattle.hs_choices.specs.Numbered.{VoidRowData, void_of, AreTableRows, AreNumbered}
+use Rattle.hs_numbered.specs.Certificates.{VoidRowData, void_of}
+use Rattle.hs_choices.specs.Numbered.{AreTableRows, AreNumbered}
 use Rattle.hs_void.specs.Rows.{HasRow, MissesByRows}
 use Rattle.hs_void.specs.Voids.{BasisData}
 

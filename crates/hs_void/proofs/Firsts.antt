@@ -9,7 +9,8 @@ use Rattle.hs_table.specs.Entries.{EntryData}
 use Rattle.hs_table_laws.proofs.Places.{place_of, within_from}
 use Rattle.hs_weak.specs.Void.{VoidData}
 use Rattle.hs_types.specs.Interned.{InternerData, Grows}
-use Rattle.hs_choices.specs.Numbered.{VoidRowData, void_of, AreNumbered}
+use Rattle.hs_numbered.specs.Certificates.{VoidRowData, void_of}
+use Rattle.hs_choices.specs.Numbered.{AreNumbered}
 use Rattle.hs_choices.proofs.Choosing.{map_read}
 use Rattle.hs_choices.proofs.Staying.{void_stays}
 use Rattle.hs_void.specs.Voids.{BasisData, HasBlocked, IsWithout}

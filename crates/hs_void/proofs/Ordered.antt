@@ -2,7 +2,7 @@
 use Rattle.std.proofs.Common.{◌≡◌, ℕ, ◌+◌, ◌≤◌, true, false, ltb, leb, List, length, get_or, arith}
 use Rattle.std.specs.List.Sorted.{IsPartitionPoint}
 use Rattle.std.proofs.lemmas.Bool.{ltb-true, ltb-false, leb-true, leb-false}
-use Rattle.hs_choices.specs.Numbered.{VoidRowData}
+use Rattle.hs_numbered.specs.Certificates.{VoidRowData}
 use Rattle.hs_flow_checker.specs.Starts.{IsStartBy}
 
 pub start_below : (rows : List VoidRowData) (u n : ℕ) → n ≤ length rows → IsPartitionPoint (λ (v : VoidRowData). ltb v.rule u ≡ true) (λ (v : VoidRowData). ltb v.rule u ≡ false) rows n → IsStartBy (λ (v : VoidRowData). v.rule) rows u n

@@ -16,7 +16,8 @@ use Rattle.hs_weak.specs.Void.{VoidData}
 use Rattle.hs_types.specs.Interned.{type_of_id, RowData}
 use Rattle.hs_sites.specs.declared.sites.Site.{Site}
 use Rattle.hs_void.specs.Rows.{LacksAt, AreMarks}
-use Rattle.hs_choices.specs.Numbered.{VoidRowData, AreNumbered}
+use Rattle.hs_numbered.specs.Certificates.{VoidRowData}
+use Rattle.hs_choices.specs.Numbered.{AreNumbered}
 use Rattle.hs_void.specs.Voids.{BasisData, VoidsData, IsAnswer, Remembers, AreSitesBy, AreRows, Fits}
 
 abbrev Answers : Type 0

@@ -9,7 +9,7 @@ use Rattle.hs_weak.specs.Sites.{SiteData}
 use Rattle.hs_types.specs.Interned.{InternerData, type_of_id, RowData, IsRow, Grows}
 use Rattle.hs_types.proofs.Numbers.{type_within, type_stays, env_within, row_within, row_stays}
 use Rattle.hs_sites.specs.Listed.{data_of}
-use Rattle.hs_choices.specs.Numbered.{VoidRowData}
+use Rattle.hs_numbered.specs.Certificates.{VoidRowData}
 use Rattle.hs_choices.proofs.Asking.{void_more}
 use Rattle.hs_choices.proofs.Staying.{numbered_stays}
 use Rattle.hs_void.specs.declared.memo.Question.{Question}

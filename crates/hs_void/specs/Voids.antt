@@ -20,7 +20,8 @@ use Rattle.hs_sites.specs.Listed.{AreSitesOf, coded_site}
 use Rattle.hs_types.specs.Interned.{InternerData, type_of_id, set_of_id, RowData, IsRow, entry_of}
 use Rattle.hs_choices.specs.Unions.{AreLeastUnions}
 use Rattle.hs_choices.specs.Slots.{AreSlots}
-use Rattle.hs_choices.specs.Numbered.{envs_of, VoidRowData, AreNumbered}
+use Rattle.hs_numbered.specs.Certificates.{VoidRowData}
+use Rattle.hs_choices.specs.Numbered.{envs_of, AreNumbered}
 use Rattle.hs_void.specs.declared.memo.Question.{Question}
 use Rattle.hs_void.specs.Rows.{LacksAt, AreMarks}
 

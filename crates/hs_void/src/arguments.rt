@@ -9,14 +9,14 @@ ghost use Rattle.hs_sites.specs.Listed.{AnySite, data_of};
 ghost use Rattle.hs_sites.specs.Reaching.{IsOn};
 ghost use Rattle.hs_void.specs.Rows.{LacksAt, AreMarks};
 
-use hs_choices::{Comparing, Known, rows_at};
+use hs_choices::{Compared, Comparing, rows_at};
 use hs_scheme::{OutOfMemory, Problem};
 use hs_sites::Site;
 use hs_types::{Row, TyId};
 use std::alloc::Global;
 
 /// Whether one of the rows has a type as strong as this one. Ends at the first such one.
-fn has_row(types: &mut Known, rows: &[Row], ty: TyId) -> Result<bool, OutOfMemory>
+fn has_row(types: &mut Compared, rows: &[Row], ty: TyId) -> Result<bool, OutOfMemory>
     requires rows { All (IsRow types.old) rows.now }
     requires ty { ty < length types.old.types }
     ensures ok { IfOk result (λ has. IsTrue has ↔ ((row : RowData) × (Contains rows.now row
@@ -43,7 +43,7 @@ fn argument_at(problem: &Problem, site: &Site, parameter: usize) -> Option<u32>
 
 /// Whether the site gives the parameter an argument without a row that has a type as strong as this one.
 fn lacks(
-    types: &mut Known,
+    types: &mut Compared,
     problem: &Problem,
     table: &[Row],
     site: &Site,
@@ -71,7 +71,7 @@ fn lacks(
 /// argument the rows there are looked at, up to the first as strong.
 pub(crate) fn marks_of(
     alloc: Global,
-    types: &mut Known,
+    types: &mut Compared,
     problem: &Problem,
     table: &[Row],
     sites: &[Site],

@@ -4,10 +4,10 @@ ghost use Rattle.std.specs.Prelude.{◌≡◌, ◌+◌, ◌≤◌, ◌↔◌, le
 ghost use Rattle.std.specs.List.Sorted.{IsNonDecreasingBy};
 ghost use Rattle.hs_sites.specs.Listed.{AreSites};
 ghost use Rattle.hs_flow_checker.specs.Starts.{IsStartBy};
-ghost use Rattle.hs_choices.specs.Numbered.{VoidRowData};
+ghost use Rattle.hs_numbered.specs.Certificates.{VoidRowData};
 ghost use Rattle.hs_void.specs.Voids.{AreSitesBy};
 
-use hs_choices::VoidRow;
+use hs_numbered::VoidRow;
 use hs_scheme::{OutOfMemory, Problem};
 use hs_sites::{Site, Sites};
 use hs_types::Row;
@@ -30,7 +30,7 @@ pub(crate) struct Basis<'a> {
 impl<'a> Model for Basis<'a> {
     ghost use Rattle.std.specs.Prelude.{map, Contains, ◌↔◌};
     ghost use Rattle.std.specs.List.Sorted.{IsNonDecreasingBy};
-    ghost use Rattle.hs_choices.specs.Numbered.{VoidRowData};
+    ghost use Rattle.hs_numbered.specs.Certificates.{VoidRowData};
     ghost use Rattle.hs_void.specs.Voids.{BasisData, coded_basis};
 
     ghost Value = { BasisData };

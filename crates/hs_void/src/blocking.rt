@@ -12,7 +12,7 @@ ghost use Rattle.hs_void.specs.Voids.{Fits, AreLeastChoices};
 
 use crate::laws::what_fits_stays;
 use crate::voids::Voids;
-use hs_choices::{Known, slots_for};
+use hs_choices::{Compared, slots_for};
 use hs_scheme::{OutOfMemory, Problem};
 use hs_sites::Site;
 use hs_types::{EnvId, SetId};
@@ -33,7 +33,7 @@ fn set_at(sets: &[SetId], none: SetId, place: usize) -> SetId
 /// environment lacks is empty.
 fn sets_of(
     alloc: Global,
-    types: &mut Known,
+    types: &mut Compared,
     env: EnvId,
     given: u32,
     args: &[u32],
@@ -55,7 +55,7 @@ fn sets_of(
 
 /// Whether each of the environments is void. Ends at the first that isn't.
 fn are_void(
-    types: &mut Known,
+    types: &mut Compared,
     voids: &mut Voids,
     rule: u32,
     envs: &[EnvId],
@@ -92,7 +92,7 @@ fn parameters_of(problem: &Problem, rule: u32) -> usize
 /// but for void ones.
 fn least_choices(
     alloc: Global,
-    types: &mut Known,
+    types: &mut Compared,
     voids: &mut Voids,
     point: u32,
     sets: &[SetId],
@@ -122,7 +122,7 @@ fn least_choices(
 /// void. The one error is want of memory. Costs what the least unions cost, and whether each is void.
 pub(crate) fn is_blocked(
     alloc: Global,
-    types: &mut Known,
+    types: &mut Compared,
     voids: &mut Voids,
     site: &Site,
     env: EnvId,

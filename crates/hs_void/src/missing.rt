@@ -1,4 +1,5 @@
 //! Environments that are missed: in each chain some site gives an argument that lacks what is asked of it.
+//! Which sites these are is a mask for each parameter and type, which is remembered, and no chain is listed.
 
 ghost use Rattle.std.specs.Prelude.{◌≡◌, ◌↔◌, ◌⊎◌, ◌<◌, ℕ, length, slice_get, Some, IfOk, OnOk, IsTrue};
 ghost use Rattle.hs_types.specs.Interned.{type_of_id, set_of_id, env_of_id};
@@ -11,7 +12,7 @@ ghost use Rattle.hs_void.specs.Voids.{Remembers, AreSitesBy, AreRows};
 use crate::arguments::{add_marks, marks_of};
 use crate::basis::Basis;
 use crate::memo::{Memo, Question};
-use hs_choices::{Comparing, Known};
+use hs_choices::{Compared, Comparing};
 use hs_scheme::OutOfMemory;
 use hs_sites::{Site, each_chain_has_marked};
 use hs_types::{EnvId, SetId, TyId};
@@ -32,7 +33,7 @@ fn question_of(rule: u32, parameter: usize, ty: TyId) -> Question
 /// nonterminal.
 fn mark_type(
     alloc: Global,
-    types: &mut Known,
+    types: &mut Compared,
     basis: &Basis,
     memo: &mut Memo,
     rule: u32,
@@ -68,7 +69,7 @@ fn mark_type(
 /// Marks, too, the sites that lack a row for the parameter and a type of the set.
 fn mark_set(
     alloc: Global,
-    types: &mut Known,
+    types: &mut Compared,
     basis: &Basis,
     memo: &mut Memo,
     rule: u32,
@@ -101,7 +102,7 @@ fn mark_set(
 /// Marks the sites that give an argument without a row that the environment asks for.
 fn marks_for(
     alloc: Global,
-    types: &mut Known,
+    types: &mut Compared,
     basis: &Basis,
     memo: &mut Memo,
     rule: u32,
@@ -134,7 +135,7 @@ fn marks_for(
 /// sizes, and in what a walk over the parameters takes.
 pub(crate) fn is_missed(
     alloc: Global,
-    types: &mut Known,
+    types: &mut Compared,
     basis: &Basis,
     memo: &mut Memo,
     rule: u32,

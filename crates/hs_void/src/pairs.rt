@@ -6,13 +6,15 @@ ghost use Rattle.hs_weak.specs.Sites.{SiteData};
 ghost use Rattle.hs_weak.specs.Void.{VoidData, IsBlocked};
 ghost use Rattle.hs_types.specs.Interned.{env_of_id, Grows};
 ghost use Rattle.hs_sites.specs.Listed.{AreSitesOf};
-ghost use Rattle.hs_choices.specs.Numbered.{void_of, AreNumbered};
+ghost use Rattle.hs_numbered.specs.Certificates.{void_of};
+ghost use Rattle.hs_choices.specs.Numbered.{AreNumbered};
 ghost use Rattle.hs_void.specs.Rows.{AreMarks};
 ghost use Rattle.hs_void.specs.Voids.{Fits, HasBlocked, IsFirstWithout};
 
 use crate::blocking::is_blocked;
 use crate::voids::Voids;
-use hs_choices::{Known, VoidRow};
+use hs_choices::Compared;
+use hs_numbered::VoidRow;
 use hs_scheme::OutOfMemory;
 use hs_sites::{Site, each_chain_has_marked};
 use hs_types::EnvId;
@@ -21,7 +23,7 @@ use std::alloc::Global;
 /// Marks the sites, which are all those of the nonterminal, that are blocked for the environment.
 fn blocked_marks(
     alloc: Global,
-    types: &mut Known,
+    types: &mut Compared,
     voids: &mut Voids,
     rule: u32,
     sites: &[Site],
@@ -50,7 +52,7 @@ fn blocked_marks(
 /// is no such rule, the empty chain has none.
 fn has_blocked(
     alloc: Global,
-    types: &mut Known,
+    types: &mut Compared,
     voids: &mut Voids,
     pair: VoidRow,
 ) -> Result<bool, OutOfMemory>
@@ -73,11 +75,11 @@ fn has_blocked(
 }
 
 impl<'a> Voids<'a> {
-    /// The place, counted from 0, of the first void row whose pair isn't one of a void list, by the rows: some
-    /// chain of its nonterminal has no site that is blocked for its environment. `None` where each chain of
-    /// each pair has one. Costs, for each site of each pair's nonterminal, the least unions of what may be
-    /// chosen for its arguments.
-    pub fn first_not_void(&mut self, types: &mut Known) -> Result<Option<usize>, OutOfMemory>
+    /// The place, counted from 0, of the first void row whose pair isn't one of a void list, by the rows:
+    /// some chain of its nonterminal has no site that is blocked for its environment. `None` where each
+    /// chain of each pair has one. Costs, for each site of each pair's nonterminal, the least unions of what
+    /// may be chosen for its arguments.
+    pub fn first_not_void(&mut self, types: &mut Compared) -> Result<Option<usize>, OutOfMemory>
         requires { Fits types.old self.old }
         ensures first { IfOk result (λ first. (C : List EntryData) (V : List VoidData)
             → AreNumbered self.old.basis.problem C V types.old self.old.basis.table self.old.basis.void

@@ -8,7 +8,8 @@ ghost use Rattle.hs_types.specs.Interned.{InternerData, env_of_id, Grows};
 ghost use Rattle.hs_sites.specs.Listed.{AreSites};
 ghost use Rattle.hs_choices.specs.Unions.{AreLeastUnions};
 ghost use Rattle.hs_choices.specs.Slots.{AscendAll};
-ghost use Rattle.hs_choices.specs.Numbered.{envs_of, slot_envs, AreOfLength, VoidRowData, AreNumbered};
+ghost use Rattle.hs_numbered.specs.Certificates.{VoidRowData};
+ghost use Rattle.hs_choices.specs.Numbered.{envs_of, slot_envs, AreOfLength, AreNumbered};
 ghost use Rattle.hs_void.specs.Voids.{AreRows, Fits, IsVoidBy};
 ghost use Rattle.hs_void.specs.Dropped.{more_is_void, fits_stays, void_before};
 ghost use Rattle.std.proofs.Common.{refl, ◌∙◌};
@@ -16,7 +17,8 @@ ghost use Rattle.std.proofs.Common.{refl, ◌∙◌};
 use crate::basis::Basis;
 use crate::memo::Memo;
 use crate::missing::is_missed;
-use hs_choices::{Comparing, Dropping, Known, Slot, VoidRow, least_unions};
+use hs_choices::{Compared, Comparing, Dropping, Slot, least_unions};
+use hs_numbered::VoidRow;
 use hs_scheme::{OutOfMemory, Problem};
 use hs_sites::{Site, Sites};
 use hs_types::{EnvId, Row};
@@ -26,7 +28,7 @@ use std::marker::Model;
 /// What is void by the rows of a table and of void pairs, over the sites of a problem, with the masks of
 /// sites that were found.
 ///
-/// Contracts see the problem, the rows, and what is remembered. The numbers are those of one `Known`,
+/// Contracts see the problem, the rows, and what is remembered. The numbers are those of one `Compared`,
 /// which may grow (`what_fits_stays`). Where a call answers want of memory, what is remembered stays so.
 /// At most 67,108,864 marks are kept, of one byte.
 #[derive(Drop)]
@@ -47,7 +49,12 @@ impl<'a> Model for Voids<'a> {
 }
 
 /// Whether the environment asks at least what one of the void rows of this rule asks.
-fn asks_void(types: &mut Known, basis: &Basis, rule: u32, env: EnvId) -> Result<bool, OutOfMemory>
+fn asks_void(
+    types: &mut Compared,
+    basis: &Basis,
+    rule: u32,
+    env: EnvId,
+) -> Result<bool, OutOfMemory>
     requires rows { AreRows types.old basis.now }
     requires env { env < length types.old.envs }
     ensures ok { IfOk result (λ asks. IsTrue asks ↔ ((v : VoidRowData) × (Contains basis.now.void v
@@ -124,7 +131,12 @@ impl<'a> Voids<'a> {
     /// types that is asked about at its parameter for the first time, the rows at the arguments of the
     /// nonterminal's sites are looked at, and else the masks of the types are put together, in time in
     /// the number of types times that of the sites. No chain is listed.
-    pub fn is_void(&mut self, types: &mut Known, rule: u32, env: EnvId) -> Result<bool, OutOfMemory>
+    pub fn is_void(
+        &mut self,
+        types: &mut Compared,
+        rule: u32,
+        env: EnvId,
+    ) -> Result<bool, OutOfMemory>
         requires env { env < length types.old.envs }
         requires fits { Fits types.old self.old }
         ensures ok { IfOk result (λ void. (C : List EntryData) (V : List VoidData)
@@ -145,7 +157,7 @@ impl<'a> Voids<'a> {
     /// where there are no slots.
     pub fn least_unions(
         &mut self,
-        types: &mut Known,
+        types: &mut Compared,
         rule: u32,
         first: EnvId,
         slots: &[Slot],
@@ -169,14 +181,14 @@ impl<'a> Voids<'a> {
     }
 }
 
-impl<'a> Dropping<Known> for Voids<'a> {
+impl<'a> Dropping<Compared> for Voids<'a> {
     ghost dropped = { λ v I rule E. IsVoidBy v.basis I rule E };
 
     ghost fits = { λ v I. Fits I v };
 
     ghost stays = { λ v w. w.basis ≡ v.basis };
 
-    fn drops(&mut self, types: &mut Known, rule: u32, env: EnvId) -> Result<bool, OutOfMemory> {
+    fn drops(&mut self, types: &mut Compared, rule: u32, env: EnvId) -> Result<bool, OutOfMemory> {
         self.is_void(types, rule, env)
     }
 

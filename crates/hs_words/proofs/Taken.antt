@@ -1,8 +1,7 @@
 -- What `clap` makes of the words.
-use Rattle.std.proofs.Common.{◌≡◌, refl, sym, ◌∙◌, ap, subst, inl, inr, Bool, true, false, List, [], ◌∷◌, Option, Some, None}
-use Rattle.std.specs.Prelude.{if◌then◌else◌, length, Result, Ok, Err, option_map, IfOk, IfSome, IsErrOf}
+use Rattle.std.proofs.Common.{◌≡◌, refl, sym, ◌∙◌, ap, inl, inr, Bool, true, false, List, [], ◌∷◌, None}
+use Rattle.std.specs.Prelude.{if◌then◌else◌, length}
 use Rattle.std.proofs.Math.Dec.{eqb-suc-zero}
-use Rattle.std.specs.Option.{ok_or}
 use Rattle.clap.specs.Kinds.{HasKind, IsAmong, Kinds}
 use Rattle.clap.specs.Values.{kind_of}
 use Rattle.clap.specs.declared.error.Error.{Error}
@@ -14,10 +13,8 @@ use Rattle.clap.specs.Walk.{Text, is_empty, rows_of}
 use Rattle.clap.specs.declared.parser.matches.ArgMatches.{ArgMatches}
 use Rattle.clap.proofs.OnLiterals.{clap_on_literals}
 use Rattle.hs_words.specs.Fault.{fault_of_kind}
-use Rattle.hs_words.specs.declared.fault.WordsFault.{WordsFault}
 use Rattle.hs_words.specs.declared.fault.WordsFault.TheVariants as words
-use Rattle.hs_words.specs.declared.options.Options.{Options}
-use Rattle.hs_words.specs.Words.{AreWithin, OptionsData, horsat, said, said_by, options_of}
+use Rattle.hs_words.specs.Words.{horsat, said, options_of}
 
 simple_and_free : is_simple_and_free horsat ≡ true
 unfolding clap_on_literals
@@ -46,17 +43,3 @@ module _ (app : App) (same : app ≡ horsat) (texts : List Text) where
   refused e (inr among) usage =
       let some : is_empty (fault_of horsat texts) ≡ false = ap (λ a. is_empty (fault_of a texts)) (sym same) ∙ some_kind (kind_of e) (fault_of app texts) among in
       ap (λ (b : Bool). if b then said (matches_of horsat texts) else None) some
-
--- the answer, where the words are taken, from what the matches say
-module _ (r : Result Options WordsFault) (all : Option OptionsData) where
-  pub answered : (o : Option Options) → r ≡ ok_or o words.Usage → option_map said_by o ≡ all → IfOk r (λ x. all ≡ Some (said_by x))
-  answered None e s = subst (λ q. IfOk q (λ x. all ≡ Some (said_by x))) (sym e) tt
-  answered (Some x) e s = subst (λ q. IfOk q (λ y. all ≡ Some (said_by y))) (sym e) (sym s)
-
-  pub unanswered : (o : Option Options) → r ≡ ok_or o words.Usage → option_map said_by o ≡ all → IsErrOf r words.Usage → all ≡ None
-  unanswered None e s h = sym s
-  unanswered (Some x) e s h = absurd (let both : Ok x ≡ Err words.Usage = sym e ∙ h in cc)
-
-  pub answered_within : (o : Option Options) → r ≡ ok_or o words.Usage → IfSome o AreWithin → IfOk r AreWithin
-  answered_within None e within = subst (λ q. IfOk q AreWithin) (sym e) tt
-  answered_within (Some x) e within = subst (λ q. IfOk q AreWithin) (sym e) within

@@ -20,6 +20,7 @@ use Rattle.clap.specs.Simple.{App, Shape, new_app, new_rule, with_rule, matches_
 use Rattle.clap.specs.Faults.{fault_of}
 use Rattle.hs_words.specs.declared.options.Options.{Options}
 use Rattle.hs_words.specs.declared.options.Settings.{Settings}
+use Rattle.hs_words.specs.Settings.{AreSettingsWithin}
 
 -- `--name`, and `--name` with a value
 abbrev pub flag : List ℕ → Rule
@@ -118,15 +119,6 @@ texts words = map (λ w. w.now) words
 
 abbrev pub said_by : Options → OptionsData
 said_by o = record { settings = o.settings; cycle = o.cycle; file = option_map (λ f. f.now) o.file }
-
--- the numbers are in their ranges
-pub record AreSettingsWithin (settings : Settings) : Type 0 where
-  pub least_workers : 1 ≤ settings.workers
-  pub most_workers : settings.workers ≤ 16
-  pub least_entries : 1 ≤ settings.entries
-  pub most_entries : settings.entries ≤ 1000000
-  pub least_steps : 1 ≤ settings.steps
-  pub most_steps : settings.steps ≤ 4000000
 
 -- the numbers are in their ranges, and not both a file and a cycle are given
 pub record AreWithin (o : Options) : Type 0 where

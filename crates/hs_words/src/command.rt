@@ -5,7 +5,8 @@ ghost use Rattle.clap.specs.Matches.{found_of};
 ghost use Rattle.clap.specs.Walk.{first_of, rows_of, rule_of};
 ghost use Rattle.clap.specs.Words.{app_of};
 ghost use Rattle.hs_words.specs.Words as words;
-ghost use Rattle.hs_words.specs.Words.{AreSettingsWithin, AreWithin, options_of, said_by, texts};
+ghost use Rattle.hs_words.specs.Settings.{AreSettingsWithin};
+ghost use Rattle.hs_words.specs.Words.{AreWithin, options_of, said_by, texts};
 ghost use Rattle.hs_words.specs.declared.fault.WordsFault.TheVariants.{Usage};
 
 use crate::fault::WordsFault;
@@ -121,9 +122,9 @@ fn options<'a>(matches: &ArgMatches<'a>) -> Option<Options<'a>>
 /// The command is a simple one of `clap`: `--workers`, `--entries`, `--steps` and `--gen` take one
 /// number each, as `--gen 2` or `--gen=2`; `--table`, `--first`, `--minimal`, `--quick`, `--explain` and
 /// `--simplify` take no value; another word is the file, and behind `--` every word is. Nothing is given
-/// twice. A number is one to nine ASCII digits with a value in its range. `Usage` comes exactly where the words aren't of
-/// this form, a number is out of form or range, or a file and `--gen` are both given. Time and
-/// memory are in proportion to the words.
+/// twice. A number is one to nine ASCII digits with a value in its range. `Usage` comes exactly where the
+/// words aren't of this form, a number is out of form or range, or a file and `--gen` are both given. Time
+/// and memory are in proportion to the words.
 pub fn read_words<'a>(alloc: Global, words: &'a [&'a str]) -> Result<Options<'a>, WordsFault>
     ensures ok { IfOk result (λ options. options_of (texts words.entry.now) ≡ Some (said_by options)) }
     ensures within { IfOk result AreWithin }
@@ -131,5 +132,8 @@ pub fn read_words<'a>(alloc: Global, words: &'a [&'a str]) -> Result<Options<'a>
 {
     let command = horsat(alloc)?;
     let matches = command.try_get_matches_from(words)?;
-    options(&matches).ok_or(WordsFault::Usage)
+    match options(&matches) {
+        Some(options) => Ok(options),
+        None => Err(WordsFault::Usage),
+    }
 }

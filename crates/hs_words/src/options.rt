@@ -1,6 +1,8 @@
 //! What the words say.
 
-/// How the verdict is found, and what is shown with it.
+use std::marker::Model;
+
+/// How the verdict is found, and what is shown with it. Each number is in its range.
 #[derive(Clone, Copy, Debug, PartialEq, Eq)]
 pub struct Settings {
     /// How many workers saturate, 1 to 16.
@@ -21,6 +23,28 @@ pub struct Settings {
     pub explain: bool,
     /// Whether the scheme is made smaller before it is decided.
     pub simplify: bool,
+}
+
+impl Model for Settings {
+    ghost use Rattle.hs_words.specs.Settings.{SettingsData, settings_of, AreSettingsWithin};
+
+    ghost Value = { SettingsData };
+
+    ghost view = { settings_of };
+
+    ghost invariant = { λ a. AreSettingsWithin (settings_of a) };
+
+    ghost inverse = { λ s. record {
+      workers = s.workers;
+      entries = s.entries;
+      steps = s.steps;
+      table = s.table;
+      first = s.first;
+      minimal = s.minimal;
+      quick = s.quick;
+      explain = s.explain;
+      simplify = s.simplify;
+    } };
 }
 
 /// What the words of the command line say.

@@ -1,8 +1,8 @@
 -- Works that a worker carries.
-use Rattle.std.proofs.Common.{◌≡◌, refl, sym, ◌∙◌, ap, subst, ℕ, List, [], ◌∷◌, ◌++◌, Option, Some, None, All, inl, inr, Vec, Global}
+use Rattle.std.proofs.Common.{◌≡◌, refl, sym, ◌∙◌, ap, subst, ℕ, List, [], ◌∷◌, ◌++◌, map, Option, Some, None, All, inl, inr, Vec, Global}
 use Rattle.std.specs.Option.{IfSome}
 use Rattle.std.proofs.lemmas.Bool.{cases_eq}
-use Rattle.std.proofs.lemmas.List.Elements.{All-nil, All-cons, All-weaker}
+use Rattle.std.proofs.lemmas.List.Elements.{All-nil, All-cons, All-head, All-tail, All-weaker}
 use Rattle.hs_scheme.specs.Problem.{ProblemData}
 use Rattle.hs_table.specs.Entries.{EntryData}
 use Rattle.hs_types.specs.Interned.{InternerData}
@@ -88,3 +88,8 @@ carries_next n m f g jobs rest job is number flight c =
 
 pub all_unformed : (p : ProblemData) (ids : InternerData) (log : List EntryData) (jobs : List Job) → All IsUnformed jobs → All (IsFormed p ids log) jobs
 all_unformed p ids log jobs h = All-weaker IsUnformed (IsFormed p ids log) (λ j none. unformed_formed p ids log j none) jobs h
+
+-- what holds of each image holds of what it is the image of
+pub all_mapped : {X Y : Type 0} (P : X → Type 0) (f : Y → X) (ys : List Y) → All P (map f ys) → All (λ y. P (f y)) ys
+all_mapped P f [] h = All-nil (λ y. P (f y))
+all_mapped P f (y ∷ ys) h = All-cons (λ z. P (f z)) y ys (All-head P (f y) (map f ys) h) (all_mapped P f ys (All-tail P (f y) (map f ys) h))

@@ -1,4 +1,6 @@
 -- What a worker knows between two holds of the table, and while it holds it.
+--     CommonData          the table at which all workers work, and its problem
+--     WorkerData          these, with a worker's replica of the log, and its works
 --     IsSeated            its seat is one of the table's, and what it has seen is a history
 --     IsUpon              the table's problem is this one
 --     BeginsSeen          a replica's log begins the log that the seat has seen
@@ -14,6 +16,7 @@ use Rattle.atomic_table.specs.Seated.{TableId}
 use Rattle.hs_scheme.specs.Problem.{ProblemData}
 use Rattle.hs_table.specs.Entries.{EntryData}
 use Rattle.hs_types.specs.Interned.{InternerData}
+use Rattle.hs_history.specs.declared.step.Work.{Work}
 use Rattle.hs_history.specs.Story.{Base}
 use Rattle.hs_history.specs.History.{IsLegal}
 use Rattle.hs_core.specs.Core.{log_of}
@@ -23,6 +26,16 @@ use Rattle.hs_workers.specs.declared.job.Job.{Job}
 use Rattle.hs_workers.specs.declared.handing.Next.{Next}
 use Rattle.hs_workers.specs.declared.handing.Next.TheVariants.{Serve, Pass, Rest, Wait, End}
 use Rattle.hs_workers.specs.Jobs.{keys, Carries, IsFormed}
+
+pub record CommonData : Type 0 where
+  pub table : TableId
+  pub problem : ProblemData
+
+pub record WorkerData : Type 0 where
+  pub table : TableId
+  pub problem : ProblemData
+  pub log : List EntryData
+  pub works : List Work
 
 pub record IsSeated (table : TableId) (s : SeatData) : Type 0 where
   pub seat : IsSeatOf table s

@@ -1,14 +1,13 @@
 //! What follows by a work, formed on a replica of the log.
 
 ghost use Rattle.std.specs.Prelude.{◌≡◌, ◌<◌, [], length, IfOk, All, Contains, IsTrue};
-ghost use Rattle.hs_flow.specs.Dependents.{HasDependents};
 ghost use Rattle.hs_table.specs.Entries.{InShape};
 ghost use Rattle.hs_types.specs.Interned.{IsRow, entry_of, Grows};
 ghost use Rattle.hs_history.specs.History.{IsWork};
 ghost use Rattle.hs_workers.specs.Forming.{KeepsNew, AreAllAt, AreFormed};
 
+use crate::common::Common;
 use hs_core::{Tally, Work};
-use hs_flow::Dependents;
 use hs_rules::{Deduced, Replica, conclusions_with, seed_conclusions};
 use hs_scheme::{OutOfMemory, Problem};
 use hs_types::Row;
@@ -93,44 +92,38 @@ fn form_seed(
 
 /// What follows at the dependents of the place's point by its entry, and isn't in the log.
 fn form_place(
-    alloc: Global,
-    problem: &Problem,
-    dependents: &Dependents,
+    common: &Common<'_, '_>,
     replica: &mut Replica,
     place: u32,
     tally: &mut Tally,
 ) -> Result<Vec<Deduced>, OutOfMemory>
     requires place { place < length replica.old.log }
-    requires shape { All (InShape problem.now) replica.old.log }
-    requires dependents { HasDependents problem.now.points problem.now.flow.pairs dependents.now }
+    requires shape { All (InShape common.now.problem) replica.old.log }
     ensures log { replica.new.log ≡ replica.old.log }
     ensures grows { Grows replica.old.ids replica.new.ids }
-    ensures found { IfOk result (λ found. AreFormed problem.now replica.new.ids replica.new.log
+    ensures found { IfOk result (λ found. AreFormed common.now.problem replica.new.ids replica.new.log
         (Work.Place place) found.items) }
 {
-    let points = dependents.list(replica.row(place).point);
-    form_at(alloc, problem, points, replica, place, tally)
+    let points = common.dependents.list(replica.row(place).point);
+    form_at(common.alloc, common.problem, points, replica, place, tally)
 }
 
 /// What follows by the work and isn't in the log, each once, with what it follows from.
 pub(crate) fn form(
-    alloc: Global,
-    problem: &Problem,
-    dependents: &Dependents,
+    common: &Common<'_, '_>,
     replica: &mut Replica,
     work: Work,
     tally: &mut Tally,
 ) -> Result<Vec<Deduced>, OutOfMemory>
-    requires work { IsWork problem.now replica.old.log work }
-    requires shape { All (InShape problem.now) replica.old.log }
-    requires dependents { HasDependents problem.now.points problem.now.flow.pairs dependents.now }
+    requires work { IsWork common.now.problem replica.old.log work }
+    requires shape { All (InShape common.now.problem) replica.old.log }
     ensures log { replica.new.log ≡ replica.old.log }
     ensures grows { Grows replica.old.ids replica.new.ids }
-    ensures found { IfOk result (λ found. AreFormed problem.now replica.new.ids replica.new.log work
+    ensures found { IfOk result (λ found. AreFormed common.now.problem replica.new.ids replica.new.log work
         found.items) }
 {
     match work {
-        Work::Seed(point) => form_seed(alloc, problem, replica, point, tally),
-        Work::Place(place) => form_place(alloc, problem, dependents, replica, place, tally),
+        Work::Seed(point) => form_seed(common.alloc, common.problem, replica, point, tally),
+        Work::Place(place) => form_place(common, replica, place, tally),
     }
 }

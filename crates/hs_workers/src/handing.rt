@@ -2,7 +2,6 @@
 
 ghost use Rattle.std.specs.Prelude.{◌≡◌, ℕ, [], None, IfOk, IsTrue, All, Contains};
 ghost use mathlib.Core.List.{IsPrefix};
-ghost use Rattle.hs_flow.specs.Dependents.{HasDependents};
 ghost use Rattle.hs_types.specs.Interned.{entry_of};
 ghost use Rattle.hs_rules.specs.Conclusions.{IsDeduced};
 ghost use Rattle.hs_replica.specs.Extending.{CanExtend, extended};
@@ -15,16 +14,15 @@ ghost use Rattle.hs_workers.specs.Forming.{HasFound};
 ghost use Rattle.hs_workers.specs.Jobs.{key, keys, Carries, IsUnformed, IsFormed};
 ghost use Rattle.hs_workers.specs.Working.{StepsInHold, IfServes};
 
-use crate::bell::Bell;
+use crate::common::Common;
 use crate::job::Job;
-use crate::sharing::{Sharing, goes_on};
+use crate::sharing::goes_on;
+use crate::stock::Stock;
 use hs_core::{Published, Taken, Tally};
-use hs_flow::Dependents;
 use hs_rules::{Deduced, Replica};
 use hs_scheme::OutOfMemory;
 use hs_shared::{Held, Hold, Seat};
-use hs_types::{ImportedNumbers, Row};
-use std::alloc::Global;
+use hs_types::Row;
 use std::mem::replace;
 
 /// A worker takes at most so many works at once.
@@ -176,10 +174,9 @@ fn hand_in<'p>(
 /// Does the work on the core itself, where `going` is set; or gives it back. Answers whether it is
 /// closed, and not much follows from little.
 fn do_one<'p>(
-    alloc: Global,
+    common: &Common<'_, '_>,
     hold: &mut Hold<'_, 'p>,
     seat: &mut Seat<Held<'p>>,
-    dependents: &Dependents,
     job: &Job,
     going: bool,
     tally: &mut Tally,
@@ -187,8 +184,7 @@ fn do_one<'p>(
     requires holds { IsHolding seat.old hold.old }
     requires flies { (state_of hold.old.core).flight job.now.ticket ≡ Some
         (record { worker = seat.old.known.number; work = job.now.work }) }
-    requires dependents { HasDependents hold.old.core.base.problem.points
-        hold.old.core.base.problem.flow.pairs dependents.now }
+    requires upon { hold.old.core.base.problem ≡ common.now.problem }
     ensures goes { StepsInHold seat.old seat.new hold.old hold.new }
     ensures flight { (ticket : ℕ) → (state_of hold.new.core).flight ticket ≡ put job.now.ticket None
         (state_of hold.old.core).flight ticket }
@@ -197,30 +193,35 @@ fn do_one<'p>(
         hold.give_back(seat, job.ticket);
         return false;
     }
-    let done = hold.work(alloc, seat, dependents, job.work, job.ticket, tally);
+    let done = hold.work(
+        common.alloc,
+        seat,
+        common.dependents,
+        job.work,
+        job.ticket,
+        tally,
+    );
     goes_on(done.unwrap_or(false), tally)
 }
 
 /// Does the works on the core itself, as long as there are memory and room, and until much follows from
-/// little; the others it gives back.
-/// Answers whether all are closed. Adds to `tally` how many conclusions were formed, known ones too.
+/// little; the others it gives back. Answers whether all are closed. Adds to `tally` how many conclusions
+/// were formed, known ones too.
 fn do_each<'p>(
-    alloc: Global,
+    common: &Common<'_, '_>,
     hold: &mut Hold<'_, 'p>,
     seat: &mut Seat<Held<'p>>,
-    dependents: &Dependents,
     jobs: Vec<Job>,
     tally: &mut Tally,
 ) -> bool
     requires holds { IsHolding seat.old hold.old }
     requires carries { Carries seat.old.known.number (state_of hold.old.core).flight (keys jobs.items) }
-    requires dependents { HasDependents hold.old.core.base.problem.points
-        hold.old.core.base.problem.flow.pairs dependents.now }
+    requires upon { hold.old.core.base.problem ≡ common.now.problem }
     ensures goes { StepsInHold seat.old seat.new hold.old hold.new }
 {
     let mut going = true;
     for job in jobs {
-        going = do_one(alloc, hold, seat, dependents, &job, going, tally);
+        going = do_one(common, hold, seat, &job, going, tally);
         drop(job);
     }
     going
@@ -288,36 +289,34 @@ fn share_of(pending: usize, workers: usize) -> usize {
 /// Takes the worker's share of the pending works, and reads the rows of the entries that the replica
 /// lacks, where it took any. Where memory is refused for the rows it gives the works back.
 fn take_and_read<'p>(
-    alloc: Global,
+    common: &Common<'_, '_>,
     hold: &mut Hold<'_, 'p>,
     seat: &mut Seat<Held<'p>>,
-    replica: &mut Replica,
-    found: &mut ImportedNumbers,
+    stock: &mut Stock,
     rows: &mut Vec<Row>,
-    jobs: &mut Vec<Job>,
-    workers: usize,
 ) -> Next
     requires holds { IsHolding seat.old hold.old }
-    requires begins { IsPrefix replica.old.log (log_of hold.old.core) }
+    requires begins { IsPrefix stock.old.replica.log (log_of hold.old.core) }
     requires none { rows.old.items ≡ [] }
-    requires free { jobs.old.items ≡ [] }
+    requires free { stock.old.jobs.items ≡ [] }
     ensures goes { StepsInHold seat.old seat.new hold.old hold.new }
-    ensures fits { CanExtend replica.new rows.new.items }
-    ensures begins { IsPrefix (extended replica.new rows.new.items) (log_of hold.new.core) }
-    ensures carries { Carries seat.new.known.number (state_of hold.new.core).flight (keys jobs.new.items) }
-    ensures unformed { All IsUnformed jobs.new.items }
+    ensures fits { CanExtend stock.new.replica rows.new.items }
+    ensures begins { IsPrefix (extended stock.new.replica rows.new.items) (log_of hold.new.core) }
+    ensures carries { Carries seat.new.known.number (state_of hold.new.core).flight
+        (keys stock.new.jobs.items) }
+    ensures unformed { All IsUnformed stock.new.jobs.items }
     ensures works { IfServes result (All (λ j. IsWork hold.new.core.base.problem
-        (extended replica.new rows.new.items) j.work) jobs.new.items) }
+        (extended stock.new.replica rows.new.items) j.work) stock.new.jobs.items) }
 {
-    let _known = replica.len();
-    let share = share_of(hold.pending(), workers);
-    let next = take_some(hold, seat, jobs, share);
-    if jobs.is_empty() {
+    let _known = stock.replica.len();
+    let share = share_of(hold.pending(), common.bell.workers());
+    let next = take_some(hold, seat, &mut stock.jobs, share);
+    if stock.jobs.is_empty() {
         return next;
     }
-    let Ok(read) = hold.read_new(replica, found) else {
-        let taken = replace(jobs, Vec::new(alloc));
-        let _ = hand_in(hold, seat, replica, taken);
+    let Ok(read) = hold.read_new(&mut stock.replica, &mut stock.imported) else {
+        let taken = replace(&mut stock.jobs, Vec::new(common.alloc));
+        let _ = hand_in(hold, seat, &stock.replica, taken);
         return Next::End;
     };
     *rows = read;
@@ -326,116 +325,106 @@ fn take_and_read<'p>(
 
 /// Takes further works. A worker that does all works reads no rows, and one that rests takes nothing.
 fn take_next<'p>(
-    alloc: Global,
+    common: &Common<'_, '_>,
     hold: &mut Hold<'_, 'p>,
     seat: &mut Seat<Held<'p>>,
-    replica: &mut Replica,
-    found: &mut ImportedNumbers,
+    stock: &mut Stock,
     rows: &mut Vec<Row>,
-    jobs: &mut Vec<Job>,
-    bell: &Bell,
 ) -> Next
     requires holds { IsHolding seat.old hold.old }
-    requires begins { IsPrefix replica.old.log (log_of hold.old.core) }
+    requires begins { IsPrefix stock.old.replica.log (log_of hold.old.core) }
     requires none { rows.old.items ≡ [] }
-    requires free { jobs.old.items ≡ [] }
+    requires free { stock.old.jobs.items ≡ [] }
     ensures goes { StepsInHold seat.old seat.new hold.old hold.new }
-    ensures fits { CanExtend replica.new rows.new.items }
-    ensures begins { IsPrefix (extended replica.new rows.new.items) (log_of hold.new.core) }
-    ensures carries { Carries seat.new.known.number (state_of hold.new.core).flight (keys jobs.new.items) }
-    ensures unformed { All IsUnformed jobs.new.items }
+    ensures fits { CanExtend stock.new.replica rows.new.items }
+    ensures begins { IsPrefix (extended stock.new.replica rows.new.items) (log_of hold.new.core) }
+    ensures carries { Carries seat.new.known.number (state_of hold.new.core).flight
+        (keys stock.new.jobs.items) }
+    ensures unformed { All IsUnformed stock.new.jobs.items }
     ensures works { IfServes result (All (λ j. IsWork hold.new.core.base.problem
-        (extended replica.new rows.new.items) j.work) jobs.new.items) }
+        (extended stock.new.replica rows.new.items) j.work) stock.new.jobs.items) }
 {
-    let _known = replica.len();
-    if bell.sharing.is_resting(seat.number()) {
+    let _known = stock.replica.len();
+    let sharing = &common.bell.sharing;
+    if sharing.is_resting(seat.number()) {
         return Next::Rest;
     }
-    if !bell.sharing.is_lone(seat.number()) {
-        return take_and_read(
-            alloc,
-            hold,
-            seat,
-            replica,
-            found,
-            rows,
-            jobs,
-            bell.workers(),
-        );
+    if !sharing.is_lone(seat.number()) {
+        return take_and_read(common, hold, seat, stock, rows);
     }
-    let next = take_some(hold, seat, jobs, share_of(hold.pending(), 1));
-    if jobs.is_empty() { next } else { Next::Pass }
+    let next = take_some(hold, seat, &mut stock.jobs, share_of(hold.pending(), 1));
+    if stock.jobs.is_empty() {
+        next
+    } else {
+        Next::Pass
+    }
 }
 
 /// Hands in the works that are done; or, where the worker does all works, does them now, on the core
-/// itself. Answers whether all are closed, and not much follows from little. `tally` says how many
+/// itself. Answers whether all are closed, and not much follows from little. The tally says how many
 /// conclusions it has formed since its last turn, known ones too.
 fn hand_over<'p>(
-    alloc: Global,
+    common: &Common<'_, '_>,
     hold: &mut Hold<'_, 'p>,
     seat: &mut Seat<Held<'p>>,
-    replica: &Replica,
-    jobs: Vec<Job>,
-    dependents: &Dependents,
-    sharing: &Sharing,
-    tally: &mut Tally,
+    stock: &mut Stock,
 ) -> bool
     requires holds { IsHolding seat.old hold.old }
-    requires carries { Carries seat.old.known.number (state_of hold.old.core).flight (keys jobs.items) }
-    requires begins { IsPrefix replica.now.log (log_of hold.old.core) }
-    requires formed { All (IsFormed hold.old.core.base.problem replica.now.ids replica.now.log) jobs.items }
-    requires dependents { HasDependents hold.old.core.base.problem.points
-        hold.old.core.base.problem.flow.pairs dependents.now }
+    requires carries { Carries seat.old.known.number (state_of hold.old.core).flight
+        (keys stock.old.jobs.items) }
+    requires begins { IsPrefix stock.old.replica.log (log_of hold.old.core) }
+    requires formed { All (IsFormed hold.old.core.base.problem stock.old.replica.ids stock.old.replica.log)
+        stock.old.jobs.items }
+    requires upon { hold.old.core.base.problem ≡ common.now.problem }
     ensures goes { StepsInHold seat.old seat.new hold.old hold.new }
+    ensures free { stock.new.jobs.items ≡ [] }
+    ensures replica { stock.new.replica ≡ stock.old.replica }
 {
+    let jobs = replace(&mut stock.jobs, Vec::new(common.alloc));
+    let sharing = &common.bell.sharing;
     let worker = seat.number();
     let before = hold.entries();
     let all = if sharing.is_lone(worker) {
-        do_each(alloc, hold, seat, dependents, jobs, tally)
+        do_each(common, hold, seat, jobs, &mut stock.tally)
     } else {
-        hand_in(hold, seat, replica, jobs)
+        hand_in(hold, seat, &stock.replica, jobs)
     };
     let entries = hold.entries();
     let new = entries.saturating_sub(before);
-    sharing.count(worker, replace(tally, Tally::new()), new, entries);
+    let tally = replace(&mut stock.tally, Tally::new());
+    sharing.count(worker, tally, new, entries);
     sharing.goes_on(all)
 }
 
 /// Hands in the works that are done, and takes further ones. Answers what the worker does next, which
 /// ends where it hasn't closed all works, memory is refused, or much follows from little.
 pub(crate) fn turn<'p>(
-    alloc: Global,
+    common: &Common<'_, '_>,
     hold: &mut Hold<'_, 'p>,
     seat: &mut Seat<Held<'p>>,
-    replica: &mut Replica,
-    found: &mut ImportedNumbers,
+    stock: &mut Stock,
     rows: &mut Vec<Row>,
-    jobs: &mut Vec<Job>,
-    dependents: &Dependents,
-    bell: &Bell,
-    tally: &mut Tally,
 ) -> Next
     requires holds { IsHolding seat.old hold.old }
-    requires carries { Carries seat.old.known.number (state_of hold.old.core).flight (keys jobs.old.items) }
-    requires begins { IsPrefix replica.old.log (log_of hold.old.core) }
-    requires formed { All (IsFormed hold.old.core.base.problem replica.old.ids replica.old.log)
-        jobs.old.items }
+    requires carries { Carries seat.old.known.number (state_of hold.old.core).flight
+        (keys stock.old.jobs.items) }
+    requires begins { IsPrefix stock.old.replica.log (log_of hold.old.core) }
+    requires formed { All (IsFormed hold.old.core.base.problem stock.old.replica.ids stock.old.replica.log)
+        stock.old.jobs.items }
     requires none { rows.old.items ≡ [] }
-    requires dependents { HasDependents hold.old.core.base.problem.points
-        hold.old.core.base.problem.flow.pairs dependents.now }
+    requires upon { hold.old.core.base.problem ≡ common.now.problem }
     ensures goes { StepsInHold seat.old seat.new hold.old hold.new }
-    ensures fits { CanExtend replica.new rows.new.items }
-    ensures begins { IsPrefix (extended replica.new rows.new.items) (log_of hold.new.core) }
-    ensures carries { Carries seat.new.known.number (state_of hold.new.core).flight (keys jobs.new.items) }
-    ensures unformed { All IsUnformed jobs.new.items }
+    ensures fits { CanExtend stock.new.replica rows.new.items }
+    ensures begins { IsPrefix (extended stock.new.replica rows.new.items) (log_of hold.new.core) }
+    ensures carries { Carries seat.new.known.number (state_of hold.new.core).flight
+        (keys stock.new.jobs.items) }
+    ensures unformed { All IsUnformed stock.new.jobs.items }
     ensures works { IfServes result (All (λ j. IsWork hold.new.core.base.problem
-        (extended replica.new rows.new.items) j.work) jobs.new.items) }
+        (extended stock.new.replica rows.new.items) j.work) stock.new.jobs.items) }
 {
-    let done = replace(jobs, Vec::new(alloc));
-    let _known = replica.len();
-    let sharing = &bell.sharing;
-    if !hand_over(alloc, hold, seat, replica, done, dependents, sharing, tally) {
+    let _known = stock.replica.len();
+    if !hand_over(common, hold, seat, stock) {
         return Next::End;
     }
-    take_next(alloc, hold, seat, replica, found, rows, jobs, bell)
+    take_next(common, hold, seat, stock, rows)
 }

@@ -11,6 +11,7 @@ ghost use Rattle.hs_workers.specs.Working.{IsFirstSeat, HasSeenNothing, IsBased,
 ghost use Rattle.hs_workers.specs.Answers.{IsOfWorkers, IsSharedDone, IsEnd, IsDoneOf};
 
 use crate::bell::Bell;
+use crate::common::Common;
 use crate::worker::run_worker;
 use hs_core::{Core, Done, Gate, select_alone, work_alone};
 use hs_flow::Dependents;
@@ -71,7 +72,16 @@ fn work_each<'p, R: Threads + Wait + Sync, G: Gate + Sync>(
             requires { HasDependents problem.now.points problem.now.flow.pairs dependents.now
                 × RestsSeated table.now problem.now seat.old }
             ensures { RestsIn table.entry.now seat.new }
-        { run_worker(rt, alloc, table, problem, dependents, gate, bell, seat) },
+        {
+            let common = Common {
+                alloc,
+                table,
+                problem,
+                dependents,
+                bell,
+            };
+            run_worker(rt, &common, gate, seat)
+        },
     );
 }
 

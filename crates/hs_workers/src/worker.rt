@@ -1,178 +1,159 @@
 //! What a worker does.
 
-ghost use Rattle.std.specs.Prelude.{[], All};
-ghost use Rattle.hs_flow.specs.Dependents.{HasDependents};
+ghost use Rattle.std.specs.Prelude.{◌≡◌, [], All};
 ghost use Rattle.hs_history.specs.History.{IsWork};
 ghost use Rattle.hs_turn.specs.Seats.{RestsIn};
-ghost use Rattle.hs_shared.specs.Seats.{IsSeatOf};
-ghost use Rattle.hs_workers.specs.Jobs.{IsUnformed};
-ghost use Rattle.hs_workers.specs.Working.{IsFree, IsLoaded, RestsSeated, IfServes};
+ghost use Rattle.hs_workers.specs.Working.{IsFree, RestsSeated, IfServes};
 
-use crate::bell::Bell;
+use crate::common::Common;
 use crate::handing::{Next, turn};
-use crate::job::{Job, form_each, pass_each};
-use hs_core::{Gate, Tally};
-use hs_flow::Dependents;
-use hs_rules::Replica;
-use hs_scheme::Problem;
-use hs_shared::{Held, Rested, RestedSeat, Seat, SharedTable};
-use hs_types::ImportedNumbers;
+use crate::job::{form_each, pass_each};
+use crate::stock::Stock;
+use hs_core::Gate;
+use hs_shared::{Held, Rested, RestedSeat, Seat};
 use hs_verdict::know_sorted_problem;
-use std::alloc::Global;
+use std::marker::Model;
 use std::mem::replace;
 use std::sync::Wait;
 
-/// Hands in the works that are done and takes further ones, under one hold of the table, and then adds
-/// to the replica what was read.
-fn exchange<'p, R: Wait>(
-    rt: &R,
-    alloc: Global,
-    table: &SharedTable<'p>,
-    problem: &Problem,
-    bell: &Bell,
-    seat: &mut Seat<Held<'p>>,
-    replica: &mut Replica,
-    found: &mut ImportedNumbers,
-    jobs: &mut Vec<Job>,
-    dependents: &Dependents,
-    tally: &mut Tally,
-) -> Next
-    requires dependents { HasDependents problem.now.points problem.now.flow.pairs dependents.now }
-    requires loaded { IsLoaded table.now problem.now seat.old replica.old.ids replica.old.log jobs.old.items }
-    ensures loaded { IsLoaded table.now problem.now seat.new replica.new.ids replica.new.log jobs.new.items }
-    ensures unformed { All IsUnformed jobs.new.items }
-    ensures works { IfServes result (All (λ j. IsWork problem.now replica.new.log j.work) jobs.new.items) }
-{
-    let mut rows = Vec::new(alloc);
-    let mut hold = table.enter(rt, seat);
-    let next = turn(
-        alloc, &mut hold, seat, replica, found, &mut rows, jobs, dependents, bell, tally,
-    );
-    let pending = hold.pending();
-    hold.leave(seat);
-    bell.tell(pending);
-    replica.extend(rows.as_slice());
-    next
+/// A worker at its seat. Its works are in flight under the seat's number, what is formed for them is all
+/// that the log lacks, and its replica begins the log. Contracts see which table it works at and for which
+/// problem, its replica's log, and its works.
+struct Worker<'c, 'a, 'p> {
+    common: &'c Common<'a, 'p>,
+    seat: Seat<Held<'p>>,
+    stock: Stock,
 }
 
-/// Does the works that it has taken, as far as there is memory.
-fn serve<'p, G: Gate>(
-    alloc: Global,
-    table: &SharedTable<'p>,
-    problem: &Problem,
-    dependents: &Dependents,
-    gate: &G,
-    seat: &Seat<Held<'p>>,
-    replica: &mut Replica,
-    jobs: &mut Vec<Job>,
-    tally: &mut Tally,
-)
-    requires dependents { HasDependents problem.now.points problem.now.flow.pairs dependents.now }
-    requires loaded { IsLoaded table.now problem.now seat.now replica.old.ids replica.old.log jobs.old.items }
-    requires unformed { All IsUnformed jobs.old.items }
-    requires works { All (λ j. IsWork problem.now replica.old.log j.work) jobs.old.items }
-    ensures { IsLoaded table.now problem.now seat.now replica.new.ids replica.new.log jobs.new.items }
-{
-    let _ = table;
-    know_sorted_problem(problem);
-    form_each(
-        alloc,
-        problem,
-        dependents,
-        gate,
-        seat.number(),
-        replica,
-        jobs,
-        tally,
-    );
+impl<'c, 'a, 'p> Model for Worker<'c, 'a, 'p> {
+    ghost use Rattle.std.specs.Prelude.{map};
+    ghost use Rattle.std.specs.Coded.{codes};
+    ghost use Rattle.hs_scheme.specs.Problem.{coded_problem};
+    ghost use Rattle.hs_table.specs.Entries.{coded_entry};
+    ghost use Rattle.hs_history.specs.Story.{coded_work};
+    ghost use Rattle.hs_workers.specs.Working.{WorkerData, IsLoaded};
+
+    ghost Value = { WorkerData };
+
+    ghost coded = { Prim.hlevel (codes, coded_problem, coded_entry, coded_work) };
+
+    ghost view = { λ a. record {
+      table = a.common.now.table;
+      problem = a.common.now.problem;
+      log = a.stock.replica.log;
+      works = map (λ j. j.work) a.stock.jobs.items;
+    } };
+
+    ghost invariant = { λ a. IsLoaded a.common.now.table a.common.now.problem a.seat
+        a.stock.replica.ids a.stock.replica.log a.stock.jobs.items };
 }
 
-/// Takes works and does them until none is left or none is given out any more.
-fn work_on<'p, R: Wait, G: Gate>(
-    rt: &R,
-    alloc: Global,
-    table: &SharedTable<'p>,
-    problem: &Problem,
-    dependents: &Dependents,
-    gate: &G,
-    bell: &Bell,
-    seat: &mut Seat<Held<'p>>,
-)
-    requires dependents { HasDependents problem.now.points problem.now.flow.pairs dependents.now }
-    requires free { IsFree table.now problem.now seat.old [] }
-    ensures { IsSeatOf table.now seat.new }
-{
-    let mut replica = Replica::new(alloc);
-    let mut found = ImportedNumbers::new(alloc);
-    let mut jobs = Vec::new(alloc);
-    let mut heard = None;
-    let mut tally = Tally::new();
-    for _ in rt.forever() {
-        match exchange(
-            rt,
-            alloc,
-            table,
-            problem,
-            bell,
+impl<'c, 'a, 'p> Worker<'c, 'a, 'p> {
+    /// A worker at this seat that has done nothing yet. Takes no memory.
+    fn new(common: &'c Common<'a, 'p>, seat: Seat<Held<'p>>) -> Worker<'c, 'a, 'p>
+        requires { IsFree common.now.table common.now.problem seat [] }
+        ensures { result.table ≡ common.now.table }
+    {
+        let stock = Stock::new(common.alloc);
+        Worker {
+            common,
             seat,
-            &mut replica,
-            &mut found,
-            &mut jobs,
-            dependents,
-            &mut tally,
-        ) {
-            Next::Serve => {
-                heard = bell.go_on(heard);
-                serve(
-                    alloc,
-                    table,
-                    problem,
-                    dependents,
-                    gate,
-                    seat,
-                    &mut replica,
-                    &mut jobs,
-                    &mut tally,
-                );
-            }
-            Next::Pass => {
-                heard = bell.go_on(heard);
-                pass_each(gate, seat.number(), jobs.as_slice());
-            }
-            Next::Rest => {
-                heard = bell.go_on(heard);
-                bell.ring();
-                bell.sharing.rest(rt, seat.number());
-            }
-            Next::Wait => heard = bell.wait(rt, heard),
-            Next::End => {
-                bell.end(seat.number(), heard);
-                drop(replica);
-                drop(found);
-                drop(jobs);
-                return;
-            }
+            stock,
         }
     }
-    unreachable!()
+
+    /// Hands in the works that are done and takes further ones, under one hold of the table, and then
+    /// adds to the replica what was read.
+    fn exchange<R: Wait>(&mut self, rt: &R) -> Next
+        ensures table { self.new.table ≡ self.old.table }
+        ensures works { IfServes result (All (IsWork self.new.problem self.new.log) self.new.works) }
+    {
+        let common = self.common;
+        let mut rows = Vec::new(common.alloc);
+        let mut hold = common.table.enter(rt, &mut self.seat);
+        let next = turn(
+            common,
+            &mut hold,
+            &mut self.seat,
+            &mut self.stock,
+            &mut rows,
+        );
+        let pending = hold.pending();
+        hold.leave(&mut self.seat);
+        common.bell.tell(pending);
+        self.stock.replica.extend(rows.as_slice());
+        next
+    }
+
+    /// Does the works that it has taken, as far as there is memory.
+    fn serve<G: Gate>(&mut self, gate: &G)
+        requires { All (IsWork self.old.problem self.old.log) self.old.works }
+        ensures { self.new.table ≡ self.old.table }
+    {
+        let common = self.common;
+        know_sorted_problem(common.problem);
+        form_each(common, gate, self.seat.number(), &mut self.stock);
+    }
+
+    /// Takes works and does them until none is left or none is given out any more.
+    fn work_on<R: Wait, G: Gate>(&mut self, rt: &R, gate: &G)
+        ensures { self.new.table ≡ self.old.table }
+    {
+        let common = self.common;
+        let bell = common.bell;
+        let worker = self.seat.number();
+        let mut heard = None;
+        for _ in rt.forever() {
+            match self.exchange(rt) {
+                Next::Serve => {
+                    heard = bell.go_on(heard);
+                    self.serve(gate);
+                }
+                Next::Pass => {
+                    heard = bell.go_on(heard);
+                    pass_each(gate, worker, self.stock.jobs.as_slice());
+                }
+                Next::Rest => {
+                    heard = bell.go_on(heard);
+                    bell.ring();
+                    bell.sharing.rest(rt, worker);
+                }
+                Next::Wait => heard = bell.wait(rt, heard),
+                Next::End => {
+                    bell.end(worker, heard);
+                    return;
+                }
+            }
+        }
+        unreachable!()
+    }
+
+    /// The seat, at rest.
+    fn into_rested(self) -> RestedSeat
+        ensures { RestsIn self.entry.table result }
+    {
+        let Worker {
+            common: _,
+            seat,
+            stock,
+        } = self;
+        drop(stock);
+        seat.into_rested()
+    }
 }
 
 /// Works at the seat that rests here until no work is left or none is given out any more.
 pub(crate) fn run_worker<'p, R: Wait, G: Gate>(
     rt: &R,
-    alloc: Global,
-    table: &SharedTable<'p>,
-    problem: &Problem,
-    dependents: &Dependents,
+    common: &Common<'_, 'p>,
     gate: &G,
-    bell: &Bell,
     rested: &mut RestedSeat,
 )
-    requires dependents { HasDependents problem.now.points problem.now.flow.pairs dependents.now }
-    requires rested { RestsSeated table.now problem.now rested.old }
-    ensures { RestsIn table.now rested.new }
+    requires { RestsSeated common.now.table common.now.problem rested.old }
+    ensures { RestsIn common.now.table rested.new }
 {
-    let mut seat = replace(rested, Rested::blank()).into_seat::<Held<'p>>();
-    work_on(rt, alloc, table, problem, dependents, gate, bell, &mut seat);
-    *rested = seat.into_rested();
+    let seat = replace(rested, Rested::blank()).into_seat::<Held<'p>>();
+    let mut worker = Worker::new(common, seat);
+    worker.work_on(rt, gate);
+    *rested = worker.into_rested();
 }

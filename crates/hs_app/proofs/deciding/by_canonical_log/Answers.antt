@@ -4,7 +4,7 @@ use Rattle.hs_app.proofs.ReportedTables.{reported_least}
 use Rattle.hs_app.proofs.deciding.by_canonical_log.Goals as goal
 
 pub canonical_core-requires : goal.canonical_core-requires
-canonical_core-requires c = record { few = within_greater c.args.problem.now c.args.settings.entries 1000000 c.requires.settings.most_entries c.requires.few }
+canonical_core-requires c = record { few = within_greater c.args.problem.now c.args.settings.entries 1000000 c.know_settings.ensures.most_entries c.requires.few }
 
 pub rejected-decided-requires-clause-few : goal.rejected-decided-requires-clause-few
 rejected-decided-requires-clause-few c = least_within c.args.problem.now c.args.settings.entries (log_of c.in_ok-ranked.ranked) c.requires.few c.in_ok-ranked.ensures.canonical.least

@@ -1,4 +1,4 @@
-use Rattle.std.proofs.Common.{sym, subst, ℕ, List}
+use Rattle.std.proofs.Common.{sym, ap, subst, ℕ, List}
 use Rattle.hs_scheme.specs.declared.term.Rule.{Rule}
 use Rattle.hs_scheme.specs.Problem.{ProblemData}
 use Rattle.hs_table.specs.Tables.{HasSupports}
@@ -8,7 +8,9 @@ use Rattle.hs_scheme.specs.acceptance.Steps.{Reaches}
 use Rattle.hs_text.specs.declared.verdict.Verdict.TheVariants.{Rejected, Long}
 use Rattle.hs_core.specs.Core.{state_of, log_of}
 use Rattle.hs_core.proofs.Tables.{core_supports}
+use Rattle.hs_words.specs.Settings.{SettingsData}
 use Rattle.hs_path.specs.declared.answer.Walk.{Walk}
+use Rattle.hs_path.specs.declared.answer.Walk.TheVariants as walk
 use Rattle.hs_path.specs.Walked.{IsWalk}
 use Rattle.hs_app.specs.Verdict.{IsShown}
 use Rattle.hs_app.proofs.DecidingLemmas.{either_way}
@@ -19,7 +21,9 @@ returns-in_ok-report-in-Found c =
     let log = log_of c.args.core.now in
     let supports = (state_of c.args.core.now).supports in
     let p = c.args.problem.now in
-    let found = subst (λ (w : Walk). IsWalk p log supports c.args.settings.steps w) c.in-Found.is (c.in_ok-path.ensures) in
+    let steps = ap (λ (s : SettingsData). s.steps) c.settings.view_is in
+    let found = subst (λ (n : ℕ). IsWalk p log supports n (walk.Found c.in-Found.path)) steps
+    (subst (λ (w : Walk). IsWalk p log supports c.settings.inside.steps w) c.in-Found.is c.in_ok-path.ensures) in
     let supported = subst (λ (q : ProblemData). HasSupports q log supports) (sym c.requires.problem) (core_supports c.args.core.now c.know_core.ensures) in
     record {
       rejects = c.requires.rejects;
@@ -44,7 +48,9 @@ returns-in_ok-report-in-StepLimit c =
     let log = log_of c.args.core.now in
     let supports = (state_of c.args.core.now).supports in
     let p = c.args.problem.now in
-    let cut = subst (λ (w : Walk). IsWalk p log supports c.args.settings.steps w) c.in-StepLimit.is (c.in_ok-path.ensures) in
+    let steps = ap (λ (s : SettingsData). s.steps) c.settings.view_is in
+    let cut = subst (λ (n : ℕ). IsWalk p log supports n (walk.StepLimit c.in-StepLimit._prefix)) steps
+    (subst (λ (w : Walk). IsWalk p log supports c.settings.inside.steps w) c.in-StepLimit.is c.in_ok-path.ensures) in
     let supported = subst (λ (q : ProblemData). HasSupports q log supports) (sym c.requires.problem) (core_supports c.args.core.now c.know_core.ensures) in
     record {
       rejects = c.requires.rejects;
@@ -70,5 +76,6 @@ returns-in_ok-report-in-StepLimit c =
       fails = (cut.need, c.namings_end_and_fail.ensures.fails p log supports c.know_sorted_problem.ensures supported cut.need cut.path cut.names);
       tells =
           subst (λ (n : ℕ). IsShown c.args.settings p (Long n c.args.settings.steps) log c.args.removed c.in_ok-report-in-StepLimit.report.items)
-          c.len-entries.ensures (c.in_ok-report-in-StepLimit.ensures);
+          c.len-entries.ensures
+          (subst (λ (n : ℕ). IsShown c.args.settings p (Long c.len-entries.result n) log c.args.removed c.in_ok-report-in-StepLimit.report.items) steps c.in_ok-report-in-StepLimit.ensures);
     }

@@ -3,7 +3,8 @@ use Rattle.std.proofs.Common.{◌≡◌, ◌≤◌}
 use Rattle.std.specs.List.{AllAdjacentBelow}
 use Rattle.std.specs.declared.cmp.Ordering.TheVariants.{Less}
 use Rattle.hs_weak.specs.Void.{void_cmp}
+use Rattle.hs_numbered.specs.Certificates.{void_of}
 use Rattle.hs_app.proofs.evidence.are_pairs_ascending.Given as goal
 
 abbrev pub invariant-loop-place : goal.invariant-loop-place
-invariant-loop-place l = (1 ≤ l.place) × AllAdjacentBelow (λ a b. void_cmp a b ≡ Less) l.void l.place
+invariant-loop-place l = (1 ≤ l.place) × AllAdjacentBelow (λ a b. void_cmp (void_of l.numbers a) (void_of l.numbers b) ≡ Less) l.rows l.place

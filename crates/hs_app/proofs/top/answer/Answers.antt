@@ -25,12 +25,6 @@ verdict_on_cycle-requires-clause-least g c κs within = (c.in-Ok.ensures.within.
 pub verdict_on_cycle-requires-clause-most : goal.verdict_on_cycle-requires-clause-most
 verdict_on_cycle-requires-clause-most g c κs within = (c.in-Ok.ensures.within.cycle c.in-Some.k c.in-Some.is).1
 
-pub verdict_on_cycle-requires-clause-settings : goal.verdict_on_cycle-requires-clause-settings
-verdict_on_cycle-requires-clause-settings g c κs within = c.in-Ok.ensures.within.settings
-
-pub verdict_on-requires-clause-settings : goal.verdict_on-requires-clause-settings
-verdict_on-requires-clause-settings g c κs within = c.in-Ok.ensures.within.settings
-
 pub returns-in-Some-clause-answer : goal.returns-in-Some-clause-answer
 returns-in-Some-clause-answer g c =
     let source = source_run g.S.Source.file g.S.Source.left g.S.Source.reading g.S.Source.faults c.args.source.now c.args.source.now in

@@ -1,4 +1,6 @@
-use Rattle.std.proofs.Common.{◌∙◌, subst, List, [], ℕ}
+use Rattle.std.proofs.Common.{◌∙◌, ap, subst, Bool, List, [], ℕ}
+use Rattle.std.specs.Prelude.{Err}
+use Rattle.hs_words.specs.Settings.{SettingsData}
 use Rattle.hs_front.specs.Outside.{source_run}
 use Rattle.hs_app.specs.Problems.{asked_of}
 use Rattle.hs_app.specs.Order.{read_file}
@@ -25,4 +27,6 @@ returns-in-Ok-clause-explains g c =
     (c.as_slice-in-Ok.ensures.value ∙ c.in-Ok.ensures.answer.given) c.explanation.ensures
 
 pub returns-in-Err-clause-explains : goal.returns-in-Err-clause-explains
-returns-in-Err-clause-explains g c = unread_explained c.args.settings.explain [] c.unread_explanation.result.items c.in-Err.refusal c.unread_explanation.ensures
+returns-in-Err-clause-explains g c =
+    subst (λ (b : Bool). IsExplanation b [] (Err c.in-Err.refusal) c.unread_explanation.result.items) (ap (λ (s : SettingsData). s.explain) c.settings.view_is)
+    (unread_explained c.settings.inside.explain [] c.unread_explanation.result.items c.in-Err.refusal c.unread_explanation.ensures)

@@ -2,7 +2,7 @@ use Rattle.std.proofs.Common.{◌≡◌, sym, subst, List, true, false}
 use Rattle.std.proofs.lemmas.Result.{err_from_is_err_and}
 use Rattle.hs_table.specs.Entries.{EntryData, entry_cmp}
 use Rattle.hs_cert.specs.Certificate.{IsEntry}
-use Rattle.hs_cert.specs.Front.{IsAboveLast}
+use Rattle.hs_numbered.specs.Certificates.{IsAboveLast}
 use Rattle.hs_cert.proofs.Numbers.{faulty_of}
 use Rattle.hs_cert.proofs.Entries.{same_entry}
 use Rattle.hs_cert.proofs.Right.{next_item}

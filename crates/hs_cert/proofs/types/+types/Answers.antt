@@ -1,7 +1,8 @@
 use Rattle.std.proofs.Common.{◌≡◌, refl, sym, ◌∙◌, ap, subst, ◌++◌, ◌∷◌, [], false, true, List, ℕ}
 use Rattle.std.proofs.lemmas.Result.{err_from_is_err_and}
 use Rattle.hs_table.specs.Types.{TypeTree, arrow, type_cmp}
-use Rattle.hs_cert.specs.Front.{IsAboveLast, IsTypeFront, IsMembersFront}
+use Rattle.hs_numbered.specs.Certificates.{IsAboveLast}
+use Rattle.hs_cert.specs.Front.{IsTypeFront, IsMembersFront}
 use Rattle.hs_cert.proofs.Numbers.{faulty_of, positive}
 use Rattle.hs_cert.proofs.Reading.{Listed, unread_type, arrow_read, no_members, no_sign, no_result, listed_next, listed_last, no_next, not_above, no_end, comma_shorter}
 use Rattle.hs_cert.proofs.types.+types.Goals as goal

@@ -1,24 +1,38 @@
-use Rattle.std.proofs.Common.{refl}
-use Rattle.std.proofs.lemmas.Result.{err_from_is_err_and}
-use Rattle.hs_certificate_checker.proofs.FlawLemmas.{stand_so}
+use Rattle.std.proofs.Common.{subst, sym, List}
+use Rattle.hs_types.specs.Interned.{RowData}
+use Rattle.hs_numbered.specs.Certificates.{VoidRowData}
+use Rattle.hs_choices.specs.Numbered.{AreNumbered}
 use Rattle.hs_certificate_checker.proofs.checking.check_pairs.Goals as goal
 
-pub check_rows-checked-requires : goal.check_rows-checked-requires
-check_rows-checked-requires c = record {
-  entries = c.args.table.now;
-  pairs = c.args.void.now;
-  are = stand_so c.args.problem.now c.args.problem.now _ _ _ _ _ _ refl c.new-types.ensures c.as_slice-rows.ensures.value c.as_slice.ensures.value c.args.table.now c.args.void.now c.in_ok-numbers.ensures;
-}
+pub check_numbers-requires : goal.check_numbers-requires
+check_numbers-requires c =
+    let p = c.args.problem.now in
+    let I = c.numbered.new.interner in
+    let C = c.args.table.now in
+    let V = c.args.void.now in
+    record {
+      entries = C;
+      pairs = V;
+      are = subst (λ (z : List RowData). AreNumbered p C V I z c.as_slice-pairs.result.now) (sym c.as_slice-rows.ensures.value)
+          (subst (λ (z : List VoidRowData). AreNumbered p C V I c.in-Ok.numbers.table.items z) (sym c.as_slice-pairs.ensures.value) c.in-Ok.ensures);
+    }
 
-pub returns-clause-whole : goal.returns-clause-whole
-returns-clause-whole c = c.check_rows-checked.ensures.whole c.args.table.now c.args.void.now
-    (stand_so c.args.problem.now c.args.problem.now _ _ _ _ _ _ refl c.new-types.ensures c.as_slice-rows.ensures.value c.as_slice.ensures.value c.args.table.now c.args.void.now c.in_ok-numbers.ensures) c.requires
+pub returns-in-Ok-clause-whole : goal.returns-in-Ok-clause-whole
+returns-in-Ok-clause-whole c =
+    let p = c.args.problem.now in
+    let I = c.numbered.new.interner in
+    let C = c.args.table.now in
+    let V = c.args.void.now in
+    let are = subst (λ (z : List RowData). AreNumbered p C V I z c.as_slice-pairs.result.now) (sym c.as_slice-rows.ensures.value)
+    (subst (λ (z : List VoidRowData). AreNumbered p C V I c.in-Ok.numbers.table.items z) (sym c.as_slice-pairs.ensures.value) c.in-Ok.ensures) in
+    c.check_numbers.ensures.whole C V are c.requires
 
-pub returns-clause-flaw : goal.returns-clause-flaw
-returns-clause-flaw c = c.check_rows-checked.ensures.flaw c.args.table.now c.args.void.now
-    (stand_so c.args.problem.now c.args.problem.now _ _ _ _ _ _ refl c.new-types.ensures c.as_slice-rows.ensures.value c.as_slice.ensures.value c.args.table.now c.args.void.now c.in_ok-numbers.ensures) c.requires
-
-pub returns-in_err-numbers-clause-flaw : goal.returns-in_err-numbers-clause-flaw
-returns-in_err-numbers-clause-flaw c =
-    let e = err_from_is_err_and c.from_residual.result c.from_residual.ensures.1 in
-    rw (e.1, e.2) tt
+pub returns-in-Ok-clause-flaw : goal.returns-in-Ok-clause-flaw
+returns-in-Ok-clause-flaw c =
+    let p = c.args.problem.now in
+    let I = c.numbered.new.interner in
+    let C = c.args.table.now in
+    let V = c.args.void.now in
+    let are = subst (λ (z : List RowData). AreNumbered p C V I z c.as_slice-pairs.result.now) (sym c.as_slice-rows.ensures.value)
+    (subst (λ (z : List VoidRowData). AreNumbered p C V I c.in-Ok.numbers.table.items z) (sym c.as_slice-pairs.ensures.value) c.in-Ok.ensures) in
+    c.check_numbers.ensures.flaw C V are c.requires

@@ -3,9 +3,8 @@ use Rattle.std.proofs.lemmas.List.{take_all}
 use Rattle.hs_table.specs.Entries.{Env}
 use Rattle.hs_weak.specs.Void.{VoidData}
 use Rattle.hs_types.proofs.Numbers.{Grows-trans}
-use Rattle.hs_certificate_checker.specs.Trees.{IsSomeEnv}
-use Rattle.hs_certificate_checker.proofs.TreeLemmas.{void_some}
-use Rattle.hs_certificate_checker.proofs.RowLemmas.{voids_range, voids_next, voids_long}
+use Rattle.hs_numbered.specs.Trees.{IsSomeEnv}
+use Rattle.hs_certificate_checker.proofs.RowLemmas.{void_some, voids_range, voids_next, voids_long}
 use Rattle.hs_certificate_checker.proofs.import.void_rows.Goals as goal
 
 pub import_env-requires : goal.import_env-requires

@@ -1,7 +1,7 @@
 -- the pairs by number so far are the first pairs, and there is room for the others
 use Rattle.std.proofs.Common.{◌≡◌, ◌<◌, ◌≤◌, All, length, map, take, vec_capacity}
 use Rattle.hs_types.specs.Interned.{Grows}
-use Rattle.hs_choices.specs.Numbered.{void_of}
+use Rattle.hs_numbered.specs.Certificates.{void_of}
 use Rattle.hs_certificate_checker.proofs.import.void_rows.Given as goal
 
 abbrev pub invariant-loop-pair : goal.invariant-loop-pair

@@ -1,6 +1,6 @@
 use Rattle.std.proofs.Common.{sym, ◌∙◌, ap, map}
 use Rattle.hs_types.specs.Interned.{entry_of}
-use Rattle.hs_choices.specs.Numbered.{void_of}
+use Rattle.hs_numbered.specs.Certificates.{void_of}
 use Rattle.hs_void.specs.Voids.{BasisData}
 use Rattle.hs_certificate_checker.proofs.FlawLemmas.{own_stand, first_flaw, open_flaw, row_used, no_flaw, told_missing}
 use Rattle.hs_certificate_checker.proofs.rows.check_voids.Goals as goal

@@ -14,8 +14,8 @@ returns-in_err-found-in-Seed-clause-flight c =
     let is = c.in_err-found-in-Seed.ensures.kept in
     (moves_same {me = c.args.worker} c.args.core.now c.at_seed.new.self (ap (λ (x : CoreData). x.base) is) (ap (λ (x : CoreData). x.story) is)).flight
 
-pub returns-in_err-found-in-Seed-clause-weight : goal.returns-in_err-found-in-Seed-clause-weight
-returns-in_err-found-in-Seed-clause-weight c =
+pub returns-in_err-found-in-Seed-clause-work_left : goal.returns-in_err-found-in-Seed-clause-work_left
+returns-in_err-found-in-Seed-clause-work_left c =
     let is = c.in_err-found-in-Seed.ensures.kept in
     (moves_same {me = c.args.worker} c.args.core.now c.at_seed.new.self (ap (λ (x : CoreData). x.base) is) (ap (λ (x : CoreData). x.story) is)).lighter
 
@@ -31,19 +31,19 @@ pub returns-in_ok-found-in-Seed-clause-goes : goal.returns-in_ok-found-in-Seed-c
 returns-in_ok-found-in-Seed-clause-goes c =
     let is = c.in_ok-found-in-Seed.ensures.kept in
     (moves_trans c.args.core.now c.at_seed.new.self c.publish_all.new.core (moves_same {me = c.args.worker} c.args.core.now c.at_seed.new.self (ap (λ (x : CoreData). x.base) is) (ap (λ (x : CoreData). x.story) is))
-    (record { alone = c.publish_all.ensures.goes; flight = c.publish_all.ensures.flight; lighter = c.publish_all.ensures.weight })).alone
+    (record { alone = c.publish_all.ensures.goes; flight = c.publish_all.ensures.flight; lighter = c.publish_all.ensures.work_left })).alone
 
 pub returns-in_ok-found-in-Seed-clause-flight : goal.returns-in_ok-found-in-Seed-clause-flight
 returns-in_ok-found-in-Seed-clause-flight c =
     let is = c.in_ok-found-in-Seed.ensures.kept in
     (moves_trans c.args.core.now c.at_seed.new.self c.publish_all.new.core (moves_same {me = c.args.worker} c.args.core.now c.at_seed.new.self (ap (λ (x : CoreData). x.base) is) (ap (λ (x : CoreData). x.story) is))
-    (record { alone = c.publish_all.ensures.goes; flight = c.publish_all.ensures.flight; lighter = c.publish_all.ensures.weight })).flight
+    (record { alone = c.publish_all.ensures.goes; flight = c.publish_all.ensures.flight; lighter = c.publish_all.ensures.work_left })).flight
 
-pub returns-in_ok-found-in-Seed-clause-weight : goal.returns-in_ok-found-in-Seed-clause-weight
-returns-in_ok-found-in-Seed-clause-weight c =
+pub returns-in_ok-found-in-Seed-clause-work_left : goal.returns-in_ok-found-in-Seed-clause-work_left
+returns-in_ok-found-in-Seed-clause-work_left c =
     let is = c.in_ok-found-in-Seed.ensures.kept in
     (moves_trans c.args.core.now c.at_seed.new.self c.publish_all.new.core (moves_same {me = c.args.worker} c.args.core.now c.at_seed.new.self (ap (λ (x : CoreData). x.base) is) (ap (λ (x : CoreData). x.story) is))
-    (record { alone = c.publish_all.ensures.goes; flight = c.publish_all.ensures.flight; lighter = c.publish_all.ensures.weight })).lighter
+    (record { alone = c.publish_all.ensures.goes; flight = c.publish_all.ensures.flight; lighter = c.publish_all.ensures.work_left })).lighter
 
 pub returns-in_ok-found-in-Seed-clause-closed : goal.returns-in_ok-found-in-Seed-clause-closed
 returns-in_ok-found-in-Seed-clause-closed c =

@@ -32,8 +32,8 @@ returns-in_err-found-clause-goes c = (moves_asked c.args.core.now c.loop-depende
 pub returns-in_err-found-clause-flight : goal.returns-in_err-found-clause-flight
 returns-in_err-found-clause-flight c = (moves_asked c.args.core.now c.loop-dependent.core c.at_place.new.self c.loop-dependent.invariant.moves c.in_err-found.ensures.kept).flight
 
-pub returns-in_err-found-clause-weight : goal.returns-in_err-found-clause-weight
-returns-in_err-found-clause-weight c = (moves_asked c.args.core.now c.loop-dependent.core c.at_place.new.self c.loop-dependent.invariant.moves c.in_err-found.ensures.kept).lighter
+pub returns-in_err-found-clause-work_left : goal.returns-in_err-found-clause-work_left
+returns-in_err-found-clause-work_left c = (moves_asked c.args.core.now c.loop-dependent.core c.at_place.new.self c.loop-dependent.invariant.moves c.in_err-found.ensures.kept).lighter
 
 pub publish_all-requires-clause-holds : goal.publish_all-requires-clause-holds
 publish_all-requires-clause-holds c =
@@ -48,32 +48,32 @@ publish_all-requires-clause-ready c =
 pub returns-in_err-publish_all-clause-goes : goal.returns-in_err-publish_all-clause-goes
 returns-in_err-publish_all-clause-goes c =
     (moves_trans c.args.core.now c.at_place.new.self c.publish_all.new.core (moves_asked c.args.core.now c.loop-dependent.core c.at_place.new.self c.loop-dependent.invariant.moves c.in_ok-found.ensures.kept)
-    (record { alone = c.in_err-publish_all.ensures.goes; flight = c.in_err-publish_all.ensures.flight; lighter = c.in_err-publish_all.ensures.weight })).alone
+    (record { alone = c.in_err-publish_all.ensures.goes; flight = c.in_err-publish_all.ensures.flight; lighter = c.in_err-publish_all.ensures.work_left })).alone
 
 pub returns-in_err-publish_all-clause-flight : goal.returns-in_err-publish_all-clause-flight
 returns-in_err-publish_all-clause-flight c =
     (moves_trans c.args.core.now c.at_place.new.self c.publish_all.new.core (moves_asked c.args.core.now c.loop-dependent.core c.at_place.new.self c.loop-dependent.invariant.moves c.in_ok-found.ensures.kept)
-    (record { alone = c.in_err-publish_all.ensures.goes; flight = c.in_err-publish_all.ensures.flight; lighter = c.in_err-publish_all.ensures.weight })).flight
+    (record { alone = c.in_err-publish_all.ensures.goes; flight = c.in_err-publish_all.ensures.flight; lighter = c.in_err-publish_all.ensures.work_left })).flight
 
-pub returns-in_err-publish_all-clause-weight : goal.returns-in_err-publish_all-clause-weight
-returns-in_err-publish_all-clause-weight c =
+pub returns-in_err-publish_all-clause-work_left : goal.returns-in_err-publish_all-clause-work_left
+returns-in_err-publish_all-clause-work_left c =
     (moves_trans c.args.core.now c.at_place.new.self c.publish_all.new.core (moves_asked c.args.core.now c.loop-dependent.core c.at_place.new.self c.loop-dependent.invariant.moves c.in_ok-found.ensures.kept)
-    (record { alone = c.in_err-publish_all.ensures.goes; flight = c.in_err-publish_all.ensures.flight; lighter = c.in_err-publish_all.ensures.weight })).lighter
+    (record { alone = c.in_err-publish_all.ensures.goes; flight = c.in_err-publish_all.ensures.flight; lighter = c.in_err-publish_all.ensures.work_left })).lighter
 
 pub returns-then-not-branch-clause-goes : goal.returns-then-not-branch-clause-goes
 returns-then-not-branch-clause-goes c =
     (moves_trans c.args.core.now c.at_place.new.self c.publish_all.new.core (moves_asked c.args.core.now c.loop-dependent.core c.at_place.new.self c.loop-dependent.invariant.moves c.in_ok-found.ensures.kept)
-    (record { alone = c.in_ok-publish_all.ensures.goes; flight = c.in_ok-publish_all.ensures.flight; lighter = c.in_ok-publish_all.ensures.weight })).alone
+    (record { alone = c.in_ok-publish_all.ensures.goes; flight = c.in_ok-publish_all.ensures.flight; lighter = c.in_ok-publish_all.ensures.work_left })).alone
 
 pub returns-then-not-branch-clause-flight : goal.returns-then-not-branch-clause-flight
 returns-then-not-branch-clause-flight c =
     (moves_trans c.args.core.now c.at_place.new.self c.publish_all.new.core (moves_asked c.args.core.now c.loop-dependent.core c.at_place.new.self c.loop-dependent.invariant.moves c.in_ok-found.ensures.kept)
-    (record { alone = c.in_ok-publish_all.ensures.goes; flight = c.in_ok-publish_all.ensures.flight; lighter = c.in_ok-publish_all.ensures.weight })).flight
+    (record { alone = c.in_ok-publish_all.ensures.goes; flight = c.in_ok-publish_all.ensures.flight; lighter = c.in_ok-publish_all.ensures.work_left })).flight
 
-pub returns-then-not-branch-clause-weight : goal.returns-then-not-branch-clause-weight
-returns-then-not-branch-clause-weight c =
+pub returns-then-not-branch-clause-work_left : goal.returns-then-not-branch-clause-work_left
+returns-then-not-branch-clause-work_left c =
     (moves_trans c.args.core.now c.at_place.new.self c.publish_all.new.core (moves_asked c.args.core.now c.loop-dependent.core c.at_place.new.self c.loop-dependent.invariant.moves c.in_ok-found.ensures.kept)
-    (record { alone = c.in_ok-publish_all.ensures.goes; flight = c.in_ok-publish_all.ensures.flight; lighter = c.in_ok-publish_all.ensures.weight })).lighter
+    (record { alone = c.in_ok-publish_all.ensures.goes; flight = c.in_ok-publish_all.ensures.flight; lighter = c.in_ok-publish_all.ensures.work_left })).lighter
 
 pub returns-then-not-branch-clause-closed : goal.returns-then-not-branch-clause-closed
 returns-then-not-branch-clause-closed c = MatchBool-at_false _ _ c.if-not-branch.true c.in_ok-publish_all.ensures.all
@@ -84,7 +84,7 @@ loop-dependent-preserved c =
     let b = c.loop-dependent.core in
     let m = c.at_place.new.self in
     let e = c.publish_all.new.core in
-    let published : Moves c.args.worker m e = record { alone = c.in_ok-publish_all.ensures.goes; flight = c.in_ok-publish_all.ensures.flight; lighter = c.in_ok-publish_all.ensures.weight } in
+    let published : Moves c.args.worker m e = record { alone = c.in_ok-publish_all.ensures.goes; flight = c.in_ok-publish_all.ensures.flight; lighter = c.in_ok-publish_all.ensures.work_left } in
     let asked = moves_asked b b m (moves_same b b refl refl) c.in_ok-found.ensures.kept in
     let later = moves_trans b m e asked published in
     let items = c.list-dependent-items.result.now in
@@ -106,8 +106,8 @@ returns-clause-goes c = c.loop-dependent.invariant.moves.alone
 pub returns-clause-flight : goal.returns-clause-flight
 returns-clause-flight c = c.loop-dependent.invariant.moves.flight
 
-pub returns-clause-weight : goal.returns-clause-weight
-returns-clause-weight c = c.loop-dependent.invariant.moves.lighter
+pub returns-clause-work_left : goal.returns-clause-work_left
+returns-clause-work_left c = c.loop-dependent.invariant.moves.lighter
 
 pub returns-clause-closed : goal.returns-clause-closed
 returns-clause-closed c =

@@ -20,8 +20,8 @@ returns-in_err-reserve_some-clause-flight c =
     let same = c.in_err-reserve_some.ensures.err in
     (moves_trans a c.loop-deduced.core b c.loop-deduced.invariant.moves (moves_same c.loop-deduced.core b (ap (λ (x : CoreData). x.base) same) (ap (λ (x : CoreData). x.story) same))).flight
 
-pub returns-in_err-reserve_some-clause-weight : goal.returns-in_err-reserve_some-clause-weight
-returns-in_err-reserve_some-clause-weight c =
+pub returns-in_err-reserve_some-clause-work_left : goal.returns-in_err-reserve_some-clause-work_left
+returns-in_err-reserve_some-clause-work_left c =
     let a = c.args.core.now in
     let b = c.reserve_some.new.self in
     let same = c.in_err-reserve_some.ensures.err in
@@ -72,8 +72,8 @@ returns-in-Over-clause-flight c =
     (moves_trans a b c.publish.new.self (moves_reserved a c.loop-deduced.core b _ c.loop-deduced.invariant.moves c.in_ok-reserve_some.ensures.same)
     (publish_moves c.args.worker b c.publish.new.self c.args.ticket (deduction_of b.ids c.in-Some.deduced) Over c.in-Over.ensures)).flight
 
-pub returns-in-Over-clause-weight : goal.returns-in-Over-clause-weight
-returns-in-Over-clause-weight c =
+pub returns-in-Over-clause-work_left : goal.returns-in-Over-clause-work_left
+returns-in-Over-clause-work_left c =
     let a = c.args.core.now in
     let b = c.reserve_some.new.self in
     (moves_trans a b c.publish.new.self (moves_reserved a c.loop-deduced.core b _ c.loop-deduced.invariant.moves c.in_ok-reserve_some.ensures.same)
@@ -111,8 +111,8 @@ returns-clause-goes c = c.loop-deduced.invariant.moves.alone
 pub returns-clause-flight : goal.returns-clause-flight
 returns-clause-flight c = c.loop-deduced.invariant.moves.flight
 
-pub returns-clause-weight : goal.returns-clause-weight
-returns-clause-weight c = c.loop-deduced.invariant.moves.lighter
+pub returns-clause-work_left : goal.returns-clause-work_left
+returns-clause-work_left c = c.loop-deduced.invariant.moves.lighter
 
 pub returns-clause-ids : goal.returns-clause-ids
 returns-clause-ids c = c.loop-deduced.invariant.ids

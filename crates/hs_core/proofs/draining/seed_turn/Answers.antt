@@ -120,7 +120,7 @@ close-requires-clause-holds c =
     let e = c.publish_all-all.new.core in
     let is = c.in_ok-found.ensures.kept in
     let free = nothing_flies a m (ap (λ (x : CoreData). x.base) is) (ap (λ (x : CoreData). x.story) is) c.requires.flight in
-    let moves : Moves c.args.worker b e = record { alone = c.publish_all-all.ensures.goes; flight = c.publish_all-all.ensures.flight; lighter = c.publish_all-all.ensures.weight } in
+    let moves : Moves c.args.worker b e = record { alone = c.publish_all-all.ensures.goes; flight = c.publish_all-all.ensures.flight; lighter = c.publish_all-all.ensures.work_left } in
     (Seed c.args.point, holds_then m b e e (Seed c.args.point) c.take_first-ticket.result _ 0 free c.take_first-ticket.ensures.can c.take_first-ticket.ensures.stepped moves)
 
 pub close-requires-clause-closed : goal.close-requires-clause-closed
@@ -133,7 +133,7 @@ close-requires-clause-closed c =
     let found = c.in_ok-found.found.items in
     let took = c.take_first-ticket.ensures.stepped in
     let free = nothing_flies a m (ap (λ (x : CoreData). x.base) is) (ap (λ (x : CoreData). x.story) is) c.requires.flight in
-    let moves : Moves c.args.worker b e = record { alone = c.publish_all-all.ensures.goes; flight = c.publish_all-all.ensures.flight; lighter = c.publish_all-all.ensures.weight } in
+    let moves : Moves c.args.worker b e = record { alone = c.publish_all-all.ensures.goes; flight = c.publish_all-all.ensures.flight; lighter = c.publish_all-all.ensures.work_left } in
     let holds = holds_then m b e e (Seed c.args.point) c.take_first-ticket.result _ 0 free c.take_first-ticket.ensures.can took moves in
     may_close (All (IsThere e) found) _ (CanFinish e.base (state_of e) c.args.worker c.take_first-ticket.result) c.publish_all-all.result
     (λ there. record {
@@ -154,7 +154,7 @@ returns-clause-goes c =
     let base = ap (λ (x : CoreData). x.base) is in
     let story = ap (λ (x : CoreData). x.story) is in
     let free = nothing_flies a m base story c.requires.flight in
-    let moves : Moves c.args.worker b e = record { alone = c.publish_all-all.ensures.goes; flight = c.publish_all-all.ensures.flight; lighter = c.publish_all-all.ensures.weight } in
+    let moves : Moves c.args.worker b e = record { alone = c.publish_all-all.ensures.goes; flight = c.publish_all-all.ensures.flight; lighter = c.publish_all-all.ensures.work_left } in
     let ends = closed_turn m b e d (Seed c.args.point) c.take_first-ticket.result _ free c.take_first-ticket.ensures.can c.take_first-ticket.ensures.stepped moves (All (IsThere e) c.in_ok-found.found.items) c.publish_all-all.result c.close.ensures.closes c.publish_all-all.ensures.all in
     (turn_behind a m base story d c.close.result (subst (λ (x : Result Bool OutOfMemory). TurnEnds c.args.worker m d x) (sym c.close.ensures.same) ends)).goes
 
@@ -169,7 +169,7 @@ returns-clause-flight c =
     let base = ap (λ (x : CoreData). x.base) is in
     let story = ap (λ (x : CoreData). x.story) is in
     let free = nothing_flies a m base story c.requires.flight in
-    let moves : Moves c.args.worker b e = record { alone = c.publish_all-all.ensures.goes; flight = c.publish_all-all.ensures.flight; lighter = c.publish_all-all.ensures.weight } in
+    let moves : Moves c.args.worker b e = record { alone = c.publish_all-all.ensures.goes; flight = c.publish_all-all.ensures.flight; lighter = c.publish_all-all.ensures.work_left } in
     let ends = closed_turn m b e d (Seed c.args.point) c.take_first-ticket.result _ free c.take_first-ticket.ensures.can c.take_first-ticket.ensures.stepped moves (All (IsThere e) c.in_ok-found.found.items) c.publish_all-all.result c.close.ensures.closes c.publish_all-all.ensures.all in
     (turn_behind a m base story d c.close.result (subst (λ (x : Result Bool OutOfMemory). TurnEnds c.args.worker m d x) (sym c.close.ensures.same) ends)).flight
 
@@ -184,6 +184,6 @@ returns-clause-more c =
     let base = ap (λ (x : CoreData). x.base) is in
     let story = ap (λ (x : CoreData). x.story) is in
     let free = nothing_flies a m base story c.requires.flight in
-    let moves : Moves c.args.worker b e = record { alone = c.publish_all-all.ensures.goes; flight = c.publish_all-all.ensures.flight; lighter = c.publish_all-all.ensures.weight } in
+    let moves : Moves c.args.worker b e = record { alone = c.publish_all-all.ensures.goes; flight = c.publish_all-all.ensures.flight; lighter = c.publish_all-all.ensures.work_left } in
     let ends = closed_turn m b e d (Seed c.args.point) c.take_first-ticket.result _ free c.take_first-ticket.ensures.can c.take_first-ticket.ensures.stepped moves (All (IsThere e) c.in_ok-found.found.items) c.publish_all-all.result c.close.ensures.closes c.publish_all-all.ensures.all in
     (turn_behind a m base story d c.close.result (subst (λ (x : Result Bool OutOfMemory). TurnEnds c.args.worker m d x) (sym c.close.ensures.same) ends)).more

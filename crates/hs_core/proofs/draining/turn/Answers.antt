@@ -72,7 +72,7 @@ close-requires-clause-holds g c =
     let b = c.take.new.self in
     let e = c.conclude-all.new.core in
     let free = nothing_flies c.args.core.now a (ap (λ (x : CoreData). x.base) r) (ap (λ (x : CoreData). x.story) r) c.requires.flight in
-    let moves : Moves c.args.worker b e = record { alone = c.conclude-all.ensures.goes; flight = c.conclude-all.ensures.flight; lighter = c.conclude-all.ensures.weight } in
+    let moves : Moves c.args.worker b e = record { alone = c.conclude-all.ensures.goes; flight = c.conclude-all.ensures.flight; lighter = c.conclude-all.ensures.work_left } in
     (c.in-Item.work, holds_then a b e e c.in-Item.work c.in-Item.ticket _ 0 free c.in-Item.ensures.0 c.in-Item.ensures.1 moves)
 
 pub close-requires-clause-closed : goal.close-requires-clause-closed
@@ -82,7 +82,7 @@ close-requires-clause-closed g c =
     let b = c.take.new.self in
     let e = c.conclude-all.new.core in
     let free = nothing_flies c.args.core.now a (ap (λ (x : CoreData). x.base) r) (ap (λ (x : CoreData). x.story) r) c.requires.flight in
-    let moves : Moves c.args.worker b e = record { alone = c.conclude-all.ensures.goes; flight = c.conclude-all.ensures.flight; lighter = c.conclude-all.ensures.weight } in
+    let moves : Moves c.args.worker b e = record { alone = c.conclude-all.ensures.goes; flight = c.conclude-all.ensures.flight; lighter = c.conclude-all.ensures.work_left } in
     let holds = holds_then a b e e c.in-Item.work c.in-Item.ticket _ 0 free c.in-Item.ensures.0 c.in-Item.ensures.1 moves in
     may_close (IsClosedWork e.base.problem (log_of e) c.in-Item.work) _ (CanFinish e.base (state_of e) c.args.worker c.in-Item.ticket) c.conclude-all.result
     (λ closed. record { work = c.in-Item.work; holds = holds; closed = closed }) c.conclude-all.ensures.closed
@@ -97,7 +97,7 @@ returns-clause-goes g c =
     let base = ap (λ (x : CoreData). x.base) r in
     let story = ap (λ (x : CoreData). x.story) r in
     let free = nothing_flies c.args.core.now a base story c.requires.flight in
-    let moves : Moves c.args.worker b e = record { alone = c.conclude-all.ensures.goes; flight = c.conclude-all.ensures.flight; lighter = c.conclude-all.ensures.weight } in
+    let moves : Moves c.args.worker b e = record { alone = c.conclude-all.ensures.goes; flight = c.conclude-all.ensures.flight; lighter = c.conclude-all.ensures.work_left } in
     let ends = closed_turn a b e d c.in-Item.work c.in-Item.ticket _ free c.in-Item.ensures.0 c.in-Item.ensures.1 moves (IsClosedWork e.base.problem (log_of e) c.in-Item.work) c.conclude-all.result c.close.ensures.closes c.conclude-all.ensures.closed in
     (turn_behind c.args.core.now a base story d c.close.result (subst (λ (x : Result Bool OutOfMemory). TurnEnds c.args.worker a d x) (sym c.close.ensures.same) ends)).goes
 
@@ -111,7 +111,7 @@ returns-clause-flight g c =
     let base = ap (λ (x : CoreData). x.base) r in
     let story = ap (λ (x : CoreData). x.story) r in
     let free = nothing_flies c.args.core.now a base story c.requires.flight in
-    let moves : Moves c.args.worker b e = record { alone = c.conclude-all.ensures.goes; flight = c.conclude-all.ensures.flight; lighter = c.conclude-all.ensures.weight } in
+    let moves : Moves c.args.worker b e = record { alone = c.conclude-all.ensures.goes; flight = c.conclude-all.ensures.flight; lighter = c.conclude-all.ensures.work_left } in
     let ends = closed_turn a b e d c.in-Item.work c.in-Item.ticket _ free c.in-Item.ensures.0 c.in-Item.ensures.1 moves (IsClosedWork e.base.problem (log_of e) c.in-Item.work) c.conclude-all.result c.close.ensures.closes c.conclude-all.ensures.closed in
     (turn_behind c.args.core.now a base story d c.close.result (subst (λ (x : Result Bool OutOfMemory). TurnEnds c.args.worker a d x) (sym c.close.ensures.same) ends)).flight
 
@@ -125,6 +125,6 @@ returns-clause-more g c =
     let base = ap (λ (x : CoreData). x.base) r in
     let story = ap (λ (x : CoreData). x.story) r in
     let free = nothing_flies c.args.core.now a base story c.requires.flight in
-    let moves : Moves c.args.worker b e = record { alone = c.conclude-all.ensures.goes; flight = c.conclude-all.ensures.flight; lighter = c.conclude-all.ensures.weight } in
+    let moves : Moves c.args.worker b e = record { alone = c.conclude-all.ensures.goes; flight = c.conclude-all.ensures.flight; lighter = c.conclude-all.ensures.work_left } in
     let ends = closed_turn a b e d c.in-Item.work c.in-Item.ticket _ free c.in-Item.ensures.0 c.in-Item.ensures.1 moves (IsClosedWork e.base.problem (log_of e) c.in-Item.work) c.conclude-all.result c.close.ensures.closes c.conclude-all.ensures.closed in
     (turn_behind c.args.core.now a base story d c.close.result (subst (λ (x : Result Bool OutOfMemory). TurnEnds c.args.worker a d x) (sym c.close.ensures.same) ends)).more

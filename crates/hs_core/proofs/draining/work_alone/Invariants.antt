@@ -1,5 +1,5 @@
 -- the worker alone did what was done, and each turn leaves less to do
-use Rattle.hs_core.specs.Draining.{weight, GoesAlone, NothingFlies}
+use Rattle.hs_core.specs.Draining.{work_left, GoesAlone, NothingFlies}
 use Rattle.hs_core.proofs.draining.work_alone.Given as goal
 
 abbrev pub invariant-loop-tally : goal.invariant-loop-tally
@@ -9,4 +9,4 @@ invariant-loop-tally g l = record {
 }
 
 abbrev pub decreases-loop-tally : goal.decreases-loop-tally
-decreases-loop-tally g l = weight l.core
+decreases-loop-tally g l = work_left l.core

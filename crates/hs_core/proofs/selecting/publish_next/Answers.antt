@@ -1,7 +1,7 @@
 use Rattle.std.proofs.Common.{◌≤◌, ◌<◌, refl, sym, ◌∙◌, ap, subst}
 use Rattle.hs_core.specs.declared.answers.Published.TheVariants.{Known, Added, Over}
 use Rattle.hs_core.specs.Core.{CoreData, deduction_of}
-use Rattle.hs_core.specs.Draining.{weight}
+use Rattle.hs_core.specs.Draining.{work_left}
 use Rattle.hs_core.specs.Waiting.{Waits}
 use Rattle.hs_core.proofs.Moving.{Moves, alone_same, moves_same, moves_trans, publish_moves, publish_ids, no_room_kept, known_there, added_there}
 use Rattle.hs_core.proofs.Selected.{if_none, published_own, published_selecting, selecting_none, added_lighter, kept_ended}
@@ -62,7 +62,7 @@ returns-in-Added-clause-after c =
     let d = c.in-Some.deduced in
     let of = deduction_of b.ids d in
     let moves : Moves c.args.worker b e = publish_moves c.args.worker b e c.args.ticket of (Added c.in-Added.place) c.in-Added.ensures in (
-      subst (λ (x : CoreData). weight e < weight x) c.loop-deduced.invariant.same (added_lighter c.args.worker b e c.args.ticket c.in-Added.place of c.in-Added.ensures),
+      subst (λ (x : CoreData). work_left e < work_left x) c.loop-deduced.invariant.same (added_lighter c.args.worker b e c.args.ticket c.in-Added.place of c.in-Added.ensures),
       published_selecting b e c.args.ticket d (Waits c.loop-deduced.waiting.found) (Waits c.next.new.self.found) c.loop-deduced.invariant.selecting c.next.ensures.fewer c.in-Some.ensures.others moves
           (publish_ids c.args.worker b e c.args.ticket of (Added c.in-Added.place) c.in-Added.ensures) (added_there c.args.worker b e c.args.ticket of c.in-Added.place c.in-Added.ensures),
     )

@@ -5,7 +5,7 @@ use Rattle.hs_rules.specs.Conclusions.{DeducedData}
 use Rattle.hs_core.specs.declared.selecting.Progress.{Progress}
 use Rattle.hs_core.specs.declared.selecting.Progress.TheVariants.{More, Done, Ended}
 use Rattle.hs_core.specs.Core.{CoreData}
-use Rattle.hs_core.specs.Draining.{weight}
+use Rattle.hs_core.specs.Draining.{work_left}
 use Rattle.hs_core.specs.Waiting.{Waits}
 use Rattle.hs_core.specs.Selecting.{IsSelecting, IsEnded, After}
 use Rattle.hs_core.proofs.Moving.{alone_same, alone_trans}
@@ -15,7 +15,7 @@ use Rattle.hs_core.proofs.selecting.select_all.Goals as goal
 
 -- by what came of the turn
 module _ (done : Type 0) (worker : ℕ) (old new : CoreData) (W : DeducedData → Type 0) (last : ℕ) (progress : Progress) where
-  after_more : progress ≡ More → After done progress worker old new W last → (weight new < weight old) × IsSelecting worker new W last
+  after_more : progress ≡ More → After done progress worker old new W last → (work_left new < work_left old) × IsSelecting worker new W last
   after_more is h = subst (λ p. After done p worker old new W last) is h
 
   after_done : progress ≡ Done → After done progress worker old new W last → done

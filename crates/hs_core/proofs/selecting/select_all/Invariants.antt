@@ -1,5 +1,5 @@
 -- less and less is left to do
-use Rattle.hs_core.specs.Draining.{weight, GoesAlone}
+use Rattle.hs_core.specs.Draining.{work_left, GoesAlone}
 use Rattle.hs_core.specs.Waiting.{Waits}
 use Rattle.hs_core.specs.Selecting.{IsSelecting}
 use Rattle.hs_core.proofs.selecting.select_all.Given as goal
@@ -11,4 +11,4 @@ invariant-loop-progress g l = record {
 }
 
 abbrev pub decreases-loop-progress : goal.decreases-loop-progress
-decreases-loop-progress g l = weight l.core
+decreases-loop-progress g l = work_left l.core

@@ -8,7 +8,7 @@ use Rattle.hs_core.specs.declared.selecting.Progress.{Progress}
 use Rattle.hs_core.specs.declared.selecting.Progress.TheVariants.{Done}
 use Rattle.hs_core.specs.Core.{CoreData}
 use Rattle.hs_core.specs.Answers.{Takes}
-use Rattle.hs_core.specs.Draining.{weight, GoesAlone}
+use Rattle.hs_core.specs.Draining.{work_left, GoesAlone}
 use Rattle.hs_core.specs.Waiting.{Waits}
 use Rattle.hs_core.specs.Selecting.{AreOwn, AreClosed, IsSelecting, IsIdleCore, IsEnded, IsStill, After}
 use Rattle.hs_core.proofs.Moving.{alone_same, alone_step, alone_trans, moves_same, ready_still, taken_work, work_taken}
@@ -20,14 +20,14 @@ module _ (me last k : ℕ) (a r : CoreData) (is : r ≡ record { base = a.base; 
   goes_reserved : GoesAlone me a r
   goes_reserved = alone_same a r (ap (λ (x : CoreData). x.base) is) (ap (λ (x : CoreData). x.story) is)
 
-  not_heavier : weight r ≤ weight a
+  not_heavier : work_left r ≤ work_left a
   not_heavier = (moves_same {me = me} a r (ap (λ (x : CoreData). x.base) is) (ap (λ (x : CoreData). x.story) is)).lighter
 
 -- nothing was published behind that
 record Behind (me last : ℕ) (a s : CoreData) (V : DeducedData → Type 0) : Type 0 where
   goes : GoesAlone me a s
   selecting : IsSelecting me s V last
-  lighter : weight s ≤ weight a
+  lighter : work_left s ≤ work_left a
   spare : 1 ≤ s.spare
 
 behind : (me last k : ℕ) (a r s : CoreData) (V : DeducedData → Type 0) (o : Progress) → r ≡ record { base = a.base; ids = a.ids; story = a.story; spare = k } → 1 ≤ r.spare → o ≡ Done → After (IsStill me r s V last) o me r s V last → Behind me last a s V
@@ -36,7 +36,7 @@ behind me last k a r s V o is room done after =
     record {
       goes = subst (λ x. GoesAlone me a x) (sym still.same) (goes_reserved me last k a r is);
       selecting = still.selecting;
-      lighter = subst (λ x. weight x ≤ weight a) (sym still.same) (not_heavier me last k a r is);
+      lighter = subst (λ x. work_left x ≤ work_left a) (sym still.same) (not_heavier me last k a r is);
       spare = subst (λ (x : CoreData). 1 ≤ x.spare) (sym still.same) room;
     }
 
@@ -185,4 +185,4 @@ returns-in-Idle-clause-after g c =
     let t = c.take.new.self in
     let h = behind c.args.worker c.args.last.now _ c.args.core.now c.reserve_some.new.self s (Waits c.publish_surplus-progress.new.waiting.found) c.publish_surplus-progress.result c.in_ok-reserve_some.ensures.same c.in_ok-reserve_some.ensures.some c.in-Done.is c.publish_surplus-progress.ensures.after in
     let i = idle_turn c.args.worker s t c.take.result c.in-Idle.is c.take.ensures in
-    idle_after c.args.worker c.args.last.now c.args.core.now t c.publish_next.new.core (Waits c.publish_next.new.waiting.found) c.publish_next.result (subst (λ (x : CoreData). weight x ≤ weight c.args.core.now) (sym i.0) h.lighter) i.1 c.publish_next.ensures.after
+    idle_after c.args.worker c.args.last.now c.args.core.now t c.publish_next.new.core (Waits c.publish_next.new.waiting.found) c.publish_next.result (subst (λ (x : CoreData). work_left x ≤ work_left c.args.core.now) (sym i.0) h.lighter) i.1 c.publish_next.ensures.after

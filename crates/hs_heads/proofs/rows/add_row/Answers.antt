@@ -14,6 +14,6 @@ returns c =
     let R = c.args.reads.now in
     let point = c.args.point in
     let row = c.args.row.now in
-    let read : Contains R (point, last_state (type_of_id I row.ty)) = subst (λ (q : ℕ). Contains R (point, q)) c.end_of.ensures (c.holds.ensures.0 c.if-not-holds.false) in
+    let read : Contains R (point, last_state (type_of_id I row.ty)) = subst (λ (q : ℕ). Contains R (point, q)) c.last_state.ensures (c.holds.ensures.0 c.if-not-holds.false) in
     on_ok_weaker c.add.result (λ added.
     gains_one I I c.args.found.now.keys c.add.new.found.keys row.ty (FlowSays I R point row) (Grows-refl I) added c.requires.1 (flow_says I R point row read) (only_flow I R point row)) c.add.ensures

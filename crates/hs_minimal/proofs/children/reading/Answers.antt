@@ -1,4 +1,4 @@
-use Rattle.std.proofs.Common.{◌∙◌, ap, subst}
+use Rattle.std.proofs.Common.{◌∙◌, ap, subst, Contains, ◌↔◌}
 use Rattle.hs_scheme.specs.acceptance.Automaton.{AutomatonData}
 use Rattle.hs_scheme.specs.acceptance.Transitions.{Reads}
 use Rattle.hs_scheme.specs.sorting.Sorted.{SortedData}
@@ -6,5 +6,5 @@ use Rattle.hs_scheme.specs.Problem.{ProblemData}
 use Rattle.hs_minimal.proofs.children.reading.Goals as goal
 
 pub returns : goal.returns
-returns c = λ from m.
-    subst (λ (a : AutomatonData). Reads a.transitions c.args.terminal c.args.place c.args.state from) (ap (λ (s : SortedData). s.automaton) (c.sorted.view_is ∙ ap (λ (q : ProblemData). q.sorted) c.problem.view_is)) ((c.reading.ensures from).0 m)
+returns c = λ from.
+    subst (λ (a : AutomatonData). Contains c.reading.result.now from ↔ Reads a.transitions c.args.terminal c.args.place c.args.state from) (ap (λ (s : SortedData). s.automaton) (c.sorted.view_is ∙ ap (λ (q : ProblemData). q.sorted) c.problem.view_is)) (c.reading.ensures from)

@@ -1,4 +1,4 @@
-use Rattle.std.proofs.Common.{◌≡◌, refl, sym, ◌∙◌}
+use Rattle.std.proofs.Common.{refl, ◌∙◌}
 use Rattle.hs_scheme.proofs.Lists.{none_in}
 use Rattle.hs_weak.specs.Strength.{AsStrongAs, Covers}
 use Rattle.hs_types.specs.Interned.{RowData, IsRow, entry_of}
@@ -15,9 +15,6 @@ covers-requires-clause-entry c = row_in c.args.types.now c.loop-other.types c.lo
 pub covers-requires-clause-other : goal.covers-requires-clause-other
 covers-requires-clause-other c =
     row_in c.args.types.now c.loop-other.types c.loop-other.invariant.same c.other-item.result (at_index (IsRow c.args.types.now) c.args.rows.now c.loop-other.other-index c.other-item.result c.requires.rows c.loop-other-test.true c.other-item.is)
-
-pub covers-requires-clause-point : goal.covers-requires-clause-point
-covers-requires-clause-point c = sym (at_index (λ (r : RowData). r.point ≡ c.args.row.now.point) c.args.rows.now c.loop-other.other-index c.other-item.result c.requires.point c.loop-other-test.true c.other-item.is)
 
 pub loop-other-preserved : goal.loop-other-preserved
 loop-other-preserved c =

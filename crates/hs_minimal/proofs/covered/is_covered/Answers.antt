@@ -1,4 +1,4 @@
-use Rattle.std.proofs.Common.{◌≡◌, refl, sym, ◌∙◌}
+use Rattle.std.proofs.Common.{refl, sym, ◌∙◌}
 use Rattle.hs_scheme.proofs.Lists.{none_in}
 use Rattle.hs_weak.specs.Strength.{AsStrongAs, Covers}
 use Rattle.hs_types.specs.Interned.{RowData, IsRow, entry_of}
@@ -17,9 +17,6 @@ covers-requires-clause-entry c =
 
 pub covers-requires-clause-other : goal.covers-requires-clause-other
 covers-requires-clause-other c = row_in c.args.types.now c.loop-own.types c.loop-own.invariant.same c.args.row.now c.requires.row
-
-pub covers-requires-clause-point : goal.covers-requires-clause-point
-covers-requires-clause-point c = at_index (λ (r : RowData). r.point ≡ c.args.row.now.point) c.args.rows.now c.loop-own.own-index c.own-item.result c.requires.point c.loop-own-test.true c.own-item.is
 
 pub loop-own-preserved : goal.loop-own-preserved
 loop-own-preserved c =

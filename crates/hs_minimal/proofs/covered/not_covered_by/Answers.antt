@@ -1,5 +1,5 @@
-use Rattle.std.proofs.Common.{◌≡◌, refl, sym, ◌∙◌}
-use Rattle.hs_types.specs.Interned.{RowData, IsRow}
+use Rattle.std.proofs.Common.{refl, ◌∙◌}
+use Rattle.hs_types.specs.Interned.{IsRow}
 use Rattle.hs_minimal.proofs.CoverLemmas.{row_in, covers_in, at_index, none_left, one_gone, one_left, all_left, not_so}
 use Rattle.hs_minimal.proofs.covered.not_covered_by.Goals as goal
 
@@ -12,9 +12,6 @@ covers-requires-clause-entry c = row_in c.args.types.now c.loop-own.types c.loop
 pub covers-requires-clause-other : goal.covers-requires-clause-other
 covers-requires-clause-other c =
     row_in c.args.types.now c.loop-own.types c.loop-own.invariant.same c.own-item.result (at_index (IsRow c.args.types.now) c.args.rows.now c.loop-own.own-index c.own-item.result c.requires.rows c.loop-own-test.true c.own-item.is)
-
-pub covers-requires-clause-point : goal.covers-requires-clause-point
-covers-requires-clause-point c = sym (at_index (λ (r : RowData). r.point ≡ c.args.row.now.point) c.args.rows.now c.loop-own.own-index c.own-item.result c.requires.point c.loop-own-test.true c.own-item.is)
 
 pub loop-own-preserved-then-branch : goal.loop-own-preserved-then-branch
 loop-own-preserved-then-branch c =

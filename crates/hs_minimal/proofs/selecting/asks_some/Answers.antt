@@ -1,5 +1,5 @@
 use Rattle.std.proofs.Common.{sym}
 use Rattle.hs_minimal.proofs.selecting.asks_some.Goals as goal
 
-pub end_of-requires : goal.end_of-requires
-end_of-requires c = (c.requires.new c.row-item.result (c.loop-row.row-index, c.loop-row-test.true, sym c.row-item.is)).1
+pub last_state-requires : goal.last_state-requires
+last_state-requires c = (c.requires.new c.row-item.result (c.loop-row.row-index, c.loop-row-test.true, sym c.row-item.is)).1

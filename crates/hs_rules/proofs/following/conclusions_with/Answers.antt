@@ -1,4 +1,4 @@
-use Rattle.std.proofs.Common.{◌≡◌, sym, ◌∙◌, ap, subst, ℕ, ◌+◌, List, length, take, All, arith}
+use Rattle.std.proofs.Common.{◌≡◌, refl, sym, ◌∙◌, ap, subst, ℕ, ◌+◌, List, length, take, All, arith}
 use Rattle.std.proofs.lemmas.List.Elements.{All-contains, All-take}
 use Rattle.hs_scheme.specs.flow.Points.{PointsData, point_at, points_of, NonterminalWithin, ParameterWithin}
 use Rattle.hs_scheme.specs.Problem.{ProblemData}
@@ -11,22 +11,6 @@ use Rattle.hs_rules.proofs.PartLemmas.{part_conclusions, part_none, have_envs, p
 use Rattle.hs_rules.proofs.ListedLemmas.{tells_indexed, tells_then, whole_then}
 use Rattle.hs_rules.proofs.following.conclusions_with.Goals as goal
 
-pub add_with-requires-clause-search : goal.add_with-requires-clause-search
-add_with-requires-clause-search c = record {
-  indexed = c.in_ok-index.ensures.ok;
-  limited = omega (arith, c.requires.place, ap (λ (r : ReplicaData). length r.log) c.in_ok-index.ensures.kept);
-  few = c.arguments.ensures.few;
-  fixed_within = tt;
-}
-
-pub add_with-requires-clause-spot : goal.add_with-requires-clause-spot
-add_with-requires-clause-spot c =
-    let p = c.args.problem.now in
-    record {
-      params_are = c.parameters.ensures;
-      shapes = subst (λ (l : List EntryData). All (InShape p) (take (c.args.place + 1) l)) (sym (ap (λ (r : ReplicaData). r.log) c.in_ok-index.ensures.kept)) (All-take (InShape p) (c.args.place + 1) c.args.replica.now.log c.requires.shape);
-    }
-
 pub add_with-requires-clause-place : goal.add_with-requires-clause-place
 add_with-requires-clause-place c = omega arith
 
@@ -34,33 +18,6 @@ pub add_with-requires-clause-part : goal.add_with-requires-clause-part
 add_with-requires-clause-part c =
     part_none c.args.problem.now c.index.new.self.ids (take (c.args.place + 1) c.index.new.self.log) c.args.point (Uses c.args.place) c.none_found-found.result.rows.keys c.none_found-found.result.list.items
     c.none_found-found.ensures.rows c.none_found-found.ensures.list
-
-pub add_with-requires-clause-head : goal.add_with-requires-clause-head
-add_with-requires-clause-head c =
-    let p = c.args.problem.now in
-    let points = ap (λ (q : ProblemData). q.points) c.problem.view_is in
-    let rule_is = c.rule_of-rule.ensures.rule ∙ ap (λ (x : PointsData). (point_at x c.args.point).rule) points in
-    head_within p c.rule_of-rule.result c.parameters.result c.head_of-head.result (subst (λ (q : ProblemData). q.points ≡ points_of q.sorted.scheme.rules) c.problem.view_is c.problem.invariant.points)
-    (subst (λ (x : PointsData). NonterminalWithin (length x.bodies) c.head_of-head.result) points c.head_of-head.ensures.within)
-    (subst (λ (r : ℕ). ParameterWithin p.points.params r c.head_of-head.result) (sym rule_is) (subst (λ (x : PointsData). ParameterWithin x.params (point_at x c.args.point).rule c.head_of-head.result) points c.head_of-head.ensures.parameter))
-    c.parameters.ensures
-
-pub add_with-requires-clause-at : goal.add_with-requires-clause-at
-add_with-requires-clause-at c =
-    let p = c.args.problem.now in
-    let points = ap (λ (q : ProblemData). q.points) c.problem.view_is in
-    point_parts p.points c.args.point c.rule_of-rule.result c.head_of-head.result c.arguments.result.now c.requires.point
-    (c.rule_of-rule.ensures.rule ∙ ap (λ (x : PointsData). (point_at x c.args.point).rule) points)
-    (c.head_of-head.ensures.head ∙ ap (λ (x : PointsData). (point_at x c.args.point).head) points) c.arguments.ensures.args
-
-pub add_with-requires-clause-envs : goal.add_with-requires-clause-envs
-add_with-requires-clause-envs c =
-    let p = c.args.problem.now in
-    let points = ap (λ (q : ProblemData). q.points) c.problem.view_is in
-    let rule_is = c.rule_of-rule.ensures.rule ∙ ap (λ (x : PointsData). (point_at x c.args.point).rule) points in
-    have_envs p (take (c.args.place + 1) c.index.new.self.log) c.arguments.result.now c.rule_of-rule.result c.parameters.result c.parameters.ensures
-    (λ e m. All-contains (InShape p) (take (c.args.place + 1) c.index.new.self.log) e (subst (λ (l : List EntryData). All (InShape p) (take (c.args.place + 1) l)) (sym (ap (λ (r : ReplicaData). r.log) c.in_ok-index.ensures.kept)) (All-take (InShape p) (c.args.place + 1) c.args.replica.now.log c.requires.shape)) m)
-    (λ j a at. let r = c.arguments.ensures.in_rule j a at in record { of = r.of; at = r.at; in_rule = r.in_rule ∙ sym rule_is })
 
 pub returns-clause-found : goal.returns-clause-found
 returns-clause-found c =
@@ -108,3 +65,27 @@ returns-clause-listed c = tells_then c.args.replica.now c.index.new.self c.index
 
 pub returns-clause-whole : goal.returns-clause-whole
 returns-clause-whole c = whole_then c.index.new.self c.add_with.new.replica c.in_ok-index.ensures.ok c.add_with.ensures.kept
+
+pub add_with-requires-clause-can : goal.add_with-requires-clause-can
+add_with-requires-clause-can c =
+    let p = c.args.problem.now in
+    let points = ap (λ (q : ProblemData). q.points) c.problem.view_is in
+    let rule_is = c.rule_of-rule.ensures.rule ∙ ap (λ (x : PointsData). (point_at x c.args.point).rule) points in
+    record {
+      heads = record {
+        search = record { indexed = c.in_ok-index.ensures.ok; limited = omega (arith, c.requires.place, ap (λ (r : ReplicaData). length r.log) c.in_ok-index.ensures.kept); few = c.arguments.ensures.few; fixed_within = tt };
+        params_are = c.parameters.ensures;
+        shapes = subst (λ (l : List EntryData). All (InShape p) (take (c.args.place + 1) l)) (sym (ap (λ (r : ReplicaData). r.log) c.in_ok-index.ensures.kept)) (All-take (InShape p) (c.args.place + 1) c.args.replica.now.log c.requires.shape);
+        head = head_within p c.rule_of-rule.result c.parameters.result c.head_of-head.result (subst (λ (q : ProblemData). q.points ≡ points_of q.sorted.scheme.rules) c.problem.view_is c.problem.invariant.points)
+            (subst (λ (x : PointsData). NonterminalWithin (length x.bodies) c.head_of-head.result) points c.head_of-head.ensures.within)
+            (subst (λ (r : ℕ). ParameterWithin p.points.params r c.head_of-head.result) (sym rule_is) (subst (λ (x : PointsData). ParameterWithin x.params (point_at x c.args.point).rule c.head_of-head.result) points c.head_of-head.ensures.parameter))
+            c.parameters.ensures;
+      };
+      free = refl;
+      is_point = point_parts p.points c.args.point c.rule_of-rule.result c.head_of-head.result c.arguments.result.now c.requires.point
+          (c.rule_of-rule.ensures.rule ∙ ap (λ (x : PointsData). (point_at x c.args.point).rule) points)
+          (c.head_of-head.ensures.head ∙ ap (λ (x : PointsData). (point_at x c.args.point).head) points) c.arguments.ensures.args;
+      envs = have_envs p (take (c.args.place + 1) c.index.new.self.log) c.arguments.result.now c.rule_of-rule.result c.parameters.result c.parameters.ensures
+          (λ e m. All-contains (InShape p) (take (c.args.place + 1) c.index.new.self.log) e (subst (λ (l : List EntryData). All (InShape p) (take (c.args.place + 1) l)) (sym (ap (λ (r : ReplicaData). r.log) c.in_ok-index.ensures.kept)) (All-take (InShape p) (c.args.place + 1) c.args.replica.now.log c.requires.shape)) m)
+          (λ j a at. let r = c.arguments.ensures.in_rule j a at in record { of = r.of; at = r.at; in_rule = r.in_rule ∙ sym rule_is });
+    }

@@ -1,44 +1,12 @@
-use Rattle.std.proofs.Common.{◌≡◌, refl, ◌∙◌, ap, subst, set, arith, rules, Contains, ◌⊎◌, inl, inr}
+use Rattle.std.proofs.Common.{◌≡◌, refl, ◌∙◌, ap, subst, ◌∷◌, [], ◌++◌, set, arith, rules, Contains, ◌⊎◌, inl, inr}
 use Rattle.std.proofs.lemmas.Option.{get_or_from_slice_get, slice_get_within}
 use Rattle.hs_table.specs.Follows.{Support, premises}
 use Rattle.hs_rules.specs.Order.{IsNoGreater}
 use Rattle.hs_rules.specs.Conclusions.{DeducedData}
 use Rattle.hs_rules.specs.Found.{RowsAre, HasNoGreater, Lowers}
-use Rattle.hs_rules.proofs.Lists.{push_later, on_ok_map}
-use Rattle.hs_rules.proofs.FoundLemmas.{row_among, row_pushed, rows_pushed, found_keeps, found_only, lowers_keeps, lowered_rows, lowered_lowers, lowered_only, lowered_there}
+use Rattle.hs_rules.proofs.Lists.{on_ok_map}
+use Rattle.hs_rules.proofs.FoundLemmas.{row_pushed, found_keeps, found_only, lowers_keeps, lowered_rows, lowered_lowers, lowered_only, lowered_there}
 use Rattle.hs_rules.proofs.found.add_found.Goals as goal
-
-pub keep-requires : goal.keep-requires
-keep-requires c = λ k. c.in_default.ensures (row_among c.args.found.now.rows.keys c.args.found.now.list.items c.args.row c.requires k)
-
-pub returns-clause-rows : goal.returns-clause-rows
-returns-clause-rows c =
-    rows_pushed c.args.found.now.rows.keys c.keep.new.rows.keys c.args.found.now.list.items c.push_reserved.new.self.items _ c.requires
-    (λ lt. c.in_ok-keep.ensures.few (omega (arith, lt, c.len.ensures)))
-    (λ le. c.in_ok-keep.ensures.more (omega (arith, le, c.len.ensures)))
-    c.in_default.ensures
-    (push_later _ _ _ _ c.reserve.ensures.items c.push_reserved.ensures.items)
-
-pub returns-clause-there : goal.returns-clause-there
-returns-clause-there c =
-    row_pushed c.args.found.now.list.items c.push_reserved.new.self.items c.args.row c.args.head c.args.args.now c.in_ok-args.args.items (c.in_ok-args.ensures.items_if_clones_equal (λ x y e. search rules))
-    (push_later _ _ _ _ c.reserve.ensures.items c.push_reserved.ensures.items)
-
-pub returns-clause-lowers : goal.returns-clause-lowers
-returns-clause-lowers c =
-    lowers_keeps c.args.found.now.list.items c.push_reserved.new.self.items
-    (found_keeps c.args.found.now.list.items c.push_reserved.new.self.items _ (push_later _ _ _ _ c.reserve.ensures.items c.push_reserved.ensures.items))
-
-pub returns-clause-only : goal.returns-clause-only
-returns-clause-only c = λ d there.
-    let args_are = c.in_ok-args.ensures.items_if_clones_equal (λ x y e. search rules) in
-    elim (found_only c.args.found.now.list.items c.push_reserved.new.self.items _ (push_later _ _ _ _ c.reserve.ensures.items c.push_reserved.ensures.items) d there) [
-      | inl was ↦ inl was
-      | inr is ↦ inr (is ∙ (λ i. record { row = c.args.row; support = record { head = c.args.head; args = args_are i } }))
-    ]
-
-pub push_reserved-requires : goal.push_reserved-requires
-push_reserved-requires c = omega (arith, c.in_ok-reserve.ensures.ok)
 
 pub index_mut-there-requires : goal.index_mut-there-requires
 index_mut-there-requires c = omega (arith, slice_get_within c.args.found.now.list.items c.in-Some.place c.in-Some.ensures.item c.in-Some.ensures.at, c.args.found.now.list.ok.0)
@@ -92,3 +60,36 @@ returns-in-Some-clause-there c =
     let same = c.lower.ensures.row ∙ ap (λ (x : DeducedData). x.row) old_is in
     on_ok_map c.lower.result (IsNoGreater (premises d.support) (premises s)) (HasNoGreater (set list place d) c.args.row s)
     (λ least. lowered_there c.args.found.now.rows.keys list (set list place d) place d c.args.row at refl same s least) c.lower.ensures.new_least
+
+pub push_new-requires-clause-absent : goal.push_new-requires-clause-absent
+push_new-requires-clause-absent c = c.in_default.ensures
+
+pub returns-clause-rows : goal.returns-clause-rows
+returns-clause-rows c = c.push_new.ensures.rows
+
+pub returns-clause-lowers : goal.returns-clause-lowers
+returns-clause-lowers c =
+    let old = c.args.found.now.list.items in
+    let new = c.push_new.new.found.list.items in
+    let d : DeducedData = record { row = c.args.row; support = record { head = c.args.head; args = c.in_ok-args.args.items } } in
+    on_ok_map c.push_new.result (new ≡ old ++ d ∷ []) (Lowers old new) (λ is. lowers_keeps old new (found_keeps old new d is)) c.push_new.ensures.added
+
+pub returns-clause-there : goal.returns-clause-there
+returns-clause-there c =
+    let old = c.args.found.now.list.items in
+    let new = c.push_new.new.found.list.items in
+    let d : DeducedData = record { row = c.args.row; support = record { head = c.args.head; args = c.in_ok-args.args.items } } in
+    on_ok_map c.push_new.result (new ≡ old ++ d ∷ []) (HasNoGreater new c.args.row (record { head = c.args.head; args = c.args.args.now }))
+    (row_pushed old new c.args.row c.args.head c.args.args.now c.in_ok-args.args.items (c.in_ok-args.ensures.items_if_clones_equal (λ x y e. search rules))) c.push_new.ensures.added
+
+pub returns-clause-only : goal.returns-clause-only
+returns-clause-only c =
+    let old = c.args.found.now.list.items in
+    let new = c.push_new.new.found.list.items in
+    let d : DeducedData = record { row = c.args.row; support = record { head = c.args.head; args = c.in_ok-args.args.items } } in
+    let args_are = c.in_ok-args.ensures.items_if_clones_equal (λ x y e. search rules) in
+    on_ok_map c.push_new.result (new ≡ old ++ d ∷ []) ((x : DeducedData) → Contains new x → Contains old x ⊎ (x ≡ record { row = c.args.row; support = record { head = c.args.head; args = c.args.args.now } }))
+    (λ is x there. elim (found_only old new d is x there) [
+      | inl was ↦ inl was
+      | inr same ↦ inr (same ∙ (λ i. record { row = c.args.row; support = record { head = c.args.head; args = args_are i } }))
+    ]) c.push_new.ensures.added

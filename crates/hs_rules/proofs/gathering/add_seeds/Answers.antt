@@ -1,64 +1,84 @@
-use Rattle.std.proofs.Common.{refl, sym, ◌∙◌, ap, subst, ℕ, arith, List, length, take, None, OnOk, Contains, ◌⊎◌}
+use Rattle.std.proofs.Common.{◌≡◌, refl, sym, ap, subst, ℕ, List, [], length, take, Option, None, OnOk, Contains, ◌⊎◌}
+use Rattle.std.proofs.lemmas.List.Elements.{All-contains}
 use Rattle.hs_scheme.specs.flow.Points.{PointData}
-use Rattle.hs_scheme.proofs.Lists.{none_in}
 use Rattle.hs_table.specs.Entries.{Env, EntryData, InShape}
+use Rattle.hs_types.specs.Interned.{env_of_id}
 use Rattle.hs_rules.specs.Conclusions.{DeducedData, AnySupport}
-use Rattle.hs_rules.specs.Found.{SearchData, HeadData, RowsAre, HeadLeadsTo, IsDeducedBy, HasEnvFound}
-use Rattle.hs_rules.specs.Heads.{AsksNothing}
+use Rattle.hs_rules.specs.Slots.{SlotData, slots, FixedData, IsCandidate, Picked}
+use Rattle.hs_rules.specs.Filling.{fixed_of}
+use Rattle.hs_rules.specs.Found.{SearchData, seek, HeadData, HaveEnvs, RowsAre, HeadLeadsTo, IsDeducedBy, HasEnvFound}
+use Rattle.hs_rules.specs.Heads.{AreHeads, AsksNothing}
 use Rattle.hs_rules.specs.Parts.{ArePart, HasAll}
 use Rattle.hs_rules.proofs.Lists.{along, on_ok_map, on_ok_both}
-use Rattle.hs_rules.proofs.ConcludeLemmas.{part_more, all_reached}
-use Rattle.hs_rules.proofs.SeedLemmas.{chosen_nothing}
+use Rattle.hs_rules.proofs.ConcludeLemmas.{part_more, all_reached, heads_envs}
+use Rattle.hs_rules.proofs.PartLemmas.{can_search_later}
+use Rattle.hs_rules.proofs.SeedLemmas.{chosen_nothing_in}
 use Rattle.hs_rules.proofs.gathering.add_seeds.Goals as goal
 
+-- no entry counts
+nothing_counts : (log : List EntryData) (limit : ℕ) → limit ≡ 0 → take limit log ≡ []
+nothing_counts log limit is = ap (λ (k : ℕ). take k log) is
+
+pub heads_nothing-requires-clause-can : goal.heads_nothing-requires-clause-can
+heads_nothing-requires-clause-can c = c.requires.can.heads
+
 pub conclude_all-requires-clause-search : goal.conclude_all-requires-clause-search
-conclude_all-requires-clause-search c =
-    let k = c.in_ok-heads_nothing.ensures.kept in
-    record { indexed = k.indexed ∙ (c.requires.indexed ∙ sym (ap (λ (l : List EntryData). length l) k.log)); limited = omega arith; few = c.requires.few; fixed_within = tt }
+conclude_all-requires-clause-search c = can_search_later c.args.replica.now c.heads_nothing.new.replica c.args.at.now.search.args.now c.args.at.now.search.limit c.args.at.now.search.fixed c.in_ok-heads_nothing.ensures.kept c.requires.can.heads.search
 
 pub conclude_all-requires-clause-heads : goal.conclude_all-requires-clause-heads
 conclude_all-requires-clause-heads c = λ h there. (c.in_ok-heads_nothing.ensures.heads.sound h (subst (λ (hs : List HeadData). Contains hs h) c.as_slice.ensures there)).0.known
 
 pub conclude_all-requires-clause-envs : goal.conclude_all-requires-clause-envs
-conclude_all-requires-clause-envs c = λ h there e m. absurd (none_in e m)
+conclude_all-requires-clause-envs c = λ h there.
+    let p = c.args.at.now.problem.now in
+    let J = c.heads_nothing.new.replica.ids in
+    let log = c.args.replica.now.log in
+    let s : SearchData = seek c.args.at.now.search in
+    let E = take s.limit log in
+    let of : PointData = record { rule = c.args.at.now.rule; head = c.args.at.now.head; args = s.args } in
+    let heads = c.heads_nothing.new.out.items in
+    let are : AreHeads p E of J AsksNothing heads = subst (λ (l : List EntryData). AreHeads p l of J AsksNothing heads) (sym (nothing_counts log s.limit c.requires.none)) c.in_ok-heads_nothing.ensures.heads in
+    subst (λ (l : List EntryData). HaveEnvs (take s.limit l) s.args (length (env_of_id J h.own))) (sym c.in_ok-heads_nothing.ensures.kept.log)
+    (heads_envs p E of J AsksNothing heads s.args c.args.at.now.params c.requires.can.heads.params_are are c.requires.can.envs h (subst (λ (hs : List HeadData). Contains hs h) c.as_slice.ensures there))
 
 pub returns-clause-part : goal.returns-clause-part
 returns-clause-part c =
-    let p = c.args.spot.now.problem.now in
+    let p = c.args.at.now.problem.now in
     let I = c.args.replica.now.ids in
     let J = c.heads_nothing.new.replica.ids in
     let K = c.conclude_all.new.replica.ids in
     let log = c.args.replica.now.log in
-    let s : SearchData = record { point = c.args.point; args = c.args.args.now; limit = 0; fixed = None } in
+    let s : SearchData = seek c.args.at.now.search in
     let E = take s.limit log in
-    let of : PointData = record { rule = c.args.spot.now.rule; head = c.args.head; args = s.args } in
+    let of : PointData = record { rule = c.args.at.now.rule; head = c.args.at.now.head; args = s.args } in
     let same = c.in_ok-heads_nothing.ensures.kept.log in
     let heads = c.heads_nothing.new.out.items in
-    let are = c.in_ok-heads_nothing.ensures.heads in
+    let are : AreHeads p E of J AsksNothing heads = subst (λ (l : List EntryData). AreHeads p l of J AsksNothing heads) (sym (nothing_counts log s.limit c.requires.none)) c.in_ok-heads_nothing.ensures.heads in
     let new = c.conclude_all.new.found.list.items in
-    let shapes : (e : EntryData) → Contains E e → InShape p e = λ e m. absurd (none_in e m) in
+    let shapes = λ (e : EntryData) (m : Contains E e). All-contains (InShape p) E e c.requires.can.heads.shapes m in
     let some = along (λ i. OnOk c.conclude_all.result ((d : DeducedData) → Contains new d → Contains c.args.found.now.list.items d ⊎ ((h : HeadData) × Contains (c.as_slice.ensures i) h × IsDeducedBy J K (same i) s h d))) c.conclude_all.ensures.only in
     on_ok_both c.conclude_all.result (RowsAre c.conclude_all.new.found.rows.keys new) ((d : DeducedData) → Contains new d → Contains c.args.found.now.list.items d ⊎ ((h : HeadData) × Contains heads h × IsDeducedBy J K log s h d))
     (ArePart p K E s.point (AnySupport) c.conclude_all.new.found.rows.keys new)
-    (λ rows only_these. part_more p log s of c.requires.at refl shapes J K c.conclude_all.ensures.kept.grows I c.in_ok-heads_nothing.ensures.kept.grows (AnySupport) (AsksNothing) heads c.args.found.now.rows.keys c.conclude_all.new.found.rows.keys c.args.found.now.list.items new are
+    (λ rows only_these. part_more p log s of c.requires.can.is_point refl shapes J K c.conclude_all.ensures.kept.grows I c.in_ok-heads_nothing.ensures.kept.grows (AnySupport) (AsksNothing) heads c.args.found.now.rows.keys c.conclude_all.new.found.rows.keys c.args.found.now.list.items new are
     (λ h d among wanted is. tt) c.requires.part rows only_these) c.conclude_all.ensures.rows some
 
 pub returns-clause-all : goal.returns-clause-all
 returns-clause-all c =
-    let p = c.args.spot.now.problem.now in
-    let I = c.args.replica.now.ids in
+    let p = c.args.at.now.problem.now in
     let J = c.heads_nothing.new.replica.ids in
     let K = c.conclude_all.new.replica.ids in
     let log = c.args.replica.now.log in
-    let s : SearchData = record { point = c.args.point; args = c.args.args.now; limit = 0; fixed = None } in
+    let s : SearchData = seek c.args.at.now.search in
     let E = take s.limit log in
-    let of : PointData = record { rule = c.args.spot.now.rule; head = c.args.head; args = s.args } in
+    let of : PointData = record { rule = c.args.at.now.rule; head = c.args.at.now.head; args = s.args } in
     let same = c.in_ok-heads_nothing.ensures.kept.log in
     let heads = c.heads_nothing.new.out.items in
-    let are = c.in_ok-heads_nothing.ensures.heads in
+    let none = nothing_counts log s.limit c.requires.none in
+    let are : AreHeads p E of J AsksNothing heads = subst (λ (l : List EntryData). AreHeads p l of J AsksNothing heads) (sym none) c.in_ok-heads_nothing.ensures.heads in
     let new = c.conclude_all.new.found.list.items in
-    let shapes : (e : EntryData) → Contains E e → InShape p e = λ e m. absurd (none_in e m) in
+    let shapes = λ (e : EntryData) (m : Contains E e). All-contains (InShape p) E e c.requires.can.heads.shapes m in
     let all = along (λ i. OnOk c.conclude_all.result ((h : HeadData) → Contains (c.as_slice.ensures i) h → (args : List (ℕ × ℕ)) (env : Env) → HeadLeadsTo J (same i) s h args env → HasEnvFound K s h args env new)) c.conclude_all.ensures.all in
+    let free : fixed_of log s.fixed ≡ None = ap (fixed_of log) c.requires.can.free in
     on_ok_map c.conclude_all.result ((h : HeadData) → Contains heads h → (args : List (ℕ × ℕ)) (env : Env) → HeadLeadsTo J log s h args env → HasEnvFound K s h args env new) (HasAll p K E s.point (AnySupport) new)
-    (λ each. all_reached p log s of c.requires.at refl shapes J K c.conclude_all.ensures.kept.grows (AsksNothing) (AnySupport) heads new are each
-    (λ sup e f here_is k. (chosen_nothing p f.are, λ ids is picked. picked))) all
+    (λ each. all_reached p log s of c.requires.can.is_point refl shapes J K c.conclude_all.ensures.kept.grows (AsksNothing) (AnySupport) heads new are each
+    (λ sup e f here_is k. (chosen_nothing_in p E none _ _ _ _ _ f.are, λ ids is picked. subst (λ (x : Option FixedData). Picked (λ (y : SlotData). y.arg) (IsCandidate E x) (slots 0 f.of.args f.sets) sup.args f.chosen) (sym free) picked))) all

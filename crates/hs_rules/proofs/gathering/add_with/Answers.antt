@@ -1,33 +1,12 @@
-use Rattle.std.proofs.Common.{sym, subst, List, take, Option, OnOk}
+use Rattle.std.proofs.Common.{sym, subst, List, take, OnOk}
 use Rattle.hs_table.specs.Entries.{EntryData}
-use Rattle.hs_rules.specs.declared.search.Fixed.{Fixed}
 use Rattle.hs_rules.specs.Conclusions.{Uses}
-use Rattle.hs_rules.specs.Filling.{CanSearch}
-use Rattle.hs_rules.specs.Found.{HaveEnvs, Lowers}
-use Rattle.hs_rules.specs.Heads.{IsParameterSpot}
+use Rattle.hs_rules.specs.Found.{Lowers}
 use Rattle.hs_rules.specs.Parts.{ArePart, HasAll, UsesArgument}
 use Rattle.hs_rules.proofs.Lists.{on_ok_both}
 use Rattle.hs_rules.proofs.KeepLemmas.{keeps_then}
-use Rattle.hs_rules.proofs.PartLemmas.{can_search_later, both_kinds}
+use Rattle.hs_rules.proofs.PartLemmas.{can_gather_later, both_kinds}
 use Rattle.hs_rules.proofs.gathering.add_with.Goals as goal
-
-pub add_by_head-requires-clause-search : goal.add_by_head-requires-clause-search
-add_by_head-requires-clause-search c = c.requires.search
-
-pub add_by_head-requires-clause-free : goal.add_by_head-requires-clause-free
-add_by_head-requires-clause-free c = c.requires.free
-
-pub add_by_head-requires-clause-spot : goal.add_by_head-requires-clause-spot
-add_by_head-requires-clause-spot c = c.requires.spot
-
-pub add_by_head-requires-clause-head : goal.add_by_head-requires-clause-head
-add_by_head-requires-clause-head c = c.requires.head
-
-pub add_by_head-requires-clause-at : goal.add_by_head-requires-clause-at
-add_by_head-requires-clause-at c = c.requires.at
-
-pub add_by_head-requires-clause-envs : goal.add_by_head-requires-clause-envs
-add_by_head-requires-clause-envs c = c.requires.envs
 
 pub add_by_head-requires-clause-place : goal.add_by_head-requires-clause-place
 add_by_head-requires-clause-place c = c.requires.place
@@ -35,34 +14,13 @@ add_by_head-requires-clause-place c = c.requires.place
 pub add_by_head-requires-clause-part : goal.add_by_head-requires-clause-part
 add_by_head-requires-clause-part c = c.requires.part
 
-pub add_by_argument-requires-clause-search : goal.add_by_argument-requires-clause-search
-add_by_argument-requires-clause-search c =
-    let mid = c.add_by_head.new.replica in
-    let s = c.args.search.now in
-    subst (λ (f : Option Fixed). CanSearch mid s.args.now s.limit f) c.requires.free (can_search_later c.args.replica.now mid s.args.now s.limit s.fixed c.in_ok-add_by_head.ensures.kept c.requires.search)
-
-pub add_by_argument-requires-clause-spot : goal.add_by_argument-requires-clause-spot
-add_by_argument-requires-clause-spot c =
-    let p = c.args.spot.now in
-    subst (λ (l : List EntryData). IsParameterSpot p.problem.now p.rule p.params (take c.args.search.now.limit l)) (sym c.in_ok-add_by_head.ensures.kept.log) c.requires.spot
-
-pub add_by_argument-requires-clause-head : goal.add_by_argument-requires-clause-head
-add_by_argument-requires-clause-head c = c.requires.head
-
-pub add_by_argument-requires-clause-at : goal.add_by_argument-requires-clause-at
-add_by_argument-requires-clause-at c = c.requires.at
-
 pub add_by_argument-requires-clause-place : goal.add_by_argument-requires-clause-place
 add_by_argument-requires-clause-place c = c.requires.place
-
-pub add_by_argument-requires-clause-envs : goal.add_by_argument-requires-clause-envs
-add_by_argument-requires-clause-envs c =
-    subst (λ (l : List EntryData). HaveEnvs (take c.args.search.now.limit l) c.args.search.now.args.now c.args.spot.now.params) (sym c.in_ok-add_by_head.ensures.kept.log) c.requires.envs
 
 pub add_by_argument-requires-clause-part : goal.add_by_argument-requires-clause-part
 add_by_argument-requires-clause-part c =
     let mid = c.add_by_head.new.found in
-    subst (λ (l : List EntryData). ArePart c.args.spot.now.problem.now c.add_by_head.new.replica.ids (take c.args.search.now.limit l) c.args.search.now.point (Uses c.args.place) mid.rows.keys mid.list.items)
+    subst (λ (l : List EntryData). ArePart c.args.at.now.problem.now c.add_by_head.new.replica.ids (take c.args.at.now.search.limit l) c.args.at.now.search.point (Uses c.args.place) mid.rows.keys mid.list.items)
     (sym c.in_ok-add_by_head.ensures.kept.log) c.in_ok-add_by_head.ensures.part
 
 pub returns-in_err-add_by_head-clause-kept : goal.returns-in_err-add_by_head-clause-kept
@@ -71,15 +29,15 @@ returns-in_err-add_by_head-clause-kept c = c.add_by_head.ensures.kept
 pub returns-clause-part : goal.returns-clause-part
 returns-clause-part c =
     let new = c.add_by_argument.new.found in
-    subst (λ (l : List EntryData). OnOk c.add_by_argument.result (ArePart c.args.spot.now.problem.now c.add_by_argument.new.replica.ids (take c.args.search.now.limit l) c.args.search.now.point (Uses c.args.place) new.rows.keys new.list.items))
+    subst (λ (l : List EntryData). OnOk c.add_by_argument.result (ArePart c.args.at.now.problem.now c.add_by_argument.new.replica.ids (take c.args.at.now.search.limit l) c.args.at.now.search.point (Uses c.args.place) new.rows.keys new.list.items))
     c.in_ok-add_by_head.ensures.kept.log c.add_by_argument.ensures.part
 
 pub returns-clause-all : goal.returns-clause-all
 returns-clause-all c =
-    let p = c.args.spot.now.problem.now in
+    let p = c.args.at.now.problem.now in
     let J = c.add_by_head.new.replica.ids in
     let K = c.add_by_argument.new.replica.ids in
-    let s = c.args.search.now in
+    let s = c.args.at.now.search in
     let E = take s.limit c.args.replica.now.log in
     let place = c.args.place in
     let mid = c.add_by_head.new.found in
@@ -91,3 +49,9 @@ returns-clause-all c =
 
 pub returns-clause-kept : goal.returns-clause-kept
 returns-clause-kept c = keeps_then c.args.replica.now c.add_by_head.new.replica c.add_by_argument.new.replica c.in_ok-add_by_head.ensures.kept c.add_by_argument.ensures.kept
+
+pub add_by_head-requires-clause-can : goal.add_by_head-requires-clause-can
+add_by_head-requires-clause-can c = c.requires.can
+
+pub add_by_argument-requires-clause-can : goal.add_by_argument-requires-clause-can
+add_by_argument-requires-clause-can c = can_gather_later c.args.replica.now c.add_by_head.new.replica c.args.at.now c.in_ok-add_by_head.ensures.kept c.requires.can

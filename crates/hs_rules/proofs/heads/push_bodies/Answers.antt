@@ -1,4 +1,4 @@
-use Rattle.std.proofs.Common.{subst, List, get_or}
+use Rattle.std.proofs.Common.{subst, List, get_or, length}
 use Rattle.hs_table.specs.Entries.{Env, EntryData}
 use Rattle.hs_types.specs.Interned.{env_of_id}
 use Rattle.hs_types.proofs.Numbers.{env_stays}
@@ -18,11 +18,11 @@ loop-place-preserved c =
     let places = c.args.places.now in
     let k = c.loop-place.place-index in
     let place = get_or places k 0 in
-    let gains = subst (λ (l : List EntryData). GainsHeads K c.args.count (BodyAt l own place) c.loop-place.out.items c.push_body.new.out.items) c.loop-place.invariant.kept.log
-    (subst (λ (o : Env). GainsHeads K c.args.count (BodyAt c.loop-place.replica.log o place) c.loop-place.out.items c.push_body.new.out.items)
+    let gains = subst (λ (l : List EntryData). GainsHeads K (length c.args.at.now.search.args.now) (BodyAt l own place) c.loop-place.out.items c.push_body.new.out.items) c.loop-place.invariant.kept.log
+    (subst (λ (o : Env). GainsHeads K (length c.args.at.now.search.args.now) (BodyAt c.loop-place.replica.log o place) c.loop-place.out.items c.push_body.new.out.items)
     (env_stays I J c.loop-place.invariant.kept.grows c.args.own c.requires.own) c.in_ok-push_body.ensures.gains) in
     record {
       kept = keeps_then c.args.replica.now c.loop-place.replica c.push_body.new.replica c.loop-place.invariant.kept c.in_ok-push_body.ensures.kept;
-      gains = heads_next J K c.args.count (BodyAt log own) places k place c.args.out.now.items c.loop-place.out.items c.push_body.new.out.items c.in_ok-push_body.ensures.kept.grows c.loop-place-test.true
+      gains = heads_next J K (length c.args.at.now.search.args.now) (BodyAt log own) places k place c.args.out.now.items c.loop-place.out.items c.push_body.new.out.items c.in_ok-push_body.ensures.kept.grows c.loop-place-test.true
           (read_self places k 0 c.loop-place-test.true) c.loop-place.invariant.gains gains;
     }

@@ -23,9 +23,9 @@ returns-clause-gains c =
     ap (map (set_of_id I)) (c.as_slice.ensures ∙ c.in_ok-full.ensures.ok)
     ∙ subst (λ (J : InternerData). map (set_of_id J) c.sets.result.now ≡ env_of_id J row.env) c.interner-2.ensures c.sets.ensures.sets in
     let is : given ≡ arrows e.env e.ty = ap (λ (ss : Env). arrows ss (type_of_id I row.ty)) sets_are in
-    on_ok_map c.push_given.result (GainsHeads K c.args.count (Just (Rule c.args.place) own given) c.args.out.now.items c.push_given.new.out.items)
-    (GainsHeads K c.args.count (BodyAt log own c.args.place) c.args.out.now.items c.push_given.new.out.items)
-    (heads_same K c.args.count (Just (Rule c.args.place) own given) (BodyAt log own c.args.place) c.args.out.now.items c.push_given.new.out.items
+    on_ok_map c.push_given.result (GainsHeads K (length c.args.at.now.search.args.now) (Just (Rule c.args.place) own given) c.args.out.now.items c.push_given.new.out.items)
+    (GainsHeads K (length c.args.at.now.search.args.now) (BodyAt log own c.args.place) c.args.out.now.items c.push_given.new.out.items)
+    (heads_same K (length c.args.at.now.search.args.now) (Just (Rule c.args.place) own given) (BodyAt log own c.args.place) c.args.out.now.items c.push_given.new.out.items
     (λ by o t j. record { entry = e; at = c.row-row.ensures.entry; is_state = (c.in_default.field-0, subst (λ (J : InternerData). type_of_id J row.ty ≡ state c.in_default.field-0) c.interner.ensures c.in_default.ensures); just = (j.0, j.1, j.2 ∙ is) })
     (λ by o t b.
     let same = same_Some b.entry e (sym b.at ∙ c.row-row.ensures.entry) in
@@ -40,7 +40,7 @@ returns-in-Arrow-clause-gains c =
     let I = c.args.replica.now.ids in
     let row = c.row-row.result in
     let is = subst (λ (J : InternerData). type_of_id J row.ty ≡ arrow (set_of_id J c.in-Arrow.field-0) (type_of_id J c.in-Arrow.field-1)) c.interner.ensures c.in-Arrow.ensures.2 in
-    body_none I c.args.count c.args.replica.now.log (env_of_id I c.args.own) c.args.place (entry_of I row) (set_of_id I c.in-Arrow.field-0) (type_of_id I c.in-Arrow.field-1) c.args.out.now.items c.row-row.ensures.entry is
+    body_none I (length c.args.at.now.search.args.now) c.args.replica.now.log (env_of_id I c.args.own) c.args.place (entry_of I row) (set_of_id I c.in-Arrow.field-0) (type_of_id I c.in-Arrow.field-1) c.args.out.now.items c.row-row.ensures.entry is
 
 pub push_given-requires-clause-state : goal.push_given-requires-clause-state
 push_given-requires-clause-state c = (c.in_default.field-0, subst (λ (J : InternerData). type_of_id J c.row-row.result.ty ≡ state c.in_default.field-0) c.interner.ensures c.in_default.ensures)

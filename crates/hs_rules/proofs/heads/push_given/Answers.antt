@@ -16,7 +16,7 @@ pub returns-then-full-count-clause-gains : goal.returns-then-full-count-clause-g
 returns-then-full-count-clause-gains c =
     let I = c.args.replica.now.ids in
     let full = map (set_of_id I) c.args.full.now in
-    heads_none I c.args.count (Just c.args.by (env_of_id I c.args.own) (arrows full (type_of_id I c.args.ty))) c.args.out.now.items (λ by own ty j sets rest long is.
+    heads_none I (length c.args.at.now.search.args.now) (Just c.args.by (env_of_id I c.args.own) (arrows full (type_of_id I c.args.ty))) c.args.out.now.items (λ by own ty j sets rest long is.
     let same = ap (arrows full) (sym c.requires.state.1) ∙ (sym j.2 ∙ is) in
     let few = arrows_long full sets c.requires.state.0 rest same in
     omega (arith, few, long, c.if-full-count.true, length-map c.args.full.now (set_of_id I)))
@@ -29,15 +29,15 @@ returns-clause-gains c =
     let full = c.args.full.now in
     let own = env_of_id I c.args.own in
     let ty = arrows (map (set_of_id I) full) (type_of_id I c.args.ty) in
-    let sets_are : c.in_ok-sets.sets.items ≡ take c.args.count full = c.in_ok-sets.ensures.ok in
+    let sets_are : c.in_ok-sets.sets.items ≡ take (length c.args.at.now.search.args.now) full = c.in_ok-sets.ensures.ok in
     let h : HeadData = record { by = c.args.by; own = c.args.own; sets = c.in_ok-sets.sets.items; rest = c.in_ok-rest.rest } in
-    let is = ap (λ (xs : List ℕ). arrows (map (set_of_id K) xs) (type_of_id K c.in_ok-rest.rest)) sets_are ∙ parts_type I K c.args.count full c.args.ty c.in_ok-rest.rest g c.requires.full c.in_ok-rest.ensures.is in
-    heads_one K c.args.count (Just c.args.by own ty) c.args.out.now.items c.push_reserved.new.self.items h (push_later c.args.out.now.items c.reserve.new.self.items c.push_reserved.new.self.items h c.reserve.ensures.items c.push_reserved.ensures.items)
+    let is = ap (λ (xs : List ℕ). arrows (map (set_of_id K) xs) (type_of_id K c.in_ok-rest.rest)) sets_are ∙ parts_type I K (length c.args.at.now.search.args.now) full c.args.ty c.in_ok-rest.rest g c.requires.full c.in_ok-rest.ensures.is in
+    heads_one K (length c.args.at.now.search.args.now) (Just c.args.by own ty) c.args.out.now.items c.push_reserved.new.self.items h (push_later c.args.out.now.items c.reserve.new.self.items c.push_reserved.new.self.items h c.reserve.ensures.items c.push_reserved.ensures.items)
     (record {
       own = env_within I K g c.args.own c.requires.own;
-      sets = subst (λ (xs : List ℕ). All (λ s. s < length K.sets) xs) (sym sets_are) (sets_within I K (take c.args.count full) g (All-take (λ s. s < length I.sets) c.args.count full c.requires.full));
+      sets = subst (λ (xs : List ℕ). All (λ s. s < length K.sets) xs) (sym sets_are) (sets_within I K (take (length c.args.at.now.search.args.now) full) g (All-take (λ s. s < length I.sets) (length c.args.at.now.search.args.now) full c.requires.full));
       rest = c.in_ok-rest.ensures.range;
-      long = ap (λ (xs : List ℕ). length xs) sets_are ∙ length-take-le c.args.count full (omega (arith, c.if-full-count.false));
+      long = ap (λ (xs : List ℕ). length xs) sets_are ∙ length-take-le (length c.args.at.now.search.args.now) full (omega (arith, c.if-full-count.false));
     })
     (refl, env_stays I K g c.args.own c.requires.own, is)
     (λ by o t j. (j.0, j.2 ∙ sym is))

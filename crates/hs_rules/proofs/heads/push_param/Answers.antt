@@ -22,14 +22,14 @@ returns-clause-gains c =
     let row = c.row-row.result in
     let e = entry_of I row in
     let own = c.in_ok-own.own in
-    let own_env = set (replicate c.args.params []) c.args.x (e.ty ∷ []) in
-    let s : IsSplit I row.ty c.args.count c.in-Some.sets.items c.in-Some.rest =
-    subst (λ (J : InternerData). IsSplit J row.ty c.args.count c.in-Some.sets.items c.in-Some.rest) c.interner.ensures
-    (match_some c.in_ok-sets.field-0 (c.in-Some.sets, c.in-Some.rest) ((sets : Env) (rest : TypeTree) → length sets ≡ c.args.count → type_of_id c.interner.result.now row.ty ≡ arrows sets rest → ⊥)
-    (λ x. IsSplit c.interner.result.now row.ty c.args.count x.0.items x.1) c.in-Some.is c.in_ok-sets.ensures) in
+    let own_env = set (replicate c.args.at.now.params []) c.args.x (e.ty ∷ []) in
+    let s : IsSplit I row.ty (length c.args.at.now.search.args.now) c.in-Some.sets.items c.in-Some.rest =
+    subst (λ (J : InternerData). IsSplit J row.ty (length c.args.at.now.search.args.now) c.in-Some.sets.items c.in-Some.rest) c.interner.ensures
+    (match_some c.in_ok-sets.field-0 (c.in-Some.sets, c.in-Some.rest) ((sets : Env) (rest : TypeTree) → length sets ≡ (length c.args.at.now.search.args.now) → type_of_id c.interner.result.now row.ty ≡ arrows sets rest → ⊥)
+    (λ x. IsSplit c.interner.result.now row.ty (length c.args.at.now.search.args.now) x.0.items x.1) c.in-Some.is c.in_ok-sets.ensures) in
     let h : HeadData = record { by = Param c.args.x c.args.place; own = own; sets = c.in-Some.sets.items; rest = c.in-Some.rest } in
     let is : head_type K h ≡ e.ty = (λ i. arrows (sets_stay I K c.in-Some.sets.items g s.sets_within i) (type_stays I K g c.in-Some.rest s.rest_within i)) ∙ sym s.is in
-    heads_one K c.args.count (ParamAt log c.args.params c.args.x c.args.place) c.args.out.now.items c.push_reserved.new.self.items h (push_later c.args.out.now.items c.reserve.new.self.items c.push_reserved.new.self.items h c.reserve.ensures.items c.push_reserved.ensures.items)
+    heads_one K (length c.args.at.now.search.args.now) (ParamAt log c.args.at.now.params c.args.x c.args.place) c.args.out.now.items c.push_reserved.new.self.items h (push_later c.args.out.now.items c.reserve.new.self.items c.push_reserved.new.self.items h c.reserve.ensures.items c.push_reserved.ensures.items)
     (record {
       own = slice_get_within K.envs own own_env c.in_ok-own.ensures.ok;
       sets = sets_within I K c.in-Some.sets.items g s.sets_within;

@@ -7,7 +7,7 @@ use Rattle.hs_types.specs.Interned.{env_of_id, IsUnionEnv}
 use Rattle.hs_types.proofs.Numbers.{env_within}
 use Rattle.hs_rules.specs.Order.{chosen_places, IsLess}
 use Rattle.hs_rules.specs.Slots.{FilledData}
-use Rattle.hs_rules.specs.Joins.{PartialData, IsCovered}
+use Rattle.hs_rules.specs.Joins.{PartialData, IsAmongJoined}
 use Rattle.hs_rules.proofs.KeepLemmas.{keeps_none, keeps_then}
 use Rattle.hs_rules.proofs.JoinLemmas.{place_within, place_placed, same_length, IsThere, before_next, made_next, covered_stays, covered_next, reached}
 use Rattle.hs_rules.proofs.joining.extend.Goals as goal
@@ -90,7 +90,7 @@ loop-place-preserved c =
             | inl was ↦ inl was
             | inr is ↦ inr (is ∙ (λ i. record { env = id; args = from_is i ++ (arg_is i, place) ∷ [] }))
           ]);
-      all = below_more (λ k. (e : EntryData) → slice_get log (get_or items k 0) ≡ Some e → IsCovered I K from (get_or items k 0) e c.add.new.out.list.items) c.loop-place.place-index
+      all = below_more (λ k. (e : EntryData) → slice_get log (get_or items k 0) ≡ Some e → IsAmongJoined I K from (get_or items k 0) e c.add.new.out.list.items) c.loop-place.place-index
           (λ k lt e is. covered_stays I J K log from f g h known (get_or items k 0) e c.loop-place.out.list.items c.add.new.out.list.items c.in_ok-add.ensures.keeps (c.loop-place.invariant.all k lt e is))
           (λ e is. covered_next I J K log from f g h known row place id at there within union c.add.new.out.list.items there_is e is);
     }
@@ -99,4 +99,4 @@ pub returns-clause-all : goal.returns-clause-all
 returns-clause-all c = λ place e fills.
     let r = reached c.args.replica.now.log c.args.slot.now c.as_slice-place-items.result.now c.loop-place.place-index place e
     (c.as_slice-place-items.ensures ∙ ap (λ (f : FilledData). f.places) c.slot.view_is) c.loop-place-test.false fills in
-    subst (λ (i : ℕ). IsCovered c.args.replica.now.ids c.loop-place.replica.ids c.args.partial.now i e c.loop-place.out.list.items) r.is (c.loop-place.invariant.all r.k r.lt e r.at)
+    subst (λ (i : ℕ). IsAmongJoined c.args.replica.now.ids c.loop-place.replica.ids c.args.partial.now i e c.loop-place.out.list.items) r.is (c.loop-place.invariant.all r.k r.lt e r.at)

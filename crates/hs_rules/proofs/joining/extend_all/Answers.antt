@@ -3,7 +3,7 @@ use Rattle.std.proofs.lemmas.List.{take_all}
 use Rattle.hs_scheme.proofs.Lists.{Contains-at, none_in}
 use Rattle.hs_types.proofs.Numbers.{env_within}
 use Rattle.hs_table_laws.proofs.Places.{place_of, at_take}
-use Rattle.hs_rules.specs.Joins.{PartialData, AreAscending, IsCovered}
+use Rattle.hs_rules.specs.Joins.{PartialData, AreAscending, IsAmongJoined}
 use Rattle.hs_rules.proofs.Lists.{taken_cases}
 use Rattle.hs_rules.proofs.KeepLemmas.{keeps_none, keeps_then}
 use Rattle.hs_rules.proofs.JoinLemmas.{item_at, before_more, made_stays, covered_stays, made_earlier, covered_earlier, placed_later}
@@ -66,7 +66,7 @@ loop-partial-preserved c =
             let before = c.loop-partial.invariant.all from was place e fills in
             covered_stays I J K log from f g h (c.requires.can from (in_all from was)).0 place e c.loop-partial.out.list.items c.extend.new.out.list.items c.in_ok-extend.ensures.keeps before
         | inr is ↦
-            subst (λ (y : PartialData). IsCovered I K y place e c.extend.new.out.list.items) (sym is)
+            subst (λ (y : PartialData). IsAmongJoined I K y place e c.extend.new.out.list.items) (sym is)
             (covered_earlier I J K log c.loop-partial.replica.log item f g known same place e c.extend.new.out.list.items
             (c.in_ok-extend.ensures.all place e (record { among = fills.among; at = ap (λ l. slice_get l place) same ∙ fills.at })))
       ];

@@ -2,7 +2,7 @@
 use Rattle.std.proofs.Common.{ℕ, Contains, take}
 use Rattle.hs_table.specs.Entries.{EntryData}
 use Rattle.hs_replica.specs.Replica.{KeepsLog}
-use Rattle.hs_rules.specs.Joins.{PartialData, FillsBy, SeenAre, AreAscending, IsMadeOf, IsCovered}
+use Rattle.hs_rules.specs.Joins.{PartialData, FillsBy, SeenAre, AreAscending, IsMadeOf, IsAmongJoined}
 use Rattle.hs_rules.proofs.JoinLemmas.{ComeBeforeOf}
 use Rattle.hs_rules.proofs.joining.extend_all.Given as goal
 
@@ -13,5 +13,5 @@ invariant-loop-partial l = record {
   ascending : AreAscending l.out.list.items;
   before : ComeBeforeOf l.out.list.items l.partials l.partial-index;
   made : (x : PartialData) → Contains l.out.list.items x → IsMadeOf l.fn.replica.ids l.replica.ids l.fn.replica.log l.partials l.slot x;
-  all : (from : PartialData) → Contains (take l.partial-index l.partials) from → (place : ℕ) (e : EntryData) → FillsBy l.fn.replica.log l.slot place e → IsCovered l.fn.replica.ids l.replica.ids from place e l.out.list.items;
+  all : (from : PartialData) → Contains (take l.partial-index l.partials) from → (place : ℕ) (e : EntryData) → FillsBy l.fn.replica.log l.slot place e → IsAmongJoined l.fn.replica.ids l.replica.ids from place e l.out.list.items;
 }

@@ -1,6 +1,6 @@
 use Rattle.std.proofs.Common.{sym, subst, ℕ, List, Contains}
 use Rattle.hs_table.specs.Entries.{EntryData}
-use Rattle.hs_rules.specs.Joins.{PartialData, FillsBy, AreAscending, AreAsLong, IsMadeOf, IsCovered, CanFill}
+use Rattle.hs_rules.specs.Joins.{PartialData, FillsBy, AreAscending, AreAsLong, IsMadeOf, IsAmongJoined, CanFill}
 use Rattle.hs_rules.proofs.joining.extended.Goals as goal
 
 pub extend_all-requires-clause-can : goal.extend_all-requires-clause-can
@@ -20,5 +20,5 @@ returns-clause-only c =
 pub returns-clause-all : goal.returns-clause-all
 returns-clause-all c =
     let new = c.extend_all.new.out.list.items in
-    subst (λ (xs : List PartialData). (from : PartialData) → Contains xs from → (place : ℕ) (e : EntryData) → FillsBy c.args.replica.now.log c.args.slot.now place e → IsCovered c.args.replica.now.ids c.extend_all.new.replica.ids from place e new)
+    subst (λ (xs : List PartialData). (from : PartialData) → Contains xs from → (place : ℕ) (e : EntryData) → FillsBy c.args.replica.now.log c.args.slot.now place e → IsAmongJoined c.args.replica.now.ids c.extend_all.new.replica.ids from place e new)
     c.as_slice.ensures c.in_ok-extend_all.ensures.all

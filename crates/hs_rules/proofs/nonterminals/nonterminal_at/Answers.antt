@@ -17,21 +17,21 @@ use Rattle.hs_rules.proofs.nonterminals.nonterminal_at.Goals as goal
 
 pub returns-then-row-body-clause-heads : goal.returns-then-row-body-clause-heads
 returns-then-row-body-clause-heads c =
-    let p = c.args.spot.now.problem.now in
+    let p = c.args.at.now.problem.now in
     let I = c.args.replica.now.ids in
     let log = c.args.replica.now.log in
-    let limit = c.args.search.now.limit in
-    let args = c.args.search.now.args.now in
+    let limit = c.args.at.now.search.limit in
+    let args = c.args.at.now.search.args.now in
     let f = c.args.nonterminal in
     let points = ap (λ (q : ProblemData). q.points) c.problem.view_is in
     let body = c.body_of-body.result in
     let body_is : slice_get p.points.bodies f ≡ Some body = slice_get-get_or p.points.bodies f 0 c.requires.head ∙ ap (λ (k : ℕ). Some k) (sym (c.body_of-body.ensures.body ∙ ap (λ (x : PointsData). get_or x.bodies f 0) points)) in
-    let shapes = λ (e : EntryData) (m : Contains (take limit log) e). All-contains (InShape p) (take limit log) e c.requires.spot.shapes m in
-    let own : Env = replicate (params_of p c.args.spot.now.rule) [] in
+    let shapes = λ (e : EntryData) (m : Contains (take limit log) e). All-contains (InShape p) (take limit log) e c.requires.can.shapes m in
+    let own : Env = replicate (params_of p c.args.at.now.rule) [] in
     let e0 = entry_of I c.row.result in
     let none = heads_start I (length args) (BodyAt log own) [] in
-    subst (λ (heads : List HeadData). AreHeads p (take limit log) (record { rule = c.args.spot.now.rule; head = Nt f; args = args }) I (ComesFrom c.args.place) heads) (sym c.requires.none)
-    (bodies_from_place p log limit c.args.spot.now.rule args shapes f body body_is I [] [] c.args.place
+    subst (λ (heads : List HeadData). AreHeads p (take limit log) (record { rule = c.args.at.now.rule; head = Nt f; args = args }) I (ComesFrom c.args.place) heads) (sym c.requires.none)
+    (bodies_from_place p log limit c.args.at.now.rule args shapes f body body_is I [] [] c.args.place
     (λ place e there at. absurd (none_in place there))
     (λ e at point_is. absurd (c.if-row-body.true (ap (λ (z : EntryData). z.point) (same_Some e0 e (sym c.row.ensures.entry ∙ at)) ∙ point_is)))
     none)
@@ -39,36 +39,36 @@ returns-then-row-body-clause-heads c =
 pub push_bodies-requires-clause-places : goal.push_bodies-requires-clause-places
 push_bodies-requires-clause-places c =
     all_from (λ place. place < length c.empty_env.new.self.log) (c.args.place ∷ []) (λ place there.
-    omega (arith, only c.args.place place there, c.requires.place, c.requires.search.limited, ap (λ (l : List EntryData). length l) c.in_ok-own.ensures.kept.log))
+    omega (arith, only c.args.place place there, c.requires.place, c.requires.can.search.limited, ap (λ (l : List EntryData). length l) c.in_ok-own.ensures.kept.log))
 
 pub push_bodies-requires-clause-own : goal.push_bodies-requires-clause-own
-push_bodies-requires-clause-own c = slice_get_within c.empty_env.new.self.ids.envs c.in_ok-own.own (replicate c.args.spot.now.params []) c.in_ok-own.ensures.ok
+push_bodies-requires-clause-own c = slice_get_within c.empty_env.new.self.ids.envs c.in_ok-own.own (replicate c.args.at.now.params []) c.in_ok-own.ensures.ok
 
 pub returns-clause-heads : goal.returns-clause-heads
 returns-clause-heads c =
-    let p = c.args.spot.now.problem.now in
+    let p = c.args.at.now.problem.now in
     let I = c.args.replica.now.ids in
     let J = c.empty_env.new.self.ids in
     let K = c.push_bodies.new.replica.ids in
     let log = c.args.replica.now.log in
-    let limit = c.args.search.now.limit in
-    let args = c.args.search.now.args.now in
+    let limit = c.args.at.now.search.limit in
+    let args = c.args.at.now.search.args.now in
     let f = c.args.nonterminal in
     let own = c.in_ok-own.own in
     let same = c.in_ok-own.ensures.kept.log in
-    let none : Env = replicate c.args.spot.now.params [] in
-    let own_is : env_of_id J own ≡ replicate (params_of p c.args.spot.now.rule) [] = get_or_from_slice_get J.envs own none [] c.in_ok-own.ensures.ok ∙ ap (λ (k : ℕ). let e : Env = replicate k [] in e) c.requires.spot.params_are in
+    let none : Env = replicate c.args.at.now.params [] in
+    let own_is : env_of_id J own ≡ replicate (params_of p c.args.at.now.rule) [] = get_or_from_slice_get J.envs own none [] c.in_ok-own.ensures.ok ∙ ap (λ (k : ℕ). let e : Env = replicate k [] in e) c.requires.can.params_are in
     let points = ap (λ (q : ProblemData). q.points) c.problem.view_is in
     let body = c.body_of-body.result in
     let body_is : slice_get p.points.bodies f ≡ Some body = slice_get-get_or p.points.bodies f 0 c.requires.head ∙ ap (λ (k : ℕ). Some k) (sym (c.body_of-body.ensures.body ∙ ap (λ (x : PointsData). get_or x.bodies f 0) points)) in
-    let shapes = λ (e : EntryData) (m : Contains (take limit log) e). All-contains (InShape p) (take limit log) e c.requires.spot.shapes m in
+    let shapes = λ (e : EntryData) (m : Contains (take limit log) e). All-contains (InShape p) (take limit log) e c.requires.can.shapes m in
     let heads = c.push_bodies.new.out.items in
     let gains = along (λ i. OnOk c.push_bodies.result (GainsHeads K (length args) (AtSome (BodyAt (same i) (own_is i)) (c.args.place ∷ [])) (c.requires.none i) heads)) c.push_bodies.ensures.gains in
-    let indexed = c.in_ok-own.ensures.kept.indexed ∙ c.requires.search.indexed in
+    let indexed = c.in_ok-own.ensures.kept.indexed ∙ c.requires.can.search.indexed in
     let e0 = entry_of I c.row.result in
-    on_ok_map c.push_bodies.result (GainsHeads K (length args) (AtSome (BodyAt log (replicate (params_of p c.args.spot.now.rule) [])) (c.args.place ∷ [])) [] heads)
-    (AreHeads p (take limit log) (record { rule = c.args.spot.now.rule; head = Nt f; args = args }) K (ComesFrom c.args.place) heads)
-    (bodies_from_place p log limit c.args.spot.now.rule args shapes f body body_is K (c.args.place ∷ []) heads c.args.place
+    on_ok_map c.push_bodies.result (GainsHeads K (length args) (AtSome (BodyAt log (replicate (params_of p c.args.at.now.rule) [])) (c.args.place ∷ [])) [] heads)
+    (AreHeads p (take limit log) (record { rule = c.args.at.now.rule; head = Nt f; args = args }) K (ComesFrom c.args.place) heads)
+    (bodies_from_place p log limit c.args.at.now.rule args shapes f body body_is K (c.args.place ∷ []) heads c.args.place
     (λ place e there at.
     let is = only c.args.place place there in
     let e_is = same_Some e e0 (sym at ∙ (ap (λ k. slice_get log k) is ∙ c.row.ensures.entry)) in

@@ -13,23 +13,23 @@ use Rattle.hs_rules.proofs.parameters.parameter_asking.Goals as goal
 
 pub returns-clause-heads : goal.returns-clause-heads
 returns-clause-heads c =
-    let p = c.args.spot.now.problem.now in
+    let p = c.args.at.now.problem.now in
     let I = c.args.replica.now.ids in
     let log = c.args.replica.now.log in
-    let limit = c.args.search.now.limit in
-    let args = c.args.search.now.args.now in
-    let rule = c.args.spot.now.rule in
+    let limit = c.args.at.now.search.limit in
+    let args = c.args.at.now.search.args.now in
+    let rule = c.args.at.now.rule in
     let x = c.args.x in
-    let shapes = λ (e : EntryData) (m : Contains (take limit log) e). All-contains (InShape p) (take limit log) e c.requires.spot.shapes m in
+    let shapes = λ (e : EntryData) (m : Contains (take limit log) e). All-contains (InShape p) (take limit log) e c.requires.can.shapes m in
     let flows = ap (λ (q : ProblemData). q.flow.pairs) c.problem.view_is in
     let K = c.push_taking.new.replica.ids in
     let heads = c.push_taking.new.out.items in
     let pairs = c.flow_of-pairs.result.now in
     let are_pairs : pairs ≡ filter (λ (f : FlowPair). nat_eq f.rule rule && nat_eq f.param x) p.flow.pairs = c.flow_of-pairs.ensures.pairs ∙ ap (filter (λ (f : FlowPair). nat_eq f.rule rule && nat_eq f.param x)) flows in
-    let gains = along (λ i. OnOk c.push_taking.result (GainsHeads K (length args) (AtFlow log (c.requires.spot.params_are i) x limit (λ u. takes u c.args.arg (type_of_id I c.args.ty)) pairs) (c.requires.none i) heads)) c.push_taking.ensures.gains in
-    on_ok_map c.push_taking.result (GainsHeads K (length args) (AtFlow log (params_of p rule) x limit (λ u. takes u c.args.arg (type_of_id I c.args.ty)) pairs) [] heads)
-    (AreHeads p (take limit log) (record { rule = rule; head = Var x; args = args }) K (Asks c.args.arg (type_of_id I c.args.ty)) heads)
-    (params_taking p log limit rule args shapes x pairs are_pairs K heads c.args.arg (type_of_id I c.args.ty) c.requires.arg) gains
+    let gains = along (λ i. OnOk c.push_taking.result (GainsHeads K (length args) (AtFlow log (c.requires.can.params_are i) x limit (λ u. takes u c.args.asked.now.arg (type_of_id I c.args.asked.now.ty)) pairs) (c.requires.none i) heads)) c.push_taking.ensures.gains in
+    on_ok_map c.push_taking.result (GainsHeads K (length args) (AtFlow log (params_of p rule) x limit (λ u. takes u c.args.asked.now.arg (type_of_id I c.args.asked.now.ty)) pairs) [] heads)
+    (AreHeads p (take limit log) (record { rule = rule; head = Var x; args = args }) K (Asks c.args.asked.now.arg (type_of_id I c.args.asked.now.ty)) heads)
+    (params_taking p log limit rule args shapes x pairs are_pairs K heads c.args.asked.now.arg (type_of_id I c.args.asked.now.ty) c.requires.arg) gains
 
 pub returns-clause-kept : goal.returns-clause-kept
 returns-clause-kept c = c.push_taking.ensures.kept

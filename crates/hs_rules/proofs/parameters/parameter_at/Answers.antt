@@ -16,14 +16,14 @@ use Rattle.hs_rules.proofs.parameters.parameter_at.Goals as goal
 
 pub returns-then-not-holds-clause-heads : goal.returns-then-not-holds-clause-heads
 returns-then-not-holds-clause-heads c =
-    let p = c.args.spot.now.problem.now in
+    let p = c.args.at.now.problem.now in
     let I = c.args.replica.now.ids in
     let log = c.args.replica.now.log in
-    let limit = c.args.search.now.limit in
-    let args = c.args.search.now.args.now in
-    let rule = c.args.spot.now.rule in
+    let limit = c.args.at.now.search.limit in
+    let args = c.args.at.now.search.args.now in
+    let rule = c.args.at.now.rule in
     let x = c.args.x in
-    let shapes = λ (e : EntryData) (m : Contains (take limit log) e). All-contains (InShape p) (take limit log) e c.requires.spot.shapes m in
+    let shapes = λ (e : EntryData) (m : Contains (take limit log) e). All-contains (InShape p) (take limit log) e c.requires.can.shapes m in
     let flows = ap (λ (q : ProblemData). q.flow.pairs) c.problem.view_is in
     let e0 = entry_of I c.row-row.result in
     let pair : ℕ → FlowPair = λ u. record { rule = rule; param = x; point = u } in
@@ -39,25 +39,25 @@ returns-then-not-holds-clause-heads c =
 pub push_params-requires-clause-places : goal.push_params-requires-clause-places
 push_params-requires-clause-places c =
     all_from (λ place. place < length c.args.replica.now.log) (c.args.place ∷ []) (λ place there.
-    omega (arith, only c.args.place place there, c.requires.place, c.requires.search.limited))
+    omega (arith, only c.args.place place there, c.requires.place, c.requires.can.search.limited))
 
 pub returns-clause-heads : goal.returns-clause-heads
 returns-clause-heads c =
-    let p = c.args.spot.now.problem.now in
+    let p = c.args.at.now.problem.now in
     let I = c.args.replica.now.ids in
     let log = c.args.replica.now.log in
-    let limit = c.args.search.now.limit in
-    let args = c.args.search.now.args.now in
-    let rule = c.args.spot.now.rule in
+    let limit = c.args.at.now.search.limit in
+    let args = c.args.at.now.search.args.now in
+    let rule = c.args.at.now.rule in
     let x = c.args.x in
-    let shapes = λ (e : EntryData) (m : Contains (take limit log) e). All-contains (InShape p) (take limit log) e c.requires.spot.shapes m in
+    let shapes = λ (e : EntryData) (m : Contains (take limit log) e). All-contains (InShape p) (take limit log) e c.requires.can.shapes m in
     let flows = ap (λ (q : ProblemData). q.flow.pairs) c.problem.view_is in
     let K = c.push_params.new.replica.ids in
     let heads = c.push_params.new.out.items in
     let row_at = c.row-row.ensures.entry in
     let e0 = entry_of I c.row-row.result in
     let pair : ℕ → FlowPair = λ u. record { rule = rule; param = x; point = u } in
-    let gains = along (λ i. OnOk c.push_params.result (GainsHeads K (length args) (AtSome (ParamAt log (c.requires.spot.params_are i) x) (c.args.place ∷ [])) (c.requires.none i) heads)) c.push_params.ensures.gains in
+    let gains = along (λ i. OnOk c.push_params.result (GainsHeads K (length args) (AtSome (ParamAt log (c.requires.can.params_are i) x) (c.args.place ∷ [])) (c.requires.none i) heads)) c.push_params.ensures.gains in
     on_ok_map c.push_params.result (GainsHeads K (length args) (AtSome (ParamAt log (params_of p rule) x) (c.args.place ∷ [])) [] heads)
     (AreHeads p (take limit log) (record { rule = rule; head = Var x; args = args }) K (ComesFrom c.args.place) heads)
     (params_from_place p log limit rule args shapes x (filter (λ (f : FlowPair). nat_eq f.rule rule && nat_eq f.param x) p.flow.pairs) refl K heads c.args.place (c.args.place ∷ [])

@@ -14,7 +14,7 @@ push_params-requires-clause-places c =
     subst (λ (xs : List ℕ). All (λ place. place < length c.loop-pair.replica.log) xs) (sym c.as_slice.ensures)
     (all_from (λ place. place < length c.loop-pair.replica.log) c.in_ok-places.places.items (λ place there.
     let b = (c.in_ok-places.ensures.places place).0 there in
-    omega (arith, b.1, c.requires.search.limited, ap (λ (l : List EntryData). length l) c.loop-pair.invariant.kept.log)))
+    omega (arith, b.1, c.requires.can.search.limited, ap (λ (l : List EntryData). length l) c.loop-pair.invariant.kept.log)))
 
 pub loop-pair-preserved : goal.loop-pair-preserved
 loop-pair-preserved c =
@@ -25,14 +25,14 @@ loop-pair-preserved c =
     let k = c.loop-pair.pair-index in
     let d : FlowPair = record { rule = 0; param = 0; point = 0 } in
     let pair = get_or pairs k d in
-    let count = length c.args.search.now.args.now in
+    let count = length c.args.at.now.search.args.now in
     let same = c.loop-pair.invariant.kept.log in
     let are = subst (λ (l : List EntryData). ArePlaces l c.loop-pair.replica.indexed (here pair.point) c.at_point.result.now) same c.at_point.ensures in
-    let gains = along (λ i. GainsHeads K count (AtSome (ParamAt (same i) c.args.params c.args.x) (c.as_slice.ensures i)) c.loop-pair.out.items c.push_params.new.out.items) c.in_ok-push_params.ensures.gains in
+    let gains = along (λ i. GainsHeads K count (AtSome (ParamAt (same i) c.args.at.now.params c.args.x) (c.as_slice.ensures i)) c.loop-pair.out.items c.push_params.new.out.items) c.in_ok-push_params.ensures.gains in
     record {
       kept = keeps_then c.args.replica.now c.loop-pair.replica c.push_params.new.replica c.loop-pair.invariant.kept c.in_ok-push_params.ensures.kept;
-      gains = flow_next J K count log c.args.params c.args.x c.args.search.now.limit here pairs k d c.at_point.result.now c.in_ok-places.places.items c.loop-pair.replica.indexed
-          c.args.out.now.items c.loop-pair.out.items c.push_params.new.out.items c.in_ok-push_params.ensures.kept.grows c.loop-pair-test.true (c.loop-pair.invariant.kept.indexed ∙ c.requires.search.indexed) are c.in_ok-places.ensures.places
+      gains = flow_next J K count log c.args.at.now.params c.args.x c.args.at.now.search.limit here pairs k d c.at_point.result.now c.in_ok-places.places.items c.loop-pair.replica.indexed
+          c.args.out.now.items c.loop-pair.out.items c.push_params.new.out.items c.in_ok-push_params.ensures.kept.grows c.loop-pair-test.true (c.loop-pair.invariant.kept.indexed ∙ c.requires.can.search.indexed) are c.in_ok-places.ensures.places
           c.loop-pair.invariant.gains gains;
     }
 
@@ -47,5 +47,5 @@ returns-clause-kept c = c.loop-pair.invariant.kept
 
 pub returns-clause-gains : goal.returns-clause-gains
 returns-clause-gains c =
-    subst (λ (fs : List FlowPair). GainsHeads c.loop-pair.replica.ids (length c.args.search.now.args.now) (AtFlow c.args.replica.now.log c.args.params c.args.x c.args.search.now.limit here fs) c.args.out.now.items c.loop-pair.out.items)
+    subst (λ (fs : List FlowPair). GainsHeads c.loop-pair.replica.ids (length c.args.at.now.search.args.now) (AtFlow c.args.replica.now.log c.args.at.now.params c.args.x c.args.at.now.search.limit here fs) c.args.out.now.items c.loop-pair.out.items)
     (take_all c.loop-pair.pair-index c.args.pairs.now c.loop-pair-test.false) c.loop-pair.invariant.gains

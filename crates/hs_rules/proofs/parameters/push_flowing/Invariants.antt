@@ -8,5 +8,5 @@ use Rattle.hs_rules.proofs.parameters.push_flowing.Given as goal
 abbrev pub invariant-loop-pair : goal.invariant-loop-pair
 invariant-loop-pair l = record {
   kept : KeepsLog l.fn.replica l.replica;
-  gains : GainsHeads l.replica.ids (length l.search.args.now) (AtFlow l.fn.replica.log l.params l.x l.search.limit here (take l.pair-index l.pairs)) l.fn.out.items l.out.items;
+  gains : GainsHeads l.replica.ids (length l.at.search.args.now) (AtFlow l.fn.replica.log l.at.params l.x l.at.search.limit here (take l.pair-index l.pairs)) l.fn.out.items l.out.items;
 }

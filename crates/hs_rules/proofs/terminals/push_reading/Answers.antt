@@ -1,4 +1,4 @@
-use Rattle.std.proofs.Common.{subst, get_or}
+use Rattle.std.proofs.Common.{subst, get_or, length}
 use Rattle.hs_table.specs.Entries.{Env}
 use Rattle.hs_types.specs.Interned.{env_of_id}
 use Rattle.hs_types.proofs.Numbers.{env_stays}
@@ -13,15 +13,15 @@ loop-q-preserved c =
     let I = c.args.replica.now.ids in
     let J = c.loop-q.replica.ids in
     let K = c.push_reads.new.replica.ids in
-    let m = c.args.automaton.now in
-    let own = env_of_id I c.args.own in
+    let m = c.args.terminal.now.automaton.now in
+    let own = env_of_id I c.args.terminal.now.own in
     let states = c.args.states.now in
     let k = c.loop-q.q-index in
     let q = get_or states k 0 in
-    let gains = subst (λ (o : Env). GainsHeads K c.args.count (ReadIn m.states m.transitions c.args.terminal o c.args.place q) c.loop-q.out.items c.push_reads.new.out.items)
-    (env_stays I J c.loop-q.invariant.kept.grows c.args.own c.requires.own) c.in_ok-push_reads.ensures.gains in
+    let gains = subst (λ (o : Env). GainsHeads K (length c.args.terminal.now.at.now.search.args.now) (ReadIn m.states m.transitions c.args.terminal.now.number o c.args.place q) c.loop-q.out.items c.push_reads.new.out.items)
+    (env_stays I J c.loop-q.invariant.kept.grows c.args.terminal.now.own c.requires.own) c.in_ok-push_reads.ensures.gains in
     record {
       kept = keeps_then c.args.replica.now c.loop-q.replica c.push_reads.new.replica c.loop-q.invariant.kept c.in_ok-push_reads.ensures.kept;
-      gains = heads_next J K c.args.count (ReadIn m.states m.transitions c.args.terminal own c.args.place) states k q c.args.out.now.items c.loop-q.out.items c.push_reads.new.out.items c.in_ok-push_reads.ensures.kept.grows c.loop-q-test.true
+      gains = heads_next J K (length c.args.terminal.now.at.now.search.args.now) (ReadIn m.states m.transitions c.args.terminal.now.number own c.args.place) states k q c.args.out.now.items c.loop-q.out.items c.push_reads.new.out.items c.in_ok-push_reads.ensures.kept.grows c.loop-q-test.true
           (read_self states k 0 c.loop-q-test.true) c.loop-q.invariant.gains gains;
     }

@@ -1,4 +1,5 @@
 -- the types in the states so far
+use Rattle.std.proofs.Common.{length}
 use Rattle.hs_types.specs.Interned.{env_of_id}
 use Rattle.hs_replica.specs.Replica.{KeepsLog}
 use Rattle.hs_rules.specs.Heads.{GainsHeads, AtRange, InState}
@@ -7,5 +8,5 @@ use Rattle.hs_rules.proofs.terminals.push_terminal.Given as goal
 abbrev pub invariant-loop-q : goal.invariant-loop-q
 invariant-loop-q l = record {
   kept : KeepsLog l.fn.replica l.replica;
-  gains : GainsHeads l.replica.ids l.count (AtRange (InState l.automaton.transitions l.terminal l.rank l.from (env_of_id l.fn.replica.ids l.own)) 0 l.q) l.fn.out.items l.out.items;
+  gains : GainsHeads l.replica.ids (length l.terminal.at.now.search.args.now) (AtRange (InState l.terminal.automaton.now.transitions l.terminal.number l.terminal.rank l.from (env_of_id l.fn.replica.ids l.terminal.own)) 0 l.q) l.fn.out.items l.out.items;
 }

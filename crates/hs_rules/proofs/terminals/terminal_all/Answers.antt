@@ -16,12 +16,12 @@ use Rattle.hs_rules.proofs.KeepLemmas.{keeps_then}
 use Rattle.hs_rules.proofs.terminals.terminal_all.Goals as goal
 
 pub push_terminal-requires-clause-own : goal.push_terminal-requires-clause-own
-push_terminal-requires-clause-own c = slice_get_within c.empty_env.new.self.ids.envs c.in_ok-own.own (replicate c.args.spot.now.params []) c.in_ok-own.ensures.ok
+push_terminal-requires-clause-own c = slice_get_within c.empty_env.new.self.ids.envs c.in_ok-own.own (replicate c.args.at.now.params []) c.in_ok-own.ensures.ok
 
 pub push_terminal-requires-clause-ranks : goal.push_terminal-requires-clause-ranks
 push_terminal-requires-clause-ranks c = λ q to moves.
-    let p = c.args.spot.now.problem.now in
-    let a = c.args.terminal in
+    let p = c.args.at.now.problem.now in
+    let a = c.args.number in
     let sorted_is : c.problem.inside.sorted ≡ p.sorted = ap (λ (q : ProblemData). q.sorted) c.problem.view_is in
     let m_is : c.sorted.inside.automaton ≡ p.sorted.automaton = ap (λ (q : SortedData). q.automaton) (c.sorted.view_is ∙ sorted_is) in
     let is_sorted : IsSorted p.sorted = subst (λ (q : SortedData). IsSorted q) (c.sorted.view_is ∙ sorted_is) c.sorted.invariant in
@@ -29,26 +29,26 @@ push_terminal-requires-clause-ranks c = λ q to moves.
 
 pub returns-clause-heads : goal.returns-clause-heads
 returns-clause-heads c =
-    let p = c.args.spot.now.problem.now in
+    let p = c.args.at.now.problem.now in
     let I = c.args.replica.now.ids in
     let J = c.empty_env.new.self.ids in
     let log = c.args.replica.now.log in
-    let limit = c.args.search.now.limit in
-    let args = c.args.search.now.args.now in
-    let a = c.args.terminal in
+    let limit = c.args.at.now.search.limit in
+    let args = c.args.at.now.search.args.now in
+    let a = c.args.number in
     let own = c.in_ok-own.own in
-    let none : Env = replicate c.args.spot.now.params [] in
-    let own_is : env_of_id J own ≡ replicate (params_of p c.args.spot.now.rule) [] = get_or_from_slice_get J.envs own none [] c.in_ok-own.ensures.ok ∙ ap (λ (k : ℕ). let e : Env = replicate k [] in e) c.requires.spot.params_are in
-    let shapes = λ (e : EntryData) (m : Contains (take limit log) e). All-contains (InShape p) (take limit log) e c.requires.spot.shapes m in
+    let none : Env = replicate c.args.at.now.params [] in
+    let own_is : env_of_id J own ≡ replicate (params_of p c.args.at.now.rule) [] = get_or_from_slice_get J.envs own none [] c.in_ok-own.ensures.ok ∙ ap (λ (k : ℕ). let e : Env = replicate k [] in e) c.requires.can.params_are in
+    let shapes = λ (e : EntryData) (m : Contains (take limit log) e). All-contains (InShape p) (take limit log) e c.requires.can.shapes m in
     let sorted_is : c.problem.inside.sorted ≡ p.sorted = ap (λ (q : ProblemData). q.sorted) c.problem.view_is in
     let m_is : c.sorted.inside.automaton ≡ p.sorted.automaton = ap (λ (q : SortedData). q.automaton) (c.sorted.view_is ∙ sorted_is) in
     let is_sorted : IsSorted p.sorted = subst (λ (q : SortedData). IsSorted q) (c.sorted.view_is ∙ sorted_is) c.sorted.invariant in
     let K = c.push_terminal.new.replica.ids in
     let heads = c.push_terminal.new.out.items in
     let gains = along (λ i. OnOk c.push_terminal.result (GainsHeads K (length args) (AtRange (InState (m_is i).transitions a (c.rank-rank.ensures i) 0 (own_is i)) 0 (m_is i).states) (c.requires.none i) heads)) c.push_terminal.ensures.gains in
-    on_ok_map c.push_terminal.result (GainsHeads K (length args) (AtRange (InState p.sorted.automaton.transitions a (rank_of p a) 0 (replicate (params_of p c.args.spot.now.rule) [])) 0 p.sorted.automaton.states) [] heads)
-    (AreHeads p (take limit log) (record { rule = c.args.spot.now.rule; head = Tm a; args = args }) K AnyHead heads)
-    (λ g. terminals_all p log limit c.args.spot.now.rule args shapes a K heads g (λ q to moves. ranks_agree p.sorted is_sorted q a to moves)) gains
+    on_ok_map c.push_terminal.result (GainsHeads K (length args) (AtRange (InState p.sorted.automaton.transitions a (rank_of p a) 0 (replicate (params_of p c.args.at.now.rule) [])) 0 p.sorted.automaton.states) [] heads)
+    (AreHeads p (take limit log) (record { rule = c.args.at.now.rule; head = Tm a; args = args }) K AnyHead heads)
+    (λ g. terminals_all p log limit c.args.at.now.rule args shapes a K heads g (λ q to moves. ranks_agree p.sorted is_sorted q a to moves)) gains
 
 pub returns-in_err-own-clause-kept : goal.returns-in_err-own-clause-kept
 returns-in_err-own-clause-kept c = c.empty_env.ensures.kept

@@ -5,6 +5,6 @@ use Rattle.hs_sorts.proofs.finding.arities.Given as goal
 
 abbrev pub invariant-loop-place : goal.invariant-loop-place
 invariant-loop-place l = record {
-  arities : AreArities l.weights l.start l.place l.arities.items;
+  arities : AreArities l.measures l.start l.place l.arities.items;
   room : l.count ≤ vec_capacity l.arities;
 }

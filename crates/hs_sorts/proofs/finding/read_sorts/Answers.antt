@@ -3,7 +3,7 @@ use Rattle.hs_scheme.proofs.Lists.{push_cases}
 use Rattle.hs_scheme.specs.sorting.Sorting.{SortTree}
 use Rattle.hs_sorts.specs.declared.store.Node.{Node}
 use Rattle.hs_sorts.specs.Nodes.{Valuation}
-use Rattle.hs_sorts.specs.Weights.{IsReading}
+use Rattle.hs_sorts.specs.Measures.{IsReading}
 use Rattle.hs_sorts.specs.Finding.{AreSorts}
 use Rattle.hs_sorts.proofs.finding.read_sorts.Goals as goal
 

@@ -1,4 +1,4 @@
-use Rattle.hs_sorts.proofs.Inferring.{higher_found, large_found, long_found, counted_small, weights_many, is_least}
+use Rattle.hs_sorts.proofs.Inferring.{higher_found, large_found, long_found, counted_small, measures_many, is_least}
 use Rattle.hs_sorts.proofs.inference.read_least.Goals as goal
 
 pub returns-in-Some-clause-fault : goal.returns-in-Some-clause-fault
@@ -14,7 +14,7 @@ returns-in-Some-first_large-clause-fault c =
 
 pub first_too_long-requires-clause-many : goal.first_too_long-requires-clause-many
 first_too_long-requires-clause-many c =
-    weights_many c.args.rules.now c.args.ranks.now c.requires.rules c.args.found.now c.requires.found
+    measures_many c.args.rules.now c.args.ranks.now c.requires.rules c.args.found.now c.requires.found
 
 pub returns-in-Some-first_too_long-clause-fault : goal.returns-in-Some-first_too_long-clause-fault
 returns-in-Some-first_too_long-clause-fault c =

@@ -5,7 +5,7 @@ use Rattle.hs_sorts.proofs.reading.+read_sort.Goals as goal
 
 pub loop-argument-preserved : goal.loop-argument-preserved
 loop-argument-preserved t c =
-    let parts = parts_smaller c.args.store.now c.args.weights.now c.requires.weights c.loop-argument.at c.in-Some.argument c.in-Some.rest c.loop-argument.invariant.within c.in-Some.ensures (omega (arith, c.loop-argument.invariant.smaller, c.requires.small)) in
+    let parts = parts_smaller c.args.store.now c.args.measures.now c.requires.measures c.loop-argument.at c.in-Some.argument c.in-Some.rest c.loop-argument.invariant.within c.in-Some.ensures (omega (arith, c.loop-argument.invariant.smaller, c.requires.small)) in
     record {
       within = c.in-Some.ensures.rest;
       smaller = omega (arith, parts, c.loop-argument.invariant.smaller);
@@ -16,7 +16,7 @@ loop-argument-preserved t c =
 
 pub loop-argument-smaller : goal.loop-argument-smaller
 loop-argument-smaller t c =
-    let parts = parts_smaller c.args.store.now c.args.weights.now c.requires.weights c.loop-argument.at c.in-Some.argument c.in-Some.rest c.loop-argument.invariant.within c.in-Some.ensures (omega (arith, c.loop-argument.invariant.smaller, c.requires.small)) in
+    let parts = parts_smaller c.args.store.now c.args.measures.now c.requires.measures c.loop-argument.at c.in-Some.argument c.in-Some.rest c.loop-argument.invariant.within c.in-Some.ensures (omega (arith, c.loop-argument.invariant.smaller, c.requires.small)) in
     parts.1
 
 pub returns : goal.returns
@@ -25,6 +25,6 @@ returns t c = λ v r.
 
 pub read_sort-requires : goal.read_sort-requires
 read_sort-requires t c =
-    let parts = parts_smaller c.args.store.now c.args.weights.now c.requires.weights c.loop-argument.at c.in-Some.argument c.in-Some.rest c.loop-argument.invariant.within c.in-Some.ensures (omega (arith, c.loop-argument.invariant.smaller, c.requires.small)) in
-    let smaller : size_at c.args.weights.now c.in-Some.argument < t = omega (arith, c.decreases, parts, c.loop-argument.invariant.smaller) in
-    (smaller, (c.requires.store, (c.requires.flat, (c.requires.weights, (c.in-Some.ensures.argument, omega (arith, parts, c.loop-argument.invariant.smaller, c.requires.small))))))
+    let parts = parts_smaller c.args.store.now c.args.measures.now c.requires.measures c.loop-argument.at c.in-Some.argument c.in-Some.rest c.loop-argument.invariant.within c.in-Some.ensures (omega (arith, c.loop-argument.invariant.smaller, c.requires.small)) in
+    let smaller : size_at c.args.measures.now c.in-Some.argument < t = omega (arith, c.decreases, parts, c.loop-argument.invariant.smaller) in
+    (smaller, (c.requires.store, (c.requires.flat, (c.requires.measures, (c.in-Some.ensures.argument, omega (arith, parts, c.loop-argument.invariant.smaller, c.requires.small))))))

@@ -1,6 +1,6 @@
 use Rattle.std.proofs.Common.{leb, rules}
 use Rattle.std.proofs.lemmas.List.Sorted.{IsPartitionPoint-from_clause, IsPartitionedBy-leb}
-use Rattle.hs_choices.specs.Numbered.{VoidRowData}
+use Rattle.hs_numbered.specs.Certificates.{VoidRowData}
 use Rattle.hs_void.proofs.Ordered.{start_behind}
 use Rattle.hs_void.proofs.basis.end_of.Goals as goal
 

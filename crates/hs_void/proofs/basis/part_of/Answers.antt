@@ -1,5 +1,5 @@
 use Rattle.std.proofs.Common.{rules}
-use Rattle.hs_choices.specs.Numbered.{VoidRowData}
+use Rattle.hs_numbered.specs.Certificates.{VoidRowData}
 use Rattle.hs_flow_checker.proofs.StartLemmas.{between_starts, starts_up}
 use Rattle.hs_void.proofs.basis.part_of.Goals as goal
 

@@ -1,7 +1,7 @@
 use Rattle.std.proofs.Common.{refl, sym, ◌∙◌, subst, ◌<◌, length}
 use Rattle.std.proofs.lemmas.List.Elements.{All-contains}
 use Rattle.hs_types.specs.Interned.{InternerData, env_of_id}
-use Rattle.hs_choices.specs.Numbered.{VoidRowData}
+use Rattle.hs_numbered.specs.Certificates.{VoidRowData}
 use Rattle.hs_choices.proofs.Growing.{is_so, not_so}
 use Rattle.hs_void.proofs.Asked.{asked_row, none_more, none_before, none_asked}
 use Rattle.hs_void.proofs.voids.asks_void.Goals as goal

@@ -2,7 +2,7 @@
 use Rattle.std.proofs.Common.{◌≡◌, take, Contains}
 use Rattle.hs_weak.specs.Strength.{AsStrongAs, AsksAtLeast}
 use Rattle.hs_types.specs.Interned.{env_of_id}
-use Rattle.hs_choices.specs.Numbered.{VoidRowData}
+use Rattle.hs_numbered.specs.Certificates.{VoidRowData}
 use Rattle.hs_void.proofs.voids.asks_void.Given as goal
 
 abbrev pub invariant-loop-row : goal.invariant-loop-row

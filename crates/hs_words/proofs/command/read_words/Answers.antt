@@ -1,31 +1,31 @@
-use Rattle.std.proofs.Common.{◌∙◌, sym, ◌≡◌}
+use Rattle.std.proofs.Common.{◌∙◌, sym, ◌≡◌, ap, subst, Option}
 use Rattle.std.proofs.lemmas.Result.{err_from_is_err_and}
 use Rattle.clap.specs.Words.{app_of, found_of, rows_of}
 use Rattle.hs_words.specs.declared.fault.WordsFault.TheVariants as words
-use Rattle.std.specs.Prelude.{Err}
-use Rattle.hs_words.specs.Words.{options_of, said, texts}
-use Rattle.hs_words.proofs.Taken.{answered, answered_within, unanswered, refused, is_simple_and_free_app, taken}
+use Rattle.std.specs.Prelude.{Err, IfSome, option_map}
+use Rattle.hs_words.specs.declared.options.Options.{Options}
+use Rattle.hs_words.specs.Words.{AreWithin, options_of, said, said_by, texts}
+use Rattle.hs_words.proofs.Taken.{refused, is_simple_and_free_app, taken}
 use Rattle.hs_words.proofs.command.read_words.Goals as goal
 
-pub returns-clause-ok : goal.returns-clause-ok
-returns-clause-ok c =
+pub returns-in-Some-clause-ok : goal.returns-in-Some-clause-ok
+returns-in-Some-clause-ok c =
     let app = app_of c.in_ok-command.command in
     let whole : options_of (texts c.args.words.now) ≡ said (rows_of (found_of c.in_ok-matches.matches)) =
     taken app c.in_ok-command.ensures (texts c.args.words.now) c.in_ok-matches.matches c.in_ok-matches.ensures.matches
     (c.in_ok-matches.ensures.kinds (is_simple_and_free_app app c.in_ok-command.ensures (texts c.args.words.now))) in
-    answered c.ok_or.result (options_of (texts c.args.words.now)) c.options.result c.ok_or.ensures.value (c.options.ensures.said ∙ sym whole)
+    whole ∙ (sym c.options.ensures.said ∙ ap (option_map said_by) c.in-Some.is)
+
+pub returns-in-Some-clause-within : goal.returns-in-Some-clause-within
+returns-in-Some-clause-within c = subst (λ (o : Option Options). IfSome o AreWithin) c.in-Some.is c.options.ensures.within
 
 pub returns-clause-usage : goal.returns-clause-usage
-returns-clause-usage c =
+returns-clause-usage c usage =
     let app = app_of c.in_ok-command.command in
     let whole : options_of (texts c.args.words.now) ≡ said (rows_of (found_of c.in_ok-matches.matches)) =
     taken app c.in_ok-command.ensures (texts c.args.words.now) c.in_ok-matches.matches c.in_ok-matches.ensures.matches
     (c.in_ok-matches.ensures.kinds (is_simple_and_free_app app c.in_ok-command.ensures (texts c.args.words.now))) in
-    unanswered c.ok_or.result (options_of (texts c.args.words.now)) c.options.result c.ok_or.ensures.value (c.options.ensures.said ∙ sym whole)
-
-pub returns-clause-within : goal.returns-clause-within
-returns-clause-within c =
-    answered_within c.ok_or.result (options_of (texts c.args.words.now)) c.options.result c.ok_or.ensures.value c.options.ensures.within
+    whole ∙ (sym c.options.ensures.said ∙ ap (option_map said_by) c.in-None.is)
 
 pub returns-in_err-command-clause-ok : goal.returns-in_err-command-clause-ok
 returns-in_err-command-clause-ok c =

@@ -1,4 +1,5 @@
 use Rattle.std.proofs.Common.{sym, ◌∙◌, ap, [], ◌∷◌, ◌++◌, append_assoc}
+use Rattle.hs_history.specs.Story.{Base}
 use Rattle.hs_core.specs.Core.{state_of}
 use Rattle.hs_workers.proofs.JobLemmas.{carries_next}
 use Rattle.hs_workers.proofs.HoldLemmas.{goes_trans}
@@ -15,3 +16,6 @@ loop-job-preserved c =
           c.loop-job.job-iterator.rest.items c.next.new.self.rest.items c.in-Some.job c.in-Some.ensures.steps.0 now.goes.number now.flight before.carries;
       whole = append_assoc ys (c.in-Some.job ∷ []) c.next.new.self.rest.items ∙ sym (ap (λ xs. ys ++ xs) c.in-Some.ensures.steps.0) ∙ before.whole;
     }
+
+pub do_one-going-requires-clause-upon : goal.do_one-going-requires-clause-upon
+do_one-going-requires-clause-upon c = ap (λ (b : Base). b.problem) c.loop-job.invariant.goes.base ∙ c.requires.upon

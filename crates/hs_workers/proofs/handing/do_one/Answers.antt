@@ -1,3 +1,7 @@
+use Rattle.std.proofs.Common.{sym, ap, subst, ◌∙◌}
+use Rattle.hs_scheme.specs.Problem.{ProblemData}
+use Rattle.hs_flow.specs.Dependents.{HasDependents}
+use Rattle.hs_workers.specs.Working.{CommonData}
 use Rattle.hs_core.proofs.Flying.{given_flight}
 use Rattle.hs_workers.proofs.HoldLemmas.{goes_by}
 use Rattle.hs_workers.proofs.handing.do_one.Goals as goal
@@ -17,3 +21,8 @@ returns-then-not-going-clause-flight c =
 pub returns-clause-goes : goal.returns-clause-goes
 returns-clause-goes c =
     goes_by c.args.seat.now c.work-done.new.seat c.args.hold.now c.work-done.new.self c.requires.holds c.work-done.ensures.turn c.work-done.ensures.told c.work-done.ensures.holds
+
+pub work-done-requires-clause-dependents : goal.work-done-requires-clause-dependents
+work-done-requires-clause-dependents c =
+    subst (λ (q : ProblemData). HasDependents q.points q.flow.pairs c.common.inside.dependents.now)
+    (ap (λ (v : CommonData). v.problem) c.common.view_is ∙ sym c.requires.upon) c.common.invariant

@@ -13,21 +13,21 @@ use Rattle.hs_workers.proofs.NothingLemmas.{carries_none, unformed_none, fits_no
 use Rattle.hs_workers.proofs.handing.take_and_read.Goals as goal
 
 pub take_some-next-requires-clause-carries : goal.take_some-next-requires-clause-carries
-take_some-next-requires-clause-carries c = carries_none c.args.seat.now.known.number (state_of c.args.hold.now.core).flight c.args.jobs.now.items c.requires.free
+take_some-next-requires-clause-carries c = carries_none c.args.seat.now.known.number (state_of c.args.hold.now.core).flight c.args.stock.now.jobs.items c.requires.free
 
 pub take_some-next-requires-clause-unformed : goal.take_some-next-requires-clause-unformed
-take_some-next-requires-clause-unformed c = unformed_none c.args.jobs.now.items c.requires.free
+take_some-next-requires-clause-unformed c = unformed_none c.args.stock.now.jobs.items c.requires.free
 
 pub returns-then-is_empty-clause-goes : goal.returns-then-is_empty-clause-goes
 returns-then-is_empty-clause-goes c = c.take_some-next.ensures.goes
 
 pub returns-then-is_empty-clause-fits : goal.returns-then-is_empty-clause-fits
-returns-then-is_empty-clause-fits c = fits_none c.args.replica.now c.args.replica.now c.args.rows.now.items refl c.requires.none c.len-known.ensures.replica
+returns-then-is_empty-clause-fits c = fits_none c.args.stock.now.replica c.args.stock.now.replica c.args.rows.now.items refl c.requires.none c.len-known.ensures.replica
 
 pub returns-then-is_empty-clause-begins : goal.returns-then-is_empty-clause-begins
 returns-then-is_empty-clause-begins c =
-    let log = c.args.replica.now.log in
-    begins_none c.args.replica.now c.args.rows.now.items log (log_of c.take_some-next.new.hold.core) refl c.requires.none (subst (λ xs. IsPrefix log xs) (sym c.take_some-next.ensures.log) c.requires.begins)
+    let log = c.args.stock.now.replica.log in
+    begins_none c.args.stock.now.replica c.args.rows.now.items log (log_of c.take_some-next.new.hold.core) refl c.requires.none (subst (λ xs. IsPrefix log xs) (sym c.take_some-next.ensures.log) c.requires.begins)
 
 pub returns-then-is_empty-clause-carries : goal.returns-then-is_empty-clause-carries
 returns-then-is_empty-clause-carries c = c.take_some-next.ensures.carries
@@ -40,11 +40,11 @@ returns-in_default-clause-goes c =
     goes_trans c.args.seat.now c.take_some-next.new.seat c.hand_in.new.seat c.args.hold.now c.take_some-next.new.hold c.hand_in.new.hold c.take_some-next.ensures.goes c.hand_in.ensures.goes
 
 pub returns-in_default-clause-fits : goal.returns-in_default-clause-fits
-returns-in_default-clause-fits c = fits_none c.args.replica.now c.read_new.new.replica c.args.rows.now.items c.read_new.ensures.log c.requires.none c.len-known.ensures.replica
+returns-in_default-clause-fits c = fits_none c.args.stock.now.replica c.read_new.new.replica c.args.rows.now.items c.read_new.ensures.log c.requires.none c.len-known.ensures.replica
 
 pub returns-in_default-clause-begins : goal.returns-in_default-clause-begins
 returns-in_default-clause-begins c =
-    let log = c.args.replica.now.log in
+    let log = c.args.stock.now.replica.log in
     let taken = log_of c.take_some-next.new.hold.core in
     let whole = log_of c.hand_in.new.hold.core in
     begins_none c.read_new.new.replica c.args.rows.now.items log whole c.read_new.ensures.log c.requires.none

@@ -9,17 +9,17 @@ pub returns-then-is_resting-clause-goes : goal.returns-then-is_resting-clause-go
 returns-then-is_resting-clause-goes c = goes_none c.args.seat.now c.args.hold.now c.requires.holds
 
 pub returns-then-is_resting-clause-fits : goal.returns-then-is_resting-clause-fits
-returns-then-is_resting-clause-fits c = fits_none c.args.replica.now c.args.replica.now c.args.rows.now.items refl c.requires.none c.len-known.ensures.replica
+returns-then-is_resting-clause-fits c = fits_none c.args.stock.now.replica c.args.stock.now.replica c.args.rows.now.items refl c.requires.none c.len-known.ensures.replica
 
 pub returns-then-is_resting-clause-begins : goal.returns-then-is_resting-clause-begins
 returns-then-is_resting-clause-begins c =
-    begins_none c.args.replica.now c.args.rows.now.items c.args.replica.now.log (log_of c.args.hold.now.core) refl c.requires.none c.requires.begins
+    begins_none c.args.stock.now.replica c.args.rows.now.items c.args.stock.now.replica.log (log_of c.args.hold.now.core) refl c.requires.none c.requires.begins
 
 pub returns-then-is_resting-clause-carries : goal.returns-then-is_resting-clause-carries
-returns-then-is_resting-clause-carries c = carries_none c.args.seat.now.known.number (state_of c.args.hold.now.core).flight c.args.jobs.now.items c.requires.free
+returns-then-is_resting-clause-carries c = carries_none c.args.seat.now.known.number (state_of c.args.hold.now.core).flight c.args.stock.now.jobs.items c.requires.free
 
 pub returns-then-is_resting-clause-unformed : goal.returns-then-is_resting-clause-unformed
-returns-then-is_resting-clause-unformed c = unformed_none c.args.jobs.now.items c.requires.free
+returns-then-is_resting-clause-unformed c = unformed_none c.args.stock.now.jobs.items c.requires.free
 
 pub returns-then-is_resting-clause-works : goal.returns-then-is_resting-clause-works
 returns-then-is_resting-clause-works c = tt
@@ -43,21 +43,21 @@ pub returns-then-not-is_lone-clause-works : goal.returns-then-not-is_lone-clause
 returns-then-not-is_lone-clause-works c = c.take_and_read.ensures.works
 
 pub take_some-next-requires-clause-carries : goal.take_some-next-requires-clause-carries
-take_some-next-requires-clause-carries c = carries_none c.args.seat.now.known.number (state_of c.args.hold.now.core).flight c.args.jobs.now.items c.requires.free
+take_some-next-requires-clause-carries c = carries_none c.args.seat.now.known.number (state_of c.args.hold.now.core).flight c.args.stock.now.jobs.items c.requires.free
 
 pub take_some-next-requires-clause-unformed : goal.take_some-next-requires-clause-unformed
-take_some-next-requires-clause-unformed c = unformed_none c.args.jobs.now.items c.requires.free
+take_some-next-requires-clause-unformed c = unformed_none c.args.stock.now.jobs.items c.requires.free
 
 pub returns-then-is_empty-clause-goes : goal.returns-then-is_empty-clause-goes
 returns-then-is_empty-clause-goes c = c.take_some-next.ensures.goes
 
 pub returns-then-is_empty-clause-fits : goal.returns-then-is_empty-clause-fits
-returns-then-is_empty-clause-fits c = fits_none c.args.replica.now c.args.replica.now c.args.rows.now.items refl c.requires.none c.len-known.ensures.replica
+returns-then-is_empty-clause-fits c = fits_none c.args.stock.now.replica c.args.stock.now.replica c.args.rows.now.items refl c.requires.none c.len-known.ensures.replica
 
 pub returns-then-is_empty-clause-begins : goal.returns-then-is_empty-clause-begins
 returns-then-is_empty-clause-begins c =
-    let log = c.args.replica.now.log in
-    begins_none c.args.replica.now c.args.rows.now.items log (log_of c.take_some-next.new.hold.core) refl c.requires.none (subst (λ xs. IsPrefix log xs) (sym c.take_some-next.ensures.log) c.requires.begins)
+    let log = c.args.stock.now.replica.log in
+    begins_none c.args.stock.now.replica c.args.rows.now.items log (log_of c.take_some-next.new.hold.core) refl c.requires.none (subst (λ xs. IsPrefix log xs) (sym c.take_some-next.ensures.log) c.requires.begins)
 
 pub returns-then-is_empty-clause-carries : goal.returns-then-is_empty-clause-carries
 returns-then-is_empty-clause-carries c = c.take_some-next.ensures.carries
@@ -69,12 +69,12 @@ pub returns-else-is_empty-clause-goes : goal.returns-else-is_empty-clause-goes
 returns-else-is_empty-clause-goes c = c.take_some-next.ensures.goes
 
 pub returns-else-is_empty-clause-fits : goal.returns-else-is_empty-clause-fits
-returns-else-is_empty-clause-fits c = fits_none c.args.replica.now c.args.replica.now c.args.rows.now.items refl c.requires.none c.len-known.ensures.replica
+returns-else-is_empty-clause-fits c = fits_none c.args.stock.now.replica c.args.stock.now.replica c.args.rows.now.items refl c.requires.none c.len-known.ensures.replica
 
 pub returns-else-is_empty-clause-begins : goal.returns-else-is_empty-clause-begins
 returns-else-is_empty-clause-begins c =
-    let log = c.args.replica.now.log in
-    begins_none c.args.replica.now c.args.rows.now.items log (log_of c.take_some-next.new.hold.core) refl c.requires.none (subst (λ xs. IsPrefix log xs) (sym c.take_some-next.ensures.log) c.requires.begins)
+    let log = c.args.stock.now.replica.log in
+    begins_none c.args.stock.now.replica c.args.rows.now.items log (log_of c.take_some-next.new.hold.core) refl c.requires.none (subst (λ xs. IsPrefix log xs) (sym c.take_some-next.ensures.log) c.requires.begins)
 
 pub returns-else-is_empty-clause-carries : goal.returns-else-is_empty-clause-carries
 returns-else-is_empty-clause-carries c = c.take_some-next.ensures.carries

@@ -6,9 +6,9 @@ use Rattle.hs_workers.proofs.job.form_each.Given as goal
 
 abbrev pub invariant-loop-job : goal.invariant-loop-job
 invariant-loop-job g l = record {
-  log : l.replica.log ≡ l.fn.replica.log;
-  keys : keys l.jobs.items ≡ keys l.yielded;
-  formed : All (IsFormed l.problem l.replica.ids l.replica.log) l.jobs.items;
-  whole : l.yielded ++ l.job-iterator.rest.items ≡ l.fn.jobs.items;
-  room : vec_len l.jobs + length l.job-iterator.rest.items ≤ vec_capacity l.jobs;
+  log : l.stock.replica.log ≡ l.fn.stock.replica.log;
+  keys : keys l.stock.jobs.items ≡ keys l.yielded;
+  formed : All (IsFormed l.common.problem l.stock.replica.ids l.stock.replica.log) l.stock.jobs.items;
+  whole : l.yielded ++ l.job-iterator.rest.items ≡ l.fn.stock.jobs.items;
+  room : vec_len l.stock.jobs + length l.job-iterator.rest.items ≤ vec_capacity l.stock.jobs;
 }

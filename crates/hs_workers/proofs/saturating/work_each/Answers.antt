@@ -16,12 +16,12 @@ use Rattle.hs_workers.specs.Working.{RestsSeated}
 use Rattle.hs_workers.proofs.bell.Bell.TheSendSync as Bell
 use Rattle.hs_workers.proofs.saturating.work_each.Goals as goal
 
--- what the closure captures, in its order: the runtime, the allocator, the table, the problem, the dependents, the gate and the bell
+-- what the closure captures, in its order: the allocator, the table, the problem, the dependents, the bell, the runtime and the gate
 pub for_each_mut-requires-sync-F : goal.for_each_mut-requires-sync-F
 for_each_mut-requires-sync-F g c κs within =
     param_sync 2 _ (arg_sync _ no _ (captured_sync _
-    (ShrRef _ _ (param 0 g.row.R) ∷ ShrRef _ _ global_row ∷ ShrRef _ _ (table_row _) ∷ ShrRef _ _ problem_row ∷ ShrRef _ _ dependents_row ∷ ShrRef _ _ (param 1 g.row.G) ∷ ShrRef _ _ bell_row ∷ [])
-    (shr_sync _ _ _ c.type_bounds.sync-R, (shr_sync _ _ _ Global.the_sync, (shr_sync _ _ _ (table_sync _), (shr_sync _ _ _ problem_sync, (shr_sync _ _ _ Dependents.the_sync, (shr_sync _ _ _ c.type_bounds.sync-G, (shr_sync _ _ _ Bell.the_sync, tt)))))))))
+    (ShrRef _ _ global_row ∷ ShrRef _ _ (table_row _) ∷ ShrRef _ _ problem_row ∷ ShrRef _ _ dependents_row ∷ ShrRef _ _ bell_row ∷ ShrRef _ _ (param 0 g.row.R) ∷ ShrRef _ _ (param 1 g.row.G) ∷ [])
+    (shr_sync _ _ _ Global.the_sync, (shr_sync _ _ _ (table_sync _), (shr_sync _ _ _ problem_sync, (shr_sync _ _ _ Dependents.the_sync, (shr_sync _ _ _ Bell.the_sync, (shr_sync _ _ _ c.type_bounds.sync-R, (shr_sync _ _ _ c.type_bounds.sync-G, tt)))))))))
 
 pub for_each_mut-requires-clause-accepts : goal.for_each_mut-requires-clause-accepts
 for_each_mut-requires-clause-accepts g c κs within = λ i p lt is. (c.requires.dependents, subst (RestsSeated c.args.table.now c.args.problem.now) (sym is) (c.requires.seats i p.now lt))

@@ -31,13 +31,13 @@ returns-clause-growing c =
     let mid = c.let_covered_go.new.self in
     let was : GrowingData = record { problem = c.self-2.inside.problem.now; budget = c.self-2.inside.budget; history = c.self-2.inside.history.items; rows = c.self-2.inside.rows; ends = c.self-2.inside.ends } in
     let is : was ≡ mid = c.self-2.view_is in
-    let end_is : c.end_of-end.result ≡ last_state (type_of_id I row.ty) = c.end_of-end.ensures ∙ ap (λ (J : InternerData). last_state (type_of_id J row.ty)) (c.interner.ensures ∙ c.let_covered_go.ensures.same) in
+    let end_is : c.last_state-end.result ≡ last_state (type_of_id I row.ty) = c.last_state-end.ensures ∙ ap (λ (J : InternerData). last_state (type_of_id J row.ty)) (c.interner.ensures ∙ c.let_covered_go.ensures.same) in
     let rows = c.push.new.self in
     let ends = c.push-2.new.self in
     let pushed : IsPushed row.point row mid.rows rows = subst (λ (x : GrowingData). IsPushed row.point row x.rows rows) is c.in_ok-push.ensures in
-    let each = subst (λ (x : GrowingData). (u q : ℕ) → rows_ending ends u q ≡ cond (key_eq (row.point, c.end_of-end.result) (u, q)) (rows_ending x.ends u q ++ row ∷ []) (rows_ending x.ends u q)) is c.in_ok-push-2.ensures in
+    let each = subst (λ (x : GrowingData). (u q : ℕ) → rows_ending ends u q ≡ cond (key_eq (row.point, c.last_state-end.result) (u, q)) (rows_ending x.ends u q ++ row ∷ []) (rows_ending x.ends u q)) is c.in_ok-push-2.ensures in
     let leads : LeadsWithin g.problem.sorted.automaton = subst (λ (x : GrowingData). LeadsWithin x.problem.sorted.automaton) c.self.view_is c.know_sorted_problem.ensures.automaton.to in
-    let more = growing_added I g c.requires.growing leads row c.requires.row c.requires.room c.requires.follows c.requires.uncovered mid left rows pushed c.end_of-end.result end_is ends each in
+    let more = growing_added I g c.requires.growing leads row c.requires.row c.requires.room c.requires.follows c.requires.uncovered mid left rows pushed c.last_state-end.result end_is ends each in
     let problem : g.problem ≡ was.problem = sym (ap (λ (x : GrowingData). x.problem) is ∙ left.problem) in
     let budget : g.budget ≡ was.budget = sym (ap (λ (x : GrowingData). x.budget) is ∙ left.budget) in
     let history : (g.history ++ row ∷ []) ≡ c.push-3.new.self.items = ap (λ (z : List RowData). z ++ row ∷ []) (sym (ap (λ (x : GrowingData). x.history) is ∙ left.history)) ∙ sym c.in_ok-push-3.ensures.items in

@@ -5,19 +5,13 @@ use Rattle.hs_weak.specs.Reads.{last_state}
 use Rattle.hs_strength.specs.Remembered.{IsCovered}
 use Rattle.hs_minimal.specs.Ends.{rows_ending}
 use Rattle.hs_minimal.specs.Growing.{IsCoveredAt}
-use Rattle.hs_minimal.proofs.GrowingLemmas.{ending_rows, ending_at, alike_kept, alike_known, alike_covered}
+use Rattle.hs_minimal.proofs.GrowingLemmas.{ending_rows, alike_kept, alike_known, alike_covered}
 use Rattle.hs_minimal.proofs.growing.Growing.covers.Goals as goal
 
 pub is_covered-requires-clause-rows : goal.is_covered-requires-clause-rows
 is_covered-requires-clause-rows c =
     let I = c.args.types.now in
     ending_rows I c.args.self.now c.requires.growing c.args.row.now.point (last_state (type_of_id I c.args.row.now.ty)) c.alike-kept.result.now
-    (c.alike-kept.ensures ∙ ap (λ (J : InternerData). rows_ending c.args.self.now.ends c.args.row.now.point (last_state (type_of_id J c.args.row.now.ty))) c.interner.ensures)
-
-pub is_covered-requires-clause-point : goal.is_covered-requires-clause-point
-is_covered-requires-clause-point c =
-    let I = c.args.types.now in
-    ending_at I c.args.self.now c.requires.growing c.args.row.now.point (last_state (type_of_id I c.args.row.now.ty)) c.alike-kept.result.now
     (c.alike-kept.ensures ∙ ap (λ (J : InternerData). rows_ending c.args.self.now.ends c.args.row.now.point (last_state (type_of_id J c.args.row.now.ty))) c.interner.ensures)
 
 pub returns-then-has_row-clause-ok : goal.returns-then-has_row-clause-ok

@@ -5,7 +5,7 @@ use Rattle.hs_weak.specs.Reads.{last_state}
 use Rattle.hs_reads.specs.Lists.{list_of}
 use Rattle.hs_minimal.specs.Ends.{rows_ending}
 use Rattle.hs_minimal.specs.Growing.{GrowingData, IsGrowing, AreLeft, IsLeftBy}
-use Rattle.hs_minimal.proofs.GrowingLemmas.{kept_rows, kept_at, ending_rows, ending_at, left_all, left_some}
+use Rattle.hs_minimal.proofs.GrowingLemmas.{kept_rows, ending_rows, left_all, left_some}
 use Rattle.hs_minimal.proofs.growing.Growing.let_covered_go.Goals as goal
 
 pub covers_some-requires-clause-rows : goal.covers_some-requires-clause-rows
@@ -16,15 +16,6 @@ covers_some-requires-clause-rows c =
     let kept_is : c.alike-kept.result.now ≡ rows_ending g.ends row.point (last_state (type_of_id I row.ty)) =
     c.alike-kept.ensures ∙ ap (λ (J : InternerData). rows_ending g.ends row.point (last_state (type_of_id J row.ty))) c.interner.ensures in
     ending_rows I g c.requires.growing row.point (last_state (type_of_id I row.ty)) c.alike-kept.result.now kept_is
-
-pub covers_some-requires-clause-point : goal.covers_some-requires-clause-point
-covers_some-requires-clause-point c =
-    let I = c.args.types.now in
-    let g = c.args.self.now in
-    let row = c.args.row.now in
-    let kept_is : c.alike-kept.result.now ≡ rows_ending g.ends row.point (last_state (type_of_id I row.ty)) =
-    c.alike-kept.ensures ∙ ap (λ (J : InternerData). rows_ending g.ends row.point (last_state (type_of_id J row.ty))) c.interner.ensures in
-    ending_at I g c.requires.growing row.point (last_state (type_of_id I row.ty)) c.alike-kept.result.now kept_is
 
 pub returns-then-not-branch-clause-left : goal.returns-then-not-branch-clause-left
 returns-then-not-branch-clause-left c =
@@ -45,15 +36,6 @@ not_covered_by-requires-clause-rows c =
     c.alike-kept.ensures ∙ ap (λ (J : InternerData). rows_ending g.ends row.point (last_state (type_of_id J row.ty))) c.interner.ensures in
     subst (λ (J : InternerData). All (IsRow J) c.alike-kept.result.now) (sym c.covers_some.ensures.same) (ending_rows I g c.requires.growing row.point (last_state (type_of_id I row.ty)) c.alike-kept.result.now kept_is)
 
-pub not_covered_by-requires-clause-point : goal.not_covered_by-requires-clause-point
-not_covered_by-requires-clause-point c =
-    let I = c.args.types.now in
-    let g = c.args.self.now in
-    let row = c.args.row.now in
-    let kept_is : c.alike-kept.result.now ≡ rows_ending g.ends row.point (last_state (type_of_id I row.ty)) =
-    c.alike-kept.ensures ∙ ap (λ (J : InternerData). rows_ending g.ends row.point (last_state (type_of_id J row.ty))) c.interner.ensures in
-    ending_at I g c.requires.growing row.point (last_state (type_of_id I row.ty)) c.alike-kept.result.now kept_is
-
 pub not_covered_by-requires-2-clause-rows : goal.not_covered_by-requires-2-clause-rows
 not_covered_by-requires-2-clause-rows c =
     let g = c.args.self.now in
@@ -61,21 +43,15 @@ not_covered_by-requires-2-clause-rows c =
     subst (λ (J : InternerData). All (IsRow J) c.at.result.now) (sym (c.not_covered_by.ensures.same ∙ c.covers_some.ensures.same))
     (kept_rows c.args.types.now g c.requires.growing row.point c.at.result.now (c.at.ensures ∙ ap (λ (x : GrowingData). list_of x.rows row.point) c.self.view_is))
 
-pub not_covered_by-requires-2-clause-point : goal.not_covered_by-requires-2-clause-point
-not_covered_by-requires-2-clause-point c =
-    let g = c.args.self.now in
-    let row = c.args.row.now in
-    kept_at c.args.types.now g c.requires.growing row.point c.at.result.now (c.at.ensures ∙ ap (λ (x : GrowingData). list_of x.rows row.point) c.self.view_is)
-
 pub returns-clause-left : goal.returns-clause-left
 returns-clause-left c =
     let I = c.args.types.now in
     let row = c.args.row.now in
     let g : GrowingData = record { problem = c.self.inside.problem.now; budget = c.self.inside.budget; history = c.self.inside.history.items; rows = c.self.inside.rows; ends = c.self.inside.ends } in
     let is : g ≡ c.args.self.now = c.self.view_is in
-    let end = c.end_of-end.result in
+    let end = c.last_state-end.result in
     let same = c.not_covered_by-2.ensures.same ∙ (c.not_covered_by.ensures.same ∙ c.covers_some.ensures.same) in
-    let end_is : end ≡ last_state (type_of_id I row.ty) = c.end_of-end.ensures ∙ ap (λ (J : InternerData). last_state (type_of_id J row.ty)) (c.interner-2.ensures ∙ same) in
+    let end_is : end ≡ last_state (type_of_id I row.ty) = c.last_state-end.ensures ∙ ap (λ (J : InternerData). last_state (type_of_id J row.ty)) (c.interner-2.ensures ∙ same) in
     let kept_is : c.alike-kept.result.now ≡ rows_ending g.ends row.point end =
     c.alike-kept.ensures ∙ (ap (λ (J : InternerData). rows_ending c.args.self.now.ends row.point (last_state (type_of_id J row.ty))) c.interner.ensures
     ∙ (ap (λ (x : GrowingData). rows_ending x.ends row.point (last_state (type_of_id I row.ty))) (sym is) ∙ ap (λ q. rows_ending g.ends row.point q) (sym end_is))) in

@@ -1,7 +1,7 @@
 use Rattle.std.proofs.Common.{◌≡◌, refl, sym, ◌∙◌, ap, subst, ℕ, zero, suc, ◌+◌, ◌-◌, Bool, false, List, [], ◌∷◌, length, slice_get, Some, None, arith}
 use Rattle.std.proofs.lemmas.Option.{same_Some, slice_get_within, slice_get-get_or}
 use Rattle.hs_sorts.specs.declared.store.Node.{Node}
-use Rattle.hs_sorts.specs.declared.weights.Mark.{Mark}
+use Rattle.hs_sorts.specs.declared.measures.Mark.{Mark}
 use Rattle.hs_sorts.specs.Search.{IsSearch, IsLastOnPath, IsEntry, IsAdvance, Walks}
 use Rattle.hs_sorts.proofs.Searching.{begun}
 use Rattle.hs_sorts.proofs.search.Search.walk.Goals as goal

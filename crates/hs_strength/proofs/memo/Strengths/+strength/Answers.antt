@@ -41,6 +41,11 @@ asks-returns-clause-ok t c =
     (λ f. each_mapped (type_of_id I) (λ a. AsStrongAs a x → ⊥) ms (set_of_id I c.args.set) c.members-members.ensures.members
     (each_all (λ m. AsStrongAs (type_of_id I m) x → ⊥) ms c.loop-member.member-index (omega (arith, c.loop-member-test.false)) c.loop-member.invariant.lacks) f.0 f.1.0 f.1.1)
 
+pub asks_each-returns-then-not-may_ask_each-clause-ok : goal.asks_each-returns-then-not-may_ask_each-clause-ok
+asks_each-returns-then-not-may_ask_each-clause-ok t c =
+    let I = c.args.types.now in
+    refused (AsksEach AsStrongAs (set_of_id I c.args.set) (set_of_id I c.args.other)) (λ h. false≢true (sym c.if-not-may_ask_each.true ∙ c.may_ask_each.ensures h))
+
 pub asks_each-returns-in-Some-clause-ok : goal.asks_each-returns-in-Some-clause-ok
 asks_each-returns-in-Some-clause-ok t c = (c.requires.memo.answers (Sets c.args.set c.args.other) c.in-Some.answer c.in-Some.ensures).2
 

@@ -1,5 +1,5 @@
 use Rattle.std.proofs.Common.{sym, ap, subst, List, Contains}
-use Rattle.hs_choices.specs.Numbered.{VoidRowData}
+use Rattle.hs_numbered.specs.Certificates.{VoidRowData}
 use Rattle.hs_void.specs.Voids.{BasisData}
 use Rattle.hs_void.proofs.basis.Basis.void_of.Goals as goal
 

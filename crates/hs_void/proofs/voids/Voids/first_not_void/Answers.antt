@@ -1,6 +1,6 @@
 use Rattle.std.proofs.Common.{sym, ◌∙◌, ap, subst, ◌<◌, List, length, map, All}
 use Rattle.hs_types.proofs.Numbers.{Grows-trans}
-use Rattle.hs_choices.specs.Numbered.{VoidRowData, void_of}
+use Rattle.hs_numbered.specs.Certificates.{VoidRowData, void_of}
 use Rattle.hs_void.proofs.Firsts.{before_more, first_at, none_left, has_so, has_not_so}
 use Rattle.hs_void.proofs.voids.Voids.first_not_void.Goals as goal
 

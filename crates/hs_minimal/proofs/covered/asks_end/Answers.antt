@@ -1,7 +1,0 @@
-use Rattle.hs_types.specs.Interned.{set_of_id}
-use Rattle.hs_minimal.proofs.CoverLemmas.{none_ends}
-use Rattle.hs_minimal.proofs.covered.asks_end.Goals as goal
-
-pub returns : goal.returns
-returns c = λ a m e.
-    absurd (none_ends c.args.types.now c.members-members.result.now (set_of_id c.args.types.now c.args.set) c.args.state c.members-members.ensures.members c.loop-member.member-index c.loop-member-test.false c.loop-member.invariant a m e)

@@ -1,0 +1,4 @@
+pub mod TreeLemmas
+pub mod Mapped
+pub mod Growing
+pub mod Above

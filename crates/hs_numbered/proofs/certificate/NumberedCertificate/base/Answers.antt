@@ -1,0 +1,22 @@
+use Rattle.std.proofs.Common.{◌∙◌, ap}
+use Rattle.std.proofs.lemmas.Option.{slice_get_within}
+use Rattle.hs_numbered.specs.Certificates.{CertificateData}
+use Rattle.hs_numbered.proofs.Growing.{held_more, lists_stay}
+use Rattle.hs_numbered.proofs.certificate.NumberedCertificate.base.Goals as goal
+
+pub invariant_of-self : goal.invariant_of-self
+invariant_of-self c = held_more c.self.inside.interner c.base.new.self c.base.ensures.grows c.self.inside.table.items c.self.inside.void.items c.self.inside.last_type c.self.inside.last_set c.self.inside.last_env c.self.invariant
+
+pub returns-in_err-ty-clause-same : goal.returns-in_err-ty-clause-same
+returns-in_err-ty-clause-same c = lists_stay c.self.inside.interner c.base.new.self c.base.ensures.grows c.self.inside.table.items c.self.inside.void.items c.self.inside.last_type c.self.inside.last_set c.self.inside.last_env c.self.invariant c.args.self.now c.self.view_is
+
+pub invariant_of-self-2 : goal.invariant_of-self-2
+invariant_of-self-2 c = held_more c.self.inside.interner c.base.new.self c.base.ensures.grows c.self.inside.table.items c.self.inside.void.items c.self.inside.last_type c.self.inside.last_set c.self.inside.last_env c.self.invariant
+
+pub keep_type-requires : goal.keep_type-requires
+keep_type-requires c = slice_get_within c.base.new.self.types c.in_ok-ty.ty _ c.in_ok-ty.ensures.ok
+
+pub returns-clause-same : goal.returns-clause-same
+returns-clause-same c =
+    let stay = lists_stay c.self.inside.interner c.base.new.self c.base.ensures.grows c.self.inside.table.items c.self.inside.void.items c.self.inside.last_type c.self.inside.last_set c.self.inside.last_env c.self.invariant c.args.self.now c.self.view_is in
+    (ap (λ (d : CertificateData). d.table) c.keep_type.ensures ∙ stay.0, ap (λ (d : CertificateData). d.void) c.keep_type.ensures ∙ stay.1)
