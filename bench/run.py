@@ -285,6 +285,8 @@ FAMILIES = {
     "gen": (cycle, [100, 200, 300], "states", "horsat"),
     "million": (cycle, [350, 500, 700], "states", "horsat"),
     "iterated_2": (lambda steps: iterated(2, steps), [50, 100, 200], "steps", "horsat"),
+    "tables_3": (lambda steps: iterated(3, steps), [0, 1], "steps", "horsat"),
+    "tables_4": (lambda steps: iterated(4, steps), [0], "steps", "horsat"),
     "iterated_3": (lambda steps: iterated(3, steps), [64, 128, 256], "steps", "horsat --quick"),
     "iterated_4": (lambda steps: iterated(4, steps), [64, 128, 256], "steps", "horsat --quick"),
     "iterated_5": (lambda steps: iterated(5, steps), [64, 128, 256], "steps", "horsat --quick"),

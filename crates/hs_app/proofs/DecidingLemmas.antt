@@ -34,10 +34,7 @@ not_true : (b : Bool) → (b ≡ true → ⊥) → b ≡ false
 not_true true h = absurd (h refl)
 not_true false h = refl
 
--- within a budget no table exceeds a greater one, and a least one has so few entries
-pub within_greater : (p : ProblemData) (few many : ℕ) → few ≤ many → (Exceeds p few → ⊥) → Exceeds p many → ⊥
-within_greater p few many le h (T, (supported, more)) = h (T, (supported, omega (arith, le, more)))
-
+-- a least table has no more entries than the budget
 pub least_within : (p : ProblemData) (budget : ℕ) (T : List EntryData) → (Exceeds p budget → ⊥) → IsLeastTable p T → length T ≤ budget
 least_within p budget T h least = elim (cases_lt budget (length T)) [
   | inl more ↦ absurd (h (T, (least.supported, more)))

@@ -2,6 +2,7 @@ pub mod OneProblem
 pub mod OneTable
 pub mod OneReport
 pub mod ReportedTables
+pub mod ToldTables
 pub mod DecidingLemmas
 pub mod EvidenceLemmas
 pub mod AnswerLemmas

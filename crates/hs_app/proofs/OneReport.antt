@@ -20,7 +20,7 @@ use Rattle.hs_app.specs.Problems.{Asked, IsRemoved, OfForm, HasProblem}
 use Rattle.hs_app.specs.Order.{FileOrigin, read_file, generate, Order}
 use Rattle.hs_app.specs.Verdict.{ReportsBy, Reports, HasAnswer, IsAnswerOn, IsWithinBudget, WarrantsOnScheme}
 use Rattle.hs_app.specs.Outcome.{IsAnswerOfRun, MayExplain, usage, Ends, status_of_verdict, status_at, Rows}
-use Rattle.hs_app.specs.OneReport.{with_workers, IsByTable, HasBytes, IsUndisturbed, ComeToOne, HasOneReport}
+use Rattle.hs_app.specs.OneReport.{with_workers, IsByTable, HasBytes, IsUndisturbed, IsToldAround, AreAlike, ComeToOne, HasOneReport}
 use Rattle.hs_app.proofs.OneProblem.{one_problem}
 use Rattle.hs_app.proofs.OneTable.{not_both, one_removed, reports_same, reported_within}
 use Rattle.hs_app.proofs.AnswerLemmas.{Wants, Matches, scheme_matches, answer_layers}
@@ -33,7 +33,7 @@ module _ (asked : Asked) (n : ℕ) (by : IsByTable asked.settings) where
   with_n = record asked { settings = record asked.settings { workers = n } }
 
   abbrev Agree : Result Decided Refusal → Result Decided Refusal → Type 0
-  Agree (Ok x) (Ok y) = (y.verdict ≡ x.verdict) × (asked.settings.minimal ≡ false → x.report.items ≡ y.report.items)
+  Agree (Ok x) (Ok y) = (y.verdict ≡ x.verdict) × ((asked.settings.minimal ≡ false → x.report.items ≡ y.report.items) × AreAlike x.report.items y.report.items)
   Agree (Err r) (Err q) = r ≡ q
   Agree (Ok x) (Err q) = ⊥
   Agree (Err r) (Ok y) = ⊥
@@ -75,7 +75,7 @@ module _ (asked : Asked) (n : ℕ) (by : IsByTable asked.settings) where
           | inr (quick, r) ↦ absurd (not_both asked.settings.quick quick by.1)
         ]
 
-    both_report : (v w : Decision) (one other : List ℕ) → Reports asked u v one → Reports with_n u w other → (w ≡ v) × (asked.settings.minimal ≡ false → one ≡ other)
+    both_report : (v w : Decision) (one other : List ℕ) → Reports asked u v one → Reports with_n u w other → (w ≡ v) × ((asked.settings.minimal ≡ false → one ≡ other) × AreAlike one other)
     both_report v w one other h k =
         let same = one_problem asked u h.problem k.problem h.of (problem_of k.problem k.of) in
         let forms = one_form u h.of.form k.of.form h.of.of k.of.of in
@@ -230,6 +230,9 @@ module _ (o : Order) (n : ℕ) (by : IsByTable o.asked.settings) (bytes : List �
     none_taken : (sink : SinkRun) → HasTakenNothing sink → sink.taken_after ≡ sink.taken ++ []
     none_taken sink h = h.same_taken ∙ sym (append-nil sink.taken)
 
+    nothing_told : IsToldAround [] [] []
+    nothing_told = (None, ([], (inl refl, refl)))
+
     ends_agree : (e f : Ending) → IsUndisturbed (status_at e) → IsUndisturbed (status_at f) → Ends mentioned (Some o) source out err e → Ends other_mentioned (Some (with_workers n o)) other other_out other_err f
         → Come (status_at e) (status_at f)
     ends_agree (CutOff x) f calm quiet h k = absurd (calm.1.0 refl)
@@ -240,7 +243,8 @@ module _ (o : Order) (n : ℕ) (by : IsByTable o.asked.settings) (bytes : List �
     ends_agree (Reported x) (Reported y) calm quiet h k =
         let same = answers_agree (Ok x) (Ok y) calm quiet h.answer k.answer in record {
           same_status = ap status_of_verdict same.0;
-          report = λ plain. (x.report.items, (h.taken, k.taken ∙ ap (λ (text : List ℕ). other_out.taken ++ text) (sym (same.1 plain))));
+          report = λ plain. (x.report.items, (h.taken, k.taken ∙ ap (λ (text : List ℕ). other_out.taken ++ text) (sym (same.1.0 plain))));
+          alike = (x.report.items, y.report.items, (h.taken, (k.taken, same.1.1)));
           line = λ plain. (
             [],
             (
@@ -253,6 +257,7 @@ module _ (o : Order) (n : ℕ) (by : IsByTable o.asked.settings) (bytes : List �
         let same : r ≡ q = answers_agree (Err r) (Err q) calm quiet h.cause k.cause in record {
           same_status = ap status_of (sym same);
           report = λ plain. ([], (none_taken out h.silent, none_taken other_out k.silent));
+          alike = ([], [], (none_taken out h.silent, (none_taken other_out k.silent, ([], [], (nothing_told, nothing_told)))));
           line = λ plain. (
             line_of usage r ++ [],
             (
@@ -268,7 +273,7 @@ one_report mentioned None source out err status rows = tt
 one_report mentioned (Some o) source out err status rows = λ by calm bytes has n other other_out other_err other_status run.
     let come = ends_agree o n by bytes source other has run.on out err other_out other_err mentioned run.mentioned rows.ending run.rows.ending
     (subst (λ (k : ℕ). IsUndisturbed k) rows.is calm) (subst (λ (k : ℕ). IsUndisturbed k) run.rows.is run.undisturbed) rows.ends run.rows.ends in
-    record { same_status = run.rows.is ∙ (come.same_status ∙ sym rows.is); report = come.report; line = come.line }
+    record { same_status = run.rows.is ∙ (come.same_status ∙ sym rows.is); report = come.report; alike = come.alike; line = come.line }
 
 -- want of memory before the run
 pub disturbed : (order : Option Order) (source : SourceRun) (out err : SinkRun) → HasOneReport order source out err 10

@@ -1,6 +1,6 @@
 -- Two reports of one problem by its whole least table are the same, whatever the number of workers.
-use Rattle.std.proofs.Common.{◌≡◌, refl, sym, ◌∙◌, ap, subst, ℕ, ◌+◌, ◌-◌, ◌≤◌, Bool, true, false, List, ◌++◌, length, Option, Some, None, Contains, ◌↔◌, arith}
-use Rattle.std.specs.Prelude.{if◌then◌else◌, ◌^◌, min}
+use Rattle.std.proofs.Common.{◌≡◌, refl, sym, ◌∙◌, ap, subst, ℕ, ◌+◌, ◌-◌, ◌≤◌, Bool, true, false, List, [], ◌++◌, append_assoc, append-nil, length, Option, Some, None, Contains, ◌↔◌, inl, inr, arith}
+use Rattle.std.specs.Prelude.{if◌then◌else◌, ◌^◌, min, codes}
 use Rattle.std.specs.List.{flat_map}
 use Rattle.hs_scheme.specs.declared.term.Head.TheVariants.{Tm}
 use Rattle.hs_scheme.specs.declared.term.Rule.{Rule}
@@ -27,7 +27,7 @@ use Rattle.hs_rank.specs.Canonical.{IsCanonicalLog}
 use Rattle.hs_rank.proofs.Places.{canonical_same, supports_same}
 use Rattle.hs_checker.specs.Checked.{IsCount}
 use Rattle.hs_checker.proofs.CountLemmas.{instance_moved}
-use Rattle.hs_text.specs.Report.{IsTableText, IsReport, entry_line, summary}
+use Rattle.hs_text.specs.Report.{IsTableText, IsReport, HasCompactText, entry_line, verdict_lines, number_line_if, minimal_line_if, summary}
 use Rattle.hs_text.specs.declared.minimal.Minimal.{Minimal}
 use Rattle.hs_text.specs.declared.minimal.Minimal.TheVariants.{Table, More}
 use Rattle.hs_text.specs.declared.verdict.Verdict as shown
@@ -37,7 +37,7 @@ use Rattle.hs_app.specs.declared.verdict.Decision.{Decision}
 use Rattle.hs_app.specs.declared.verdict.Decision.TheVariants.{Accepted, Rejected, Long}
 use Rattle.hs_app.specs.Problems.{IsRemoved}
 use Rattle.hs_app.specs.Verdict.{IsSought, IsShown, ReportsAccepted, ReportsRejected, ReportsLong, ReportsBy}
-use Rattle.hs_app.specs.OneReport.{IsByTable}
+use Rattle.hs_app.specs.OneReport.{IsByTable, IsToldAround, AreAlike}
 
 pub not_both : (b : Bool) → b ≡ true → b ≡ false → ⊥
 not_both b e f = let g : true ≡ false = sym e ∙ f in (cc)
@@ -77,6 +77,53 @@ report_same p v false T U same removed one other a b = a ∙ sym b
 report_same p v true T U same removed one other a b =
     a.1.1 ∙ (ap (λ (lines : List ℕ). summary p v removed None ++ lines) (lines_same p T U same a.0 b.0 a.1.0 b.1.0) ∙ sym b.1.1)
 
+-- the lines before that on a compact list
+abbrev told_before : ProblemData → shown.Verdict → Option ℕ → List ℕ
+told_before p v removed = verdict_lines p.sorted.names v ++ number_line_if (codes "simplified ") removed
+
+regroup : (v n m lines list : List ℕ) → ((v ++ (n ++ m)) ++ lines) ++ list ≡ (v ++ n) ++ (m ++ (lines ++ list))
+regroup v n m lines list =
+    append_assoc (v ++ (n ++ m)) lines list
+    ∙ (ap (λ (xs : List ℕ). xs ++ (lines ++ list)) (sym (append_assoc v n m)) ∙ append_assoc (v ++ n) m (lines ++ list))
+
+unlisted : (v n m : List ℕ) → v ++ (n ++ m) ≡ (v ++ n) ++ (m ++ [])
+unlisted v n m = sym (append_assoc v n m) ∙ ap (λ (xs : List ℕ). (v ++ n) ++ xs) (sym (append-nil m))
+
+-- without a list
+bare : (v n m lines : List ℕ) → (v ++ (n ++ m)) ++ lines ≡ (v ++ n) ++ (m ++ (lines ++ []))
+bare v n m lines = sym (append-nil ((v ++ (n ++ m)) ++ lines)) ∙ regroup v n m lines []
+
+module _ (p : ProblemData) (v : shown.Verdict) (removed : Option ℕ) where
+  with_table : (minimal : Option Minimal) (lines text : List ℕ) → HasCompactText p minimal (summary p v removed minimal ++ lines) text
+      → IsToldAround (told_before p v removed) lines text
+  with_table None lines text h =
+      (None, ([], (inl refl, h ∙ bare (verdict_lines p.sorted.names v) (number_line_if (codes "simplified ") removed) [] lines)))
+  with_table (Some (More budget)) lines text h =
+      (Some (More budget), ([], (inl refl, h ∙ bare (verdict_lines p.sorted.names v) (number_line_if (codes "simplified ") removed) (minimal_line_if (Some (More budget))) lines)))
+  with_table (Some (Table C)) lines text h = (
+    Some (Table C),
+    (
+      codes "compact\n" ++ h.0,
+      (
+        inr (h.0, refl),
+        h.1.1
+            ∙ regroup (verdict_lines p.sorted.names v) (number_line_if (codes "simplified ") removed) (minimal_line_if (Some (Table C))) lines (codes "compact\n" ++ h.0),
+      ),
+    ),
+  )
+
+  reports_alike : (listed : Bool) (T U : List EntryData) → HaveSame T U → (minimal also : Option Minimal) (one other : List ℕ)
+      → IsReport p v (if listed then Some T else None) removed minimal one → IsReport p v (if listed then Some U else None) removed also other → AreAlike one other
+  reports_alike false T U same minimal also one other a b =
+      let verdict = verdict_lines p.sorted.names v in
+      let number = number_line_if (codes "simplified ") removed in
+      let mine : IsToldAround (told_before p v removed) [] one = (minimal, ([], (inl refl, a ∙ unlisted verdict number (minimal_line_if minimal)))) in
+      let its : IsToldAround (told_before p v removed) [] other = (also, ([], (inl refl, b ∙ unlisted verdict number (minimal_line_if also)))) in
+      (told_before p v removed, [], (mine, its))
+  reports_alike true T U same minimal also one other a b =
+      let mine = subst (λ (lines : List ℕ). IsToldAround (told_before p v removed) lines one) (lines_same p T U same a.0 b.0 a.1.0 b.1.0) (with_table minimal a.0 one a.1.1) in
+      (told_before p v removed, b.0, (mine, with_table also b.0 other b.1.1))
+
 not_sought : (settings : Settings) (p : ProblemData) (minimal : Option Minimal) → settings.minimal ≡ false → IsSought settings p minimal → minimal ≡ None
 not_sought settings p None e h = refl
 not_sought settings p (Some (Table C)) e h = absurd (not_both settings.minimal h.0 e)
@@ -115,14 +162,23 @@ module _ (s : Settings) (n : ℕ) (by : IsByTable s) (rules : List Rule) (ts : L
   with_n = record s { workers = n }
 
   abbrev IsSame : Type 0
-  IsSame = s.minimal ≡ false → one ≡ other
+  IsSame = (s.minimal ≡ false → one ≡ other) × AreAlike one other
 
-  text_same : (v w : shown.Verdict) (T U : List EntryData) → v ≡ w → HaveSame T U → IsShown s p v T removed one → IsShown with_n p w U also other → IsSame
-  text_same v w T U verdicts same a b plain =
+  text_alike : (v w : shown.Verdict) (T U : List EntryData) → v ≡ w → HaveSame T U → IsShown s p v T removed one → IsShown with_n p w U also other → AreAlike one other
+  text_alike v w T U verdicts same a b =
+      reports_alike p w also s.table T U same a.0 b.0 one other
+      (subst (λ (r : Option ℕ). IsReport p w (if s.table then Some T else None) r a.0 one) as_much
+      (subst (λ (x : shown.Verdict). IsReport p x (if s.table then Some T else None) removed a.0 one) verdicts a.1.1)) b.1.1
+
+  text_equal : (v w : shown.Verdict) (T U : List EntryData) → v ≡ w → HaveSame T U → IsShown s p v T removed one → IsShown with_n p w U also other → s.minimal ≡ false → one ≡ other
+  text_equal v w T U verdicts same a b plain =
       let mine = subst (λ (m : Option Minimal). IsReport p v (if s.table then Some T else None) removed m one) (not_sought s p a.0 plain a.1.0) a.1.1 in
       let its = subst (λ (m : Option Minimal). IsReport p w (if s.table then Some U else None) also m other) (not_sought with_n p b.0 plain b.1.0) b.1.1 in
       report_same p w s.table T U same also one other
       (subst (λ (r : Option ℕ). IsReport p w (if s.table then Some T else None) r None one) as_much (subst (λ (x : shown.Verdict). IsReport p x (if s.table then Some T else None) removed None one) verdicts mine)) its
+
+  text_same : (v w : shown.Verdict) (T U : List EntryData) → v ≡ w → HaveSame T U → IsShown s p v T removed one → IsShown with_n p w U also other → IsSame
+  text_same v w T U verdicts same a b = (text_equal v w T U verdicts same a b, text_alike v w T U verdicts same a b)
 
   both_accepted : ReportsAccepted s rules ts p removed one → ReportsAccepted with_n rules ts p also other → IsSame
   both_accepted a b =

@@ -5,12 +5,17 @@
 --     IsUndisturbed     no failure of reading, of writing or of memory brought the status
 --     IsRunOn           what is claimed of an undisturbed run on these bytes
 --     AddSame, TellSame both sinks gained the same, or on standard error a part of it beside a fault
+--     IsListPart        the lines of a compact list, or nothing
+--     IsToldAround      the text is these lines, that on a compact list, those behind it, and the list
+--     AddAlike          both sinks gained a report, and but for the lines on a compact list it is the same
 --     ComeToOne         the same status, and the same bytes
 --     HasOneReport      so does each other such run
-use Rattle.std.specs.Prelude.{◌≡◌, ◌≢◌, ◌⊎◌, ℕ, Bool, false, List, ◌++◌, Option, Some, IfSome}
+use Rattle.std.specs.Prelude.{◌≡◌, ◌≢◌, ◌⊎◌, ℕ, Bool, false, List, [], ◌++◌, codes, Option, Some, IfSome}
 use Rattle.hs_gen.specs.Cycle.{cycle_file_text}
 use Rattle.hs_words.specs.declared.options.Settings.{Settings}
 use Rattle.hs_front.specs.Outside.{SourceRun, SinkRun, HasTakenOrFailed}
+use Rattle.hs_text.specs.Report.{minimal_line_if}
+use Rattle.hs_text.specs.declared.minimal.Minimal.{Minimal}
 use Rattle.hs_app.specs.Order.{FileOrigin, read_file, generate, Order}
 use Rattle.hs_app.specs.Outcome.{Rows}
 
@@ -40,11 +45,26 @@ AddSame one other = (text : List ℕ) × ((one.taken_after ≡ one.taken ++ text
 abbrev pub TellSame : SinkRun → SinkRun → Type 0
 TellSame one other = (text : List ℕ) × (HasTakenOrFailed one text × HasTakenOrFailed other text)
 
+abbrev pub IsListPart : List ℕ → Type 0
+IsListPart list = (list ≡ []) ⊎ ((lines : List ℕ) × (list ≡ codes "compact\n" ++ lines))
+
+abbrev pub IsToldAround : List ℕ → List ℕ → List ℕ → Type 0
+IsToldAround before behind text =
+    (minimal : Option Minimal) × ((list : List ℕ) × (IsListPart list × (text ≡ before ++ (minimal_line_if minimal ++ (behind ++ list)))))
+
+abbrev pub AreAlike : List ℕ → List ℕ → Type 0
+AreAlike one other = (before behind : List ℕ) × (IsToldAround before behind one × IsToldAround before behind other)
+
+abbrev pub AddAlike : SinkRun → SinkRun → Type 0
+AddAlike one other =
+    (text also : List ℕ) × ((one.taken_after ≡ one.taken ++ text) × ((other.taken_after ≡ other.taken ++ also) × AreAlike text also))
+
 -- Of a compact list only its kind is claimed, and of an explanation only that of a path: so the bytes are the same where these aren't
--- asked for.
+-- asked for, and where a compact list is, so is the report around its lines.
 pub record ComeToOne (settings : Settings) (out err : SinkRun) (status : ℕ) (other_out other_err : SinkRun) (other_status : ℕ) : Type 0 where
   pub same_status : other_status ≡ status
   pub report : settings.minimal ≡ false → AddSame out other_out
+  pub alike : AddAlike out other_out
   pub line : settings.explain ≡ false → TellSame err other_err
 
 abbrev pub HasOneReport : Option Order → SourceRun → SinkRun → SinkRun → ℕ → Type 0

@@ -4,26 +4,24 @@ ghost use Rattle.std.specs.Prelude.{◌≡◌, ◌↔◌, ◌≤◌, ℕ, List, 
 ghost use Rattle.hs_scheme.specs.acceptance.Run.{Accepts};
 ghost use Rattle.hs_scheme.specs.sorting.Sorted.{SortedData};
 ghost use Rattle.hs_table.specs.Entries.{EntryData};
-ghost use Rattle.hs_table.specs.Tables.{IsLeastTable, IsClosedTable, HasStart, Exceeds};
+ghost use Rattle.hs_table.specs.Tables.{IsSupportedTable, IsLeastTable, HasStart, Exceeds};
 ghost use Rattle.hs_verdict.specs.Premises.{HasClosedFlow, IsSortedProblem};
 ghost use Rattle.hs_core.specs.Core.{state_of, log_of};
 ghost use Rattle.hs_core.specs.Answers.{IsLeastAnswer, IsOverAnswer, IsFirstAnswer};
 ghost use Rattle.hs_core.specs.Saturation.{IsVerdict};
 ghost use Rattle.hs_workers.specs.Answers.{IsShared, IsSharedDone};
 ghost use Rattle.hs_rank.specs.Canonical.{IsCanonicalLog};
-ghost use Rattle.hs_checker.specs.Checked.{IsCount};
-ghost use Rattle.hs_words.specs.Settings.{AreSettingsWithin};
 ghost use Rattle.hs_app.specs.Problems.{IsReportedTable};
 ghost use Rattle.hs_app.specs.Verdict.{IsSought, IsShown, Decides, DecidesProblem};
 
+use crate::counting::instances_of;
 use crate::proposed::decide_by_search;
+use crate::seeking::minimal_of;
 use crate::verdict::{Decided, Decision};
 use hs_canonical::canonical;
-use hs_checker::{CheckFault, check};
 use hs_core::{Core, Done};
 use hs_flow::Dependents;
 use hs_front::Refusal;
-use hs_minimal::{Compact, compact};
 use hs_path::{Walk, walk};
 use hs_scheme::{FailingPath, OutOfMemory, Problem, Sorted};
 use hs_table::Entry;
@@ -36,76 +34,80 @@ use std::mem::forget;
 use std::sync::Wait;
 use std::thread::Threads;
 
-/// What the search for a compact list comes to, where it is asked for.
-fn minimal_of(
+/// The entries of the core, where the table is asked for.
+fn told_entries(
     alloc: Global,
-    problem: &Problem,
+    core: &Core,
     settings: Settings,
-) -> Result<Option<Minimal>, OutOfMemory>
-    ensures { IfOk result (IsSought settings problem.now) }
+) -> Result<Option<Vec<Entry>>, OutOfMemory>
+    ensures { IfOk result (λ table. option_map (λ t. t.items) table
+        ≡ if settings.table then Some (log_of core.now) else None) }
 {
-    if !settings.minimal {
+    if !settings.table {
         return Ok(None);
     }
-    match compact(alloc, problem, settings.entries)? {
-        Compact::Table(entries) => Ok(Some(Minimal::Table(entries))),
-        Compact::Over(_added) => Ok(Some(Minimal::More {
-            budget: settings.entries,
-        })),
+    Ok(Some(core.table(alloc)?))
+}
+
+/// The entries as a slice, where there are some.
+fn listed(entries: &Option<Vec<Entry>>) -> Option<&[Entry]>
+    ensures { option_map (λ t. t.now) result ≡ option_map (λ t. t.items) entries.now }
+{
+    match entries {
+        Some(all) => Some(all.as_slice()),
+        None => None,
     }
 }
 
-/// The report of a verdict, with the core's entries where they are given, and with a compact list where
-/// that is asked for.
+/// The report of a verdict, with these entries where they are given, and with a compact list where that is
+/// asked for.
 fn report_by(
     alloc: Global,
     problem: &Problem,
-    core: &Core,
-    table: Option<&[Entry]>,
+    entries: &Option<Vec<Entry>>,
+    sought: &Option<Minimal>,
     settings: Settings,
     verdict: &Verdict,
     removed: Option<u64>,
 ) -> Result<Vec<u8>, OutOfMemory>
-    requires problem { problem.now ≡ core.now.base.problem }
-    requires table { option_map (λ t. t.now) table ≡ if settings.table then Some (log_of core.now) else None }
-    ensures { IfOk result (λ text. IsShown settings problem.now verdict.now (log_of core.now) removed
-        text.items) }
+    requires entries { IfSome entries.now (λ t. IsSupportedTable problem.now t.items) }
+    requires sought { IsSought settings problem.now sought.now }
+    ensures { IfOk result (λ text. (log : List EntryData) → option_map (λ t. t.items) entries.now
+        ≡ (if settings.table then Some log else None)
+        → IsShown settings problem.now verdict.now log removed text.items) }
 {
-    core.know_core();
     know_sorted_problem(problem);
-    let minimal = minimal_of(alloc, problem, settings)?;
-    let text = report(alloc, problem, verdict, table, removed, minimal.as_ref());
-    drop(minimal);
-    text
+    let table = listed(entries);
+    report(alloc, problem, verdict, table, removed, sought.as_ref())
 }
 
-/// The report of a verdict, with these entries where the table is asked for.
-fn report_with(
+/// The report of a verdict, with what was told and sought for it, where memory sufficed.
+fn report_told(
     alloc: Global,
     problem: &Problem,
-    core: &Core,
-    entries: &[Entry],
+    told: Result<Option<Vec<Entry>>, OutOfMemory>,
+    sought: Result<Option<Minimal>, OutOfMemory>,
     settings: Settings,
     verdict: &Verdict,
     removed: Option<u64>,
 ) -> Result<Vec<u8>, OutOfMemory>
-    requires problem { problem.now ≡ core.now.base.problem }
-    requires entries { entries.now ≡ log_of core.now }
-    ensures { IfOk result (λ text. IsShown settings problem.now verdict.now (log_of core.now) removed
-        text.items) }
+    requires told { IfOk told (λ entries. IfSome entries (λ t. IsSupportedTable problem.now t.items)) }
+    requires sought { IfOk sought (IsSought settings problem.now) }
+    ensures { IfOk result (λ text. (log : List EntryData) → IfOk told (λ entries.
+        option_map (λ t. t.items) entries ≡ (if settings.table then Some log else None))
+        → IsShown settings problem.now verdict.now log removed text.items) }
 {
-    if !settings.table {
-        return report_by(alloc, problem, core, None, settings, verdict, removed);
+    match (told, sought) {
+        (Ok(entries), Ok(sought)) => {
+            let text = report_by(
+                alloc, problem, &entries, &sought, settings, verdict, removed,
+            );
+            drop(entries);
+            drop(sought);
+            text
+        }
+        _ => Err(OutOfMemory),
     }
-    report_by(
-        alloc,
-        problem,
-        core,
-        Some(entries),
-        settings,
-        verdict,
-        removed,
-    )
 }
 
 /// The report of a verdict, with the core's entries where the table is asked for.
@@ -118,71 +120,39 @@ fn report_of(
     removed: Option<u64>,
 ) -> Result<Vec<u8>, OutOfMemory>
     requires problem { problem.now ≡ core.now.base.problem }
+    requires few { length (log_of core.now) ≤ settings.entries }
+    requires reported { IsReportedTable settings.first problem.now (log_of core.now) }
     ensures { IfOk result (λ text. IsShown settings problem.now verdict.now (log_of core.now) removed
         text.items) }
 {
-    if !settings.table {
-        return report_by(alloc, problem, core, None, settings, verdict, removed);
-    }
-    let entries = core.table(alloc)?;
-    report_by(
-        alloc,
-        problem,
-        core,
-        Some(entries.as_slice()),
-        settings,
-        verdict,
-        removed,
-    )
-}
-
-/// The number of instances of a closed table that lacks the start entry. The check finds no fault in
-/// it.
-fn instances_of(alloc: Global, problem: &Problem, table: &[Entry]) -> Result<u64, OutOfMemory>
-    requires flow { HasClosedFlow problem.now }
-    requires closed { IsClosedTable problem.now table.now }
-    requires lacks { HasStart problem.now table.now → ⊥ }
-    ensures { IfOk result (IsCount problem.now table.now) }
-{
-    match check(alloc, problem, table) {
-        Ok(count) => Ok(count),
-        Err(CheckFault::OutOfMemory) => Err(OutOfMemory),
-        Err(_) => unreachable!(),
-    }
+    core.know_core();
+    let sought = minimal_of(alloc, problem, core, settings);
+    let told = told_entries(alloc, core, settings);
+    report_told(alloc, problem, told, sought, settings, verdict, removed)
 }
 
 /// The verdict where the least table lacks the start entry. The table is checked before it is told.
-fn accepted(
+fn accepted<'p>(
     alloc: Global,
-    problem: &Problem,
-    core: &Core,
+    problem: &'p Problem,
+    core: Core<'p>,
     settings: Settings,
     removed: Option<u64>,
 ) -> Result<Decided, OutOfMemory>
     requires flow { HasClosedFlow problem.now }
-    requires problem { problem.now ≡ core.now.base.problem }
-    requires budget { core.now.base.budget ≡ settings.entries }
-    requires least { IsLeastTable problem.now (log_of core.now) }
-    requires lacks { HasStart problem.now (log_of core.now) → ⊥ }
+    requires budget { core.base.budget ≡ settings.entries }
+    requires least { IsLeastTable problem.now (log_of core) }
+    requires lacks { HasStart problem.now (log_of core) → ⊥ }
     requires accepts { Accepts problem.now.sorted.scheme.rules problem.now.sorted.automaton.transitions }
     ensures { IfOk result (λ decided. DecidesProblem settings problem.now removed (Ok decided)) }
 {
     core.know_core();
-    let table = core.table(alloc)?;
-    let checked = instances_of(alloc, problem, table.as_slice())?;
-    let verdict = Verdict::Accepted {
-        entries: core.len(),
-        checked,
-    };
-    let report = report_with(
-        alloc,
-        problem,
-        core,
-        table.as_slice(),
-        settings,
-        &verdict,
-        removed,
-    )?;
+    let entries = core.len();
+    let told = told_entries(alloc, &core, settings);
+    let sought = minimal_of(alloc, problem, &core, settings);
+    let checked = instances_of(alloc, problem, core)?;
+    let verdict = Verdict::Accepted { entries, checked };
+    let report = report_told(alloc, problem, told, sought, settings, &verdict, removed)?;
     Ok(Decided {
         verdict: Decision::Accepted,
         report,
@@ -282,31 +252,8 @@ fn first(
     rejected(alloc, problem, core, settings, removed)
 }
 
-/// A core whose log is the canonical one, in the place of one whose log is the least table, which is
-/// dropped before.
-fn canonical_core<'p>(
-    alloc: Global,
-    problem: &'p Problem,
-    core: Core<'p>,
-) -> Result<Core<'p>, OutOfMemory>
-    requires few { Exceeds problem.now 1000000 → ⊥ }
-    ensures problem { IfOk result (λ ranked. ranked.base.problem ≡ problem.now) }
-    ensures canonical { IfOk result
-        (λ ranked. IsCanonicalLog problem.now (log_of ranked) (state_of ranked).supports) }
-{
-    drop(core);
-    canonical(alloc, problem)
-}
-
-/// What holds of all settings.
-fn know_settings(settings: &Settings)
-    ensures { AreSettingsWithin settings.now }
-{
-    let _ = &settings.entries;
-}
-
-/// The verdict where the least table has the start entry: the path is the one that the canonical log
-/// names.
+/// The verdict where the log is the least table and has the start entry: the path is the one that the
+/// canonical log names, which takes the place of the log.
 fn by_canonical_log<'p>(
     alloc: Global,
     problem: &'p Problem,
@@ -315,13 +262,14 @@ fn by_canonical_log<'p>(
     removed: Option<u64>,
 ) -> Result<Decided, OutOfMemory>
     requires all { settings.first ≡ false }
+    requires problem { problem.now ≡ core.base.problem }
+    requires least { IsLeastTable problem.now (log_of core) }
     requires few { Exceeds problem.now settings.entries → ⊥ }
     requires start { (T : List EntryData) → IsLeastTable problem.now T → HasStart problem.now T }
     requires rejects { Accepts problem.now.sorted.scheme.rules problem.now.sorted.automaton.transitions → ⊥ }
     ensures { IfOk result (λ decided. DecidesProblem settings problem.now removed (Ok decided)) }
 {
-    know_settings(&settings);
-    let ranked = canonical_core(alloc, problem, core)?;
+    let ranked = canonical(alloc, problem, core)?;
     let decided = rejected(alloc, problem, &ranked, settings, removed);
     forget(ranked);
     decided
@@ -350,11 +298,7 @@ fn least<'p>(
     core.know_core();
     match core.start() {
         Some(_place) => by_canonical_log(alloc, problem, core, settings, removed),
-        None => {
-            let decided = accepted(alloc, problem, &core, settings, removed);
-            forget(core);
-            decided
-        }
+        None => accepted(alloc, problem, core, settings, removed),
     }
 }
 

@@ -1,11 +1,13 @@
 //! The model checker as one call, from the words of the command line to the report.
 #![tactic(auto)]
 
+mod counting;
 mod deciding;
 mod evidence;
 mod explaining;
 mod laws;
 mod proposed;
+mod seeking;
 mod top;
 mod verdict;
 mod words;

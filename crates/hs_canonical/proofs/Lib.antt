@@ -1,1 +1,4 @@
-mod PublishingLemmas
+mod Depending
+mod Kept
+mod Published
+mod Opened

@@ -1,31 +1,30 @@
--- A log with supports that is published in a core.
---     CanPublishLog base l               the problem's rules give the log, the core has room for it, and its rows are at hand
+-- A round that is published in a core.
 --     HasNoStory c                       nothing has happened
---     HasPublished c l worker ticket k   the log has the first k entries with their supports, and the worker holds the ticket
---     HasWholeLog c l                    the log with its supports is the core's
-use Rattle.std.specs.Prelude.{◌≡◌, ℕ, ◌≤◌, false, [], length, map, take, All}
-use Rattle.hs_table.specs.Tables.{HasSupports}
-use Rattle.hs_types.specs.Interned.{IsRow, entry_of}
-use Rattle.hs_history.specs.Story.{Base}
+--     HasNothing c                       the log is empty
+--     HasPublished worker ticket c ds d  the log of c got these at its end, with their supports, and the worker holds the ticket
+--     CanPublish c found places          what was found is new and follows, its places are in order, and the core has room
+use Rattle.std.specs.Prelude.{◌≡◌, ℕ, ◌+◌, ◌≤◌, List, [], ◌++◌, length, map}
+use Rattle.hs_rules.specs.Conclusions.{DeducedData}
 use Rattle.hs_history.specs.CoreStep.{Holds}
 use Rattle.hs_core.specs.Core.{CoreData, state_of, log_of}
-use Rattle.hs_rank.specs.declared.ranking.RankedLog.{RankedLog}
-
-pub record CanPublishLog (base : Base) (l : RankedLog) : Type 0 where
-  pub all : base.first ≡ false
-  pub room : length l.replica.log ≤ base.budget
-  pub supports : HasSupports base.problem l.replica.log (map (λ d. d.support) l.supports.items)
-  pub known : All (λ d. IsRow l.replica.ids d.row) l.supports.items
-  pub entries : map (λ d. entry_of l.replica.ids d.row) l.supports.items ≡ l.replica.log
+use Rattle.hs_rank.specs.Gathering.{AreNewDeduced}
+use Rattle.hs_rank.specs.Ordering.{entries_of, AreInOrder}
 
 abbrev pub HasNoStory : CoreData → Type 0
 HasNoStory c = c.story ≡ []
 
-pub record HasPublished (c : CoreData) (l : RankedLog) (worker ticket k : ℕ) : Type 0 where
-  pub holds : Holds (state_of c) worker ticket
-  pub log : log_of c ≡ take k l.replica.log
-  pub supports : (state_of c).supports ≡ take k (map (λ d. d.support) l.supports.items)
+pub record HasNothing (c : CoreData) : Type 0 where
+  pub log : log_of c ≡ []
+  pub supports : (state_of c).supports ≡ []
 
-pub record HasWholeLog (c : CoreData) (l : RankedLog) : Type 0 where
-  pub log : log_of c ≡ l.replica.log
-  pub supports : (state_of c).supports ≡ map (λ d. d.support) l.supports.items
+pub record HasPublished (worker ticket : ℕ) (old : CoreData) (added : List DeducedData) (new : CoreData) : Type 0 where
+  pub base : new.base ≡ old.base
+  pub ids : new.ids ≡ old.ids
+  pub holds : Holds (state_of new) worker ticket
+  pub log : log_of new ≡ log_of old ++ entries_of old.ids added
+  pub supports : (state_of new).supports ≡ (state_of old).supports ++ map (λ d. d.support) added
+
+pub record CanPublish (c : CoreData) (found : List DeducedData) (places : List ℕ) : Type 0 where
+  pub fresh : AreNewDeduced c.base.problem c.ids (log_of c) found
+  pub order : AreInOrder c.ids found places
+  pub room : length (log_of c) + length places ≤ c.base.budget

@@ -1,64 +1,33 @@
-//! The canonical log, published in a core under one ticket.
+//! A round is published under one ticket, in the order of its entries.
 
-ghost use Rattle.std.specs.Prelude.{◌≡◌, ◌≤◌, ◌<◌, ◌+◌, length, false, IfOk, IfNone, IfSome, OnOk};
-ghost use Rattle.hs_table.specs.Tables.{Exceeds};
+ghost use Rattle.std.specs.Prelude.{◌≡◌, ◌≢◌, ◌<◌, ◌≤◌, ◌∷◌, [], ℕ, length, slice_get, Some, false, IfNone, IfSome, OnOk, Contains};
+ghost use Rattle.hs_types.specs.Interned.{IsRow, entry_of};
+ghost use Rattle.hs_table.specs.Follows.{FollowsBy};
+ghost use Rattle.hs_history.specs.CoreStep.{Holds};
 ghost use Rattle.hs_core.specs.Core.{state_of, log_of};
-ghost use Rattle.hs_rank.specs.Canonical.{IsCanonicalLog};
-ghost use Rattle.hs_canonical.specs.Publishing.{CanPublishLog, HasNoStory, HasPublished, HasWholeLog};
+ghost use Rattle.hs_rank.specs.Ordering.{picked};
+ghost use Rattle.hs_canonical.specs.Publishing.{HasNoStory, HasNothing, HasPublished, CanPublish};
 
 use hs_core::{Core, Taken};
-use hs_rank::{RankedLog, ranked};
-use hs_scheme::{OutOfMemory, Problem};
+use hs_rules::Deduced;
+use hs_scheme::OutOfMemory;
 use std::alloc::Global;
+use std::mem::replace;
 
 /// The worker in whose name all is done.
 const WORKER: u32 = 1;
 
-/// Publishes the entry at this place of the log under the ticket, behind those before it.
-fn publish_entry(
-    core: &mut Core,
-    log: &RankedLog,
-    place: usize,
-    ticket: u32,
-) -> Result<(), OutOfMemory>
-    requires place { place < length log.now.supports.items }
-    requires can { CanPublishLog core.old.base log.now }
-    requires front { HasPublished core.old log.now WORKER ticket place }
-    ensures base { OnOk result (core.new.base ≡ core.old.base) }
-    ensures front { OnOk result (HasPublished core.new log.now WORKER ticket (place + 1)) }
-{
-    let from = log.replica.interner();
-    let next = &log.supports[place];
-    let deduced = core.bring(from, next)?;
-    core.reserve_some()?;
-    let _ = core.publish(WORKER, ticket, deduced);
-    Ok(())
-}
-
-/// Publishes the whole log under the ticket.
-fn publish_entries(core: &mut Core, log: &RankedLog, ticket: u32) -> Result<(), OutOfMemory>
-    requires can { CanPublishLog core.old.base log.now }
-    requires front { HasPublished core.old log.now WORKER ticket 0 }
-    ensures base { OnOk result (core.new.base ≡ core.old.base) }
-    ensures whole { OnOk result (HasWholeLog core.new log.now) }
-{
-    for place in 0..log.supports.len() {
-        publish_entry(core, log, place, ticket)?;
-    }
-    Ok(())
-}
-
 /// Takes the first seed of a core in which nothing has happened. The ticket under which it is in
-/// flight, or `None` where there are no points: then the log is empty.
-fn first_ticket(core: &mut Core, log: &RankedLog) -> Option<u32>
-    requires can { CanPublishLog core.old.base log.now }
+/// flight, or `None` where there are no points.
+pub(crate) fn first_ticket(core: &mut Core) -> Option<u32>
+    requires all { core.old.base.first ≡ false }
     requires opened { HasNoStory core.old }
     requires spare { 1 ≤ core.old.spare }
     ensures base { core.new.base ≡ core.old.base }
-    ensures taken { IfSome result (λ ticket. HasPublished core.new log.now WORKER ticket 0) }
-    ensures none { IfNone result (HasWholeLog core.new log.now) }
+    ensures nothing { HasNothing core.new }
+    ensures taken { IfSome result (λ ticket. Holds (state_of core.new) WORKER ticket) }
+    ensures none { IfNone result (core.old.base.problem.points.points ≡ []) }
 {
-    let _ = log;
     match core.take(WORKER) {
         Taken::Item {
             work: _work,
@@ -71,59 +40,53 @@ fn first_ticket(core: &mut Core, log: &RankedLog) -> Option<u32>
     }
 }
 
-/// Publishes the log in a core in which nothing has happened.
-fn publish_log(core: &mut Core, log: &RankedLog) -> Result<(), OutOfMemory>
-    requires can { CanPublishLog core.old.base log.now }
-    requires opened { HasNoStory core.old }
-    ensures base { OnOk result (core.new.base ≡ core.old.base) }
-    ensures whole { OnOk result (HasWholeLog core.new log.now) }
+/// Takes what stands at the place, and leaves its row and its head there.
+fn take_out(alloc: Global, found: &mut Vec<Deduced>, place: usize) -> Deduced
+    requires { place < length found.old.items }
+    ensures taken { slice_get found.old.items place ≡ Some result }
+    ensures others { (k : ℕ) → k ≢ place → slice_get found.new.items k ≡ slice_get found.old.items k }
 {
-    core.reserve(1)?;
-    if let Some(ticket) = first_ticket(core, log) {
-        return publish_entries(core, log, ticket);
+    let there = &mut found[place];
+    let args = replace(&mut there.args, Vec::new(alloc));
+    Deduced {
+        row: there.row,
+        head: there.head,
+        args,
     }
+}
+
+/// Publishes the entry, which the log lacks and for which there is room, under the ticket.
+fn publish_new(core: &mut Core, ticket: u32, deduced: Deduced) -> Result<(), OutOfMemory>
+    requires holds { Holds (state_of core.old) WORKER ticket }
+    requires row { IsRow core.old.ids deduced.row }
+    requires follows { FollowsBy core.old.base.problem (log_of core.old) deduced.support
+        (entry_of core.old.ids deduced.row) }
+    requires new { Contains (log_of core.old) (entry_of core.old.ids deduced.row) → ⊥ }
+    requires room { length (log_of core.old) < core.old.base.budget }
+    ensures { OnOk result (HasPublished WORKER ticket core.old (deduced ∷ []) core.new) }
+{
+    core.reserve_some()?;
+    let _place = core.append(WORKER, ticket, deduced);
     Ok(())
 }
 
-/// A core with this budget, whose log with its supports is this one.
-fn core_of<'p>(
+/// Publishes what was found under the ticket, in the order of these places. What was found is left
+/// without its arguments.
+pub(crate) fn publish_round(
     alloc: Global,
-    problem: &'p Problem,
-    budget: u32,
-    log: &RankedLog,
-) -> Result<Core<'p>, OutOfMemory>
-    requires least { 1 ≤ budget }
-    requires greatest { budget ≤ 1000000 }
-    requires can { CanPublishLog (record { problem = problem.now; budget = budget; first = false }) log.now }
-    ensures problem { IfOk result (λ core. core.base.problem ≡ problem.now) }
-    ensures whole { IfOk result (λ core. HasWholeLog core log.now) }
+    core: &mut Core,
+    ticket: u32,
+    found: &mut Vec<Deduced>,
+    places: &[usize],
+) -> Result<(), OutOfMemory>
+    requires holds { Holds (state_of core.old) WORKER ticket }
+    requires can { CanPublish core.old found.old.items places.now }
+    ensures { OnOk result (HasPublished WORKER ticket core.old (picked found.old.items places.now)
+        core.new) }
 {
-    let mut core = Core::new(alloc, problem, budget, false)?;
-    match publish_log(&mut core, log) {
-        Ok(()) => Ok(core),
-        Err(refused) => {
-            drop(core);
-            Err(refused)
-        }
+    for place in places {
+        let deduced = take_out(alloc, found, *place);
+        publish_new(core, ticket, deduced)?;
     }
-}
-
-/// A core of the problem whose log with its supports is the canonical log. The least table has at most
-/// 1,000,000 entries.
-///
-/// The conclusions are formed once more, round by round (`ranked`). The core is made by its public
-/// steps: a seed is taken, and each entry is published under its ticket, in the canonical order. So
-/// the seed stays in flight, and all other works stay pending. Publishing takes time in proportion to
-/// the log, and while it lasts the log is there twice.
-pub fn canonical<'p>(alloc: Global, problem: &'p Problem) -> Result<Core<'p>, OutOfMemory>
-    requires few { Exceeds problem.now 1000000 → ⊥ }
-    ensures problem { IfOk result (λ core. core.base.problem ≡ problem.now) }
-    ensures canonical { IfOk result
-        (λ core. IsCanonicalLog problem.now (log_of core) (state_of core).supports) }
-{
-    let log = ranked(alloc, problem)?;
-    let budget = log.replica.len().max(1);
-    let core = core_of(alloc, problem, budget, &log);
-    drop(log);
-    core
+    Ok(())
 }

@@ -104,7 +104,7 @@ abbrev pub count_line : Form → ℕ → List ℕ
 count_line Full n = codes "entries " ++ decimal n
 count_line Compact n = codes "compact " ++ decimal n
 
--- line 2: how many instances there are, as the file says, or how many void environments
+-- line 2: how many instances there are, as the file says, which nobody checks here; or how many void environments
 abbrev pub number_line : Form → ℕ → List ℕ
 number_line Full m = codes "checked " ++ decimal m
 number_line Compact k = codes "void " ++ decimal k

@@ -82,7 +82,7 @@ fn check_pairs(
 ///
 /// Table and void pairs may be any lists: entries out of shape don't count, and repeats change nothing. The
 /// faults are looked for in their order: `FlowOpen`, `HeadOpen`, `HasStart`, `NotVoid`, `Missing`, each
-/// exactly where there is such a pair or entry.
+/// only where there is such a pair or entry; where there is one and memory suffices, a fault comes.
 ///
 /// Types get numbers, and what was compared of them is remembered. Time is as for a search of such a table:
 /// for each void pair and site of its nonterminal, and for each point and type of its head in whose last

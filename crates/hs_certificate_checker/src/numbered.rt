@@ -1,15 +1,14 @@
 //! The check of a certificate that is told by number.
 
-ghost use Rattle.std.specs.Prelude.{◌≡◌, ◌↔◌, ℕ, List, [], All, IfErr, IfOk, IsTrue, OnOk, map};
+ghost use Rattle.std.specs.Prelude.{ℕ, List, All, IfErr, IfOk, OnOk, map};
 ghost use Rattle.std.specs.List.Sorted.{IsNonDecreasingBy};
 ghost use Rattle.hs_scheme.specs.acceptance.Run.{Accepts};
-ghost use Rattle.hs_table.specs.Types.{state};
 ghost use Rattle.hs_table.specs.Tables.{HasStart};
 ghost use Rattle.hs_verdict.specs.Premises.{HasClosedFlow};
 ghost use Rattle.hs_weak.specs.Reads.{IsClosedReads};
 ghost use Rattle.hs_weak.specs.Void.{IsVoidList};
 ghost use Rattle.hs_weak.specs.Certificate.{IsAcceptanceCertificate};
-ghost use Rattle.hs_types.specs.Interned.{type_of_id, env_of_id, RowData, IsRow, entry_of};
+ghost use Rattle.hs_types.specs.Interned.{RowData, IsRow, entry_of};
 ghost use Rattle.hs_numbered.specs.Certificates.{IsVoidRow, void_of};
 ghost use Rattle.hs_choices.specs.Numbered.{AreTableRows};
 ghost use Rattle.hs_certificate_checker.specs.Faults.{AreInVoidShape, HasCause, IsFlaw};
@@ -19,42 +18,14 @@ use crate::checking::check_numbers;
 use crate::fault::CertificateFault;
 use crate::flow::check_flow;
 use crate::row_shape::{first_row_out_of_shape, is_row_in_shape};
+use hs_checker::has_start_row;
 use hs_numbered::{CertificateParts, NumberedCertificate};
 use hs_reads::Reads;
 use hs_scheme::{OutOfMemory, Problem};
-use hs_types::{Interner, Row, View};
+use hs_types::{Interner, Row};
 use hs_verdict::know_sorted_problem;
 use hs_weak_laws::certificates_accept;
 use std::alloc::Global;
-
-/// Whether the row's entry is the start entry, where this is the point of the start's body.
-fn is_start(interner: &Interner, row: &Row, body: u32) -> bool
-    requires { IsRow interner.now row.now }
-    ensures { IsTrue result ↔ ((row.now.point ≡ body) × ((env_of_id interner.now row.now.env ≡ [])
-        × (type_of_id interner.now row.now.ty ≡ state 0))) }
-{
-    match interner.view(row.ty) {
-        View::State(q) => row.point == body && interner.sets(row.env).is_empty() && q == 0,
-        View::Arrow(_, _) => false,
-    }
-}
-
-/// Whether one of the rows stands for the start entry.
-fn has_start_row(problem: &Problem, interner: &Interner, table: &[Row]) -> bool
-    requires { All (IsRow interner.now) table.now }
-    ensures { IsTrue result ↔ HasStart problem.now (map (entry_of interner.now) table.now) }
-{
-    if problem.points.params().rules() == 0 {
-        return false;
-    }
-    let body = problem.points.body_of(0);
-    for row in table {
-        if is_start(interner, row, body) {
-            return true;
-        }
-    }
-    false
-}
 
 /// The rows whose entries are in shape, in the order of their points. Time is in the size of all their types,
 /// and as a sort of the rows.

@@ -1,8 +1,6 @@
 -- The entries of a table that are in shape stand for it, and instances are counted point by point.
-use Rattle.std.proofs.Common.{◌≡◌, ◌≢◌, refl, sym, ◌∙◌, ap, subst, ℕ, ◌+◌, ◌-◌, ◌^◌, ◌<◌, ◌≤◌, min, Option, Some, None, MatchOption, List, [], ◌∷◌, ◌++◌, length, get_or, arith, Contains, AllPairs, inl, inr, ◌⊎◌, ◌↔◌}
-use Rattle.std.proofs.lemmas.Cmp.{tied_itself}
+use Rattle.std.proofs.Common.{◌≡◌, ◌≢◌, refl, sym, ◌∙◌, ap, subst, ℕ, ◌+◌, ◌-◌, ◌^◌, ◌<◌, ◌≤◌, min, Option, Some, None, MatchOption, List, [], ◌∷◌, ◌++◌, length, arith, Contains, AllPairs, inl, inr, ◌⊎◌, ◌↔◌}
 use Rattle.std.proofs.lemmas.Bool.Decides.{nat_tests}
-use Rattle.std.specs.declared.cmp.Ordering.TheVariants.{Less, Equal}
 use Rattle.std.proofs.lemmas.List.{length_push}
 use Rattle.hs_scheme.specs.declared.term.Head.{Head}
 use Rattle.hs_scheme.specs.declared.term.Head.TheVariants.{Var, Nt, Tm}
@@ -10,12 +8,11 @@ use Rattle.hs_scheme.specs.acceptance.Automaton.{IsAutomaton}
 use Rattle.hs_scheme.specs.Problem.{ProblemData}
 use Rattle.hs_table.specs.declared.support.HeadBy.{HeadBy}
 use Rattle.hs_table.specs.declared.support.HeadBy.TheVariants.{Terminal, Rule, Param}
-use Rattle.hs_table.specs.Types.{TypeTree, arrows, type_cmp, IsSet}
+use Rattle.hs_table.specs.Types.{TypeTree, arrows}
 use Rattle.hs_table.specs.Entries.{Env, EntryData, InShape}
 use Rattle.hs_table.specs.Follows.{IsAt, IsHeadType, Chosen, done, next_argument, choose, Follows}
 use Rattle.hs_table.specs.Tables.{IsClosedTable, IsInstance, HasStart as HasStartEntry}
 use Rattle.hs_table_laws.proofs.Places.{place_of, pairs_tail, pairs_head, within_from}
-use Rattle.hs_table_laws.proofs.Orders.{type_cmp_total}
 use Rattle.hs_table_laws.proofs.Shapes.{follows_shape}
 use Rattle.hs_table_plain.proofs.Members.{in_pushed, pairs_push}
 use Rattle.hs_table_plain.proofs.TableLemmas.{below_or_last}
@@ -28,7 +25,7 @@ use Rattle.hs_checker.specs.declared.fault.CheckFault.TheVariants.{FlowOpen, Hea
 use Rattle.hs_flow_checker.specs.declared.gaps.Kind.TheVariants.{Flow, Heads}
 use Rattle.hs_flow_checker.specs.Gaps.{HoldsAll, IsFirstLacking}
 use Rattle.hs_checker.specs.Slots.{IsCountAt}
-use Rattle.hs_checker.specs.Checked.{IsCount, IsMissing, IsGap, IsFault, fault_of}
+use Rattle.hs_checker.specs.Checked.{IsCount, IsMissing, IsFault}
 
 -- entries in shape are elsewhere
 module _ (p : ProblemData) (E F : List EntryData) (all : (e : EntryData) → InShape p e → Contains E e → Contains F e) where
@@ -171,18 +168,6 @@ counted_more p E k n m c at sum before =
       is = cut_sum (length before.all) (length types) (length b.all) n m before.is (sum ∙ ap (λ d. min (n + d) (2 ^ 64 - 1)) at.count) b.long;
     }
 
--- a set of types has no two that are the same
-pub set_count : (p : ProblemData) (E : List EntryData) (k n : ℕ) (types : List TypeTree) → IsSet types → ((t : TypeTree) → Contains types t ↔ IsInstance p E k t) → n ≡ length types → IsCountAt p E k n
-set_count p E k n types set are long = record {
-  types = types;
-  distinct = λ i j d low high same.
-      let less : type_cmp (get_or types i d) (get_or types j d) ≡ Less = set i j d low high in
-      let tie : Less ≡ Equal = sym less ∙ (ap (λ z. type_cmp (get_or types i d) z) (sym same) ∙ tied_itself type_cmp_total (get_or types i d)) in
-      absurd (cc);
-  exact = are;
-  count = long;
-}
-
 -- at all points
 pub counted_all : (p : ProblemData) (E : List EntryData) (k n : ℕ) → length p.points.points ≤ k → CountedBelow p E k n → IsCount p E n
 counted_all p E k n all_points c = record {
@@ -207,24 +192,6 @@ both_kinds p flows heads (OfHead h) d = heads (OfHead h) tt d
 pub no_gap : (p : ProblemData) (o : Option Pair) → ((pair : Pair) → o ≡ Some pair → ⊥) → MatchOption o (HoldsAll p Flow × HoldsAll p Heads) (IsFirstLacking p) → HasClosedFlow p
 no_gap p None never h = both_kinds p h.0 h.1
 no_gap p (Some pair) never h = absurd (never pair refl)
-
-first_fault : (p : ProblemData) (T : List EntryData) (pair : Pair) → IsFirstLacking p pair → IsFault p T (fault_of pair)
-first_fault p T (OfFlow f) h = h
-first_fault p T (OfHead h) both = both
-
-pub gap_fault : (p : ProblemData) (T : List EntryData) (o : Option Pair) (pair : Pair) (fault : CheckFault) → o ≡ Some pair → MatchOption o (HoldsAll p Flow × HoldsAll p Heads) (IsFirstLacking p) → fault ≡ fault_of pair → IsFault p T fault
-gap_fault p T None pair fault is h same = absurd (cc)
-gap_fault p T (Some own) pair fault is h same =
-    let e : own ≡ pair = cc in
-    subst (λ (x : CheckFault). IsFault p T x) (sym (same ∙ ap fault_of (sym e))) (first_fault p T own h)
-
--- what an index lacks the table lacks
-pub gap_whole : (p : ProblemData) (E T : List EntryData) (fault : CheckFault) → ((e : EntryData) → Contains E e ↔ (Contains T e × InShape p e)) → IsAutomaton p.sorted.automaton → HasClosedFlow p → IsGap p E fault → IsFault p T fault
-gap_whole p E T (FlowOpen rule param point) exact automaton flow h = absurd h
-gap_whole p E T (HeadOpen point rule given) exact automaton flow h = absurd h
-gap_whole p E T (Missing e) exact automaton flow h = (flow, missing_whole p E T exact automaton e h)
-gap_whole p E T HasStart exact automaton flow h = absurd h
-gap_whole p E T OutOfMemory exact automaton flow h = tt
 
 -- nothing is at fault over a closed flow and a closed table without the start entry
 pub no_fault : (p : ProblemData) (T : List EntryData) (fault : CheckFault) → HasClosedFlow p → IsClosedTable p T → (HasStartEntry p T → ⊥) → IsFault p T fault → fault ≡ OutOfMemory

@@ -1,30 +1,29 @@
 -- What is joined does not depend on the order of the entries, nor on repeats.
-use Rattle.std.proofs.Common.{◌≡◌, refl, sym, ◌∙◌, ap, subst, ℕ, zero, suc, ◌+◌, ◌<◌, ◌≤◌, Bool, true, false, ◌&&◌, nat_eq, cond, Some, None, List, [], ◌∷◌, ◌++◌, length, get_or, set, slice_get, map, take, drop, arith, Contains, ◌↔◌, Bor}
+use Rattle.std.proofs.Common.{◌≡◌, refl, sym, ◌∙◌, ap, subst, ℕ, zero, suc, ◌+◌, ◌<◌, ◌≤◌, Bool, true, false, ◌&&◌, nat_eq, cond, Some, None, List, [], ◌∷◌, ◌++◌, length, get_or, set, slice_get, map, drop, arith, Contains, ◌↔◌}
 use Rattle.std.specs.List.{flat_map}
 use Rattle.std.specs.Ordering.{is_eq}
 use Rattle.std.proofs.lemmas.Bool.{eqb-true, eq-eqb, and_parts, and_from}
 use Rattle.std.proofs.lemmas.Cmp.{tied_itself}
-use Rattle.hs_scheme.specs.Tree.{node, none, more, children, children-forest}
+use Rattle.hs_scheme.specs.Tree.{node, none, more, children}
 use Rattle.hs_scheme.proofs.Orderings.{equal_of}
-use Rattle.hs_scheme.proofs.Lists.{here, only}
-use Rattle.hs_table.specs.Types.{TypeTree, state, arrow, arrows, type_cmp}
-use Rattle.hs_table.specs.Entries.{Env, EntryData, set_at}
+use Rattle.hs_table.specs.Types.{TypeTree, state, arrow, type_cmp}
+use Rattle.hs_table.specs.Entries.{EntryData}
 use Rattle.hs_table_laws.proofs.Orders.{type_cmp_total, type_same}
 use Rattle.hs_table_laws.proofs.Members.{from_map, into_map}
-use Rattle.hs_table_plain.specs.Enumeration.{union, union_from, joined, extended, picks, retyped, through}
+use Rattle.hs_table_plain.specs.Enumeration.{joined, extended, picks, retyped, through}
 use Rattle.hs_table_plain.proofs.Loops.{through_step}
 use Rattle.hs_table_plain.proofs.Members.{from_flat_map, into_flat_map}
 use Rattle.hs_table_plain.proofs.ChoiceLemmas.{from_cond, into_cond}
 use Rattle.hs_checker.specs.Any.{AnyOf}
 
 -- each item joined with each row for the type at the point
-pub extended_by : (E : List EntryData) (rows : List (Bor EntryData)) (u : ℕ) (a : TypeTree) (es : List EntryData)
-    → ((e : EntryData) → Contains (map (λ (r : Bor EntryData). r.now) rows) e ↔ (Contains E e × ((e.point ≡ u) × (e.ty ≡ a))))
-    → (y : EntryData) → AnyOf (λ (r : Bor EntryData) (y : EntryData). AnyOf (λ (x y : EntryData). y ≡ joined x r.now) es y) rows y ↔ Contains (flat_map (λ x. flat_map (extended u a x) E) es) y
-extended_by E rows u a es exact y = (
+pub extended_by : {X : Type 0} (value : X → EntryData) (E : List EntryData) (rows : List X) (u : ℕ) (a : TypeTree) (es : List EntryData)
+    → ((e : EntryData) → Contains (map value rows) e ↔ (Contains E e × ((e.point ≡ u) × (e.ty ≡ a))))
+    → (y : EntryData) → AnyOf (λ (r : X) (y : EntryData). AnyOf (λ (x y : EntryData). y ≡ joined x (value r)) es y) rows y ↔ Contains (flat_map (λ x. flat_map (extended u a x) E) es) y
+extended_by {X} value E rows u a es exact y = (
   λ h.
-      let x = h.item.now in
-      let both = (exact x).0 (into_map (λ (r : Bor EntryData). r.now) rows h.item h.there) in
+      let x = value h.item in
+      let both = (exact x).0 (into_map value rows h.item h.there) in
       let e = h.holds.item in
       let test = and_from (nat_eq x.point u) (is_eq (type_cmp x.ty a)) (eq-eqb x.point u both.1.0) (ap is_eq (ap (type_cmp x.ty) (sym both.1.1) ∙ tied_itself type_cmp_total x.ty)) in
       subst (λ z. Contains (flat_map (λ x. flat_map (extended u a x) E) es) z) (sym h.holds.holds)
@@ -36,7 +35,7 @@ extended_by E rows u a es exact y = (
       let x = second.item in
       let test = from_cond (nat_eq x.point u && is_eq (type_cmp x.ty a)) (joined first.item x) y second.gives in
       let parts = and_parts (nat_eq x.point u) (is_eq (type_cmp x.ty a)) test.0 in
-      let row = from_map (λ (r : Bor EntryData). r.now) rows x ((exact x).1 (second.there, (eqb-true x.point u parts.0, type_same x.ty a (equal_of (type_cmp x.ty a) parts.1)))) in
+      let row = from_map value rows x ((exact x).1 (second.there, (eqb-true x.point u parts.0, type_same x.ty a (equal_of (type_cmp x.ty a) parts.1)))) in
       record { item = row.item; there = row.there; holds = record { item = first.item; there = first.there; holds = test.1 ∙ ap (joined first.item) row.is } },
 )
 
@@ -67,7 +66,7 @@ picks_step E u set k a es fs lt read h e =
         plus : (k : ℕ) → suc (k + 1) ≡ suc k + 1
         plus k = omega arith
 
-map_same : {X Y : Type 0} (f : X → Y) (xs ys : List X) → ((x : X) → Contains xs x ↔ Contains ys x) → (y : Y) → Contains (map f xs) y ↔ Contains (map f ys) y
+pub map_same : {X Y : Type 0} (f : X → Y) (xs ys : List X) → ((x : X) → Contains xs x ↔ Contains ys x) → (y : Y) → Contains (map f xs) y ↔ Contains (map f ys) y
 map_same f xs ys h y = (
   λ c. let s = from_map f xs y c in subst (λ z. Contains (map f ys) z) (sym s.is) (into_map f ys s.item ((h s.item).0 s.there)),
   λ c. let s = from_map f ys y c in subst (λ z. Contains (map f xs) z) (sym s.is) (into_map f xs s.item ((h s.item).1 s.there)),
@@ -108,90 +107,13 @@ front (y ∷ xs) (suc k) x lt read =
     let plus : suc (k + 1) ≡ suc k + 1 = omega arith in
     front xs k x (omega arith) read ∙ ap (λ n. x ∷ drop n (y ∷ xs)) plus
 
--- one argument and its set less to choose for
-pub sets_step : (E : List EntryData) (us : List ℕ) (ss : Env) (t : TypeTree) (k u : ℕ) (s : List TypeTree) (es chosen start : List EntryData) → k < length us → k < length ss → u ≡ get_or us k u → s ≡ get_or ss k s
-    → ((e : EntryData) → Contains chosen e ↔ Contains (picks E u s es) e) → (e : EntryData) → Contains (through E (drop k us) (arrows (drop k ss) t) es) e ↔ Contains (through E us (arrows ss t) start) e
-    → Contains (through E (drop (k + 1) us) (arrows (drop (k + 1) ss) t) chosen) e ↔ Contains (through E us (arrows ss t) start) e
-sets_step E us ss t k u s es chosen start ltu lts ru rs h e before =
-    let fu = front us k u ltu ru in
-    let fs = front ss k s lts rs in
-    let us2 = drop (k + 1) us in
-    let ss2 = drop (k + 1) ss in
-    let is : through E (drop k us) (arrows (drop k ss) t) es ≡ through E us2 (arrows ss2 t) (picks E u s es) =
-    (λ i. through E (fu i) (arrows (fs i) t) es) ∙ ap (λ r. through E us2 (arrows ss2 t) (picks E u r es)) (children-forest s) in
-    let old = subst (λ xs. Contains xs e ↔ Contains (through E us (arrows ss t) start) e) is before in
-    let same = through_same E us2 (arrows ss2 t) chosen (picks E u s es) h e in
-    (λ c. old.0 (same.0 c), λ c. same.1 (old.1 c))
-
--- none is left
-pub sets_done : (E : List EntryData) (us : List ℕ) (ss : Env) (t left : TypeTree) (k : ℕ) (es start : List EntryData) (e : EntryData) → k ≡ length us → left ≡ arrows (drop k ss) t
-    → Contains (through E (drop k us) (arrows (drop k ss) t) es) e ↔ Contains (through E us (arrows ss t) start) e → Contains (map (retyped left) es) e ↔ Contains (through E us (arrows ss t) start) e
-sets_done E us ss t left k es start e end made h =
-    let none : drop k us ≡ [] = drop_none k us (omega (arith, end)) in
-    let is : through E (drop k us) (arrows (drop k ss) t) es ≡ map (retyped left) es = (λ i. through E (none i) (sym made i) es) in
-    subst (λ xs. Contains xs e ↔ Contains (through E us (arrows ss t) start) e) is h
-
 -- nothing left to choose for
 pub picks_done : (E : List EntryData) (u : ℕ) (set : List TypeTree) (k : ℕ) (es start : List EntryData) → length set ≤ k
     → ((e : EntryData) → Contains (picks E u (drop k set) es) e ↔ Contains (picks E u set start) e) → (e : EntryData) → Contains es e ↔ Contains (picks E u set start) e
 picks_done E u set k es start le h e = subst (λ (s : List TypeTree). Contains (picks E u s es) e ↔ Contains (picks E u set start) e) (drop_none k set le) (h e)
 
--- the first k sets joined with those of the second environment, from number j of it on
-abbrev pub partly_joined : ℕ → ℕ → Env → Env → Env
-partly_joined j zero e r = e
-partly_joined j (suc k) [] r = []
-partly_joined j (suc k) (s ∷ e) r = union s (set_at r j) ∷ partly_joined (suc j) k e r
-
-pub partly_long : (j k : ℕ) (e r : Env) → length (partly_joined j k e r) ≡ length e
-partly_long j zero e r = refl
-partly_long j (suc k) [] r = refl
-partly_long j (suc k) (s ∷ e) r = ap suc (partly_long (suc j) k e r)
-
-pub partly_more : (j k : ℕ) (e r : Env) (s v : List TypeTree) → k < length e → s ≡ get_or (partly_joined j k e r) k s → v ≡ union s (set_at r (j + k)) → set (partly_joined j k e r) k v ≡ partly_joined j (suc k) e r
-partly_more j k [] r s v lt read made = absurd (omega arith)
-partly_more j zero (t ∷ e) r s v lt read made =
-    let n : j + 0 ≡ j = omega arith in
-    ap (λ x. x ∷ e) (made ∙ ((λ i. union (read i) (set_at r (n i)))))
-partly_more j (suc k) (t ∷ e) r s v lt read made =
-    let n : j + suc k ≡ suc j + k = omega arith in
-    ap (λ x. union t (set_at r j) ∷ x) (partly_more (suc j) k e r s v (omega arith) read (made ∙ ap (λ m. union s (set_at r m)) n))
-
-pub partly_all : (j k : ℕ) (e r : Env) → length e ≤ k → partly_joined j k e r ≡ union_from j e r
-partly_all j zero [] r le = refl
-partly_all j zero (s ∷ e) r le = absurd (omega arith)
-partly_all j (suc k) [] r le = refl
-partly_all j (suc k) (s ∷ e) r le = ap (λ x. union s (set_at r j) ∷ x) (partly_all (suc j) k e r (omega arith))
-
--- all of a list have been changed
-pub changed_all : {X : Type 0} (f : X → X) (xs : List X) (k : ℕ) → length xs ≤ k → map f (take k xs) ++ drop k xs ≡ map f xs
-changed_all f [] zero le = refl
-changed_all f [] (suc k) le = refl
-changed_all f (x ∷ xs) zero le = absurd (omega arith)
-changed_all f (x ∷ xs) (suc k) le = ap (λ ys. f x ∷ ys) (changed_all f xs k (omega arith))
-
-pub changed_long : {X : Type 0} (f : X → X) (xs : List X) (k : ℕ) → length (map f (take k xs) ++ drop k xs) ≡ length xs
-changed_long f [] zero = refl
-changed_long f [] (suc k) = refl
-changed_long f (x ∷ xs) zero = refl
-changed_long f (x ∷ xs) (suc k) = ap suc (changed_long f xs k)
-
-pub any_of_map : {X : Type 0} (f : X → X) (xs ys : List X) (y : X) → ys ≡ map f xs → Contains ys y ↔ AnyOf (λ (x y : X). y ≡ f x) xs y
-any_of_map f xs ys y made = (
-  λ c. let s = from_map f xs y (subst (λ zs. Contains zs y) made c) in record { item = s.item; there = s.there; holds = s.is },
-  λ a. subst (λ zs. Contains zs y) (sym made) (subst (λ z. Contains (map f xs) z) (sym a.holds) (into_map f xs a.item a.there)),
-)
-
--- of a single item
-pub any_of_one : {X Y : Type 0} (P : X → Y → Type 0) (xs : List X) (x : X) (y : Y) → length xs ≡ 1 → x ≡ get_or xs 0 x → AnyOf P xs y ↔ P x y
-any_of_one P [] x y one read = absurd (omega arith)
-any_of_one P (z ∷ []) x y one read = (
-  λ a. subst (λ w. P w y) (only z a.item a.there ∙ sym read) a.holds,
-  λ h. record { item = z; there = here z []; holds = subst (λ w. P w y) read h },
-)
-any_of_one P (z ∷ w ∷ xs) x y one read = absurd (omega arith)
-
 -- the type of what is begun with doesn't matter
-map_append : {X Y : Type 0} (f : X → Y) (xs ys : List X) → map f (xs ++ ys) ≡ map f xs ++ map f ys
+pub map_append : {X Y : Type 0} (f : X → Y) (xs ys : List X) → map f (xs ++ ys) ≡ map f xs ++ map f ys
 map_append f [] ys = refl
 map_append f (x ∷ xs) ys = ap (λ zs. f x ∷ zs) (map_append f xs ys)
 

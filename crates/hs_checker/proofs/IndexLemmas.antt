@@ -1,5 +1,5 @@
 -- The order of an index, and what is found in it.
-use Rattle.std.proofs.Common.{◌≡◌, refl, sym, ◌∙◌, ap, subst, ℕ, zero, suc, ◌+◌, ◌<◌, true, false, List, [], ◌∷◌, ◌++◌, length, map, take, get_or, arith, inl, inr, Contains, ◌↔◌, Result, Ok, Err, is_ok, Bor}
+use Rattle.std.proofs.Common.{◌≡◌, refl, sym, ◌∙◌, ap, subst, ℕ, zero, suc, ◌+◌, ◌<◌, true, false, List, [], ◌∷◌, length, map, get_or, arith, inl, inr, Contains, ◌↔◌, Result, Ok, Err, is_ok, Bor}
 use Rattle.std.specs.Cmp.{IsTotalOrder, nat_cmp_is}
 use Rattle.std.specs.Ordering.{nat_cmp, ordering_then, is_lt, ordering_index}
 use Rattle.std.specs.declared.cmp.Ordering.{Ordering}
@@ -10,17 +10,13 @@ use Rattle.std.proofs.lemmas.Bool.{cases_lt}
 use Rattle.std.proofs.lemmas.List.Elements.{Contains-get_or}
 use Rattle.std.proofs.lemmas.List.Sorted.{searchable_from_sorted}
 use Rattle.std.proofs.lemmas.List.{get_or_default}
-use Rattle.hs_table.specs.Types.{TypeTree, type_cmp}
-use Rattle.hs_scheme.specs.Problem.{ProblemData}
 use Rattle.hs_scheme.proofs.Orderings.{then_equal, nat_equal}
-use Rattle.hs_table.specs.Entries.{EntryData, entry_cmp, InShape}
-use Rattle.hs_table_laws.proofs.Orders.{type_cmp_total, type_same, entry_cmp_total, entry_same}
+use Rattle.hs_types.specs.Interned.{RowData}
 use Rattle.hs_table_laws.proofs.Members.{from_map, into_map}
-use Rattle.hs_table_plain.proofs.Members.{in_pushed, next_member}
-use Rattle.hs_checker.specs.Order.{key_cmp, index_cmp, IsInIndexOrder}
+use Rattle.hs_checker.specs.Order.{key_cmp, row_cmp, IsInRowOrder}
 
-pub index_total : IsTotalOrder index_cmp
-index_total = then_total (then_total (on_total (λ (e : EntryData). e.point) nat_cmp_total) (on_total (λ (e : EntryData). e.ty) type_cmp_total)) entry_cmp_total
+pub index_total : IsTotalOrder row_cmp
+index_total = then_total (then_total (on_total (λ (e : RowData). e.point) nat_cmp_total) (on_total (λ (e : RowData). e.ty) nat_cmp_total)) (on_total (λ (r : RowData). r.env) nat_cmp_total)
 
 both_equal : (a b : Ordering) → a ≡ Equal → b ≡ Equal → ordering_then a b ≡ Equal
 both_equal a b e f = ap (λ o. ordering_then o b) e ∙ f
@@ -30,13 +26,19 @@ then_not_less Less b h = h
 then_not_less Equal b h = refl
 then_not_less Greater b h = refl
 
-pub index_same : (a b : EntryData) → index_cmp a b ≡ Equal → a ≡ b
-index_same a b h = entry_same a b (then_equal (key_cmp b.point b.ty a) (entry_cmp a b) h).1
+pub index_same : (a b : RowData) → row_cmp a b ≡ Equal → a ≡ b
+index_same a b h =
+    let by_key = then_equal (key_cmp b.point b.ty a) (nat_cmp a.env b.env) h in
+    let by_point = then_equal (nat_cmp a.point b.point) (nat_cmp a.ty b.ty) by_key.0 in
+    let point = nat_equal a.point b.point by_point.0 in
+    let env = nat_equal a.env b.env by_key.1 in
+    let ty = nat_equal a.ty b.ty by_point.1 in
+    λ i. record { point = point i; env = env i; ty = ty i }
 
-pub key_equal : (point : ℕ) (ty : TypeTree) (e : EntryData) → (key_cmp point ty e ≡ Equal) ↔ ((e.point ≡ point) × (e.ty ≡ ty))
+pub key_equal : (point : ℕ) (ty : ℕ) (e : RowData) → (key_cmp point ty e ≡ Equal) ↔ ((e.point ≡ point) × (e.ty ≡ ty))
 key_equal point ty e = (
-  λ h. let r = then_equal (nat_cmp e.point point) (type_cmp e.ty ty) h in (nat_equal e.point point r.0, type_same e.ty ty r.1),
-  λ both. both_equal (nat_cmp e.point point) (type_cmp e.ty ty) (sym (nat_cmp_is e.point point Equal both.0)) (ap (type_cmp e.ty) (sym both.1) ∙ tied_itself type_cmp_total e.ty),
+  λ h. let r = then_equal (nat_cmp e.point point) (nat_cmp e.ty ty) h in (nat_equal e.point point r.0, nat_equal e.ty ty r.1),
+  λ both. both_equal (nat_cmp e.point point) (nat_cmp e.ty ty) (sym (nat_cmp_is e.point point Equal both.0)) (ap (nat_cmp e.ty) (sym both.1) ∙ tied_itself nat_cmp_total e.ty),
 )
 
 pub get_or-map : {X Y : Type 0} (f : X → Y) (xs : List X) (k : ℕ) (d : X) → get_or (map f xs) k (f d) ≡ f (get_or xs k d)
@@ -49,134 +51,98 @@ length-map f [] = refl
 length-map f (x ∷ xs) = ap suc (length-map f xs)
 
 -- a list of references and what they refer to are in order together
-pub rows_sorted : (rows : List (Bor EntryData)) → IsInIndexOrder (map (λ (r : Bor EntryData). r.now) rows) → IsSortedBy (λ (a b : Bor EntryData). is_lt (index_cmp a.now b.now)) rows
+pub rows_sorted : (rows : List (Bor RowData)) → IsInRowOrder (map (λ (r : Bor RowData). r.now) rows) → IsSortedBy (λ (a b : Bor RowData). is_lt (row_cmp a.now b.now)) rows
 rows_sorted rows h k d low high =
-    let f : Bor EntryData → EntryData = λ r. r.now in
-    (λ i. is_lt (index_cmp (sym (get_or-map f rows (k + 1) d) i) (sym (get_or-map f rows k d) i))) ∙ h k d.now low (omega (arith, length-map f rows))
+    let f : Bor RowData → RowData = λ r. r.now in
+    (λ i. is_lt (row_cmp (sym (get_or-map f rows (k + 1) d) i) (sym (get_or-map f rows k d) i))) ∙ h k d.now low (omega (arith, length-map f rows))
 
-pub index_sorted : (rows : List (Bor EntryData)) → IsSortedBy (λ (a b : Bor EntryData). is_lt (index_cmp a.now b.now)) rows → IsInIndexOrder (map (λ (r : Bor EntryData). r.now) rows)
+pub index_sorted : (rows : List (Bor RowData)) → IsSortedBy (λ (a b : Bor RowData). is_lt (row_cmp a.now b.now)) rows → IsInRowOrder (map (λ (r : Bor RowData). r.now) rows)
 index_sorted [] h k d low high = absurd (omega arith)
 index_sorted (r ∷ rs) h k d low high =
-    let f : Bor EntryData → EntryData = λ x. x.now in
+    let f : Bor RowData → RowData = λ x. x.now in
     let long = length-map f (r ∷ rs) in
     let at : (n : ℕ) → n < length (r ∷ rs) → get_or (map f (r ∷ rs)) n d ≡ (get_or (r ∷ rs) n r).now = λ n lt. get_or_default (map f (r ∷ rs)) n d r.now (omega (arith, long)) ∙ get_or-map f (r ∷ rs) n r in
     let left = at (k + 1) (omega (arith, long)) in
     let right = at k (omega (arith, long)) in
-    (λ i. is_lt (index_cmp (left i) (right i))) ∙ h k r low (omega (arith, long))
+    (λ i. is_lt (row_cmp (left i) (right i))) ∙ h k r low (omega (arith, long))
 
-abbrev pair_cmp : ℕ × TypeTree → ℕ × TypeTree → Ordering
-pair_cmp a b = ordering_then (nat_cmp a.0 b.0) (type_cmp a.1 b.1)
+abbrev pair_cmp : ℕ × ℕ → ℕ × ℕ → Ordering
+pair_cmp a b = ordering_then (nat_cmp a.0 b.0) (nat_cmp a.1 b.1)
 
 pair_total : IsTotalOrder pair_cmp
-pair_total = then_total (on_total (λ (a : ℕ × TypeTree). a.0) nat_cmp_total) (on_total (λ (a : ℕ × TypeTree). a.1) type_cmp_total)
+pair_total = then_total (on_total (λ (a : ℕ × ℕ). a.0) nat_cmp_total) (on_total (λ (a : ℕ × ℕ). a.1) nat_cmp_total)
 
-module _ (rows : List (Bor EntryData)) (up : IsInIndexOrder (map (λ (r : Bor EntryData). r.now) rows)) where
-  pub points_up : (t : ℕ) → IsNonDecreasingBy (λ (r : Bor EntryData). ordering_index (nat_cmp r.now.point t)) rows
-  points_up t = searchable_from_sorted nat_cmp_total (λ (r : Bor EntryData). r.now.point) rows t (λ k d low high.
+module _ (rows : List (Bor RowData)) (up : IsInRowOrder (map (λ (r : Bor RowData). r.now) rows)) where
+  pub points_up : (t : ℕ) → IsNonDecreasingBy (λ (r : Bor RowData). ordering_index (nat_cmp r.now.point t)) rows
+  points_up t = searchable_from_sorted nat_cmp_total (λ (r : Bor RowData). r.now.point) rows t (λ k d low high.
       let a = (get_or rows (k + 1) d).now in
       let b = (get_or rows k d).now in
-      then_not_less (nat_cmp a.point b.point) (type_cmp a.ty b.ty) (then_not_less (key_cmp b.point b.ty a) (entry_cmp a b) (rows_sorted rows up k d low high)))
+      then_not_less (nat_cmp a.point b.point) (nat_cmp a.ty b.ty) (then_not_less (key_cmp b.point b.ty a) (nat_cmp a.env b.env) (rows_sorted rows up k d low high)))
 
-  pub keys_up : (t : ℕ) (ty : TypeTree) → IsNonDecreasingBy (λ (r : Bor EntryData). ordering_index (key_cmp t ty r.now)) rows
-  keys_up t ty = searchable_from_sorted pair_total (λ (r : Bor EntryData). (r.now.point, r.now.ty)) rows (t, ty) (λ k d low high.
+  pub keys_up : (t : ℕ) (ty : ℕ) → IsNonDecreasingBy (λ (r : Bor RowData). ordering_index (key_cmp t ty r.now)) rows
+  keys_up t ty = searchable_from_sorted pair_total (λ (r : Bor RowData). (r.now.point, r.now.ty)) rows (t, ty) (λ k d low high.
       let a = (get_or rows (k + 1) d).now in
       let b = (get_or rows k d).now in
-      then_not_less (key_cmp b.point b.ty a) (entry_cmp a b) (rows_sorted rows up k d low high))
+      then_not_less (key_cmp b.point b.ty a) (nat_cmp a.env b.env) (rows_sorted rows up k d low high))
 
-  entries_up : (x : EntryData) → IsNonDecreasingBy (λ (r : Bor EntryData). ordering_index (index_cmp r.now x)) rows
-  entries_up x = searchable_from_sorted index_total (λ (r : Bor EntryData). r.now) rows x (rows_sorted rows up)
+  entries_up : (x : RowData) → IsNonDecreasingBy (λ (r : Bor RowData). ordering_index (row_cmp r.now x)) rows
+  entries_up x = searchable_from_sorted index_total (λ (r : Bor RowData). r.now) rows x (rows_sorted rows up)
 
-  pub search_found : (x : EntryData) (r : Result ℕ ℕ) → IsSearchInRange r (length rows) → IsBinarySearchResult (λ (y : Bor EntryData). index_cmp y.now x) rows r → is_ok r ≡ true → Contains (map (λ (r : Bor EntryData). r.now) rows) x
+  pub search_found : (x : RowData) (r : Result ℕ ℕ) → IsSearchInRange r (length rows) → IsBinarySearchResult (λ (y : Bor RowData). row_cmp y.now x) rows r → is_ok r ≡ true → Contains (map (λ (r : Bor RowData). r.now) rows) x
   search_found x (Ok i) within there h = go rows within there
     where
-      go : (xs : List (Bor EntryData)) → i < length xs → ((d : Bor EntryData) → index_cmp (get_or xs i d).now x ≡ Equal) → Contains (map (λ (r : Bor EntryData). r.now) xs) x
+      go : (xs : List (Bor RowData)) → i < length xs → ((d : Bor RowData) → row_cmp (get_or xs i d).now x ≡ Equal) → Contains (map (λ (r : Bor RowData). r.now) xs) x
       go [] lt at = absurd (omega arith)
-      go (r ∷ rs) lt at = subst (λ e. Contains (map (λ (r : Bor EntryData). r.now) (r ∷ rs)) e) (index_same (get_or (r ∷ rs) i r).now x (at r))
-          (into_map (λ (r : Bor EntryData). r.now) (r ∷ rs) (get_or (r ∷ rs) i r) (Contains-get_or (r ∷ rs) i r lt))
+      go (r ∷ rs) lt at = subst (λ e. Contains (map (λ (r : Bor RowData). r.now) (r ∷ rs)) e) (index_same (get_or (r ∷ rs) i r).now x (at r))
+          (into_map (λ (r : Bor RowData). r.now) (r ∷ rs) (get_or (r ∷ rs) i r) (Contains-get_or (r ∷ rs) i r lt))
   search_found x (Err i) within there h = absurd (cc)
 
-  pub found_search : (x : EntryData) (r : Result ℕ ℕ) → IsBinarySearchResult (λ (y : Bor EntryData). index_cmp y.now x) rows r → Contains (map (λ (r : Bor EntryData). r.now) rows) x → is_ok r ≡ true
+  pub found_search : (x : RowData) (r : Result ℕ ℕ) → IsBinarySearchResult (λ (y : Bor RowData). row_cmp y.now x) rows r → Contains (map (λ (r : Bor RowData). r.now) rows) x → is_ok r ≡ true
   found_search x (Ok i) there c = refl
   found_search x (Err i) there c =
       let sides = there (entries_up x) in
-      let s = from_map (λ (r : Bor EntryData). r.now) rows x c in
+      let s = from_map (λ (r : Bor RowData). r.now) rows x c in
       let k = s.there.0 in
       let lt = s.there.1 in
       let read : get_or rows k s.item ≡ s.item = s.there.2 in
-      let tied : index_cmp (get_or rows k s.item).now x ≡ Equal = (λ i. index_cmp (read i).now (s.is i)) ∙ tied_itself index_total s.item.now in
+      let tied : row_cmp (get_or rows k s.item).now x ≡ Equal = (λ i. row_cmp (read i).now (s.is i)) ∙ tied_itself index_total s.item.now in
       elim (cases_lt k i) [
-        | inl low ↦ let e : index_cmp (get_or rows k s.item).now x ≡ Less = sides.0 k s.item (omega arith) low in absurd (cc)
-        | inr high ↦ let e : index_cmp (get_or rows k s.item).now x ≡ Greater = sides.1 k s.item high lt in absurd (cc)
+        | inl low ↦ let e : row_cmp (get_or rows k s.item).now x ≡ Less = sides.0 k s.item (omega arith) low in absurd (cc)
+        | inr high ↦ let e : row_cmp (get_or rows k s.item).now x ≡ Greater = sides.1 k s.item high lt in absurd (cc)
       ]
 
-  pub key_found : (t : ℕ) (ty : TypeTree) (r : Result ℕ ℕ) → IsSearchInRange r (length rows) → IsBinarySearchResult (λ (y : Bor EntryData). key_cmp t ty y.now) rows r → is_ok r ≡ true
-      → (x : EntryData) × (Contains (map (λ (r : Bor EntryData). r.now) rows) x × ((x.point ≡ t) × (x.ty ≡ ty)))
+  pub key_found : (t : ℕ) (ty : ℕ) (r : Result ℕ ℕ) → IsSearchInRange r (length rows) → IsBinarySearchResult (λ (y : Bor RowData). key_cmp t ty y.now) rows r → is_ok r ≡ true
+      → (x : RowData) × (Contains (map (λ (r : Bor RowData). r.now) rows) x × ((x.point ≡ t) × (x.ty ≡ ty)))
   key_found t ty (Ok i) within there h = go rows within there
     where
-      go : (xs : List (Bor EntryData)) → i < length xs → ((d : Bor EntryData) → key_cmp t ty (get_or xs i d).now ≡ Equal) → (x : EntryData) × (Contains (map (λ (r : Bor EntryData). r.now) xs) x × ((x.point ≡ t) × (x.ty ≡ ty)))
+      go : (xs : List (Bor RowData)) → i < length xs → ((d : Bor RowData) → key_cmp t ty (get_or xs i d).now ≡ Equal) → (x : RowData) × (Contains (map (λ (r : Bor RowData). r.now) xs) x × ((x.point ≡ t) × (x.ty ≡ ty)))
       go [] lt at = absurd (omega arith)
       go (r ∷ rs) lt at =
           let x = get_or (r ∷ rs) i r in
-          (x.now, (into_map (λ (r : Bor EntryData). r.now) (r ∷ rs) x (Contains-get_or (r ∷ rs) i r lt), (key_equal t ty x.now).0 (at r)))
+          (x.now, (into_map (λ (r : Bor RowData). r.now) (r ∷ rs) x (Contains-get_or (r ∷ rs) i r lt), (key_equal t ty x.now).0 (at r)))
   key_found t ty (Err i) within there h = absurd (cc)
 
-  pub found_key : (t : ℕ) (ty : TypeTree) (r : Result ℕ ℕ) → IsBinarySearchResult (λ (y : Bor EntryData). key_cmp t ty y.now) rows r → (x : EntryData) → Contains (map (λ (r : Bor EntryData). r.now) rows) x → (x.point ≡ t) × (x.ty ≡ ty) → is_ok r ≡ true
+  pub found_key : (t : ℕ) (ty : ℕ) (r : Result ℕ ℕ) → IsBinarySearchResult (λ (y : Bor RowData). key_cmp t ty y.now) rows r → (x : RowData) → Contains (map (λ (r : Bor RowData). r.now) rows) x → (x.point ≡ t) × (x.ty ≡ ty) → is_ok r ≡ true
   found_key t ty (Ok i) there x c at = refl
   found_key t ty (Err i) there x c at =
       let sides = there (keys_up t ty) in
-      let s = from_map (λ (r : Bor EntryData). r.now) rows x c in
+      let s = from_map (λ (r : Bor RowData). r.now) rows x c in
       let k = s.there.0 in
       let lt = s.there.1 in
       let read : get_or rows k s.item ≡ s.item = s.there.2 in
-      let tied : key_cmp t ty (get_or rows k s.item).now ≡ Equal = ap (λ (r : Bor EntryData). key_cmp t ty r.now) read ∙ (ap (key_cmp t ty) (sym s.is) ∙ (key_equal t ty x).1 at) in
+      let tied : key_cmp t ty (get_or rows k s.item).now ≡ Equal = ap (λ (r : Bor RowData). key_cmp t ty r.now) read ∙ (ap (key_cmp t ty) (sym s.is) ∙ (key_equal t ty x).1 at) in
       elim (cases_lt k i) [
         | inl low ↦ let e : key_cmp t ty (get_or rows k s.item).now ≡ Less = sides.0 k s.item (omega arith) low in absurd (cc)
         | inr high ↦ let e : key_cmp t ty (get_or rows k s.item).now ≡ Greater = sides.1 k s.item high lt in absurd (cc)
       ]
 
 -- a part that a fact picks out, behind references
-pub picked : (xs ys : List (Bor EntryData)) (P : Bor EntryData → Type 0) (Q : EntryData → Type 0) → ((r : Bor EntryData) → Contains ys r ↔ (Contains xs r × P r)) → ((r : Bor EntryData) → P r ↔ Q r.now)
-    → (e : EntryData) → Contains (map (λ (r : Bor EntryData). r.now) ys) e ↔ (Contains (map (λ (r : Bor EntryData). r.now) xs) e × Q e)
+pub picked : (xs ys : List (Bor RowData)) (P : Bor RowData → Type 0) (Q : RowData → Type 0) → ((r : Bor RowData) → Contains ys r ↔ (Contains xs r × P r)) → ((r : Bor RowData) → P r ↔ Q r.now)
+    → (e : RowData) → Contains (map (λ (r : Bor RowData). r.now) ys) e ↔ (Contains (map (λ (r : Bor RowData). r.now) xs) e × Q e)
 picked xs ys P Q part means e = (
-  λ c. let s = from_map (λ (r : Bor EntryData). r.now) ys e c in
+  λ c. let s = from_map (λ (r : Bor RowData). r.now) ys e c in
       let both = (part s.item).0 s.there in
-      (subst (λ x. Contains (map (λ (r : Bor EntryData). r.now) xs) x) (sym s.is) (into_map (λ (r : Bor EntryData). r.now) xs s.item both.0), subst Q (sym s.is) ((means s.item).0 both.1)),
-  λ both. let s = from_map (λ (r : Bor EntryData). r.now) xs e both.0 in
-      subst (λ x. Contains (map (λ (r : Bor EntryData). r.now) ys) x) (sym s.is) (into_map (λ (r : Bor EntryData). r.now) ys s.item ((part s.item).1 (s.there, (means s.item).1 (subst Q s.is both.1)))),
+      (subst (λ x. Contains (map (λ (r : Bor RowData). r.now) xs) x) (sym s.is) (into_map (λ (r : Bor RowData). r.now) xs s.item both.0), subst Q (sym s.is) ((means s.item).0 both.1)),
+  λ both. let s = from_map (λ (r : Bor RowData). r.now) xs e both.0 in
+      subst (λ x. Contains (map (λ (r : Bor RowData). r.now) ys) x) (sym s.is) (into_map (λ (r : Bor RowData). r.now) ys s.item ((part s.item).1 (s.there, (means s.item).1 (subst Q s.is both.1)))),
 )
-
-push_map : (rows : List (Bor EntryData)) (r : Bor EntryData) → map (λ (r : Bor EntryData). r.now) (rows ++ r ∷ []) ≡ map (λ (r : Bor EntryData). r.now) rows ++ r.now ∷ []
-push_map [] r = refl
-push_map (x ∷ rows) r = ap (λ es. x.now ∷ es) (push_map rows r)
-
--- a row more for an entry in shape
-pub rows_more : (p : ProblemData) (table : List EntryData) (rows news : List (Bor EntryData)) (r : Bor EntryData) (k : ℕ) (x : EntryData) → k < length table → x ≡ get_or table k x → news ≡ rows ++ r ∷ [] → r.now ≡ x → InShape p x
-    → ((e : EntryData) → Contains (map (λ (r : Bor EntryData). r.now) rows) e ↔ (Contains (take k table) e × InShape p e))
-    → (e : EntryData) → Contains (map (λ (r : Bor EntryData). r.now) news) e ↔ (Contains (take (k + 1) table) e × InShape p e)
-rows_more p table rows news r k x lt read made own shape before e =
-    let f : Bor EntryData → EntryData = λ r. r.now in
-    let is : map f news ≡ map f rows ++ x ∷ [] = ap (map f) made ∙ (push_map rows r ∙ ap (λ y. map f rows ++ y ∷ []) own) in
-    let pushed = in_pushed (map f rows) x e in
-    let member = next_member table k x e lt read in (
-      λ c. elim (pushed.0 (subst (λ es. Contains es e) is c)) [
-        | inl old ↦ let b = (before e).0 old in (member.1 (inl b.0), b.1)
-        | inr same ↦ (member.1 (inr same), subst (λ y. InShape p y) (sym same) shape)
-      ],
-      λ both. subst (λ es. Contains es e) (sym is) (pushed.1 (elim (member.0 both.0) [
-        | inl t ↦ inl ((before e).1 (t, both.1))
-        | inr same ↦ inr same
-      ])),
-    )
-
--- none for another
-pub rows_same : (p : ProblemData) (table : List EntryData) (rows : List (Bor EntryData)) (k : ℕ) (x : EntryData) → k < length table → x ≡ get_or table k x → (InShape p x → ⊥)
-    → ((e : EntryData) → Contains (map (λ (r : Bor EntryData). r.now) rows) e ↔ (Contains (take k table) e × InShape p e))
-    → (e : EntryData) → Contains (map (λ (r : Bor EntryData). r.now) rows) e ↔ (Contains (take (k + 1) table) e × InShape p e)
-rows_same p table rows k x lt read shapeless before e =
-    let member = next_member table k x e lt read in (
-      λ c. let b = (before e).0 c in (member.1 (inl b.0), b.1),
-      λ both. elim (member.0 both.0) [
-        | inl t ↦ (before e).1 (t, both.1)
-        | inr same ↦ absurd (shapeless (subst (λ y. InShape p y) same both.1))
-      ],
-    )

@@ -16,13 +16,11 @@ use Rattle.std.proofs.Math.ListN.{length-set, length-replicate}
 use Rattle.std.proofs.lemmas.List.{get_or-set_same}
 use Rattle.std.proofs.lemmas.List.Elements.{Contains-get_or, Contains-append_cases}
 use Rattle.hs_table_laws.proofs.Members.{from_map}
-use Rattle.hs_table_plain.specs.Enumeration.{through, opening, head_types, retyped, child_type, child_types, types_in, terminal_types, body_type, all_at}
-use Rattle.hs_checker.proofs.TypeLemmas.{body_says}
+use Rattle.hs_table_plain.specs.Enumeration.{through, opening, head_types, retyped, child_type, child_types, types_in, terminal_types, all_at}
 use Rattle.hs_table_plain.proofs.Members.{from_flat_map, into_flat_map, next_member, in_pushed}
 use Rattle.hs_table_plain.proofs.ChoiceLemmas.{choose_all, through_arrows, split_from, at_place, from_all}
 use Rattle.hs_table_plain.proofs.HeadLemmas.{from_heads, into_heads, from_children}
 use Rattle.hs_table_plain.proofs.ConclusionLemmas.{all_at_exact}
-use Rattle.hs_table_plain.proofs.TableLemmas.{below_or_last}
 use Rattle.hs_checker.specs.Slots.{HasTypeAt, HasTypesAt, FitsSets, AreBare, AreInShape, IsConclusion}
 
 module _ (p : ProblemData) (E : List EntryData) (shapes : AreInShape p E) where
@@ -124,23 +122,6 @@ module _ (p : ProblemData) (E : List EntryData) (shapes : AreInShape p E) where
     all_exact : (e : EntryData) → Contains (all_at p E point rule (params_of p rule) head args) e ↔ ((e.point ≡ point) × Follows p E e)
     all_exact e = all_at_exact p E point rule head args shapes lt (part (λ d. d.rule) rule rule_is) (part (λ d. d.head) head head_is) (part (λ d. d.args) args args_is) within e
 
-    -- what comes of a type of the head follows, and what follows comes of one that fits
-    pub comes_follows : (params : ℕ) (ty : TypeTree) (e : EntryData) → params ≡ params_of p rule → Contains (head_types p E rule head) ty → Contains (through E args ty (opening point params head ty ∷ [])) e → Follows p E e
-    comes_follows params ty e are c k =
-        ((all_exact e).0 (into_flat_map (λ ty. through E args ty (opening point (params_of p rule) head ty ∷ [])) (head_types p E rule head) ty e c
-        (subst (λ (m : ℕ). Contains (through E args ty (opening point m head ty ∷ [])) e) are k))).1
-
-    pub follows_comes : (params : ℕ) (e : EntryData) → params ≡ params_of p rule → e.point ≡ point → Follows p E e
-        → (ty : TypeTree) × ((Contains (head_types p E rule head) ty × FitsSets E args ty) × Contains (through E args ty (opening point params head ty ∷ [])) e)
-    follows_comes params e are at_point follows =
-        let s = from_flat_map (λ ty. through E args ty (opening point (params_of p rule) head ty ∷ [])) (head_types p E rule head) e ((all_exact e).1 (at_point, follows)) in (
-          s.item,
-          (
-            (s.there, through_fits args s.item (opening point (params_of p rule) head s.item ∷ []) e s.gives),
-            subst (λ (m : ℕ). Contains (through E args s.item (opening point m head s.item ∷ [])) e) (sym are) s.gives,
-          ),
-        )
-
     pub conclusion_exact : (params : ℕ) (types : List TypeTree) → params ≡ params_of p rule → ((t : TypeTree) → Contains types t ↔ IsInstance p E point t)
         → (e : EntryData) → IsConclusion E point params head args types e ↔ ((e.point ≡ point) × Follows p E e)
     conclusion_exact params types params_are types_are e =
@@ -207,35 +188,6 @@ unfit_child E us qs q place u lt read never h =
     let within : place < length sets = omega (arith, long) in
     let has = fits_set E us (set sets place (r ∷ [])) (state q) place u read (omega (arith, length-set sets place (r ∷ []), within)) h in
     never (subst (λ s. HasTypesAt E u s) (get_or-set_same sets place (r ∷ []) [] within) has r (here r []))
-
--- the sets of the first n arguments have entries
-abbrev pub SetsHave : List EntryData → List ℕ → Env → ℕ → Type 0
-SetsHave E us ss n = (k u : ℕ) → k < n → slice_get us k ≡ Some u → HasTypesAt E u (get_or ss k [])
-
-pub sets_fit : (E : List EntryData) (us : List ℕ) (ss : Env) (q : ℕ) → length us ≤ length ss → SetsHave E us ss (length us) → FitsSets E us (arrows ss (state q))
-sets_fit E [] ss q le h = tt
-sets_fit E (u ∷ us) [] q le h = absurd (omega arith)
-sets_fit E (u ∷ us) (s ∷ ss) q le h =
-    (fits_arrow E (u ∷ us) u s (arrows ss (state q)) (arrow s (arrows ss (state q))) refl refl).0
-    (h 0 u (omega arith) refl, sets_fit E us ss q (omega arith) (λ k v lt at. h (suc k) v (omega arith) at))
-
--- so of one argument more
-pub sets_more : (E : List EntryData) (us : List ℕ) (ss : Env) (k : ℕ) → k < length us → SetsHave E us ss k → HasTypesAt E (get_or us k 0) (get_or ss k []) → SetsHave E us ss (k + 1)
-sets_more E us ss k lt before own n u low at = elim (below_or_last n k low) [
-  | inl below ↦ before n u below at
-  | inr same ↦
-      let is : get_or us k 0 ≡ u = same_Some (get_or us k 0) u (sym (slice_get-get_or us k 0 lt) ∙ (ap (λ m. slice_get us m) (sym same) ∙ at)) in
-      subst (λ w. HasTypesAt E w (get_or ss n [])) is (subst (λ m. HasTypesAt E (get_or us k 0) (get_or ss m [])) (sym same) own)
-]
-
-pub sets_too_few : (E : List EntryData) (us : List ℕ) (ss : Env) (q : ℕ) → length ss < length us → FitsSets E us (arrows ss (state q)) → ⊥
-sets_too_few E [] ss q lt h = absurd (omega arith)
-sets_too_few E (u ∷ us) [] q lt h = h
-sets_too_few E (u ∷ us) (s ∷ ss) q lt h = sets_too_few E us ss q (omega arith) ((fits_arrow E (u ∷ us) u s (arrows ss (state q)) (arrow s (arrows ss (state q))) refl refl).1 h).1
-
--- what an entry at the body says, where its sets have entries
-pub body_fits : (E : List EntryData) (args : List ℕ) (b : ℕ) (x : EntryData) (q : ℕ) (t : TypeTree) → x.point ≡ b → x.ty ≡ state q → FitsSets E args (arrows x.env (state q)) → (t ≡ arrows x.env (state q)) ↔ (Contains (body_type b x) t × FitsSets E args t)
-body_fits E args b x q t point is fits = let says = body_says b x q t point is in (λ e. (says.0 e, subst (λ z. FitsSets E args z) (sym e) fits), λ both. says.1 both.0)
 
 -- over arguments without entries no child's type fits
 pub bare_unfit : (E : List EntryData) (us to : List ℕ) (q : ℕ) (t : TypeTree) → AreBare E us → length to ≤ length us → Contains (child_types to q (length to)) t → FitsSets E us t → ⊥

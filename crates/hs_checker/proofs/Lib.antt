@@ -1,14 +1,19 @@
 pub mod Between
 pub mod InertLemmas
-pub mod OpeningLemmas
 pub mod Ordered
 pub mod IndexLemmas
+pub mod NumberLemmas
+pub mod UnionSteps
+pub mod RowLemmas
+pub mod TerminalLemmas
+pub mod TableLemmas
 pub mod StartLemmas
 pub mod AnyLemmas
 pub mod TypeLemmas
 pub mod EnvLemmas
 pub mod InstanceLemmas
-pub mod BodyLemmas
 pub mod ShapeLemmas
 pub mod CountLemmas
+pub mod FlawLemmas
+pub mod MissingLemmas
 mod Once

@@ -1,5 +1,5 @@
 -- Sorted lists from which repeats are dropped.
-use Rattle.std.proofs.Common.{◌≡◌, refl, sym, ◌∙◌, ap, subst, ◌+◌, Bool, true, false, cond, get_or, map, List, [], ◌∷◌, ◌++◌, append_assoc, arith, Contains, ◌↔◌}
+use Rattle.std.proofs.Common.{◌≡◌, refl, sym, ◌∙◌, ap, subst, ◌+◌, Bool, true, false, cond, get_or, map, List, [], ◌∷◌, arith, Contains, ◌↔◌}
 use Rattle.std.specs.List.{dedup, dedup_from}
 use Rattle.std.specs.Cmp.{IsTotalOrder}
 use Rattle.std.specs.Ordering.{is_eq, is_lt, ordering_index, ordering_reverse}
@@ -33,9 +33,6 @@ pub index_tied : (o : Ordering) → ordering_index o ≡ 1 → o ≡ Equal
 index_tied Less e = absurd (omega (arith, e))
 index_tied Equal e = refl
 index_tied Greater e = absurd (omega (arith, e))
-
-pub one_given : {X : Type 0} (ys rest news all : List X) (x : X) → rest ≡ x ∷ news → ys ++ rest ≡ all → (ys ++ x ∷ []) ++ news ≡ all
-one_given ys rest news all x step whole = append_assoc ys (x ∷ []) news ∙ (sym (ap (λ xs. ys ++ xs) step) ∙ whole)
 
 -- what is kept once of a list is that of its image
 module _ {X Y : Type 0} (f : X → Y) (E : Y → Y → Bool) where

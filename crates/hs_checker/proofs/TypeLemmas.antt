@@ -1,13 +1,12 @@
 -- The types of a head, as far as they are gathered.
-use Rattle.std.proofs.Common.{◌≡◌, refl, sym, ◌∙◌, ap, subst, ℕ, suc, ◌+◌, Bool, true, ◌&&◌, nat_eq, replicate, Option, Some, None, List, [], ◌∷◌, ◌++◌, length, map, filter, arith, Contains, inl, inr, ◌⊎◌, ◌↔◌, Bor}
+use Rattle.std.proofs.Common.{◌≡◌, refl, sym, ◌∙◌, ap, subst, ℕ, suc, ◌+◌, Bool, true, ◌&&◌, nat_eq, replicate, Option, Some, None, List, [], ◌∷◌, ◌++◌, length, map, filter, arith, Contains, inl, inr, ◌⊎◌, ◌↔◌}
 use Rattle.std.specs.List.{flat_map, list_any}
-use Rattle.std.specs.Bool.{◌==◌}
 use Rattle.std.proofs.lemmas.Bool.{eqb-true, eq-eqb, and_parts, and_from}
 use Rattle.std.proofs.lemmas.List.Elements.{Contains-append_left, Contains-append_right, Contains-append_cases}
 use Rattle.hs_scheme.specs.declared.flow.FlowPair.{FlowPair}
 use Rattle.hs_scheme.specs.acceptance.Automaton.{next}
 use Rattle.hs_scheme.specs.Problem.{ProblemData}
-use Rattle.hs_scheme.proofs.Lists.{none_in, here, only, filter_keeps, filter_has, filter_passes}
+use Rattle.hs_scheme.proofs.Lists.{here, only, filter_keeps, filter_has, filter_passes}
 use Rattle.hs_table.specs.Types.{TypeTree, state, arrows}
 use Rattle.hs_table.specs.Entries.{EntryData}
 use Rattle.hs_table.specs.Follows.{rank_of}
@@ -41,31 +40,17 @@ body_says b x q t point is =
       λ c. (from_cond (nat_eq x.point b && is_state x.ty) (arrows x.env x.ty) t c).1 ∙ ap (arrows x.env) is,
     )
 
-pub body_types : (E : List EntryData) (rows : List (Bor EntryData)) (b : ℕ) → ((e : EntryData) → Contains (map (λ (r : Bor EntryData). r.now) rows) e ↔ (Contains E e × (e.point ≡ b)))
-    → (t : TypeTree) → AnyOf (λ (r : Bor EntryData) (t : TypeTree). Contains (body_type b r.now) t) rows t ↔ Contains (flat_map (body_type b) E) t
-body_types E rows b exact t = (
-  λ a. into_flat_map (body_type b) E a.item.now t ((exact a.item.now).0 (into_map (λ (r : Bor EntryData). r.now) rows a.item a.there)).0 a.holds,
+pub body_types : {X : Type 0} (value : X → EntryData) (E : List EntryData) (rows : List X) (b : ℕ) → ((e : EntryData) → Contains (map value rows) e ↔ (Contains E e × (e.point ≡ b)))
+    → (t : TypeTree) → AnyOf (λ (r : X) (t : TypeTree). Contains (body_type b (value r)) t) rows t ↔ Contains (flat_map (body_type b) E) t
+body_types {X} value E rows b exact t = (
+  λ a. into_flat_map (body_type b) E (value a.item) t ((exact (value a.item)).0 (into_map value rows a.item a.there)).0 a.holds,
   λ c.
       let s = from_flat_map (body_type b) E t c in
       let test = from_cond (nat_eq s.item.point b && is_state s.item.ty) (arrows s.item.env s.item.ty) t s.gives in
       let point = eqb-true s.item.point b (and_parts (nat_eq s.item.point b) (is_state s.item.ty) test.0).0 in
-      let row = from_map (λ (r : Bor EntryData). r.now) rows s.item ((exact s.item).1 (s.there, point)) in
+      let row = from_map value rows s.item ((exact s.item).1 (s.there, point)) in
       record { item = row.item; there = row.there; holds = subst (λ (e : EntryData). Contains (body_type b e) t) row.is s.gives },
 )
-
-pub types_at : (E : List EntryData) (rows : List (Bor EntryData)) (u : ℕ) → ((e : EntryData) → Contains (map (λ (r : Bor EntryData). r.now) rows) e ↔ (Contains E e × (e.point ≡ u)))
-    → (t : TypeTree) → AnyOf (λ (r : Bor EntryData) (t : TypeTree). t ≡ r.now.ty) rows t ↔ HasTypeAt E u t
-types_at E rows u exact t = (
-  λ a. let both = (exact a.item.now).0 (into_map (λ (r : Bor EntryData). r.now) rows a.item a.there) in record { entry = a.item.now; there = both.0; at = both.1; typed = sym a.holds },
-  λ h. let row = from_map (λ (r : Bor EntryData). r.now) rows h.entry ((exact h.entry).1 (h.there, h.at)) in
-      record { item = row.item; there = row.there; holds = sym h.typed ∙ ap (λ (e : EntryData). e.ty) row.is },
-)
-
--- where no row stands, nothing has a type
-pub nothing_at : (E : List EntryData) (rows : List (Bor EntryData)) (u : ℕ) → ((e : EntryData) → Contains (map (λ (r : Bor EntryData). r.now) rows) e ↔ (Contains E e × (e.point ≡ u))) → true ≡ (length rows == 0)
-    → (a : TypeTree) → HasTypeAt E u a → ⊥
-nothing_at E [] u exact none a h = none_in h.entry ((exact h.entry).1 (h.there, h.at))
-nothing_at E (r ∷ rows) u exact none a h = let f : length (r ∷ rows) ≡ 0 = eqb-true (length (r ∷ rows)) 0 (sym none) in absurd (omega (arith, f))
 
 pub flow_types : (E : List EntryData) (pairs : List FlowPair) (rule x : ℕ) (t : TypeTree)
     → AnyOf (λ (f : FlowPair) (t : TypeTree). HasTypeAt E f.point t) (filter (λ f. nat_eq f.rule rule && nat_eq f.param x) pairs) t ↔ Contains (flat_map (flow_type pairs rule x) E) t
@@ -121,13 +106,6 @@ both_parts A B C F h = (
 
 pub same_part : (A B F : Type 0) → A ↔ B → (A × F) ↔ (B × F)
 same_part A B F h = (λ x. (h.0 x.0, x.1), λ y. (h.1 y.0, y.1))
-
--- some give a type that has a part
-pub any_part : {X : Type 0} (P : X → TypeTree → Type 0) (F : TypeTree → Type 0) (xs : List X) (t : TypeTree) → AnyOf (λ x y. P x y × F y) xs t ↔ (AnyOf P xs t × F t)
-any_part P F xs t = (
-  λ a. (record { item = a.item; there = a.there; holds = a.holds.0 }, a.holds.1),
-  λ both. record { item = both.0.item; there = both.0.there; holds = (both.0.holds, both.1) },
-)
 
 -- nothing is added where there is nothing to add
 pub or_nothing : (A B : Type 0) → (B → ⊥) → A ↔ (A ⊎ B)

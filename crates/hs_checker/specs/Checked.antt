@@ -42,3 +42,11 @@ IsFault p T (HeadOpen point rule given) = HoldsAll p Flow × Lacks p (OfHead (re
 IsFault p T (Missing e) = HasClosedFlow p × IsMissing p T e
 IsFault p T HasStart = HasClosedFlow p × (IsClosedTable p T × HasStartEntry p T)
 IsFault p T OutOfMemory = Unit {0}
+
+-- so before the start entry is looked for
+abbrev pub IsFlaw : ProblemData → List EntryData → CheckFault → Type 0
+IsFlaw p T (FlowOpen rule param point) = IsFault p T (FlowOpen rule param point)
+IsFlaw p T (HeadOpen point rule given) = IsFault p T (HeadOpen point rule given)
+IsFlaw p T (Missing e) = IsFault p T (Missing e)
+IsFlaw p T HasStart = ⊥
+IsFlaw p T OutOfMemory = Unit {0}

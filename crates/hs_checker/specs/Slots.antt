@@ -2,15 +2,13 @@
 --     HasTypeAt E u a     an entry at the point has the type
 --     FitsSets E us ty    each type of the sets has an entry at its argument
 --     AreBare E us        no argument has an entry
---     Says E us e         the entry's type is a state, and the type that it says of its nonterminal fits
 --     IsCountAt p E u n   n is the number of instances at the point
-use Rattle.std.specs.Prelude.{◌≡◌, ◌≢◌, ◌↔◌, ℕ, ◌<◌, Bool, true, List, [], ◌∷◌, length, slice_get, Some, None, Contains, AllPairs, nat_eq, cond}
+use Rattle.std.specs.Prelude.{◌≡◌, ◌≢◌, ◌↔◌, ℕ, ◌<◌, Bool, true, List, [], ◌∷◌, length, slice_get, Some, None, Contains, AllPairs}
 use Rattle.hs_scheme.specs.Tree.{node, none, more, children}
-use Rattle.hs_table.specs.Types.{TypeTree, state, arrows}
+use Rattle.hs_table.specs.Types.{TypeTree}
 use Rattle.hs_table.specs.Tables.{IsInstance}
 use Rattle.hs_table.specs.Follows.{rank_of, HasMove}
 use Rattle.hs_scheme.specs.declared.term.Head.{Head}
-use Rattle.hs_scheme.specs.declared.term.Head.TheVariants.{Var, Nt, Tm}
 use Rattle.hs_scheme.specs.Problem.{ProblemData}
 use Rattle.hs_table.specs.Entries.{EntryData, InShape}
 use Rattle.hs_table_plain.specs.Enumeration.{through, opening}
@@ -40,17 +38,6 @@ IsComplete p a = (q : ℕ) → q < p.sorted.automaton.states → HasMove p.sorte
 -- so at each terminal that is marked
 abbrev pub AreComplete : ProblemData → List Bool → Type 0
 AreComplete p marks = (a : ℕ) → slice_get marks a ≡ Some true → IsComplete p a
-
--- what a head of this type asks of the parameter
-abbrev pub asked : Head → TypeTree → ℕ → List TypeTree
-asked (Var x) ty j = cond (nat_eq x j) (ty ∷ []) []
-asked (Nt f) ty j = []
-asked (Tm a) ty j = []
-
-pub record Says (E : List EntryData) (us : List ℕ) (e : EntryData) : Type 0 where
-  pub q : ℕ
-  pub is_state : e.ty ≡ state q
-  pub fits : FitsSets E us (arrows e.env (state q))
 
 abbrev pub AreInShape : ProblemData → List EntryData → Type 0
 AreInShape p E = (e : EntryData) → Contains E e → InShape p e

@@ -1,6 +1,6 @@
 //! The check of a table.
 
-ghost use Rattle.std.specs.Prelude.{◌≡◌, ◌↔◌, ◌<◌, [], length, Contains, IsTrue, IfOk, IfErr, OnOk};
+ghost use Rattle.std.specs.Prelude.{◌≡◌, ◌↔◌, ◌<◌, [], length, map, All, Contains, IsTrue, IfOk, IfErr, OnOk};
 ghost use Rattle.hs_scheme.specs.acceptance.Run.{Accepts};
 ghost use Rattle.hs_table.specs.Types.{state};
 ghost use Rattle.hs_table.specs.Entries.{EntryData, InShape};
@@ -8,19 +8,22 @@ ghost use Rattle.hs_table.specs.Follows.{Follows};
 ghost use Rattle.hs_table.specs.Tables.{IsClosedTable, HasStart};
 ghost use Rattle.hs_verdict.specs.Premises.{HasClosedFlow};
 ghost use Rattle.hs_checker.specs.Slots.{AreInShape, IsCountAt, AreComplete};
-ghost use Rattle.hs_checker.specs.Checked.{IsCount, IsFault, IsGap, fault_of};
+ghost use Rattle.hs_checker.specs.Checked.{IsCount, IsFault, IsGap, IsFlaw, fault_of};
+ghost use Rattle.hs_types.specs.Interned.{type_of_id, env_of_id, IsRow, entry_of, Grows};
 ghost use Rattle.hs_checker.specs.Inert.{AreInert};
+ghost use Rattle.hs_checker.specs.Numbers.{entries_of, AreRows};
 
-use crate::bodies::count_at_rule;
 use crate::fault::CheckFault;
-use crate::index::EntryIndex;
+use crate::import::table_rows;
+use crate::index::RowIndex;
 use crate::inert::inert_points;
 use crate::instances::instances;
 use crate::missing::missing_at;
 use crate::terminals::complete_terminals;
 use hs_flow_checker::{HeadPairs, first_gap, is_marked};
-use hs_scheme::{Head, Pair, Problem};
+use hs_scheme::{Pair, Problem};
 use hs_table::{Entry, Shape};
+use hs_types::{Interner, Row, View};
 use hs_verdict::know_sorted_problem;
 use std::alloc::Global;
 
@@ -68,56 +71,92 @@ pub fn has_start(problem: &Problem, table: &[Entry]) -> bool
     false
 }
 
-/// The number of instances at the point, where all that follows there is in the index. Those at a
-/// nonterminal are counted by the entries of its body, and at a point that is marked as inert there are none.
+/// Whether the row stands for an entry that rejects the start by the initial state.
+fn is_start_row(types: &Interner, row: &Row, body: u32) -> bool
+    requires { IsRow types.now row.now }
+    ensures { IsTrue result ↔ ((row.now.point ≡ body) × ((env_of_id types.now row.now.env ≡ [])
+        × (type_of_id types.now row.now.ty ≡ state 0))) }
+{
+    match types.view(row.ty) {
+        View::State(q) => row.point == body && types.sets(row.env).is_empty() && q == 0,
+        View::Arrow(_, _) => false,
+    }
+}
+
+/// Whether one of the rows stands for the start entry. Time is in their number.
+pub fn has_start_row(problem: &Problem, types: &Interner, rows: &[Row]) -> bool
+    requires { All (IsRow types.now) rows.now }
+    ensures { IsTrue result ↔ HasStart problem.now (map (entry_of types.now) rows.now) }
+{
+    if problem.points.params().rules() == 0 {
+        return false;
+    }
+    let body = problem.points.body_of(0);
+    for row in rows {
+        if is_start_row(types, row, body) {
+            return true;
+        }
+    }
+    false
+}
+
+/// The number of instances at the point, where all that follows there is in the index. At a point that is
+/// marked as inert there are none.
 fn count_at(
     alloc: Global,
+    types: &mut Interner,
     problem: &Problem,
     complete: &[bool],
-    index: &EntryIndex,
+    index: &RowIndex,
     inert: &[bool],
     point: u32,
 ) -> Result<u64, CheckFault>
     requires point { point < length problem.now.points.points }
-    requires shape { AreInShape problem.now index.now }
+    requires rows { AreRows types.old index.now }
+    requires shape { AreInShape problem.now (entries_of types.old index.now) }
     requires complete { AreComplete problem.now complete.now }
-    requires inert { AreInert problem.now index.now inert.now }
-    ensures closed { OnOk result ((e : EntryData) → e.point ≡ point → Follows problem.now index.now e
-        → Contains index.now e) }
-    ensures count { IfOk result (IsCountAt problem.now index.now point) }
-    ensures missing { IfErr result (IsGap problem.now index.now) }
+    requires inert { AreInert problem.now (entries_of types.old index.now) inert.now }
+    ensures closed { OnOk result ((e : EntryData) → e.point ≡ point
+        → Follows problem.now (entries_of types.old index.now) e
+        → Contains (entries_of types.old index.now) e) }
+    ensures count { IfOk result (IsCountAt problem.now (entries_of types.old index.now) point) }
+    ensures missing { IfErr result (IsGap problem.now (entries_of types.old index.now)) }
+    ensures grows { OnOk result (Grows types.old types.new) }
 {
     if is_marked(inert, point) {
         return Ok(0);
     }
-    if let Head::Nt(nonterminal) = problem.points.head_of(point) {
-        return count_at_rule(alloc, problem, index, point, nonterminal);
-    }
-    let types = instances(alloc, problem, complete, index, point)?;
-    match missing_at(alloc, problem, index, point, types.as_slice())? {
-        Some(entry) => Err(CheckFault::Missing { entry }),
-        None => Ok(types.len() as u64),
+    let all = instances(alloc, types, problem, complete, index, point)?;
+    types.know_numbers();
+    match missing_at(alloc, types, problem, index, point, all.as_slice())? {
+        Some(row) => {
+            let entry = types.tree(alloc, row)?;
+            Err(CheckFault::Missing { entry })
+        }
+        None => Ok(all.len() as u64),
     }
 }
 
 /// The number of instances at all points, where all that follows from the index is in it.
 fn count_points(
     alloc: Global,
+    types: &mut Interner,
     problem: &Problem,
     complete: &[bool],
-    index: &EntryIndex,
+    index: &RowIndex,
     inert: &[bool],
 ) -> Result<u64, CheckFault>
-    requires shape { AreInShape problem.now index.now }
+    requires rows { AreRows types.old index.now }
+    requires shape { AreInShape problem.now (entries_of types.old index.now) }
     requires complete { AreComplete problem.now complete.now }
-    requires inert { AreInert problem.now index.now inert.now }
-    ensures closed { OnOk result (IsClosedTable problem.now index.now) }
-    ensures count { IfOk result (IsCount problem.now index.now) }
-    ensures missing { IfErr result (IsGap problem.now index.now) }
+    requires inert { AreInert problem.now (entries_of types.old index.now) inert.now }
+    ensures closed { OnOk result (IsClosedTable problem.now (entries_of types.old index.now)) }
+    ensures count { IfOk result (IsCount problem.now (entries_of types.old index.now)) }
+    ensures missing { IfErr result (IsGap problem.now (entries_of types.old index.now)) }
 {
     let mut count: u64 = 0;
     for point in 0..problem.points.count() {
-        let added = count_at(alloc, problem, complete, index, inert, point)?;
+        let added = count_at(alloc, types, problem, complete, index, inert, point)?;
         count = count.saturating_add(added);
     }
     Ok(count)
@@ -127,28 +166,79 @@ fn count_points(
 /// terminals are complete.
 fn count_closed(
     alloc: Global,
+    types: &mut Interner,
     problem: &Problem,
-    index: &EntryIndex,
+    index: &RowIndex,
     inert: &[bool],
 ) -> Result<u64, CheckFault>
-    requires shape { AreInShape problem.now index.now }
-    requires inert { AreInert problem.now index.now inert.now }
-    ensures closed { OnOk result (IsClosedTable problem.now index.now) }
-    ensures count { IfOk result (IsCount problem.now index.now) }
-    ensures missing { IfErr result (IsGap problem.now index.now) }
+    requires rows { AreRows types.old index.now }
+    requires shape { AreInShape problem.now (entries_of types.old index.now) }
+    requires inert { AreInert problem.now (entries_of types.old index.now) inert.now }
+    ensures closed { OnOk result (IsClosedTable problem.now (entries_of types.old index.now)) }
+    ensures count { IfOk result (IsCount problem.now (entries_of types.old index.now)) }
+    ensures missing { IfErr result (IsGap problem.now (entries_of types.old index.now)) }
 {
     let complete = complete_terminals(alloc, problem)?;
-    count_points(alloc, problem, complete.as_slice(), index, inert)
+    count_points(alloc, types, problem, complete.as_slice(), index, inert)
 }
 
-/// The check of a table by its index.
+/// The number of instances of the entries of the index, where the flow holds all that is demanded, and the
+/// entries are all that follows from them.
 fn check_index(
     alloc: Global,
+    types: &mut Interner,
+    problem: &Problem,
+    index: &RowIndex,
+) -> Result<u64, CheckFault>
+    requires rows { AreRows types.old index.now }
+    requires shape { AreInShape problem.now (entries_of types.old index.now) }
+    ensures flow { OnOk result (HasClosedFlow problem.now) }
+    ensures closed { OnOk result (IsClosedTable problem.now (entries_of types.old index.now)) }
+    ensures count { IfOk result (IsCount problem.now (entries_of types.old index.now)) }
+    ensures flaw { IfErr result (IsFlaw problem.now (entries_of types.old index.now)) }
+{
+    let heads = HeadPairs::of(alloc, problem)?;
+    let inert = inert_points(alloc, problem, index, &heads)?;
+    let gap = first_gap(problem, &heads, inert.as_slice());
+    drop(heads);
+    if let Some(pair) = gap {
+        return Err(open(pair));
+    }
+    count_closed(alloc, types, problem, index, inert.as_slice())
+}
+
+/// So by the rows of entries that are in shape.
+fn check_closed(
+    alloc: Global,
+    types: &mut Interner,
+    problem: &Problem,
+    rows: &[Row],
+) -> Result<u64, CheckFault>
+    requires rows { AreRows types.old rows.now }
+    requires shape { AreInShape problem.now (entries_of types.old rows.now) }
+    ensures flow { OnOk result (HasClosedFlow problem.now) }
+    ensures closed { OnOk result (IsClosedTable problem.now (entries_of types.old rows.now)) }
+    ensures count { IfOk result (IsCount problem.now (entries_of types.old rows.now)) }
+    ensures flaw { IfErr result (IsFlaw problem.now (entries_of types.old rows.now)) }
+{
+    know_sorted_problem(problem);
+    let index = RowIndex::of(alloc, problem.points.count(), rows)?;
+    let checked = check_index(alloc, types, problem, &index);
+    drop(index);
+    checked
+}
+
+/// The check of a table by the rows of those of its entries that are in shape.
+fn check_table(
+    alloc: Global,
+    types: &mut Interner,
     problem: &Problem,
     table: &[Entry],
-    index: &EntryIndex,
+    rows: &[Row],
 ) -> Result<u64, CheckFault>
-    requires { (e : EntryData) → Contains index.now e ↔ (Contains table.now e × InShape problem.now e) }
+    requires rows { AreRows types.old rows.now }
+    requires entries { (e : EntryData) → Contains (entries_of types.old rows.now) e
+        ↔ (Contains table.now e × InShape problem.now e) }
     ensures closed { OnOk result (HasClosedFlow problem.now
         × (IsClosedTable problem.now table.now × (HasStart problem.now table.now → ⊥))) }
     ensures count { IfOk result (IsCount problem.now table.now) }
@@ -157,14 +247,7 @@ fn check_index(
     ensures fault { IfErr result (IsFault problem.now table.now) }
 {
     know_sorted_problem(problem);
-    let heads = HeadPairs::of(alloc, problem)?;
-    let inert = inert_points(alloc, problem, index, &heads)?;
-    let gap = first_gap(problem, &heads, inert.as_slice());
-    drop(heads);
-    if let Some(pair) = gap {
-        return Err(open(pair));
-    }
-    let instances = count_closed(alloc, problem, index, inert.as_slice())?;
+    let instances = check_closed(alloc, types, problem, rows)?;
     if has_start(problem, table) {
         return Err(CheckFault::HasStart);
     }
@@ -182,10 +265,11 @@ fn check_index(
 ///
 /// Time is in proportion to the meetings: of points with what their heads may become, of the points of
 /// terminals with the states, and of the partial results at each instance with the entries that they
-/// meet, with the logarithms of the numbers of pairs, types and entries. Memory is for a reference to
-/// each entry, two numbers and two marks for each point, a mark for each terminal, and at one point a
-/// mark for each state, the types and what follows by one of them. Types are compared as trees, and
-/// calls recurse as deep as they.
+/// meet, with the logarithms of the numbers of pairs, types and entries; and in the size of the entries,
+/// whose types, sets and environments get numbers first, and are then compared by these. Memory is for
+/// these, for a row of each entry and a reference to it, two numbers and two marks for each point, a mark
+/// for each terminal, and at one point a mark for each state, the types and what follows by one of them.
+/// Calls recurse as deep as types.
 pub fn check(alloc: Global, problem: &Problem, table: &[Entry]) -> Result<u64, CheckFault>
     ensures closed { OnOk result (HasClosedFlow problem.now
         × (IsClosedTable problem.now table.now × (HasStart problem.now table.now → ⊥))) }
@@ -194,8 +278,40 @@ pub fn check(alloc: Global, problem: &Problem, table: &[Entry]) -> Result<u64, C
         (Accepts problem.now.sorted.scheme.rules problem.now.sorted.automaton.transitions) }
     ensures fault { IfErr result (IsFault problem.now table.now) }
 {
-    let index = EntryIndex::of(alloc, problem, table)?;
-    let checked = check_index(alloc, problem, table, &index);
-    drop(index);
+    let mut types = Interner::new(alloc);
+    let rows = table_rows(alloc, problem, &mut types, table)?;
+    let checked = check_table(alloc, &mut types, problem, table, rows.as_slice());
+    drop(rows);
+    drop(types);
     checked
+}
+
+/// `check` of the entries that the rows stand for, which are in shape: nothing is told as a tree but an
+/// entry that is missing. The interner only grows, and takes no part in the answer but for what the rows
+/// stand for.
+///
+/// Time and memory are as for `check`, without a look at the entries.
+pub fn check_rows(
+    alloc: Global,
+    problem: &Problem,
+    types: &mut Interner,
+    rows: &[Row],
+) -> Result<u64, CheckFault>
+    requires rows { All (IsRow types.old) rows.now }
+    requires shape { (e : EntryData) → Contains (map (entry_of types.old) rows.now) e
+        → InShape problem.now e }
+    ensures closed { OnOk result (HasClosedFlow problem.now
+        × (IsClosedTable problem.now (map (entry_of types.old) rows.now) × (HasStart problem.now (map (entry_of types.old) rows.now) → ⊥))) }
+    ensures count { IfOk result (IsCount problem.now (map (entry_of types.old) rows.now)) }
+    ensures accepted { OnOk result
+        (Accepts problem.now.sorted.scheme.rules problem.now.sorted.automaton.transitions) }
+    ensures fault { IfErr result (IsFault problem.now (map (entry_of types.old) rows.now)) }
+{
+    know_sorted_problem(problem);
+    let start = has_start_row(problem, types, rows);
+    let instances = check_closed(alloc, types, problem, rows)?;
+    if start {
+        return Err(CheckFault::HasStart);
+    }
+    Ok(instances)
 }

@@ -5,16 +5,18 @@
 ghost use Rattle.std.specs.Prelude.{◌≡◌, ◌<◌, List, Contains, IsTrue, IfOk, Some, true, length, slice_get};
 ghost use Rattle.hs_scheme.specs.declared.flow.FlowPair.{FlowPair as AnyFlow};
 ghost use Rattle.hs_table.specs.Entries.{EntryData};
+ghost use Rattle.hs_types.specs.Interned.{InternerData};
+ghost use Rattle.hs_checker.specs.Numbers.{entries_of};
 ghost use Rattle.hs_checker.specs.Inert.{IsSilent, AreSilent, IsInert, AreInert};
 
-use crate::index::EntryIndex;
+use crate::index::RowIndex;
 use hs_flow_checker::HeadPairs;
 use hs_scheme::{FlowPair, Head, OutOfMemory, Problem};
 use std::alloc::Global;
 
 /// Whether the point has no entry and becomes nothing.
-fn is_silent(index: &EntryIndex, heads: &HeadPairs, point: u32) -> bool
-    ensures { IsTrue result → IsSilent heads.now index.now point }
+fn is_silent(index: &RowIndex, heads: &HeadPairs, point: u32) -> bool
+    ensures { IsTrue result → (I : InternerData) → IsSilent heads.now (entries_of I index.now) point }
 {
     index.at_point(point).is_empty() && heads.at_point(point).is_empty()
 }
@@ -22,12 +24,12 @@ fn is_silent(index: &EntryIndex, heads: &HeadPairs, point: u32) -> bool
 /// For each of so many points whether it has no entry and becomes nothing.
 fn silent_points(
     alloc: Global,
-    index: &EntryIndex,
+    index: &RowIndex,
     heads: &HeadPairs,
     points: u32,
 ) -> Result<Vec<bool>, OutOfMemory>
     ensures long { IfOk result (λ marks. length marks.items ≡ points) }
-    ensures silent { IfOk result (λ marks. AreSilent heads.now index.now marks.items) }
+    ensures silent { IfOk result (λ marks. (I : InternerData) → AreSilent heads.now (entries_of I index.now) marks.items) }
 {
     let mut marks = Vec::with_capacity(alloc, points as usize)?;
     for point in 0..points {
@@ -74,11 +76,11 @@ fn is_inert(problem: &Problem, silent: &[bool], point: u32) -> bool
 pub(crate) fn inert_points(
     alloc: Global,
     problem: &Problem,
-    index: &EntryIndex,
+    index: &RowIndex,
     heads: &HeadPairs,
 ) -> Result<Vec<bool>, OutOfMemory>
     requires { heads.now ≡ problem.now.flow.heads }
-    ensures { IfOk result (λ marks. AreInert problem.now index.now marks.items) }
+    ensures { IfOk result (λ marks. (I : InternerData) → AreInert problem.now (entries_of I index.now) marks.items) }
 {
     let count = problem.points.count();
     let silent = silent_points(alloc, index, heads, count)?;

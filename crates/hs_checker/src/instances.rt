@@ -1,162 +1,121 @@
-//! The instances at a point whose head is a terminal or a parameter: the types of the head whose sets
-//! have entries.
+//! The instances at a point: the types of its head whose sets have entries at the arguments.
 
-ghost use Rattle.std.specs.Prelude.{◌≡◌, ◌↔◌, ◌⊎◌, ◌<◌, ℕ, length, Contains, IsTrue, IfOk, OnOk};
-ghost use Rattle.hs_scheme.specs.flow.Points.{point_at};
-ghost use Rattle.hs_table.specs.Types as types;
-ghost use Rattle.hs_table.specs.Types.{TypeTree, IsSet};
+ghost use Rattle.std.specs.Prelude.{◌≡◌, ◌↔◌, ◌<◌, ℕ, length, Contains, IfOk, OnOk};
+ghost use Rattle.std.specs.Ordering.{nat_cmp};
+ghost use Rattle.hs_scheme.specs.flow.Flow.{IsAscending};
+ghost use Rattle.hs_scheme.specs.flow.Points.{NonterminalWithin};
+ghost use Rattle.hs_table.specs.Types.{TypeTree};
 ghost use Rattle.hs_table.specs.Tables.{IsInstance};
-ghost use Rattle.hs_checker.specs.Slots.{HasTypesAt, FitsSets, AreInShape, AreComplete};
 ghost use Rattle.hs_table_plain.specs.Enumeration as plain;
+ghost use Rattle.hs_types.specs.Interned.{Grows};
+ghost use Rattle.hs_checker.specs.Slots.{FitsSets, AreInShape, AreComplete};
+ghost use Rattle.hs_checker.specs.Numbers.{entries_of, trees_of, AreRows, AreTypes};
 
-use crate::heads::{in_order, parameter_types};
-use crate::index::EntryIndex;
+use crate::fits::fitting;
+use crate::heads::{body_types, in_order, parameter_types};
+use crate::index::RowIndex;
 use crate::terminals::terminal_instances;
 use hs_scheme::{Head, OutOfMemory, Problem};
-use hs_table::{Shape, Ty, TypeSet};
+use hs_types::{Interner, TyId};
 use std::alloc::Global;
 
-/// Whether each of the types has an entry at the argument.
-fn have_entries(index: &EntryIndex, arg: u32, set: &[Ty]) -> bool
-    ensures { IsTrue result ↔ HasTypesAt index.now arg set.now }
-{
-    for ty in set {
-        if !index.has(arg, ty) {
-            return false;
-        }
-    }
-    true
-}
-
-/// Whether each type of the sets has an entry at its argument. Recurses as deep as the type.
-fn fits(index: &EntryIndex, args: &[u32], ty: &Ty) -> bool
-    ensures { IsTrue result ↔ FitsSets index.now args.now ty.now }
-{
-    let Some(arg) = args.first() else {
-        return true;
-    };
-    match &ty.shape {
-        Shape::State(_) => false,
-        Shape::Arrow(set, rest) => {
-            have_entries(index, *arg, set.as_slice()) && fits(index, &args[1..], rest)
-        }
-    }
-}
-
-/// Whether each type of these sets has an entry at its argument, and there are no more arguments than
-/// sets.
-pub(crate) fn sets_fit(index: &EntryIndex, args: &[u32], sets: &[TypeSet]) -> bool
-    ensures { (q : ℕ) → IsTrue result ↔ FitsSets index.now args.now (types.arrows sets.now (types.state q)) }
-{
-    if args.len() > sets.len() {
-        return false;
-    }
-    for (place, arg) in args.iter().enumerate() {
-        let set = &sets[place];
-        if !have_entries(index, *arg, set.types.as_slice()) {
-            return false;
-        }
-    }
-    true
-}
-
-/// Adds the type, where its sets have entries.
-pub(crate) fn add_fitting(
-    index: &EntryIndex,
-    args: &[u32],
-    ty: Ty,
-    found: &mut Vec<Ty>,
-) -> Result<(), OutOfMemory>
-    ensures { OnOk result ((t : TypeTree) → Contains found.new.items t
-        ↔ (Contains found.old.items t ⊎ ((t ≡ ty) × FitsSets index.now args.now t))) }
-{
-    if fits(index, args, &ty) {
-        found.push(ty)?;
-    }
-    Ok(())
-}
-
-/// Those of the types whose sets have entries.
-fn fitting(
+/// The types that the entries at the body of the nonterminal say of it, whose sets have entries at the
+/// arguments.
+fn nonterminal_instances(
     alloc: Global,
-    index: &EntryIndex,
+    types: &mut Interner,
+    problem: &Problem,
+    index: &RowIndex,
+    nonterminal: u32,
     args: &[u32],
-    types: Vec<Ty>,
-) -> Result<Vec<Ty>, OutOfMemory>
-    ensures { IfOk result (λ found. (t : TypeTree) → Contains found.items t
-        ↔ (Contains types.items t × FitsSets index.now args.now t)) }
+) -> Result<Vec<TyId>, OutOfMemory>
+    requires rows { AreRows types.old index.now }
+    requires within { nonterminal < length problem.now.points.bodies }
+    ensures range { IfOk result (λ found. AreTypes types.new found.items) }
+    ensures each { IfOk result (λ found. (t : TypeTree) → (rule : ℕ) → Contains (trees_of types.new found.items) t
+        ↔ (Contains (plain.head_types problem.now (entries_of types.old index.now) rule
+        (Head.Nt nonterminal)) t × FitsSets (entries_of types.old index.now) args.now t)) }
+    ensures grows { OnOk result (Grows types.old types.new) }
 {
-    let mut found = Vec::new(alloc);
-    for ty in types {
-        add_fitting(index, args, ty, &mut found)?;
-    }
-    Ok(found)
+    let all = body_types(alloc, types, index, problem.points.body_of(nonterminal))?;
+    fitting(alloc, types, index, args, all.as_slice())
 }
 
-/// The types of this head, which isn't a nonterminal, in this rule, whose sets have entries at the
-/// arguments, in any order.
+/// The types of the parameter of the rule whose sets have entries at the arguments.
+fn parameter_instances(
+    alloc: Global,
+    types: &Interner,
+    problem: &Problem,
+    index: &RowIndex,
+    rule: u32,
+    parameter: u32,
+    args: &[u32],
+) -> Result<Vec<TyId>, OutOfMemory>
+    requires { AreRows types.now index.now }
+    ensures range { IfOk result (λ found. AreTypes types.now found.items) }
+    ensures each { IfOk result (λ found. (t : TypeTree) → Contains (trees_of types.now found.items) t
+        ↔ (Contains (plain.head_types problem.now (entries_of types.now index.now) rule
+        (Head.Var parameter)) t × FitsSets (entries_of types.now index.now) args.now t)) }
+{
+    let all = parameter_types(alloc, problem, index, rule, parameter)?;
+    fitting(alloc, types, index, args, all.as_slice())
+}
+
+/// The types of this head in this rule whose sets have entries at the arguments, in any order.
 fn fitting_types(
     alloc: Global,
+    types: &mut Interner,
     problem: &Problem,
     complete: &[bool],
-    index: &EntryIndex,
+    index: &RowIndex,
     rule: u32,
     head: Head,
     args: &[u32],
-) -> Result<Vec<Ty>, OutOfMemory>
-    requires head { (f : ℕ) → head ≡ Head.Nt f → ⊥ }
+) -> Result<Vec<TyId>, OutOfMemory>
+    requires rows { AreRows types.old index.now }
+    requires head { NonterminalWithin (length problem.now.points.bodies) head }
     requires complete { AreComplete problem.now complete.now }
-    ensures { IfOk result (λ found. (t : TypeTree) → Contains found.items t
-        ↔ (Contains (plain.head_types problem.now index.now rule head) t × FitsSets index.now args.now t)) }
+    ensures range { IfOk result (λ found. AreTypes types.new found.items) }
+    ensures each { IfOk result (λ found. (t : TypeTree) → Contains (trees_of types.new found.items) t
+        ↔ (Contains (plain.head_types problem.now (entries_of types.old index.now) rule head) t
+        × FitsSets (entries_of types.old index.now) args.now t)) }
+    ensures grows { OnOk result (Grows types.old types.new) }
 {
     match head {
-        Head::Tm(terminal) => terminal_instances(alloc, problem, complete, index, args, terminal),
-        Head::Nt(_f) => unreachable!(),
+        Head::Tm(terminal) => {
+            terminal_instances(alloc, types, problem, complete, index, args, terminal)
+        }
+        Head::Nt(nonterminal) => {
+            nonterminal_instances(alloc, types, problem, index, nonterminal, args)
+        }
         Head::Var(parameter) => {
-            let types = parameter_types(alloc, problem, index, rule, parameter)?;
-            fitting(alloc, index, args, types)
+            parameter_instances(alloc, types, problem, index, rule, parameter, args)
         }
     }
 }
 
-/// So in their order, each once.
-fn instances_of(
-    alloc: Global,
-    problem: &Problem,
-    complete: &[bool],
-    index: &EntryIndex,
-    rule: u32,
-    head: Head,
-    args: &[u32],
-) -> Result<Vec<Ty>, OutOfMemory>
-    requires head { (f : ℕ) → head ≡ Head.Nt f → ⊥ }
-    requires complete { AreComplete problem.now complete.now }
-    ensures set { IfOk result (λ found. IsSet found.items) }
-    ensures each { IfOk result (λ found. (t : TypeTree) → Contains found.items t
-        ↔ (Contains (plain.head_types problem.now index.now rule head) t × FitsSets index.now args.now t)) }
-{
-    let types = fitting_types(alloc, problem, complete, index, rule, head, args)?;
-    in_order(types)
-}
-
-/// The types of the point's head, which isn't a nonterminal, whose sets have entries, each once.
+/// The types of the point's head whose sets have entries, each once.
 pub(crate) fn instances(
     alloc: Global,
+    types: &mut Interner,
     problem: &Problem,
     complete: &[bool],
-    index: &EntryIndex,
+    index: &RowIndex,
     point: u32,
-) -> Result<Vec<Ty>, OutOfMemory>
+) -> Result<Vec<TyId>, OutOfMemory>
     requires point { point < length problem.now.points.points }
-    requires shape { AreInShape problem.now index.now }
-    requires head { (f : ℕ) → (point_at problem.now.points point).head ≡ Head.Nt f → ⊥ }
+    requires rows { AreRows types.old index.now }
+    requires shape { AreInShape problem.now (entries_of types.old index.now) }
     requires complete { AreComplete problem.now complete.now }
-    ensures set { IfOk result (λ found. IsSet found.items) }
-    ensures each { IfOk result (λ found. (t : TypeTree) → Contains found.items t
-        ↔ IsInstance problem.now index.now point t) }
+    ensures once { IfOk result (λ found. IsAscending nat_cmp found.items) }
+    ensures range { IfOk result (λ found. AreTypes types.new found.items) }
+    ensures each { IfOk result (λ found. (t : TypeTree) → Contains (trees_of types.new found.items) t
+        ↔ IsInstance problem.now (entries_of types.old index.now) point t) }
+    ensures grows { OnOk result (Grows types.old types.new) }
 {
     let rule = problem.points.rule_of(point);
     let head = problem.points.head_of(point);
     let args = problem.points.args_of(point);
-    instances_of(alloc, problem, complete, index, rule, head, args)
+    let found = fitting_types(alloc, types, problem, complete, index, rule, head, args)?;
+    in_order(found)
 }

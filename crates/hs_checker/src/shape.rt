@@ -1,14 +1,62 @@
 //! Whether entries are in shape.
 
-ghost use Rattle.std.specs.Prelude.{◌≡◌, ◌↔◌, ℕ, IsTrue};
-ghost use Rattle.hs_table.specs.Types.{TypeTree, IsSet, IsType};
+ghost use Rattle.std.specs.Prelude.{◌≡◌, ◌↔◌, ℕ, IsTrue, IfSome};
+ghost use Rattle.hs_table.specs.Types.{TypeTree, IsSet, IsType, type_cmp};
 ghost use Rattle.hs_table.specs.Entries.{Has, IsEnv, InShape, params_of};
 ghost use Rattle.hs_checker.specs.Shape.{AreAllTypes};
 
-use crate::index::compare_arrows;
 use hs_scheme::Problem;
 use hs_table::{Entry, Shape, Ty, TypeSet, parameters};
 use std::cmp::Ordering;
+
+/// The order of types where both are states.
+fn by_states(ty: &Ty, other: &Ty) -> Option<Ordering>
+    ensures { IfSome result (λ order. order ≡ type_cmp ty.now other.now) }
+{
+    if let Shape::State(q) = &ty.shape {
+        if let Shape::State(p) = &other.shape {
+            return Some(q.cmp(p));
+        }
+    }
+    None
+}
+
+/// The order of types where both are arrows to states that differ.
+fn by_results(ty: &Ty, other: &Ty) -> Option<Ordering>
+    ensures { IfSome result (λ order. order ≡ type_cmp ty.now other.now) }
+{
+    if let Shape::Arrow(_, rest) = &ty.shape {
+        if let Shape::Arrow(_, other_rest) = &other.shape {
+            return match by_states(rest, other_rest) {
+                None => None,
+                Some(Ordering::Equal) => None,
+                Some(order) => Some(order),
+            };
+        }
+    }
+    None
+}
+
+/// The order of types. Most are states, which are compared at once.
+fn compare(ty: &Ty, other: &Ty) -> Ordering
+    ensures { result ≡ type_cmp ty.now other.now }
+{
+    match by_states(ty, other) {
+        None => ty.compare(other),
+        Some(order) => order,
+    }
+}
+
+/// The order of types, where many are arrows. Most of these lead to states that differ, which are compared at
+/// once, too.
+fn compare_arrows(ty: &Ty, other: &Ty) -> Ordering
+    ensures { result ≡ type_cmp ty.now other.now }
+{
+    match by_results(ty, other) {
+        None => compare(ty, other),
+        Some(order) => order,
+    }
+}
 
 /// Whether each type is less than the next.
 pub(crate) fn is_set(types: &[Ty]) -> bool

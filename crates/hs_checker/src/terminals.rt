@@ -1,45 +1,71 @@
-//! The types of a terminal whose sets have entries.
+//! The types of a terminal whose sets have entries, by number.
 
-ghost use Rattle.std.specs.Prelude.{◌≡◌, ◌<◌, ◌≤◌, ◌↔◌, ◌⊎◌, ℕ, IsTrue, length, slice_get, Some, true, Contains, IfOk, OnOk, option_copied, replicate, []};
+ghost use Rattle.std.specs.Prelude.{◌≡◌, ◌<◌, ◌≤◌, ◌↔◌, ◌⊎◌, ◌∷◌, [], ℕ, List, IsTrue, length, set, slice_get, Some, true, Contains, IfOk, OnOk, option_copied, replicate};
 ghost use Rattle.hs_scheme.specs.acceptance.Automaton as automaton;
-ghost use Rattle.hs_table.specs.Types as types;
+ghost use Rattle.hs_table.specs.Types as trees;
 ghost use Rattle.hs_table.specs.Types.{TypeTree};
-ghost use Rattle.hs_table.specs.Follows.{HasMove};
+ghost use Rattle.hs_table.specs.Follows.{HasMove, rank_of};
+ghost use Rattle.hs_types.specs.Interned.{InternerData, type_of_id, Grows};
 ghost use Rattle.hs_checker.specs.Slots.{HasTypeAt, FitsSets, AreBare, IsComplete, AreComplete};
+ghost use Rattle.hs_checker.specs.Numbers.{entries_of, trees_of, AreRows, AreTypes, GainsTypes};
 ghost use Rattle.hs_table_plain.specs.Enumeration as plain;
 
-use crate::index::EntryIndex;
-use crate::instances::add_fitting;
+use crate::arrows::arrows_over;
+use crate::fits::add_fitting;
+use crate::index::RowIndex;
 use crate::shape::states;
 use hs_flow_checker::is_marked;
 use hs_scheme::{Automaton, OutOfMemory, Problem, Transition};
-use hs_table::{Shape, Ty, rank};
-use hs_table_plain::child_type;
+use hs_table::rank;
+use hs_types::{Interner, TyId};
 use std::alloc::Global;
 
-/// The state behind so many empty sets.
-fn bare_type(alloc: Global, count: usize, q: u32) -> Result<Ty, OutOfMemory>
-    ensures { IfOk result (λ ty. ty ≡ types.arrows (replicate count []) (types.state q)) }
+/// The type of a terminal of this rank without transition in state q.
+fn bare_type(types: &mut Interner, rank: u32, q: u32) -> Result<TyId, OutOfMemory>
+    ensures range { IfOk result (λ id. id < length types.new.types) }
+    ensures is { IfOk result (λ id. type_of_id types.new id
+        ≡ trees.arrows (replicate rank []) (trees.state q)) }
+    ensures grows { OnOk result (Grows types.old types.new) }
 {
-    let mut ty = Ty::state(q);
-    for _ in 0..count {
-        ty = Ty {
-            shape: Shape::Arrow(Vec::new(alloc), Box::new(alloc, ty)?),
-        };
-    }
-    Ok(ty)
+    let env = types.empty_env(rank as usize)?;
+    let last = types.base(q)?;
+    arrows_over(types, env, last)
+}
+
+/// The type of a terminal in state q whose child at this place is rejected by this type.
+fn child_type(
+    types: &mut Interner,
+    count: usize,
+    place: u32,
+    child: TyId,
+    q: u32,
+) -> Result<TyId, OutOfMemory>
+    requires place { place < count }
+    requires child { child < length types.old.types }
+    ensures range { IfOk result (λ id. id < length types.new.types) }
+    ensures is { IfOk result (λ id. type_of_id types.new id
+        ≡ trees.arrows (set (replicate count []) place (type_of_id types.old child ∷ [])) (trees.state q)) }
+    ensures grows { OnOk result (Grows types.old types.new) }
+{
+    let env = types.single_env(count, place, child)?;
+    let last = types.base(q)?;
+    arrows_over(types, env, last)
 }
 
 /// The states in which the children of a node with the terminal are read, if there is a transition.
 fn transition(problem: &Problem, q: u32, terminal: u32) -> Option<&[u32]>
-    ensures { option_copied result ≡ automaton.next problem.now.sorted.automaton.transitions q terminal }
+    ensures moves { option_copied result
+        ≡ automaton.next problem.now.sorted.automaton.transitions q terminal }
+    ensures ranks { (to : List ℕ) → automaton.next problem.now.sorted.automaton.transitions q terminal
+        ≡ Some to → length to ≡ rank_of problem.now terminal }
 {
-    problem.sorted.automaton.next(q, terminal)
+    let sorted = &problem.sorted;
+    sorted.automaton.next(q, terminal)
 }
 
-/// Whether no entry stands at one of the arguments.
-fn are_bare(index: &EntryIndex, args: &[u32]) -> bool
-    ensures { IsTrue result → AreBare index.now args.now }
+/// Whether no row stands at one of the arguments.
+fn are_bare(index: &RowIndex, args: &[u32]) -> bool
+    ensures { (I : InternerData) → IsTrue result → AreBare (entries_of I index.now) args.now }
 {
     for arg in args {
         if !index.at_point(*arg).is_empty() {
@@ -49,54 +75,64 @@ fn are_bare(index: &EntryIndex, args: &[u32]) -> bool
     true
 }
 
-/// Whether there is an argument at this place, and no entry there has the state as its type.
-fn asks_in_vain(index: &EntryIndex, args: &[u32], place: usize, r: u32) -> bool
-    ensures { IsTrue result → (u : ℕ)
-        × ((slice_get args.now place ≡ Some u) × (HasTypeAt index.now u (types.state r) → ⊥)) }
+/// Whether there is an argument at this place, and no entry there has the type.
+fn asks_in_vain(types: &Interner, index: &RowIndex, args: &[u32], place: u32, ty: TyId) -> bool
+    requires rows { AreRows types.now index.now }
+    requires ty { ty < length types.now.types }
+    ensures { IsTrue result → (u : ℕ) × ((slice_get args.now place ≡ Some u)
+        × (HasTypeAt (entries_of types.now index.now) u (type_of_id types.now ty) → ⊥)) }
 {
-    match args.get(place) {
+    types.know_numbers();
+    match args.get(place as usize) {
         None => false,
-        Some(arg) => !index.has(*arg, &Ty::state(r)),
+        Some(arg) => !index.has(*arg, ty),
     }
 }
 
 /// Adds the type by which the child at this place is rejected, where its sets have entries.
 fn add_child_type(
-    alloc: Global,
-    index: &EntryIndex,
+    types: &mut Interner,
+    index: &RowIndex,
     args: &[u32],
     to: &[u32],
     q: u32,
-    place: usize,
-    found: &mut Vec<Ty>,
+    place: u32,
+    found: &mut Vec<TyId>,
 ) -> Result<(), OutOfMemory>
-    requires { place < length to.now }
-    ensures { OnOk result ((t : TypeTree) → Contains found.new.items t
-        ↔ (Contains found.old.items t ⊎ ((t ≡ plain.child_type to.now q place)
-        × FitsSets index.now args.now t))) }
+    requires place { place < length to.now }
+    requires rows { AreRows types.old index.now }
+    requires found { AreTypes types.old found.old.items }
+    ensures { OnOk result (GainsTypes types.old types.new found.old.items found.new.items
+        (λ t. (t ≡ plain.child_type to.now q place)
+        × FitsSets (entries_of types.old index.now) args.now t)) }
 {
-    if asks_in_vain(index, args, place, to[place]) {
+    let child = types.base(to[place as usize])?;
+    if asks_in_vain(types, index, args, place, child) {
         return Ok(());
     }
-    let ty = child_type(alloc, to, q, place)?;
-    add_fitting(index, args, ty, found)
+    let ty = child_type(types, to.len(), place, child, q)?;
+    add_fitting(types, index, args, ty, found)
 }
 
-/// Adds those for all children.
+/// Adds those for all children, so many.
 fn add_child_types(
-    alloc: Global,
-    index: &EntryIndex,
+    types: &mut Interner,
+    index: &RowIndex,
     args: &[u32],
     to: &[u32],
+    rank: u32,
     q: u32,
-    found: &mut Vec<Ty>,
+    found: &mut Vec<TyId>,
 ) -> Result<(), OutOfMemory>
-    ensures { OnOk result ((t : TypeTree) → Contains found.new.items t
-        ↔ (Contains found.old.items t ⊎ (Contains (plain.child_types to.now q (length to.now)) t
-        × FitsSets index.now args.now t))) }
+    requires rank { length to.now ≡ rank }
+    requires rows { AreRows types.old index.now }
+    requires found { AreTypes types.old found.old.items }
+    ensures { OnOk result (GainsTypes types.old types.new found.old.items found.new.items
+        (λ t. Contains (plain.child_types to.now q (length to.now)) t
+        × FitsSets (entries_of types.old index.now) args.now t)) }
 {
-    for place in 0..to.len() {
-        add_child_type(alloc, index, args, to, q, place, found)?;
+    for place in 0..rank {
+        add_child_type(types, index, args, to, q, place, found)?;
     }
     Ok(())
 }
@@ -104,26 +140,28 @@ fn add_child_types(
 /// Adds the types of the terminal in one state whose sets have entries: without a transition the type
 /// with empty sets, with one a type for each child.
 fn add_types_in(
-    alloc: Global,
+    types: &mut Interner,
     problem: &Problem,
-    index: &EntryIndex,
+    index: &RowIndex,
     args: &[u32],
     terminal: u32,
     q: u32,
-    found: &mut Vec<Ty>,
+    found: &mut Vec<TyId>,
 ) -> Result<(), OutOfMemory>
-    ensures { OnOk result ((t : TypeTree) → Contains found.new.items t
-        ↔ (Contains found.old.items t ⊎
-        (Contains (plain.types_in problem.now terminal q
+    requires rows { AreRows types.old index.now }
+    requires found { AreTypes types.old found.old.items }
+    ensures { OnOk result (GainsTypes types.old types.new found.old.items found.new.items
+        (λ t. Contains (plain.types_in problem.now terminal q
         (automaton.next problem.now.sorted.automaton.transitions q terminal)) t
-        × FitsSets index.now args.now t))) }
+        × FitsSets (entries_of types.old index.now) args.now t)) }
 {
+    let rank = rank(problem, terminal);
     match transition(problem, q, terminal) {
         None => {
-            let ty = bare_type(alloc, rank(problem, terminal) as usize, q)?;
-            add_fitting(index, args, ty, found)
+            let ty = bare_type(types, rank, q)?;
+            add_fitting(types, index, args, ty, found)
         }
-        Some(to) => add_child_types(alloc, index, args, to, q, found),
+        Some(to) => add_child_types(types, index, args, to, rank, q, found),
     }
 }
 
@@ -278,16 +316,20 @@ fn barren(
 /// arguments are bare, the states with one are passed over, and where all have one, all at once.
 pub(crate) fn terminal_instances(
     alloc: Global,
+    types: &mut Interner,
     problem: &Problem,
     complete: &[bool],
-    index: &EntryIndex,
+    index: &RowIndex,
     args: &[u32],
     terminal: u32,
-) -> Result<Vec<Ty>, OutOfMemory>
-    requires { AreComplete problem.now complete.now }
-    ensures { IfOk result (λ found. (t : TypeTree) → Contains found.items t
+) -> Result<Vec<TyId>, OutOfMemory>
+    requires complete { AreComplete problem.now complete.now }
+    requires rows { AreRows types.old index.now }
+    ensures range { IfOk result (λ found. AreTypes types.new found.items) }
+    ensures each { IfOk result (λ found. (t : TypeTree) → Contains (trees_of types.new found.items) t
         ↔ (Contains (plain.terminal_types problem.now terminal problem.now.sorted.automaton.states) t
-        × FitsSets index.now args.now t)) }
+        × FitsSets (entries_of types.old index.now) args.now t)) }
+    ensures grows { OnOk result (Grows types.old types.new) }
 {
     let bare = are_bare(index, args);
     if is_barren(problem, complete, bare, terminal, args.len()) {
@@ -297,7 +339,7 @@ pub(crate) fn terminal_instances(
     let mut found = Vec::new(alloc);
     for q in 0..states(problem) {
         if !is_marked(barren.as_slice(), q) {
-            add_types_in(alloc, problem, index, args, terminal, q, &mut found)?;
+            add_types_in(types, problem, index, args, terminal, q, &mut found)?;
         }
     }
     Ok(found)

@@ -1,5 +1,6 @@
 -- What may be chosen, by rows.
 use Rattle.std.proofs.Common.{◌≡◌, refl, sym, ◌∙◌, ap, subst, ℕ, zero, suc, map, ◌+◌, ◌<◌, List, ◌∷◌, [], ◌++◌, length, get_or, slice_get, Some, take, append-nil, append_assoc, arith, Bool, true, false, IsTrue, All, ◌≤◌, Contains, ◌⊎◌, inl, inr, ◌↔◌}
+use Rattle.std.proofs.lemmas.Bool.{cases_eq}
 use Rattle.std.proofs.lemmas.List.{take_all}
 use Rattle.std.proofs.lemmas.List.Elements.{Contains-append_left, Contains-append_right, Contains-append_cases, All-contains}
 use Rattle.hs_scheme.specs.Problem.{ProblemData}
@@ -144,6 +145,45 @@ argument_more I table args sets i u s lt is within set_is slots after were rows 
     subst (λ (z : List (List ℕ)). AreOfArguments I table (take (i + 1) args) (take (i + 1) sets) z) (sym added.is)
     (subst (λ (z : List ℕ). AreOfArguments I table z (take (i + 1) sets) (slots ++ added.added)) (sym (taken_next args i u lt is))
     (subst (λ (z : Env). AreOfArguments I table (take i args ++ u ∷ []) z (slots ++ added.added)) (sym (taken_next sets i s within set_is)) (of_last I table (take i args) (take i sets) slots u s rows added.added were part added.each)))
+
+-- some rows are those at the point
+some_at : (table : List RowData) (u : ℕ) → (rows : List RowData) × AreAtPoint table u rows
+some_at [] u = ([], λ row. (λ m. absurd (none_in row m), λ h. absurd (none_in row h.0)))
+some_at (r ∷ table) u =
+    let rest = some_at table u in
+    elim (cases_eq r.point u) [
+      | inl same ↦ (
+        r ∷ rest.0,
+        λ row. (
+          λ m. elim (uncons r row rest.0 m) [
+            | inl e ↦ (subst (λ (x : RowData). Contains (r ∷ table) x) (sym e) (here r table), ap (λ (x : RowData). x.point) e ∙ same)
+            | inr there ↦ let h = (rest.1 row).0 there in (later r row table h.0, h.1)
+          ],
+          λ h. elim (uncons r row table h.0) [
+            | inl e ↦ subst (λ (x : RowData). Contains (r ∷ rest.0) x) (sym e) (here r rest.0)
+            | inr there ↦ later r row rest.0 ((rest.1 row).1 (there, h.1))
+          ],
+        ),
+      )
+      | inr other ↦ (
+        rest.0,
+        λ row. (
+          λ m. let h = (rest.1 row).0 m in (later r row table h.0, h.1),
+          λ h. elim (uncons r row table h.0) [
+            | inl e ↦ absurd (other (sym (ap (λ (x : RowData). x.point) e) ∙ h.1))
+            | inr there ↦ (rest.1 row).1 (there, h.1)
+          ],
+        ),
+      )
+    ]
+
+-- of an argument nothing is asked
+pub nothing_asked : (I : InternerData) (table : List RowData) (args : List ℕ) (sets : Env) (i u : ℕ) (s : List TypeTree) → i < length args → u ≡ get_or args i u → i < length sets → s ≡ get_or sets i s → length s ≡ 0 → (slots : List (List ℕ))
+    → AreOfArguments I table (take i args) (take i sets) slots → AreOfArguments I table (take (i + 1) args) (take (i + 1) sets) slots
+nothing_asked I table args sets i u [] lt is within set_is none slots were =
+    let at = some_at table u in
+    argument_more I table args sets i u [] lt is within set_is slots slots were at.0 at.1 (record { added = []; is = sym (append-nil slots); each = of_none })
+nothing_asked I table args sets i u (a ∷ s) lt is within set_is none slots were = absurd (omega (arith, none))
 
 pub arguments_all : (I : InternerData) (table : List RowData) (args : List ℕ) (sets : Env) (i : ℕ) (slots : List (List ℕ)) → length args ≤ i → length sets ≡ length args → AreOfArguments I table (take i args) (take i sets) slots → AreOfArguments I table args sets slots
 arguments_all I table args sets i slots past long were =

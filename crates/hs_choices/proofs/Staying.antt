@@ -40,3 +40,20 @@ numbered_stays p C V I J table void grows are = record {
   pairs = voids_stay I J grows void are.envs ∙ are.pairs;
   envs = All-weaker (λ (v : VoidRowData). v.env < length I.envs) (λ (v : VoidRowData). v.env < length J.envs) (λ v lt. env_within I J grows v.env lt) void are.envs;
 }
+
+-- rows whose numbers were in use stood for the same before there were more
+pub numbered_back : (p : ProblemData) (C : List EntryData) (V : List VoidData) (I J : InternerData) (table : List RowData) (void : List VoidRowData) → Grows I J → All (IsRow I) table → All (λ (v : VoidRowData). v.env < length I.envs) void → AreNumbered p C V J table void → AreNumbered p C V I table void
+numbered_back p C V I J table void grows in_use envs are = record {
+  rows = record {
+    taken = λ row m.
+        let t = are.rows.taken row m in
+        (t.0, subst (λ (e : EntryData). IsAt p C t.0 e) (row_stays I J grows row (All-contains (IsRow I) table row in_use m)) t.1);
+    each = λ place e at.
+        let t = are.rows.each place e at in
+        (t.0, (t.1.0, sym (row_stays I J grows t.0 (All-contains (IsRow I) table t.0 in_use t.1.0)) ∙ t.1.1));
+  };
+  in_use = in_use;
+  order = are.order;
+  pairs = sym (voids_stay I J grows void envs) ∙ are.pairs;
+  envs = envs;
+}

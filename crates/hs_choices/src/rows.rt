@@ -16,21 +16,29 @@ fn start_of(rows: &[Row], point: u32) -> usize
     rows.partition_point(|row| row.point < point)
 }
 
-/// How many are at this one or at lesser ones.
-fn end_of(rows: &[Row], point: u32) -> usize
-    requires { IsNonDecreasingBy (λ (r : RowData). r.point) rows.now }
+/// How many are at this one or at lesser ones, where so many are at lesser ones.
+fn end_from(rows: &[Row], point: u32, from: usize) -> usize
+    requires order { IsNonDecreasingBy (λ (r : RowData). r.point) rows.now }
+    requires from { IsStartBy (λ (r : RowData). r.point) rows.now point from }
     ensures { IsStartBy (λ (r : RowData). r.point) rows.now (point + 1) result }
 {
-    rows.partition_point(|row| row.point <= point)
+    let mut to = from;
+    while to < rows.len() {
+        if rows[to].point != point {
+            return to;
+        }
+        to += 1;
+    }
+    to
 }
 
-/// The rows at the point, of rows in the order of their points. Time in the logarithm of their number, and
-/// takes no memory.
+/// The rows at the point, of rows in the order of their points. Time in the logarithm of their number and in
+/// how many are at the point, and takes no memory.
 pub fn rows_at(rows: &[Row], point: u32) -> &[Row]
     requires { IsNonDecreasingBy (λ (r : RowData). r.point) rows.now }
     ensures { AreAtPoint rows.now point result.now }
 {
     let from = start_of(rows, point);
-    let to = end_of(rows, point);
+    let to = end_from(rows, point, from);
     &rows[from..to]
 }

@@ -78,7 +78,7 @@ fn add_slots<T: Comparing>(
 
 /// A slot for each type that is asked of the arguments at these points, where `sets` has a set for each of
 /// them: by argument and then in the set's order. The table is in the order of points. For each type the
-/// rows of its argument are looked at.
+/// rows of its argument are looked at, and no argument of which nothing is asked.
 pub fn slots_for<T: Comparing>(
     alloc: Global,
     types: &mut T,
@@ -96,8 +96,12 @@ pub fn slots_for<T: Comparing>(
 {
     let mut slots = Vec::new(alloc);
     for (place, arg) in args.iter().enumerate() {
+        let set = sets[place];
+        if types.count(set) == 0 {
+            continue;
+        }
         let rows = rows_at(table, *arg);
-        add_slots(alloc, types, rows, sets[place], &mut slots)?;
+        add_slots(alloc, types, rows, set, &mut slots)?;
     }
     Ok(slots)
 }

@@ -1,3 +1,4 @@
+mod Beginning
 pub mod Telling
 pub mod Keeping
 pub mod Stepping

@@ -2,6 +2,7 @@
 
 ghost use Rattle.std.specs.Prelude.{◌≡◌, ◌-◌, ◌<◌, ◌≤◌, ◌↔◌, ◌++◌, ◌∷◌, [], ℕ, length, max, slice_get, Some, None, IfOk, IfSome, IfNone, IsTrue, OnOk, OnErr};
 ghost use Rattle.std.specs.Option.{option_map, option_copied};
+ghost use Rattle.std.specs.VecDeque.{deque_len, deque_capacity};
 ghost use Rattle.hs_table.specs.Tables.{HasStart};
 ghost use Rattle.hs_types.specs.Interned.{IsRow};
 ghost use Rattle.hs_history.specs.CoreStep.{seeds};
@@ -17,6 +18,7 @@ use hs_history::{Flight, Work};
 use hs_rules::{Deduced, Replica};
 use hs_scheme::{OutOfMemory, Problem};
 use hs_table::{Entry, HeadBy};
+use hs_types::Interner;
 use std::alloc::Global;
 use std::collections::VecDeque;
 use std::marker::Model;
@@ -95,15 +97,21 @@ impl<'p> Model for Core<'p> {
         }) };
 }
 
-/// The seeds of the points below n, in their order.
-fn all_seeds(alloc: Global, n: u32) -> Result<VecDeque<Work>, OutOfMemory>
-    ensures { IfOk result (λ pending. pending.items ≡ seeds n) }
+/// Puts the seeds of the points below n, in their order, in the place of what is pending. After a
+/// refusal of memory that stays.
+fn put_seeds(pending: &mut VecDeque<Work>, n: u32) -> Result<(), OutOfMemory>
+    ensures items { OnOk result (pending.new.items ≡ seeds n) }
+    ensures room { OnOk result (deque_len pending.new ≤ deque_capacity pending.new) }
+    ensures err { OnErr result (pending.new.items ≡ pending.old.items) }
+    ensures err_room { OnErr result (deque_len pending.new ≡ deque_len pending.old) }
+    ensures capacity { deque_capacity pending.old ≤ deque_capacity pending.new }
 {
-    let mut pending = Vec::with_capacity(alloc, n as usize)?;
+    pending.reserve(n as usize)?;
+    pending.clear();
     for point in 0..n {
-        pending.push_reserved(Work::Seed(point));
+        pending.push_back_reserved(Work::Seed(point));
     }
-    Ok(VecDeque::from_vec(pending))
+    Ok(())
 }
 
 impl<'p> Core<'p> {
@@ -127,7 +135,8 @@ impl<'p> Core<'p> {
           spare = 0;
         }) }
     {
-        let pending = all_seeds(alloc, problem.points.count())?;
+        let mut pending = VecDeque::new(alloc);
+        put_seeds(&mut pending, problem.points.count())?;
         Ok(Core {
             problem,
             budget,
@@ -141,6 +150,36 @@ impl<'p> Core<'p> {
             start: None,
             spare: 0,
         })
+    }
+
+    /// Begins anew, with this budget and this flag: the log is empty, nothing has happened, and the seed
+    /// of each point is pending, as in a new core. But what the interner has stays there, and so does the
+    /// memory, but for that of the journal. After a refusal of memory nothing has changed.
+    ///
+    /// Time is in proportion to what there was, and to the points.
+    pub fn restart(&mut self, budget: u32, first: bool) -> Result<(), OutOfMemory>
+        requires least { 1 ≤ budget }
+        requires greatest { budget ≤ 1000000 }
+        ensures ok { OnOk result (self.new ≡ record {
+          base = record { problem = self.old.base.problem; budget = budget; first = first };
+          ids = self.old.ids;
+          story = [];
+          spare = 0;
+        }) }
+        ensures err { OnErr result (self.new ≡ self.old) }
+    {
+        let problem = self.problem;
+        put_seeds(&mut self.pending, problem.points.count())?;
+        self.replica.clear();
+        self.supports.clear();
+        self.tickets.clear();
+        self.journal = Journal::new(*self.supports.allocator());
+        self.past = None;
+        self.start = None;
+        self.spare = 0;
+        self.budget = budget;
+        self.first = first;
+        Ok(())
     }
 
     /// What holds of each core. Takes no memory and no time.
@@ -254,6 +293,13 @@ impl<'p> Core<'p> {
             (option_copied result) }
     {
         self.past.as_ref()
+    }
+
+    /// The interner that reads the log. All else is dropped.
+    pub fn into_interner(self) -> Interner
+        ensures { result ≡ self.entry.ids }
+    {
+        self.replica.into_interner()
     }
 
     /// What has happened, the first step first. An entry that was added is told by its place in the

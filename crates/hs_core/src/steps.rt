@@ -132,8 +132,10 @@ impl<'p> Core<'p> {
         }
     }
 
-    /// Adds the entry to the log, and answers its place.
-    fn append(&mut self, worker: u32, ticket: u32, deduced: Deduced) -> u32
+    /// Adds the entry, which the log lacks and for which the budget has room, to the log, and answers its
+    /// place. The worker holds the ticket, and the entry follows from the log by its support. Takes no
+    /// memory, and constant time on average.
+    pub fn append(&mut self, worker: u32, ticket: u32, deduced: Deduced) -> u32
         requires row { IsRow self.old.ids deduced.row }
         requires can { CanAdd self.old.base (state_of self.old) worker ticket
             (deduction_of self.old.ids deduced) }

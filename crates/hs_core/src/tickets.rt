@@ -39,6 +39,13 @@ impl Tickets {
         }
     }
 
+    /// Takes out the work under each ticket, and keeps the memory.
+    pub fn clear(&mut self)
+        ensures { self.new ≡ record self.old { slots = [] } }
+    {
+        self.slots.clear();
+    }
+
     /// The work under the ticket.
     pub fn get(&self, ticket: u32) -> Option<Flight>
         ensures { result ≡ under self.now ticket }

@@ -10,3 +10,7 @@ pub mod CompactingLemmas
 pub mod ChildLemmas
 pub mod ChoosingLemmas
 pub mod CompleteLemmas
+pub mod AskedLemmas
+pub mod WithinLemmas
+pub mod FilingLemmas
+pub mod StrongestLemmas

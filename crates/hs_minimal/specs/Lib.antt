@@ -2,3 +2,4 @@ pub mod Compact
 pub mod Ends
 pub mod Growing
 pub mod Following
+pub mod Strongest

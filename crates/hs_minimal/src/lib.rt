@@ -5,19 +5,25 @@
 #![tactic(auto)]
 
 mod answer;
+mod asked;
 mod children;
 mod choosing;
 mod compacting;
 mod covered;
 mod dropping;
 mod ends;
+mod filing;
 mod following;
 mod gathering;
 mod growing;
+mod matching;
 mod rows;
 mod selecting;
 mod settling;
 mod spreading;
+mod strongest;
+mod within;
 
 pub use answer::Compact;
 pub use compacting::compact;
+pub use within::compact_within;

@@ -23,7 +23,8 @@ use std::marker::Model;
 /// said to be one.
 ///
 /// Contracts see what has numbers, and the entries and the pairs as trees. Who fills it may be anybody: a number
-/// that wasn't given here is refused. Where a call answers want of memory, entries and pairs are as before.
+/// past the greatest that was given here is refused. Where a call answers want of memory, entries and pairs are
+/// as before.
 ///
 /// An entry takes 12 bytes and a pair 8; what their types take is said at `Interner`.
 #[derive(Drop)]

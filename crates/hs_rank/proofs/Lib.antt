@@ -2,10 +2,11 @@ mod Rounds
 mod Order
 pub mod Places
 mod Supports
-mod Filling
-mod Adding
-mod Sorted
-mod Gathered
+pub mod Filling
+pub mod Adding
+pub mod Sorted
+pub mod Gathered
 mod Keeping
+mod Reading
 mod Fronts
-mod Backing
+pub mod Backing

@@ -2,13 +2,12 @@
 --     IsNewDeduced, AreNewDeduced            so is one of these; so are all of them
 --     IsKnown                  an entry is in the log, or was gathered with no greater support
 --     AddsNew                  those of a kind whose entries the log lacks were added, with the lesser supports
---     Gathered old xs new ys   xs became ys, and all else stayed but for what the interner gained
-use Rattle.std.specs.Prelude.{◌≡◌, List, Contains, ◌⊎◌}
+--     Gathered old xs new ys   xs became ys, while the interner gained what it may
+use Rattle.std.specs.Prelude.{List, Contains, ◌⊎◌}
 use Rattle.hs_scheme.specs.Problem.{ProblemData}
 use Rattle.hs_table.specs.Entries.{EntryData}
 use Rattle.hs_table.specs.Follows.{Support}
 use Rattle.hs_types.specs.Interned.{InternerData, entry_of, Grows}
-use Rattle.hs_replica.specs.Replica.{ReplicaData}
 use Rattle.hs_rules.specs.Conclusions.{DeducedData, IsDeduced}
 use Rattle.hs_rules.specs.Found.{HasNoGreater, Lowers}
 use Rattle.hs_rules.specs.Parts.{HasRowFor}
@@ -28,8 +27,7 @@ pub record AddsNew (ids : InternerData) (log : List EntryData) (Among : DeducedD
   pub only : (d : DeducedData) → Contains new d → Contains old d ⊎ (Among d × (Contains log (entry_of ids d.row) → ⊥))
   pub there : (d : DeducedData) → Among d → Contains log (entry_of ids d.row) ⊎ HasNoGreater new d.row d.support
 
-pub record Gathered (p : ProblemData) (old : ReplicaData) (xs : List DeducedData) (new : ReplicaData) (ys : List DeducedData) : Type 0 where
-  pub log : new.log ≡ old.log
-  pub grows : Grows old.ids new.ids
-  pub fresh : AreNewDeduced p new.ids new.log ys
-  pub more : (s : Support) (e : EntryData) → IsKnown old.ids old.log xs s e → IsKnown new.ids new.log ys s e
+pub record Gathered (p : ProblemData) (log : List EntryData) (old : InternerData) (xs : List DeducedData) (new : InternerData) (ys : List DeducedData) : Type 0 where
+  pub grows : Grows old new
+  pub fresh : AreNewDeduced p new log ys
+  pub more : (s : Support) (e : EntryData) → IsKnown old log xs s e → IsKnown new log ys s e

@@ -3,4 +3,5 @@ pub mod CanonicalExample
 pub mod Following
 pub mod Fronts
 pub mod Gathering
+pub mod Ordering
 pub mod Ranked

@@ -2,12 +2,11 @@
 //! nothing but the problem.
 #![tactic(auto)]
 
+mod comparing;
 mod gathering;
 mod laws;
 mod ordering;
-mod ranking;
-mod supporting;
 
-pub use hs_rules::{Deduced, Replica};
+pub use gathering::{keep_new, room_for};
 pub use laws::{canonical_logs_are_equal, least_supports_are_canonical};
-pub use ranking::{RankedLog, ranked};
+pub use ordering::places_in_order;

@@ -1,12 +1,11 @@
 -- What is inserted is there.
-use Rattle.std.proofs.Common.{◌≡◌, refl, sym, ◌∙◌, ap, subst, ℕ, ◌+◌, ◌*◌, ◌<◌, ◌≤◌, true, ◌&&◌, nat_eq, Bool, List, [], ◌∷◌, ◌++◌, length, length-append, Contains, ◌⊎◌, inl, inr, arith}
+use Rattle.std.proofs.Common.{◌≡◌, refl, sym, ◌∙◌, ap, subst, ◌+◌, ◌*◌, ◌<◌, ◌≤◌, true, ◌&&◌, nat_eq, Bool, List, [], ◌∷◌, ◌++◌, length, length-append, Contains, ◌⊎◌, inl, inr, arith}
 use Rattle.std.specs.Bool.{Decides}
 use Rattle.std.specs.List.{list_any, IsDistinct}
 use Rattle.std.proofs.lemmas.Bool.{eqb-true, eq-eqb, and_parts, cases_Bool, cond-true, cond-false}
-use Rattle.std.proofs.lemmas.Map.Made.{is_member-Decides, AllPairs-from_IsDistinct}
+use Rattle.std.proofs.lemmas.Map.Made.{AllPairs-from_IsDistinct}
 use Rattle.indexmap.specs.IndexSet.{insert_key}
 use Rattle.indexmap.proofs.CallerLemmas.{Contains-insert_key}
-use Rattle.hs_scheme.specs.Key.{key_eq}
 use Rattle.hs_table_laws.proofs.Members.{pushed_cases}
 use Rattle.hs_reads.specs.declared.becoming.Becoming.{Becoming}
 use Rattle.hs_reads.specs.contracts.becoming.BecomingPartialEq.TheImpl.{eq-value}
@@ -36,21 +35,6 @@ becoming_true a b h =
 pub becoming_there : (old new : List Becoming) (b : Becoming) → new ≡ insert_key eq-value.it old b → Contains new b
 becoming_there old new b keys = subst (λ (bs : List Becoming). Contains bs b) (sym keys) (Contains-insert_key eq-value.it becoming_true old b)
 
-pair_true : (a b : ℕ × ℕ) → key_eq a b ≡ true → a ≡ b
-pair_true a b h = let p = and_parts (nat_eq a.0 b.0) (nat_eq a.1 b.1) h in λ i. (eqb-true a.0 b.0 p.0 i, eqb-true a.1 b.1 p.1 i)
-
-pair_own : (a : ℕ × ℕ) → key_eq a a ≡ true
-pair_own a = rw (eq-eqb a.0 a.0 refl, eq-eqb a.1 a.1 refl)
-
-pair_same : (a b : ℕ × ℕ) → Decides (key_eq a b) (a ≡ b)
-pair_same a b = (pair_true a b, λ e. subst (λ (c : ℕ × ℕ). key_eq a c ≡ true) e (pair_own a))
-
-pub pair_there : (old new : List (ℕ × ℕ)) (x : ℕ × ℕ) → new ≡ insert_key key_eq old x → Contains new x
-pair_there old new x keys = subst (λ (xs : List (ℕ × ℕ)). Contains xs x) (sym keys) (Contains-insert_key key_eq pair_true old x)
-
-pub is_listed : (xs : List (ℕ × ℕ)) (x : ℕ × ℕ) → Decides (list_any (key_eq x) xs) (Contains xs x)
-is_listed xs x = is_member-Decides pair_same xs x
-
 becoming_own : (a : Becoming) → eq-value.it a a ≡ true
 becoming_own a = λ i. eq-eqb a.rule a.rule refl i && (eq-eqb a.param a.param refl i && (eq-eqb a.terminal a.terminal refl i && eq-eqb a.given a.given refl i))
 
@@ -70,6 +54,3 @@ becomings_short old new b keys short so_far c m = elim (inserted_cases eq-value.
 
 pub too_many_becomings : (found : List Becoming) → IsDistinct eq-value.it found → 4000000 < length found → AreTooMany found
 too_many_becomings found once many = record { distinct = AllPairs-from_IsDistinct becoming_same found once; many = many }
-
-pub too_many_pairs : (pairs : List (ℕ × ℕ)) → IsDistinct key_eq pairs → 4000000 < length pairs → AreTooMany pairs
-too_many_pairs pairs once many = record { distinct = AllPairs-from_IsDistinct pair_same pairs once; many = many }

@@ -1,5 +1,5 @@
 -- What a pair demands, by what is read of its point.
-use Rattle.std.proofs.Common.{◌≡◌, refl, sym, ◌∙◌, subst, ℕ, ◌+◌, ◌<◌, ◌≤◌, List, length, filter, ◌&&◌, nat_eq, slice_get, slice_index, Some, Contains, Bool, true, arith}
+use Rattle.std.proofs.Common.{◌≡◌, refl, sym, ◌∙◌, subst, ℕ, ◌+◌, ◌≤◌, List, length, filter, ◌&&◌, nat_eq, slice_get, slice_index, Some, Contains, Bool, true, arith}
 use Rattle.std.proofs.lemmas.Bool.{eq-eqb, eqb-true}
 use Rattle.std.proofs.lemmas.Option.{get_or_from_slice_get}
 use Rattle.hs_scheme.specs.declared.term.Head.{Head}
@@ -9,16 +9,11 @@ use Rattle.hs_scheme.specs.flow.Points.{PointsData, point_at}
 use Rattle.hs_scheme.specs.acceptance.Automaton.{next}
 use Rattle.hs_scheme.specs.Problem.{ProblemData}
 use Rattle.hs_scheme.proofs.Lists.{filter_keeps}
-use Rattle.hs_table_laws.proofs.Places.{place_of, within_from}
-use Rattle.hs_weak.specs.Reads.{PointIs, FlowsTo, Becomes, IsClosedReads}
-use Rattle.hs_reads.specs.Growing.{Grows}
+use Rattle.hs_table_laws.proofs.Places.{within_from}
+use Rattle.hs_weak.specs.Reads.{PointIs, FlowsTo, Becomes}
 use Rattle.hs_reads.specs.Pairs.{HasStart, Demands}
-use Rattle.hs_reads.proofs.GrowLemmas.{grows_has, one_place_more}
 use Rattle.hs_reads.proofs.BecomingLemmas.{parts_read, var_same, tm_same, nt_same}
-use Rattle.hs_reads.proofs.PairLemmas.{demands_by, closed_by}
-
-pub start_kept : (p : ProblemData) (old new : List (ℕ × ℕ)) → Grows old new → HasStart p old → HasStart p new
-start_kept p old new g start body e = grows_has old new (body, 0) g (start body e)
+use Rattle.hs_reads.proofs.PairLemmas.{demands_by}
 
 module _ (p : ProblemData) (w q : ℕ) (pairs : List (ℕ × ℕ)) (start : HasStart p pairs) where
   -- there is no such point
@@ -75,16 +70,6 @@ pub in_row : (flows : List FlowPair) (rule x v : ℕ) → Contains flows (record
     → Contains (filter (λ (f : FlowPair). nat_eq f.rule rule && nat_eq f.param x) flows) (record { rule = rule; param = x; point = v })
 in_row flows rule x v m =
     filter_keeps (λ (f : FlowPair). nat_eq f.rule rule && nat_eq f.param x) flows (record { rule = rule; param = x; point = v }) (rw (eq-eqb rule rule refl, eq-eqb x x refl)) m
-
--- ---- the pairs that were taken
-
-pub taken_more : (p : ProblemData) (old new : List (ℕ × ℕ)) (k : ℕ) (x : ℕ × ℕ) → Grows old new → slice_get old k ≡ Some x
-    → ((i : ℕ) (y : ℕ × ℕ) → i < k → slice_get old i ≡ Some y → Demands p y old) → Demands p x new
-    → (i : ℕ) (y : ℕ × ℕ) → i < k + 1 → slice_get new i ≡ Some y → Demands p y new
-taken_more p old new k x g at so_far now = one_place_more (λ y. Demands p y new) old new k x g at (λ i y lt e point q read. grows_has old new (point, q) g (so_far i y lt e point q read)) now
-
-pub all_taken : (p : ProblemData) (pairs : List (ℕ × ℕ)) (k : ℕ) → length pairs ≤ k → HasStart p pairs → ((i : ℕ) (y : ℕ × ℕ) → i < k → slice_get pairs i ≡ Some y → Demands p y pairs) → IsClosedReads p pairs
-all_taken p pairs k le start each = closed_by p pairs start (λ w q m. let place = place_of pairs (w, q) m in each place.0 (w, q) (omega (arith, within_from pairs place.0 (w, q) place.1, le)) place.1)
 
 -- nothing stands in an empty list
 pub none_at : (xs : List ℕ) (j u : ℕ) (empty : Bool) → empty ≡ nat_eq (length xs) 0 → empty ≡ true → slice_get xs j ≡ Some u → ⊥

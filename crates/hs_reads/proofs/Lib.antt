@@ -8,6 +8,9 @@ mod PushLemmas
 mod ListingLemmas
 mod HeadLemmas
 mod HoldsLemmas
-mod ByPointLemmas
+mod BelowLemmas
+mod BitLemmas
+mod RowLemmas
+mod FoundLemmas
 mod ArgumentLemmas
 pub mod ReadLemmas

@@ -11,10 +11,10 @@ use Rattle.hs_scheme.specs.Problem.{ProblemData}
 use Rattle.hs_scheme.proofs.Lists.{none_in, here, only, filter_has, filter_passes}
 use Rattle.hs_weak.specs.Reads.{PointIs, FlowsTo, Read, reads_start, reads_body, reads_child, reads_flow, reads_later_child, IsClosedReads}
 use Rattle.hs_reads.specs.declared.becoming.Becoming.{Becoming}
-use Rattle.hs_reads.specs.Growing.{Grows, AddsOnly, AreTooMany}
+use Rattle.hs_reads.specs.Growing.{AddsOnly, AreTooMany}
 use Rattle.hs_reads.specs.Own.{IsBecoming, AreMany, HasManyReads, AreAllPairs, AreReadsOf}
 use Rattle.hs_reads.specs.Pairs.{all_pairs, IsDemandedBy, IsArgumentRead, IsReadBehind, AreNeeded}
-use Rattle.hs_reads.proofs.GrowLemmas.{grows_has, adds_all, not_many}
+use Rattle.hs_reads.proofs.GrowLemmas.{adds_all, not_many}
 use Rattle.hs_reads.proofs.PairLemmas.{in_all, all_in}
 
 -- what is demanded by fewer pairs
@@ -30,10 +30,10 @@ read_more p R S sub point s (reads_later_child {point = w} {q = q} j m at flows 
 pub argument_read : (us rs : List ℕ) (k u r : ℕ) → slice_get us k ≡ Some u → slice_get rs k ≡ Some r → (x : ℕ × ℕ) → x ≡ (u, r) → IsArgumentRead us rs x
 argument_read us rs k u r at_u at_r x e = subst (λ (z : ℕ × ℕ). IsArgumentRead us rs z) (sym e) (record { place = k; arg = at_u; state = at_r })
 
-pub children_more : (us rs : List ℕ) (k u r : ℕ) (old new : List (ℕ × ℕ)) → slice_get us k ≡ Some u → slice_get rs k ≡ Some r → Grows old new → Contains new (u, r)
+pub children_more : (us rs : List ℕ) (k u r : ℕ) (old new : List (ℕ × ℕ)) → slice_get us k ≡ Some u → slice_get rs k ≡ Some r → ((x : ℕ × ℕ) → Contains old x → Contains new x) → Contains new (u, r)
     → ((i v s : ℕ) → i < k → slice_get us i ≡ Some v → slice_get rs i ≡ Some s → Contains old (v, s)) → (i v s : ℕ) → i < k + 1 → slice_get us i ≡ Some v → slice_get rs i ≡ Some s → Contains new (v, s)
-children_more us rs k u r old new at_u at_r grows there so_far i v s lt at_v at_s = elim (cases_lt i k) [
-  | inl less ↦ grows_has old new (v, s) grows (so_far i v s less at_v at_s)
+children_more us rs k u r old new at_u at_r kept there so_far i v s lt at_v at_s = elim (cases_lt i k) [
+  | inl less ↦ kept (v, s) (so_far i v s less at_v at_s)
   | inr last ↦ let i_is : k ≡ i = omega (arith, lt, last) in
       let v_is : u ≡ v = same_Some u v (sym (subst (λ n. slice_get us n ≡ Some u) i_is at_u) ∙ at_v) in
       let s_is : r ≡ s = same_Some r s (sym (subst (λ n. slice_get rs n ≡ Some r) i_is at_r) ∙ at_s) in

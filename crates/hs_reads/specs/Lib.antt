@@ -4,3 +4,5 @@ pub mod Own
 pub mod Becomings
 pub mod Pairs
 pub mod ByPoint
+pub mod Bits
+pub mod Found

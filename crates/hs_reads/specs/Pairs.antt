@@ -1,10 +1,9 @@
 -- Pairs of a point and a state.
 --     all_pairs points states     all of them
---     pairs_in listed points states     those that are listed, and all where none are listed
 --     IsArgumentRead args states x     an argument with the state at its place
 --     IsReadBehind ts state b args x   an argument with the state behind those of the arguments that are given to the terminal
 --     AreNeeded p pairs           the pairs are in each closed list
-use Rattle.std.specs.Prelude.{◌≡◌, ℕ, zero, suc, ◌+◌, List, [], ◌∷◌, ◌++◌, slice_get, Option, Some, None, Contains}
+use Rattle.std.specs.Prelude.{◌≡◌, ℕ, zero, suc, ◌+◌, List, [], ◌∷◌, ◌++◌, slice_get, Some, Contains}
 use Rattle.hs_scheme.specs.acceptance.Transition.{TransitionData}
 use Rattle.hs_scheme.specs.acceptance.Automaton.{next}
 use Rattle.hs_scheme.specs.Problem.{ProblemData}
@@ -18,10 +17,6 @@ states_at point (suc states) = (point, states) ∷ states_at point states
 abbrev pub all_pairs : ℕ → ℕ → List (ℕ × ℕ)
 all_pairs zero states = []
 all_pairs (suc points) states = states_at points states ++ all_pairs points states
-
-abbrev pub pairs_in : Option (List (ℕ × ℕ)) → ℕ → ℕ → List (ℕ × ℕ)
-pairs_in (Some listed) points states = listed
-pairs_in None points states = all_pairs points states
 
 -- the pairs have the body of the start in the initial state
 abbrev pub HasStart : ProblemData → List (ℕ × ℕ) → Type 0

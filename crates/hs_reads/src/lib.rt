@@ -4,10 +4,13 @@
 #![tactic(auto)]
 
 mod becoming;
+mod bits;
+mod found;
 mod laws;
 mod lists;
 mod reading;
 mod reads;
+mod state_set;
 mod stop;
 
 pub use laws::own_reads_are_one;

@@ -7,46 +7,30 @@ ghost use Rattle.hs_scheme.specs.flow.Points.{point_at};
 ghost use Rattle.hs_scheme.specs.sorting.Parameters.{IsParameter};
 ghost use Rattle.hs_scheme.specs.acceptance.Automaton.{next};
 ghost use Rattle.hs_reads.specs.declared.stop.Stop.TheVariants.{Limit};
-ghost use Rattle.hs_reads.specs.Growing.{Grows, AddsOnly, AreTooMany};
+ghost use Rattle.hs_reads.specs.Growing.{AddsOnly, AreTooMany};
 ghost use Rattle.hs_reads.specs.Becomings.{AnyBecoming, HasTerminals, HasTerminalsOnly};
+ghost use Rattle.hs_reads.specs.Found.{Gains};
 ghost use Rattle.hs_reads.specs.Pairs.{HasStart, Demands, IsDemandedBy, IsArgumentRead, IsReadBehind};
 
-use crate::becoming::{Becoming, MOST, list_at};
+use crate::becoming::{Becoming, list_at};
+use crate::found::FoundPairs;
 use crate::lists::Lists;
 use crate::stop::Stop;
 use hs_scheme::{FlowPair, Head, Problem, Sorted};
-use indexmap::IndexSet;
-
-/// Pairs of a point and a state.
-pub(crate) type Pairs = IndexSet<(u32, u32)>;
-
-/// Adds the pair, unless it is there. `Limit` comes where there are then more than `MOST`.
-fn add(pairs: &mut Pairs, point: u32, state: u32) -> Result<(), Stop>
-    ensures grows { OnOk result (Grows pairs.old.keys pairs.new.keys) }
-    ensures there { OnOk result (Contains pairs.new.keys (point, state)) }
-    ensures only { AddsOnly (λ x. x ≡ (point, state)) pairs.old.keys pairs.new.keys }
-    ensures limit { IsErrOf result Limit → AreTooMany pairs.new.keys }
-{
-    pairs.insert((point, state))?;
-    if pairs.len() > MOST {
-        return Err(Stop::Limit);
-    }
-    Ok(())
-}
 
 /// Adds each argument with the state at its place.
-fn add_children(pairs: &mut Pairs, args: &[u32], states: &[u32]) -> Result<(), Stop>
-    ensures grows { OnOk result (Grows pairs.old.keys pairs.new.keys) }
+fn add_children(found: &mut FoundPairs, args: &[u32], states: &[u32]) -> Result<(), Stop>
+    ensures gains { OnOk result (Gains found.old found.new) }
     ensures there { OnOk result ((i u r : ℕ) → slice_get args.now i ≡ Some u → slice_get states.now i ≡ Some r
-        → Contains pairs.new.keys (u, r)) }
-    ensures only { AddsOnly (IsArgumentRead args.now states.now) pairs.old.keys pairs.new.keys }
-    ensures limit { IsErrOf result Limit → AreTooMany pairs.new.keys }
+        → Contains found.new.pairs (u, r)) }
+    ensures only { AddsOnly (IsArgumentRead args.now states.now) found.old.pairs found.new.pairs }
+    ensures limit { IsErrOf result Limit → AreTooMany found.new.pairs }
 {
     for (place, arg) in args.iter().enumerate() {
         let Some(state) = states.get(place) else {
             return Ok(());
         };
-        add(pairs, *arg, *state)?;
+        found.add(*arg, *state)?;
     }
     Ok(())
 }
@@ -71,22 +55,22 @@ fn behind(states: &[u32], given: usize) -> &[u32]
 /// Adds the arguments that stand behind those that are given to the terminal.
 fn add_behind(
     sorted: &Sorted,
-    pairs: &mut Pairs,
+    found: &mut FoundPairs,
     state: u32,
     becoming: &Becoming,
     args: &[u32],
 ) -> Result<(), Stop>
-    ensures grows { OnOk result (Grows pairs.old.keys pairs.new.keys) }
+    ensures gains { OnOk result (Gains found.old found.new) }
     ensures there { OnOk result ((j u r : ℕ) (qs : List ℕ)
         → next sorted.now.automaton.transitions state becoming.now.terminal ≡ Some qs
         → slice_get args.now j ≡ Some u → slice_get qs (becoming.now.given + j) ≡ Some r
-        → Contains pairs.new.keys (u, r)) }
+        → Contains found.new.pairs (u, r)) }
     ensures only { AddsOnly (IsReadBehind sorted.now.automaton.transitions state becoming.now args.now)
-        pairs.old.keys pairs.new.keys }
-    ensures limit { IsErrOf result Limit → AreTooMany pairs.new.keys }
+        found.old.pairs found.new.pairs }
+    ensures limit { IsErrOf result Limit → AreTooMany found.new.pairs }
 {
     match next_of(sorted, state, becoming.terminal) {
-        Some(states) => add_children(pairs, args, behind(states, becoming.given)),
+        Some(states) => add_children(found, args, behind(states, becoming.given)),
         None => Ok(()),
     }
 }
@@ -94,37 +78,37 @@ fn add_behind(
 /// So for each of the terminals.
 fn add_all_behind(
     sorted: &Sorted,
-    pairs: &mut Pairs,
+    found: &mut FoundPairs,
     state: u32,
     terminals: &[Becoming],
     args: &[u32],
 ) -> Result<(), Stop>
-    ensures grows { OnOk result (Grows pairs.old.keys pairs.new.keys) }
+    ensures gains { OnOk result (Gains found.old found.new) }
     ensures there { OnOk result ((b : AnyBecoming) (j u r : ℕ) (qs : List ℕ) → Contains terminals.now b
         → next sorted.now.automaton.transitions state b.terminal ≡ Some qs
         → slice_get args.now j ≡ Some u → slice_get qs (b.given + j) ≡ Some r
-        → Contains pairs.new.keys (u, r)) }
+        → Contains found.new.pairs (u, r)) }
     ensures only { AddsOnly (λ x. (b : AnyBecoming) × (Contains terminals.now b
-        × IsReadBehind sorted.now.automaton.transitions state b args.now x)) pairs.old.keys pairs.new.keys }
-    ensures limit { IsErrOf result Limit → AreTooMany pairs.new.keys }
+        × IsReadBehind sorted.now.automaton.transitions state b args.now x)) found.old.pairs found.new.pairs }
+    ensures limit { IsErrOf result Limit → AreTooMany found.new.pairs }
 {
     for becoming in terminals {
-        add_behind(sorted, pairs, state, becoming, args)?;
+        add_behind(sorted, found, state, becoming, args)?;
     }
     Ok(())
 }
 
 /// Adds the point of each flow pair, with the state.
-fn add_points(pairs: &mut Pairs, row: &[FlowPair], state: u32) -> Result<(), Stop>
-    ensures grows { OnOk result (Grows pairs.old.keys pairs.new.keys) }
+fn add_points(found: &mut FoundPairs, row: &[FlowPair], state: u32) -> Result<(), Stop>
+    ensures gains { OnOk result (Gains found.old found.new) }
     ensures there { OnOk result ((f : AnyFlow) → Contains row.now f
-        → Contains pairs.new.keys (f.point, state)) }
+        → Contains found.new.pairs (f.point, state)) }
     ensures only { AddsOnly (λ x. (f : AnyFlow) × (Contains row.now f × (x ≡ (f.point, state))))
-        pairs.old.keys pairs.new.keys }
-    ensures limit { IsErrOf result Limit → AreTooMany pairs.new.keys }
+        found.old.pairs found.new.pairs }
+    ensures limit { IsErrOf result Limit → AreTooMany found.new.pairs }
 {
     for pair in row {
-        add(pairs, pair.point, state)?;
+        found.add(pair.point, state)?;
     }
     Ok(())
 }
@@ -133,7 +117,7 @@ fn add_points(pairs: &mut Pairs, row: &[FlowPair], state: u32) -> Result<(), Sto
 fn add_by_parameter(
     problem: &Problem,
     terminals: &Lists<Becoming>,
-    pairs: &mut Pairs,
+    found: &mut FoundPairs,
     point: u32,
     param: u32,
     state: u32,
@@ -144,80 +128,80 @@ fn add_by_parameter(
         param }
     requires terminals { HasTerminals problem.now terminals.now }
     requires only { HasTerminalsOnly problem.now terminals.now }
-    ensures grows { OnOk result (Grows pairs.old.keys pairs.new.keys) }
-    ensures there { OnOk result (HasStart problem.now pairs.old.keys
-        → Demands problem.now (point, state) pairs.new.keys) }
-    ensures only { AddsOnly (IsDemandedBy problem.now (point, state)) pairs.old.keys pairs.new.keys }
-    ensures limit { IsErrOf result Limit → AreTooMany pairs.new.keys }
+    ensures gains { OnOk result (Gains found.old found.new) }
+    ensures there { OnOk result (HasStart problem.now found.old.pairs
+        → Demands problem.now (point, state) found.new.pairs) }
+    ensures only { AddsOnly (IsDemandedBy problem.now (point, state)) found.old.pairs found.new.pairs }
+    ensures limit { IsErrOf result Limit → AreTooMany found.new.pairs }
 {
     let rule = problem.points.rule_of(point);
-    add_points(pairs, problem.flow.flow_of(rule, param), state)?;
+    add_points(found, problem.flow.flow_of(rule, param), state)?;
     let args = problem.points.args_of(point);
     if args.is_empty() {
         return Ok(());
     }
     let list = list_at(terminals, problem.points.params(), rule, param);
-    add_all_behind(&problem.sorted, pairs, state, list, args)
+    add_all_behind(&problem.sorted, found, state, list, args)
 }
 
 /// Adds what a point with a terminal at its head demands.
 fn add_by_terminal(
     problem: &Problem,
-    pairs: &mut Pairs,
+    found: &mut FoundPairs,
     point: u32,
     terminal: u32,
     state: u32,
 ) -> Result<(), Stop>
     requires point { point < length problem.now.points.points }
     requires head { (point_at problem.now.points point).head ≡ Tm terminal }
-    ensures grows { OnOk result (Grows pairs.old.keys pairs.new.keys) }
-    ensures there { OnOk result (HasStart problem.now pairs.old.keys
-        → Demands problem.now (point, state) pairs.new.keys) }
-    ensures only { AddsOnly (IsDemandedBy problem.now (point, state)) pairs.old.keys pairs.new.keys }
-    ensures limit { IsErrOf result Limit → AreTooMany pairs.new.keys }
+    ensures gains { OnOk result (Gains found.old found.new) }
+    ensures there { OnOk result (HasStart problem.now found.old.pairs
+        → Demands problem.now (point, state) found.new.pairs) }
+    ensures only { AddsOnly (IsDemandedBy problem.now (point, state)) found.old.pairs found.new.pairs }
+    ensures limit { IsErrOf result Limit → AreTooMany found.new.pairs }
 {
     match next_of(&problem.sorted, state, terminal) {
-        Some(states) => add_children(pairs, problem.points.args_of(point), states),
+        Some(states) => add_children(found, problem.points.args_of(point), states),
         None => Ok(()),
     }
 }
 
 /// Adds the body of the start, in the initial state.
-pub(crate) fn add_start(problem: &Problem, pairs: &mut Pairs) -> Result<(), Stop>
-    ensures grows { OnOk result (Grows pairs.old.keys pairs.new.keys) }
-    ensures there { OnOk result (HasStart problem.now pairs.new.keys) }
+pub(crate) fn add_start(problem: &Problem, found: &mut FoundPairs) -> Result<(), Stop>
+    ensures gains { OnOk result (Gains found.old found.new) }
+    ensures there { OnOk result (HasStart problem.now found.new.pairs) }
     ensures only { AddsOnly (λ x. (slice_get problem.now.points.bodies 0 ≡ Some x.0) × (x.1 ≡ 0))
-        pairs.old.keys pairs.new.keys }
-    ensures limit { IsErrOf result Limit → AreTooMany pairs.new.keys }
+        found.old.pairs found.new.pairs }
+    ensures limit { IsErrOf result Limit → AreTooMany found.new.pairs }
 {
     if problem.points.params().rules() == 0 {
         return Ok(());
     }
-    add(pairs, problem.points.body_of(0), 0)
+    found.add(problem.points.body_of(0), 0)
 }
 
 /// Adds what a pair demands. A number behind the last point demands nothing.
 pub(crate) fn add_demanded(
     problem: &Problem,
     terminals: &Lists<Becoming>,
-    pairs: &mut Pairs,
+    found: &mut FoundPairs,
     point: u32,
     state: u32,
 ) -> Result<(), Stop>
     requires terminals { HasTerminals problem.now terminals.now }
     requires only { HasTerminalsOnly problem.now terminals.now }
-    ensures grows { OnOk result (Grows pairs.old.keys pairs.new.keys) }
-    ensures there { OnOk result (HasStart problem.now pairs.old.keys
-        → Demands problem.now (point, state) pairs.new.keys) }
-    ensures only { AddsOnly (IsDemandedBy problem.now (point, state)) pairs.old.keys pairs.new.keys }
-    ensures limit { IsErrOf result Limit → AreTooMany pairs.new.keys }
+    ensures gains { OnOk result (Gains found.old found.new) }
+    ensures there { OnOk result (HasStart problem.now found.old.pairs
+        → Demands problem.now (point, state) found.new.pairs) }
+    ensures only { AddsOnly (IsDemandedBy problem.now (point, state)) found.old.pairs found.new.pairs }
+    ensures limit { IsErrOf result Limit → AreTooMany found.new.pairs }
 {
     if point >= problem.points.count() {
         return Ok(());
     }
     match problem.points.head_of(point) {
-        Head::Nt(f) => add(pairs, problem.points.body_of(f), state),
-        Head::Tm(terminal) => add_by_terminal(problem, pairs, point, terminal, state),
-        Head::Var(param) => add_by_parameter(problem, terminals, pairs, point, param, state),
+        Head::Nt(f) => found.add(problem.points.body_of(f), state),
+        Head::Tm(terminal) => add_by_terminal(problem, found, point, terminal, state),
+        Head::Var(param) => add_by_parameter(problem, terminals, found, point, param, state),
     }
 }

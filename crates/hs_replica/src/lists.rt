@@ -31,6 +31,15 @@ impl Lists {
             keyed: IndexMap::new(alloc),
         }
     }
+
+    /// Takes all places out, and keeps the memory.
+    pub(crate) fn clear(&mut self)
+        ensures at { self.new.at.items ≡ [] }
+        ensures keyed { self.new.keyed.entries ≡ [] }
+    {
+        self.at.clear();
+        self.keyed.clear();
+    }
 }
 
 /// Whether the place is the last of the list.

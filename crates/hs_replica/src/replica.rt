@@ -80,6 +80,25 @@ impl Replica {
         }
     }
 
+    /// Takes all entries out. What the interner has stays there, and so does the memory. Time is in
+    /// proportion to what was listed.
+    pub fn clear(&mut self)
+        ensures { self.new ≡ record {
+          ids = self.old.ids;
+          log = [];
+          spare = 0;
+          indexed = 0;
+          by_type = [];
+        } }
+    {
+        self.rows.clear();
+        self.lists.clear();
+        self.by_type.clear();
+        self.asked.clear();
+        self.reserved = 0;
+        self.indexed = 0;
+    }
+
     /// The number of entries. Takes no memory.
     pub fn len(&self) -> u32
         ensures len { result ≡ length self.now.log }
@@ -102,6 +121,13 @@ impl Replica {
         ensures { result.now ≡ self.now.ids }
     {
         &self.interner
+    }
+
+    /// The interner that reads the rows. All else is dropped.
+    pub fn into_interner(self) -> Interner
+        ensures { result ≡ self.ids }
+    {
+        self.interner
     }
 
     /// The place of the entry of this row of the replica's interner, or `None` where the log lacks

@@ -3,3 +3,4 @@ pub mod Reading
 pub mod Memory
 pub mod Comparing
 pub mod LastStates
+pub mod KindBits

@@ -1,18 +1,20 @@
 -- What is remembered stays true.
-use Rattle.std.proofs.Common.{◌≡◌, refl, sym, ◌∙◌, ap, subst, ℕ, ◌<◌, Bool, true, false, cond, nat_eq, List, [], ◌∷◌, length, Some, slice_get, IsTrue, Contains, ◌⊎◌, ◌↔◌, inl, inr}
+use Rattle.std.proofs.Common.{◌≡◌, refl, sym, ◌∙◌, ap, subst, ℕ, ◌<◌, Bool, true, false, cond, nat_eq, List, [], ◌∷◌, length, Option, Some, slice_get, IsTrue, Contains, ◌⊎◌, ◌↔◌, inl, inr}
 use Rattle.std.specs.Map.{lookup}
 use Rattle.std.proofs.lemmas.Bool.{eqb-true, and_parts}
 use Rattle.hs_scheme.proofs.Lists.{none_in, here, later, uncons}
 use Rattle.indexmap.specs.IndexMap.{insert_entry}
 use Rattle.hs_table.specs.Types.{TypeTree}
-use Rattle.hs_weak.specs.Strength.{AsStrongAs, AsksEach}
-use Rattle.hs_types.specs.Interned.{InternerData, type_of_id, set_of_id, Grows}
-use Rattle.hs_types.proofs.Numbers.{type_within, type_stays, set_within, set_stays}
+use Rattle.hs_table.specs.Entries.{Env}
+use Rattle.hs_weak.specs.Strength.{AsStrongAs, AsksEach, AsksAtLeast}
+use Rattle.hs_types.specs.Interned.{InternerData, type_of_id, set_of_id, env_of_id, Grows}
+use Rattle.hs_types.proofs.Numbers.{type_within, type_stays, set_within, set_stays, env_within, env_stays}
 use Rattle.hs_strength.specs.declared.memo.Question.{Question}
 use Rattle.hs_strength.specs.declared.memo.Question.TheVariants.{Types, Sets}
 use Rattle.hs_strength.specs.contracts.memo.QuestionPartialEq.TheImpl.{eq-value}
+use Rattle.hs_strength.specs.Kinds.{HasKinds}
 use Rattle.hs_strength.specs.Memo.{MemoData}
-use Rattle.hs_strength.specs.Remembered.{IsAnswer, Remembers, nothing, Learns, Sees}
+use Rattle.hs_strength.specs.Remembered.{IsAnswer, Remembers, nothing, Learns, Sees, Notes}
 
 abbrev Answers : Type 0
 Answers = List (Question × Bool)
@@ -61,7 +63,7 @@ inserted_answer p v ((q, w) ∷ es) x h = by (eq-value.it p q) refl (inserted_an
 -- ---- what is remembered
 
 pub remembers_nothing : (I : InternerData) → Remembers I nothing
-remembers_nothing I = record { answers = λ q answer m. absurd (none_in (q, answer) m); seen = λ t e. absurd (cc) }
+remembers_nothing I = record { answers = λ q answer m. absurd (none_in (q, answer) m); seen = λ t e. absurd (cc); kinds = λ e kinds at. absurd (cc) }
 
 answer_stays : (I J : InternerData) → Grows I J → (q : Question) (answer : Bool) → IsAnswer I q answer → IsAnswer J q answer
 answer_stays I J g (Types t u) answer (t_in, u_in, is) = (
@@ -83,6 +85,10 @@ remembers_grown I J memo g h = record {
   seen = λ t e.
       let was = h.seen t e in
       (type_within I J g t was.0, subst (λ (x : TypeTree). AsStrongAs x x) (sym (type_stays I J g t was.0)) was.1);
+  kinds = λ e kinds at.
+      let was = h.kinds e kinds at in
+      let same = sym (env_stays I J g e was.0) in
+      (env_within I J g e was.0, subst (λ (E : Env). HasKinds E kinds) same was.1, subst (λ (E : Env). AsksAtLeast AsStrongAs E E) same was.2);
 }
 
 pub learned : (I : InternerData) (old new : MemoData) (q : Question) (answer : Bool) → Remembers I old → IsAnswer I q answer → Learns old new q answer → Remembers I new
@@ -92,6 +98,7 @@ learned I old new q answer h is learns = record {
     | inr own ↦ subst (λ (r : Question). IsAnswer I r b) (sym own.0) (subst (λ (c : Bool). IsAnswer I q c) (sym own.1) is)
   ];
   seen = λ t e. h.seen t (subst (λ (marks : List Bool). slice_get marks t ≡ Some true) learns.seen e);
+  kinds = λ e kinds at. h.kinds e kinds (subst (λ (ks : List (Option ℕ)). slice_get ks e ≡ Some (Some kinds)) learns.kinds at);
 }
 
 pub saw : (I : InternerData) (old new : MemoData) (ty : ℕ) → Remembers I old → ty < length I.types → AsStrongAs (type_of_id I ty) (type_of_id I ty) → Sees old new ty → Remembers I new
@@ -100,5 +107,16 @@ saw I old new ty h within strong sees = record {
   seen = λ t e. elim (sees.seen t e) [
     | inl was ↦ h.seen t was
     | inr is ↦ subst (λ k. (k < length I.types) × AsStrongAs (type_of_id I k) (type_of_id I k)) (sym is) (within, strong)
+  ];
+  kinds = λ e kinds at. h.kinds e kinds (subst (λ (ks : List (Option ℕ)). slice_get ks e ≡ Some (Some kinds)) sees.kinds at);
+}
+
+pub noted : (I : InternerData) (old new : MemoData) (env own : ℕ) → Remembers I old → env < length I.envs → HasKinds (env_of_id I env) own → AsksAtLeast AsStrongAs (env_of_id I env) (env_of_id I env) → Notes old new env own → Remembers I new
+noted I old new env own h within has itself notes = record {
+  answers = λ q b m. h.answers q b (subst (λ (es : Answers). Contains es (q, b)) notes.answers m);
+  seen = λ t e. h.seen t (subst (λ (marks : List Bool). slice_get marks t ≡ Some true) notes.seen e);
+  kinds = λ e kinds at. elim (notes.kinds e kinds at) [
+    | inl was ↦ h.kinds e kinds was
+    | inr (is, same) ↦ subst (λ k. (k < length I.envs) × HasKinds (env_of_id I k) kinds × AsksAtLeast AsStrongAs (env_of_id I k) (env_of_id I k)) (sym is) (within, subst (λ n. HasKinds (env_of_id I env) n) (sym same) has, itself)
   ];
 }

@@ -16,10 +16,13 @@ module _ (f : ℕ → List TypeTree) where
   pub set_read_at : (ids : List ℕ) (E : Env) (k s : ℕ) → map f ids ≡ E → k < length ids → s ≡ get_or ids k s → set_at E k ≡ f s
   set_read_at ids E k s e lt is = sym (ap (λ (z : Env). set_at z k) e) ∙ mapped_at ids k s lt is
 
+  pub long_as : (ids : List ℕ) (E : Env) → map f ids ≡ E → length E ≡ length ids
+  long_as ids E e = ap (λ (z : Env). length z) (sym e) ∙ length-map ids f
+
   -- a set that is missing asks of the other set just where it is empty
   pub missing_set : (g : ℕ → TypeTree) (ids ms : List ℕ) (E : Env) (r : List TypeTree) (k : ℕ) (b : Bool) → map f ids ≡ E → map g ms ≡ r → length ids ≤ k → b ≡ nat_eq (length ms) 0
       → IsTrue b ↔ AsksEach AsStrongAs (set_at E k) r
   missing_set g ids ms E r k b e d past is =
-      let long : length E ≡ length ids = ap (λ (z : Env). length z) (sym e) ∙ length-map ids f in
+      let long = long_as ids E e in
       let many : length ms ≡ length r = sym (length-map ms g) ∙ ap (λ (z : List TypeTree). length z) d in
       missing_asks E k r b (omega (arith, long, past)) (is ∙ ap (λ n. nat_eq n 0) many)

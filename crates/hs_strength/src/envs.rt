@@ -34,10 +34,9 @@ impl Strengths {
         }
     }
 
-    /// Whether an environment asks at least what the other asks, as `hs_weak::asks_at_least` answers for
-    /// the trees. A look-up for each parameter, where the pairs of sets were compared before; ends at
-    /// the first that is refused.
-    pub fn asks_at_least(
+    /// Whether the environment asks at least what the other asks: compares their sets, up to the first that
+    /// is refused.
+    fn compare_envs(
         &mut self,
         types: &Interner,
         env: EnvId,
@@ -57,5 +56,33 @@ impl Strengths {
             }
         }
         Ok(true)
+    }
+
+    /// Whether an environment asks at least what the other asks, as `hs_weak::asks_at_least` answers for
+    /// the trees. Constant time for equal numbers, and where the other asks for a type of a kind, told by its
+    /// parameter and last state, of which this one asks for none, once the kinds of both are known. Else a
+    /// look-up for each parameter, where the pairs of sets were compared before; ends at the first that is
+    /// refused.
+    pub fn asks_at_least(
+        &mut self,
+        types: &Interner,
+        env: EnvId,
+        other: EnvId,
+    ) -> Result<bool, OutOfMemory>
+        requires env { env < length types.now.envs }
+        requires other { other < length types.now.envs }
+        requires memo { Remembers types.now self.old }
+        ensures ok { IfOk result (λ answer. IsTrue answer
+            ↔ AsksAtLeast AsStrongAs (env_of_id types.now env) (env_of_id types.now other)) }
+        ensures memo { Remembers types.now self.new }
+    {
+        if env == other {
+            self.kinds(types, env)?;
+            return Ok(true);
+        }
+        if !self.may_ask_at_least(types, env, other)? {
+            return Ok(false);
+        }
+        self.compare_envs(types, env, other)
     }
 }

@@ -7,6 +7,7 @@
 mod entries;
 mod envs;
 mod itself;
+mod kinds;
 mod last_states;
 mod laws;
 mod memo;

@@ -1,10 +1,10 @@
 //! What was compared, with the answers.
 
 ghost use Rattle.std.specs.Prelude.{◌≡◌, ◌<◌, ℕ, [], OnOk, IfSome, IsTrue, Contains, true, Some, slice_get, vec_len};
-ghost use Rattle.hs_strength.specs.Remembered.{IsWithin, Learns, Sees};
+ghost use Rattle.hs_strength.specs.Remembered.{IsWithin, Learns, Sees, Notes};
 
 use hs_scheme::OutOfMemory;
-use hs_types::{SetId, TyId};
+use hs_types::{EnvId, SetId, TyId};
 use indexmap::IndexMap;
 use std::alloc::Global;
 use std::marker::Model;
@@ -32,18 +32,34 @@ fn make_place(seen: &mut Vec<bool>, place: usize) -> Result<(), OutOfMemory>
     Ok(())
 }
 
+/// Makes the place, and puts no kinds there.
+fn make_place_for_kinds(kinds: &mut Vec<Option<u64>>, place: usize) -> Result<(), OutOfMemory>
+    ensures there { OnOk result (place < vec_len kinds.new) }
+    ensures kinds { (e k : ℕ) → slice_get kinds.new.items e ≡ Some (Some k)
+        → slice_get kinds.old.items e ≡ Some (Some k) }
+{
+    while kinds.len() <= place {
+        kinds.push(None)?;
+    }
+    Ok(())
+}
+
 /// What was found of the strength of types and sets, in one interner.
 ///
-/// Contracts see the answers, and which types were seen to be as strong as themselves. What is
-/// remembered stays true while the interner grows, and where a call answers want of memory. A call
-/// with numbers of another interner than before begins with a new `Strengths`.
+/// Contracts see the answers, which types were seen to be as strong as themselves, and the kinds of
+/// types that environments ask for. What is remembered stays true while the interner grows, and where
+/// a call answers want of memory. A call with numbers of another interner than before begins with a new
+/// `Strengths`.
 ///
-/// An answer takes some 40 bytes, of which 1,048,576 are kept at most, and a type one byte.
+/// An answer takes some 40 bytes, of which 1,048,576 are kept at most, a type one byte, and an
+/// environment 16.
 #[derive(Drop)]
 pub struct Strengths {
     known: IndexMap<Question, bool>,
     /// By the number of a type, whether it was seen to be as strong as itself.
     seen: Vec<bool>,
+    /// By the number of an environment, the kinds of its types, once they were formed.
+    kinds: Vec<Option<u64>>,
 }
 
 impl Model for Strengths {
@@ -51,17 +67,18 @@ impl Model for Strengths {
 
     ghost Value = { MemoData };
 
-    ghost view = { λ a. record { answers = a.known.entries; seen = a.seen.items } };
+    ghost view = { λ a. record { answers = a.known.entries; seen = a.seen.items; kinds = a.kinds.items } };
 }
 
 impl Strengths {
     /// Nothing is remembered. Takes no memory.
     pub fn new(alloc: Global) -> Strengths
-        ensures { result ≡ record { answers = []; seen = [] } }
+        ensures { result ≡ record { answers = []; seen = []; kinds = [] } }
     {
         Strengths {
             known: IndexMap::new(alloc),
             seen: Vec::new(alloc),
+            kinds: Vec::new(alloc),
         }
     }
 
@@ -108,6 +125,24 @@ impl Strengths {
         let place = ty.number();
         make_place(&mut self.seen, place)?;
         self.seen[place] = true;
+        Ok(())
+    }
+
+    /// The kinds of the environment's types, where they are remembered.
+    pub(crate) fn find_kinds(&self, env: EnvId) -> Option<u64>
+        ensures { IfSome result (λ kinds. slice_get self.now.kinds env ≡ Some (Some kinds)) }
+    {
+        let kinds = self.kinds.get(env.number())?;
+        *kinds
+    }
+
+    /// Remembers them.
+    pub(crate) fn keep_kinds(&mut self, env: EnvId, kinds: u64) -> Result<(), OutOfMemory>
+        ensures { Notes self.old self.new env kinds }
+    {
+        let place = env.number();
+        make_place_for_kinds(&mut self.kinds, place)?;
+        self.kinds[place] = Some(kinds);
         Ok(())
     }
 }

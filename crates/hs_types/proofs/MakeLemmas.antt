@@ -1,11 +1,16 @@
 -- Sets that got their numbers, and environments of few sets.
-use Rattle.std.proofs.Common.{◌≡◌, refl, sym, ◌∙◌, ap, subst, All, ℕ, suc, ◌<◌, ◌≤◌, List, [], ◌∷◌, ◌++◌, length, take, drop, map, set, replicate, get_or, slice_get, Some, arith}
+use Rattle.std.proofs.Common.{◌≡◌, refl, sym, ◌∙◌, ap, subst, All, ℕ, suc, ◌+◌, ◌-◌, ◌<◌, ◌≤◌, List, [], ◌∷◌, ◌++◌, length, take, drop, map, set, replicate, get_or, slice_get, Some, inl, inr, arith}
 use Rattle.std.specs.List.{refill}
 use Rattle.std.proofs.Math.Seq.{take-append_seam}
-use Rattle.std.proofs.lemmas.List.{length-set}
+use Rattle.std.proofs.lemmas.List.{length-set, get_or_default}
 use Rattle.std.proofs.lemmas.Option.{get_or_from_slice_get, slice_get-get_or, slice_get_within}
 use Rattle.std.proofs.lemmas.List.Elements.{All-replicate, All-set}
-use Rattle.hs_table.specs.Types.{TypeTree, IsSet}
+use Rattle.std.specs.declared.cmp.Ordering.TheVariants.{Less}
+use Rattle.std.proofs.lemmas.Bool.{cases_order}
+use Rattle.hs_scheme.proofs.Lists.{uncons}
+use Rattle.hs_table.specs.Types.{TypeTree, type_cmp, IsSet}
+use Rattle.hs_table_laws.proofs.Orders.{type_cmp_total}
+use Rattle.hs_table_laws.proofs.Places.{pairs_head, pairs_cons}
 use Rattle.hs_table_laws.proofs.Sets.{no_set, one_set}
 use Rattle.hs_types.specs.Interned.{InternerData, set_of_id, Grows, IsSetOf, IsUnion}
 use Rattle.hs_types.proofs.ListLemmas.{map-replicate, map-set_at}
@@ -15,6 +20,38 @@ pub few_ascend : (f : ℕ → TypeTree) (ids : List ℕ) → length ids ≤ 1 �
 few_ascend f [] h = no_set
 few_ascend f (i ∷ []) h = one_set (f i)
 few_ascend f (i ∷ j ∷ ids) h = absurd (omega arith)
+
+-- of the first so many types each comes before the next one
+abbrev pub AscendTo : (ℕ → TypeTree) → List ℕ → ℕ → Type 0
+AscendTo f ids n = (j : ℕ) → j + 1 < n → type_cmp (f (get_or ids j 0)) (f (get_or ids (j + 1) 0)) ≡ Less
+
+pub ascend_all : (f : ℕ → TypeTree) (ids : List ℕ) (n : ℕ) → length ids ≤ n → AscendTo f ids n → IsSet (map f ids)
+ascend_all f [] n le h = no_set
+ascend_all f (i ∷ []) n le h = one_set (f i)
+ascend_all f (i ∷ j ∷ ids) n le h =
+    let R : TypeTree → TypeTree → Type 0 = λ x y. type_cmp x y ≡ Less in
+    let rest = ascend_all f (j ∷ ids) (length (j ∷ ids)) (omega arith) (λ k lt.
+    let next : suc k + 1 ≡ suc (k + 1) = omega arith in
+    subst (λ m. type_cmp (f (get_or (j ∷ ids) k 0)) (f (get_or (i ∷ j ∷ ids) m 0)) ≡ Less) next (h (suc k) (omega (arith, le, lt)))) in
+    let first : type_cmp (f i) (f j) ≡ Less = h 0 (omega (arith, le)) in
+    pairs_cons R (f i) (map f (j ∷ ids)) (λ b c. elim (uncons (f j) b (map f ids) c) [
+      | inl is ↦ subst (λ z. type_cmp (f i) z ≡ Less) (sym is) first
+      | inr there ↦ type_cmp_total.trans (f i) (f j) b first (pairs_head R (f j) b (map f ids) rest there)
+    ]) rest
+
+-- one more that comes behind the last
+pub ascend_more : (f : ℕ → TypeTree) (ids : List ℕ) (n x y : ℕ) → AscendTo f ids n → 0 < n → n < length ids → x ≡ get_or ids (n - 1) x → y ≡ get_or ids n y → type_cmp (f x) (f y) ≡ Less → AscendTo f ids (n + 1)
+ascend_more f ids n x y h some lt at_x at_y less j below = elim (cases_order (j + 1) n) [
+  | inl same ↦
+      let before : j ≡ n - 1 = omega (arith, same) in
+      let x_is : get_or ids j 0 ≡ x = ap (λ k. get_or ids k 0) before ∙ read ids (n - 1) x (omega (arith, some, lt)) at_x in
+      let y_is : get_or ids (j + 1) 0 ≡ y = ap (λ k. get_or ids k 0) same ∙ read ids n y lt at_y in
+      (λ i. type_cmp (f (x_is i)) (f (y_is i))) ∙ less
+  | inr other ↦ elim other [ inl within ↦ h j within | inr past ↦ absurd (omega (arith, past, below)) ]
+]
+  where
+    read : (xs : List ℕ) (k v : ℕ) → k < length xs → v ≡ get_or xs k v → get_or xs k 0 ≡ v
+    read xs k v h e = get_or_default xs k 0 v h ∙ sym e
 
 pub set_itself : (s : List TypeTree) → IsSet s → IsSetOf s s
 set_itself s h = record { ascends = h; exact = λ a. (λ k. k, λ k. k) }

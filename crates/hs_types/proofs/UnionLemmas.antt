@@ -1,63 +1,22 @@
 -- Unions that are known.
-use Rattle.std.proofs.Common.{◌≡◌, refl, sym, ◌∙◌, ap, subst, ℕ, ◌<◌, Bool, true, false, cond, nat_eq, List, [], ◌∷◌, length, map, Some, Contains, ◌⊎◌, inl, inr, replicate, slice_get, arith}
-use Rattle.std.specs.Map.{lookup}
-use Rattle.std.proofs.lemmas.Bool.{eqb-true, and_parts}
+use Rattle.std.proofs.Common.{◌≡◌, sym, ◌∙◌, ap, subst, ℕ, ◌<◌, List, [], ◌∷◌, length, map, Some, Contains, inl, inr, replicate, slice_get, arith}
 use Rattle.std.proofs.lemmas.List.{length-map, length-replicate}
 use Rattle.std.proofs.lemmas.Option.{get_or_from_slice_get}
 use Rattle.hs_table_laws.proofs.Arrows.{empties}
-use Rattle.hs_scheme.proofs.Lists.{none_in, here, later, uncons}
-use Rattle.indexmap.specs.IndexMap.{insert_entry}
+use Rattle.hs_scheme.proofs.Lists.{none_in}
 use Rattle.hs_table.specs.Types.{TypeTree, IsSet}
 use Rattle.hs_table.specs.Entries.{Env, set_at}
 use Rattle.hs_types.specs.declared.unions.Operands.{Operands}
-use Rattle.hs_types.specs.contracts.unions.OperandsPartialEq.TheImpl.{eq-value}
 use Rattle.hs_types.specs.Interned.{InternerData, type_of_id, set_of_id, env_of_id, IsUnion, IsUnionEnv, IsInterner, Grows}
-use Rattle.hs_types.specs.Unions.{KnownUnions, AreOperands, KnowsUnion, KnowsMore, IsSetUnion, IsEnvUnion, AreUnions}
+use Rattle.hs_types.specs.Unions.{KnownUnions, KeepsUnion, AreOperands, KnowsUnion, KnowsMore, IsSetUnion, IsEnvUnion, AreUnions}
 use Rattle.hs_types.proofs.MergeLemmas.{union_swap}
 use Rattle.hs_types.proofs.Numbers.{set_within, set_stays, env_within, env_stays}
-
-pair_same : (p q : Operands) → eq-value.it p q ≡ true → p ≡ q
-pair_same p q h =
-    let e = and_parts (nat_eq p.first q.first) (nat_eq p.second q.second) h in
-    λ i. record { first = eqb-true p.first q.first e.0 i; second = eqb-true p.second q.second e.1 i }
-
--- what a look-up finds is an entry
-pub found_entry : (p : Operands) (es : KnownUnions) (u : ℕ) → lookup (eq-value.it p) es ≡ Some u → Contains es (p, u)
-found_entry p [] u e = absurd (cc)
-found_entry p ((q, v) ∷ es) u e = by (eq-value.it p q) refl (found_entry p es u)
-  where
-    by : (b : Bool) → eq-value.it p q ≡ b → (lookup (eq-value.it p) es ≡ Some u → Contains es (p, u)) → Contains ((q, v) ∷ es) (p, u)
-    by true t rest =
-        let f : Some v ≡ Some u = sym (ap (λ b. cond b (Some v) (lookup (eq-value.it p) es)) t) ∙ e in
-        let is : v ≡ u = (cc) in
-        let same = sym (pair_same p q t) in
-        subst (λ (x : Operands × ℕ). Contains ((q, v) ∷ es) x) (λ i. (same i, is i)) (here (q, v) es)
-    by false t rest = later (q, v) (p, u) es (rest (sym (ap (λ b. cond b (Some v) (lookup (eq-value.it p) es)) t) ∙ e))
-
--- an insert leaves entries that were there, and its own
-pub inserted_entry : (p : Operands) (v : ℕ) (es : KnownUnions) (x : Operands × ℕ) → Contains (insert_entry eq-value.it es p v) x → Contains es x ⊎ (x ≡ (p, v))
-inserted_entry p v [] x h = elim (uncons (p, v) x [] h) [ inl is ↦ inr is | inr there ↦ absurd (none_in x there) ]
-inserted_entry p v ((q, w) ∷ es) x h = by (eq-value.it p q) refl (inserted_entry p v es x)
-  where
-    by : (b : Bool) → eq-value.it p q ≡ b → (Contains (insert_entry eq-value.it es p v) x → Contains es x ⊎ (x ≡ (p, v))) → Contains ((q, w) ∷ es) x ⊎ (x ≡ (p, v))
-    by true t rest =
-        let k : Contains ((q, v) ∷ es) x = subst (λ (l : KnownUnions). Contains l x) (ap (λ b. cond b ((q, v) ∷ es) ((q, w) ∷ insert_entry eq-value.it es p v)) t) h in
-        elim (uncons (q, v) x es k) [
-          | inl is ↦ let same = sym (pair_same p q t) in inr (is ∙ (λ i. (same i, v)))
-          | inr there ↦ inl (later (q, w) x es there)
-        ]
-    by false t rest =
-        let k : Contains ((q, w) ∷ insert_entry eq-value.it es p v) x = subst (λ (l : KnownUnions). Contains l x) (ap (λ b. cond b ((q, v) ∷ es) ((q, w) ∷ insert_entry eq-value.it es p v)) t) h in
-        elim (uncons (q, w) x (insert_entry eq-value.it es p v) k) [
-          | inl is ↦ inl (subst (λ (y : Operands × ℕ). Contains ((q, w) ∷ es) y) (sym is) (here (q, w) es))
-          | inr there ↦ elim (rest there) [ inl was ↦ inl (later (q, w) x es was) | inr own ↦ inr own ]
-        ]
 
 -- nothing is known
 pub no_unions : (I : InternerData) (sets envs : KnownUnions) → sets ≡ [] → envs ≡ [] → AreUnions I sets envs
 no_unions I sets envs e f = record {
-  sets = λ p u c. absurd (none_in (p, u) (subst (λ (es : KnownUnions). Contains es (p, u)) e c));
-  envs = λ p u c. absurd (none_in (p, u) (subst (λ (es : KnownUnions). Contains es (p, u)) f c));
+  sets = λ p u c. absurd (none_in (Some (record { operands = p; union = u })) (subst (λ (es : KnownUnions). KeepsUnion es p u) e c));
+  envs = λ p u c. absurd (none_in (Some (record { operands = p; union = u })) (subst (λ (es : KnownUnions). KeepsUnion es p u) f c));
 }
 
 -- what is known stays so while the interner grows

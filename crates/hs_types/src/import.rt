@@ -24,7 +24,7 @@ impl Nodes {
     }
 
     /// The guess, where it is the set of these types.
-    fn guessed_set(&self, guess: SetId, types: &[TyId]) -> Option<SetId>
+    pub(crate) fn guessed_set(&self, guess: SetId, types: &[TyId]) -> Option<SetId>
         ensures { IfSome result (λ own. slice_get self.now.sets own ≡ Some
             (map (type_of_id self.now) types.now)) }
     {
@@ -35,7 +35,7 @@ impl Nodes {
     }
 
     /// The guess, where it is the environment of these sets.
-    fn guessed_env(&self, guess: EnvId, sets: &[SetId]) -> Option<EnvId>
+    pub(crate) fn guessed_env(&self, guess: EnvId, sets: &[SetId]) -> Option<EnvId>
         ensures { IfSome result (λ own. slice_get self.now.envs own ≡ Some
             (map (set_of_id self.now) sets.now)) }
     {

@@ -26,7 +26,7 @@ use std::marker::Model;
 /// lists only grow at their ends, also where it answers want of memory.
 ///
 /// A type takes some 40 bytes, a set or an environment some 80, and 4 for each of its items. Beside
-/// these the latest unions are kept, at most 524,288 of sets and as many of environments, in some
+/// these the latest unions are kept, at most 1,048,576 of sets and as many of environments, in
 /// 16 MiB each, 4 bytes for each number of an interner that was imported from, and 64 KiB at most for
 /// each of four kinds of guesses. There are at most 2^32 numbers of each kind; past that a call
 /// answers want of memory.
@@ -50,7 +50,7 @@ impl Model for Interner {
 
     ghost view = { λ a. a.nodes };
 
-    ghost invariant = { λ a. AreUnions a.nodes a.set_unions.known.entries a.env_unions.known.entries };
+    ghost invariant = { λ a. AreUnions a.nodes a.set_unions.known.items a.env_unions.known.items };
 }
 
 impl Interner {
@@ -97,7 +97,7 @@ impl Interner {
     }
 
     /// The set of these types, which may come in any order and more than once. Compares about as
-    /// often as a merge sort.
+    /// often as a merge sort, and once for each type where they ascend.
     pub fn set(&mut self, ids: &[TyId]) -> Result<SetId, OutOfMemory>
         requires { All (λ t. t < length self.old.types) ids.now }
         ensures ok { IfOk result (λ id. (id < length self.new.sets)
@@ -287,8 +287,8 @@ impl Interner {
         Ok(union)
     }
 
-    /// The union of the two environments, where it is at hand: they are equal, or the first has no
-    /// types, or it is known.
+    /// The union of the two environments, where it is at hand: they are equal, or it is known, or the
+    /// first has no types.
     fn known_union_envs(&self, a: EnvId, b: EnvId) -> Option<EnvId>
         requires a { a < length self.now.envs }
         requires b { b < length self.now.envs }
@@ -298,11 +298,13 @@ impl Interner {
         if a == b {
             return Some(a);
         }
+        if let Some(union) = self.env_unions.find(a.stored(), b.stored()) {
+            return Some(EnvId::at(union));
+        }
         if self.nodes.is_empty_env(a, self.nodes.sets(b).len()) {
             return Some(b);
         }
-        let union = self.env_unions.find(a.stored(), b.stored())?;
-        Some(EnvId::at(union))
+        None
     }
 
     /// The union of the two sets at the place, counted from 0.
@@ -321,6 +323,16 @@ impl Interner {
         self.union_sets(first, second)
     }
 
+    /// The environment with these sets, which is looked for first where a and b are.
+    fn env_among(&mut self, a: EnvId, b: EnvId, sets: &[SetId]) -> Result<EnvId, OutOfMemory>
+        requires { All (λ s. s < length self.old.sets) sets.now }
+        ensures ok { IfOk result (λ id. slice_get self.new.envs id ≡ Some
+            (map (set_of_id self.old) sets.now)) }
+        ensures grows { Grows self.old self.new }
+    {
+        self.nodes.env_among(a, b, sets)
+    }
+
     /// The unions of the sets, each made.
     fn join_envs(&mut self, a: EnvId, b: EnvId) -> Result<EnvId, OutOfMemory>
         requires a { a < length self.old.envs }
@@ -335,7 +347,7 @@ impl Interner {
         for place in 0..count {
             unions.push(self.union_at(a, b, place)?)?;
         }
-        self.env(unions.as_slice())
+        self.env_among(a, b, unions.as_slice())
     }
 
     /// The environment whose sets have the types of both, set by set. Constant time on average for

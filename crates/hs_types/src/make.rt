@@ -47,8 +47,54 @@ impl Nodes {
         if ids.len() <= 1 {
             return self.latest_set(guesses, ids);
         }
+        if self.ascends(ids) {
+            return self.add_set(ids);
+        }
         let sorted = self.sorted(alloc, ids)?;
         self.add_set(sorted.as_slice())
+    }
+
+    /// The set of these types, which are in order. Looks first whether it is one of the two.
+    fn set_among(
+        &mut self,
+        first: SetId,
+        second: SetId,
+        types: &[TyId],
+    ) -> Result<SetId, OutOfMemory>
+        requires range { All (λ t. t < length self.old.types) types.now }
+        requires ascends { IsSet (map (type_of_id self.old) types.now) }
+        ensures ok { IfOk result (λ id. slice_get self.new.sets id ≡ Some
+            (map (type_of_id self.old) types.now)) }
+        ensures grows { Grows self.old self.new }
+    {
+        if let Some(own) = self.guessed_set(first, types) {
+            return Ok(own);
+        }
+        if let Some(own) = self.guessed_set(second, types) {
+            return Ok(own);
+        }
+        self.add_set(types)
+    }
+
+    /// The environment of these sets. Looks first whether it is one of the two.
+    pub(crate) fn env_among(
+        &mut self,
+        first: EnvId,
+        second: EnvId,
+        sets: &[SetId],
+    ) -> Result<EnvId, OutOfMemory>
+        requires { All (λ s. s < length self.old.sets) sets.now }
+        ensures ok { IfOk result (λ id. slice_get self.new.envs id ≡ Some
+            (map (set_of_id self.old) sets.now)) }
+        ensures grows { Grows self.old self.new }
+    {
+        if let Some(own) = self.guessed_env(first, sets) {
+            return Ok(own);
+        }
+        if let Some(own) = self.guessed_env(second, sets) {
+            return Ok(own);
+        }
+        self.add_env(sets)
     }
 
     /// The set with the types of both.
@@ -66,7 +112,7 @@ impl Nodes {
     {
         self.know_numbers();
         let merged = self.merge(alloc, self.members(a), self.members(b))?;
-        self.add_set(merged.as_slice())
+        self.set_among(a, b, merged.as_slice())
     }
 
     /// Whether this is the number of the environment of n empty sets.

@@ -1,6 +1,6 @@
 //! Sets that are merged, and sets of any list of types.
 
-ghost use Rattle.std.specs.Prelude.{◌≡◌, ◌<◌, [], IfOk, OnOk, All, length, map};
+ghost use Rattle.std.specs.Prelude.{◌≡◌, ◌<◌, [], IfOk, OnOk, IsTrue, All, length, map};
 ghost use Rattle.hs_table.specs.Types.{IsSet};
 ghost use Rattle.hs_types.specs.Interned.{type_of_id, IsSetOf, IsUnion};
 
@@ -69,9 +69,24 @@ impl Nodes {
             IsUnion (map (type_of_id self.now) xs.now) (map (type_of_id self.now) ys.now)
             (map (type_of_id self.now) r.items)) }
     {
-        let mut merged = Vec::new(alloc);
+        let mut merged = Vec::with_capacity(alloc, xs.len() + ys.len())?;
         self.merge_into(xs, ys, &mut merged)?;
         Ok(merged)
+    }
+
+    /// Whether each of these types comes before the next one.
+    pub(crate) fn ascends(&self, ids: &[TyId]) -> bool
+        requires { All (λ t. t < length self.now.types) ids.now }
+        ensures { IsTrue result → IsSet (map (type_of_id self.now) ids.now) }
+    {
+        for place in 1..ids.len() {
+            let last = place - 1;
+            match self.compare(ids[last], ids[place]) {
+                Ordering::Less => {}
+                Ordering::Equal | Ordering::Greater => return false,
+            }
+        }
+        true
     }
 
     /// These types, in order and each once. Compares about as often as a merge sort.

@@ -1,17 +1,18 @@
 -- Laws of what is void by rows, and of what fits, while there come more numbers: what the impl of `Dropping` cites.
-use Rattle.std.proofs.Common.{◌≡◌, sym, subst, ℕ, ◌<◌, List, length, Bool, Contains, All, ◌↔◌}
+use Rattle.std.proofs.Common.{◌≡◌, sym, subst, ℕ, ◌<◌, List, length, Bool, Contains, All, IsTrue, ◌↔◌}
 use Rattle.std.proofs.lemmas.List.Elements.{All-weaker, All-contains}
 use Rattle.hs_scheme.specs.Problem.{ProblemData}
 use Rattle.hs_table.specs.Types.{TypeTree}
 use Rattle.hs_table.specs.Entries.{Env, EntryData, InShape}
 use Rattle.hs_weak.specs.Strength.{AsStrongAs, AsksAtLeast}
 use Rattle.hs_weak.specs.Sites.{SiteData}
+use Rattle.hs_weak.specs.Void.{IsVoid}
 use Rattle.hs_types.specs.Interned.{InternerData, type_of_id, RowData, IsRow, Grows}
-use Rattle.hs_types.proofs.Numbers.{type_within, type_stays, env_within, row_within, row_stays}
+use Rattle.hs_types.proofs.Numbers.{type_within, type_stays, env_within, env_stays, row_within, row_stays}
 use Rattle.hs_sites.specs.Listed.{data_of}
 use Rattle.hs_numbered.specs.Certificates.{VoidRowData}
 use Rattle.hs_choices.proofs.Asking.{void_more}
-use Rattle.hs_choices.proofs.Staying.{numbered_stays}
+use Rattle.hs_choices.proofs.Staying.{numbered_stays, numbered_back}
 use Rattle.hs_void.specs.declared.memo.Question.{Question}
 use Rattle.hs_void.specs.Rows.{HasRow, LacksAt}
 use Rattle.hs_void.specs.Voids.{BasisData, VoidsData, IsAnswer, AreRows, Fits, IsVoidBy}
@@ -66,4 +67,11 @@ fits_stays v I J grows h = record {
   sites = h.sites;
   rows = rows_stay I J grows v.basis h.rows;
   memo = λ q marks m. answer_stays I J grows v.basis h.rows.in_use q marks (h.memo q marks m);
+  answers = λ pair void m.
+      let is = h.answers pair void m in (
+        env_within I J grows pair.env is.0,
+        λ C V are.
+            let before = numbered_back v.basis.problem C V I J v.basis.table v.basis.void grows h.rows.in_use h.rows.envs are in
+            subst (λ (E : Env). IsTrue void ↔ IsVoid v.basis.problem C V pair.rule E) (sym (env_stays I J grows pair.env is.0)) (is.1 C V before),
+      );
 }

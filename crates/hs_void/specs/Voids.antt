@@ -1,13 +1,14 @@
 -- Which environments are void, by rows.
 --     BasisData            a problem with the sites of each of its nonterminals, and the rows of a table and of void pairs
---     VoidsData            these, with what is remembered
+--     VoidsData            these, with what is remembered of sites and of environments
 --     Remembers I b memo   each answer marks those sites that lack a row for the parameter and the type
+--     IsVoidAnswer         whether an environment is void, by all that the rows stand for
 --     Fits I v             the rows are of numbers in use, of entries in shape and in the order of points, and what is remembered is so
 --     IsVoidBy             an environment is void by all that the rows stand for
 --     AreLeastChoices      least unions of what may be chosen for sets of types of a point's arguments, but for void ones
 --     HasBlocked           each chain of the pair's nonterminal has a site that is blocked for the environment
 --     IsFirstWithout       the first pair of which this isn't so; there is none
-use Rattle.std.specs.Prelude.{◌≡◌, refl, ℕ, ◌<◌, Bool, List, [], length, map, replicate, slice_get, Option, Some, None, Contains, All}
+use Rattle.std.specs.Prelude.{◌≡◌, refl, ℕ, ◌<◌, Bool, List, [], length, map, replicate, slice_get, Option, Some, None, Contains, All, IsTrue, ◌↔◌}
 use Rattle.std.specs.Coded.{Coded, code_by, coded×, coded_ℕ, coded_bool, coded_list}
 use Rattle.std.specs.List.Sorted.{IsNonDecreasingBy}
 use Rattle.hs_scheme.specs.flow.Points.{PointData}
@@ -17,7 +18,7 @@ use Rattle.hs_weak.specs.Sites.{SiteData, IsChain}
 use Rattle.hs_weak.specs.Void.{VoidData, IsVoid, IsBlocked}
 use Rattle.hs_sites.specs.declared.sites.Site.{Site}
 use Rattle.hs_sites.specs.Listed.{AreSitesOf, coded_site}
-use Rattle.hs_types.specs.Interned.{InternerData, type_of_id, set_of_id, RowData, IsRow, entry_of}
+use Rattle.hs_types.specs.Interned.{InternerData, type_of_id, set_of_id, env_of_id, RowData, IsRow, entry_of}
 use Rattle.hs_choices.specs.Unions.{AreLeastUnions}
 use Rattle.hs_choices.specs.Slots.{AreSlots}
 use Rattle.hs_numbered.specs.Certificates.{VoidRowData}
@@ -46,12 +47,15 @@ coded_basis =
 pub record VoidsData : Type 0 where
   pub basis : BasisData
   pub memo : List (Question × List Bool)
+  pub answers : List (VoidRowData × Bool)
 
 abbrev coded_question : Coded Question
 coded_question = code_by (ℕ × (ℕ × ℕ)) (coded× coded_ℕ (coded× coded_ℕ coded_ℕ)) (λ q. (q.rule, (q.parameter, q.ty))) (λ p. record { rule = p.0; parameter = p.1.0; ty = p.1.1 }) (λ _. refl)
 
 abbrev pub coded_voids : Coded VoidsData
-coded_voids = code_by (BasisData × List (Question × List Bool)) (coded× coded_basis (coded_list (coded× coded_question (coded_list coded_bool)))) (λ v. (v.basis, v.memo)) (λ p. record { basis = p.0; memo = p.1 }) (λ _. refl)
+coded_voids =
+    code_by (BasisData × (List (Question × List Bool) × List (VoidRowData × Bool))) (coded× coded_basis (coded× (coded_list (coded× coded_question (coded_list coded_bool))) (coded_list (coded× coded_void_row coded_bool))))
+    (λ v. (v.basis, (v.memo, v.answers))) (λ p. record { basis = p.0; memo = p.1.0; answers = p.1.1 }) (λ _. refl)
 
 pub record IsAnswer (I : InternerData) (b : BasisData) (q : Question) (answer : List Bool) : Type 0 where
   pub ty : q.ty < length I.types
@@ -70,10 +74,15 @@ pub record AreRows (I : InternerData) (b : BasisData) : Type 0 where
   pub order : IsNonDecreasingBy (λ (r : RowData). r.point) b.table
   pub envs : All (λ (v : VoidRowData). v.env < length I.envs) b.void
 
+abbrev pub IsVoidAnswer : InternerData → BasisData → VoidRowData → Bool → Type 0
+IsVoidAnswer I b pair void =
+    (pair.env < length I.envs) × ((C : List EntryData) (V : List VoidData) → AreNumbered b.problem C V I b.table b.void → IsTrue void ↔ IsVoid b.problem C V pair.rule (env_of_id I pair.env))
+
 pub record Fits (I : InternerData) (v : VoidsData) : Type 0 where
   pub sites : AreSitesBy v.basis.problem v.basis.sites
   pub rows : AreRows I v.basis
   pub memo : Remembers I v.basis v.memo
+  pub answers : (pair : VoidRowData) (void : Bool) → Contains v.answers (pair, void) → IsVoidAnswer I v.basis pair void
 
 abbrev pub IsVoidBy : BasisData → InternerData → ℕ → Env → Type 0
 IsVoidBy b I rule E = (C : List EntryData) (V : List VoidData) → AreNumbered b.problem C V I b.table b.void → IsVoid b.problem C V rule E

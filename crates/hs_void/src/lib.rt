@@ -11,6 +11,7 @@ mod laws;
 mod memo;
 mod missing;
 mod pairs;
+mod void_answers;
 mod voids;
 
 pub use laws::what_fits_stays;

@@ -17,6 +17,7 @@ ghost use Rattle.std.proofs.Common.{refl, ◌∙◌};
 use crate::basis::Basis;
 use crate::memo::Memo;
 use crate::missing::is_missed;
+use crate::void_answers::VoidAnswers;
 use hs_choices::{Compared, Comparing, Dropping, Slot, least_unions};
 use hs_numbered::VoidRow;
 use hs_scheme::{OutOfMemory, Problem};
@@ -26,16 +27,17 @@ use std::alloc::Global;
 use std::marker::Model;
 
 /// What is void by the rows of a table and of void pairs, over the sites of a problem, with the masks of
-/// sites that were found.
+/// sites that were found, and which environments were void.
 ///
 /// Contracts see the problem, the rows, and what is remembered. The numbers are those of one `Compared`,
 /// which may grow (`what_fits_stays`). Where a call answers want of memory, what is remembered stays so.
-/// At most 67,108,864 marks are kept, of one byte.
+/// At most 67,108,864 marks are kept, of one byte, and 1,048,576 answers, of some 40.
 #[derive(Drop)]
 pub struct Voids<'a> {
     pub(crate) alloc: Global,
     basis: Basis<'a>,
     memo: Memo,
+    answers: VoidAnswers,
 }
 
 impl<'a> Model for Voids<'a> {
@@ -45,7 +47,14 @@ impl<'a> Model for Voids<'a> {
 
     ghost coded = { coded_voids };
 
-    ghost view = { λ a. record { basis = a.basis; memo = a.memo } };
+    ghost view = { λ a. record { basis = a.basis; memo = a.memo; answers = a.answers } };
+}
+
+/// What is remembered of: whether the environment is void for the nonterminal of this rule.
+fn pair_of(rule: u32, env: EnvId) -> VoidRow
+    ensures { result ≡ record { rule = rule; env = env } }
+{
+    VoidRow { rule, env }
 }
 
 /// Whether the environment asks at least what one of the void rows of this rule asks.
@@ -92,6 +101,7 @@ impl<'a> Voids<'a> {
             alloc,
             basis,
             memo: Memo::new(alloc),
+            answers: VoidAnswers::new(alloc),
         })
     }
 
@@ -124,14 +134,9 @@ impl<'a> Voids<'a> {
         self.basis.sites_of(rule)
     }
 
-    /// Whether the environment is void for the nonterminal of this rule, counted from 0: it asks at least
-    /// what a void row of the rule asks, or it is missed.
-    ///
-    /// It is compared with each void row of the rule, up to the first that is asked. Then, for each of its
-    /// types that is asked about at its parameter for the first time, the rows at the arguments of the
-    /// nonterminal's sites are looked at, and else the masks of the types are put together, in time in
-    /// the number of types times that of the sites. No chain is listed.
-    pub fn is_void(
+    /// Whether the environment is void for the nonterminal of this rule: it asks at least what a void row of
+    /// the rule asks, or it is missed.
+    fn is_void_by_rows(
         &mut self,
         types: &mut Compared,
         rule: u32,
@@ -150,6 +155,37 @@ impl<'a> Voids<'a> {
             return Ok(true);
         }
         is_missed(self.alloc, types, &self.basis, &mut self.memo, rule, env)
+    }
+
+    /// Whether the environment is void for the nonterminal of this rule, counted from 0: it asks at least
+    /// what a void row of the rule asks, or it is missed.
+    ///
+    /// That is decided once, and then remembered, as long as the answers don't get too many. It is compared
+    /// with each void row of the rule, up to the first that is asked. Then, for each of its types that is
+    /// asked about at its parameter for the first time, the rows at the arguments of the nonterminal's sites
+    /// are looked at, and else the masks of the types are put together, in time in the number of types times
+    /// that of the sites. No chain is listed.
+    pub fn is_void(
+        &mut self,
+        types: &mut Compared,
+        rule: u32,
+        env: EnvId,
+    ) -> Result<bool, OutOfMemory>
+        requires env { env < length types.old.envs }
+        requires fits { Fits types.old self.old }
+        ensures ok { IfOk result (λ void. (C : List EntryData) (V : List VoidData)
+            → AreNumbered self.old.basis.problem C V types.old self.old.basis.table self.old.basis.void
+            → IsTrue void ↔ IsVoid self.old.basis.problem C V rule (env_of_id types.old env)) }
+        ensures same { types.new ≡ types.old }
+        ensures fits { Fits types.new self.new }
+        ensures basis { self.new.basis ≡ self.old.basis }
+    {
+        if let Some(void) = self.answers.find(pair_of(rule, env)) {
+            return Ok(void);
+        }
+        let void = self.is_void_by_rows(types, rule, env)?;
+        self.answers.keep(pair_of(rule, env), void)?;
+        Ok(void)
     }
 
     /// The least unions of an environment for the parameters of a rule with one of each slot, as

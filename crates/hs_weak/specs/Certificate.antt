@@ -1,4 +1,4 @@
--- When a table of entries, a list of void environments and a list of read pairs prove that the automaton accepts.
+-- When a table of entries, a list of void environments and a list of read pairs prove, over a closed flow, that the automaton accepts.
 --     Matters                    the pairs have the entry's point with its last state
 --     IsVoidEntry                the entry's environment is void for the nonterminal of its point's rule
 --     IsAcceptanceCertificate    the pairs are closed, the void list is one, the start entry is lacking, and whatever weakly follows and matters

@@ -1,5 +1,5 @@
 -- In which states a point is read: the automaton may come to a term that the point stands for in this state. A list of pairs of a point
--- and a state that leaves out no such pair is closed.
+-- and a state that has whatever its own pairs demand, and what the start demands, is closed; over a closed flow it leaves out no such pair.
 --     Becomes p point a g      the point may become the terminal a with g arguments given
 --     Read p R point q         the pairs R demand the pair of the point and the state
 --     IsClosedReads p R        each pair that R demands is in R

@@ -1,4 +1,4 @@
--- Environments that the arguments of no call have.
+-- Environments that the arguments of no call have, where the flow is closed.
 --     HasEntry         some entry in shape at the point has a type as strong as this one
 --     IsMissed         by the entries alone: in each chain some site gives an argument without an entry that is asked of it
 --     VoidData         a nonterminal with an environment for its parameters

@@ -17,7 +17,7 @@ use Rattle.hs_verdict.specs.Premises.{IsSortedProblem, HasClosedFlow}
 use Rattle.hs_verdict.specs.Closures.{Closure, root, argument_closures}
 use Rattle.hs_verdict.proofs.Lists.{place-map}
 use Rattle.hs_verdict.proofs.TermLemmas.{AreTerms, IsPoint}
-use Rattle.hs_weak_laws.specs.Built.{IsPieces, full, no_more, piece, IsBuilt, IsBuiltClosure}
+use Rattle.hs_weak_laws.specs.Built.{IsPieces, full, no_more, piece, IsBuilt, IsBuiltClosure, IsBuiltFront}
 use Rattle.hs_weak_laws.proofs.NeverVoid.{length-argument_closures}
 
 below_or : (m n : ℕ) → (m ≤ n) ⊎ (n < m)
@@ -36,10 +36,10 @@ module _ (p : ProblemData) (given : IsSortedProblem p) (closed : HasClosedFlow p
   found = pairs_of p.flow.pairs p.flow.heads
 
   -- the problem's points are those of its rules
-  of_problem : (point : ℕ) (d : PointData) → slice_get (points_of rules).points point ≡ Some d → slice_get p.points.points point ≡ Some d
+  pub of_problem : (point : ℕ) (d : PointData) → slice_get (points_of rules).points point ≡ Some d → slice_get p.points.points point ≡ Some d
   of_problem point d at = ap (λ (all : PointsData). slice_get all.points point) given.problem.points ∙ at
 
-  of_rules : (point : ℕ) (d : PointData) → slice_get p.points.points point ≡ Some d → slice_get (points_of rules).points point ≡ Some d
+  pub of_rules : (point : ℕ) (d : PointData) → slice_get p.points.points point ≡ Some d → slice_get (points_of rules).points point ≡ Some d
   of_rules point d at = sym (ap (λ (all : PointsData). slice_get all.points point) given.problem.points) ∙ at
 
   has_parameter : (f x : ℕ) → x < params_of p f → HasParameter rules f x
@@ -51,11 +51,6 @@ module _ (p : ProblemData) (given : IsSortedProblem p) (closed : HasClosedFlow p
 
   pub params_are : (f : ℕ) (r : Rule) → slice_get rules f ≡ Some r → params_of p f ≡ r.params
   params_are f r at = ap (λ (o : Option Rule). option_map_or (λ (k : Rule). k.params) o 0) at
-
-  pub record IsBuiltFront (c : Closure) (ds : List Closure) : Type 0 where
-    pub front : IsBuiltClosure p c
-    pub stack : (i : ℕ) (d : Closure) → slice_get ds i ≡ Some d → IsBuiltClosure p d
-    pub pieces : (G g : ℕ) → Contains found (OfHead (record { point = root c; rule = G; given = g })) → IsPieces p G g ds
 
   -- the arguments of a point under a built tuple
   argument_built : (point : ℕ) (d : PointData) (cs : Trees ℕ) → slice_get (points_of rules).points point ≡ Some d → IsBuilt p d.rule (children cs)
@@ -117,8 +112,8 @@ module _ (p : ProblemData) (given : IsSortedProblem p) (closed : HasClosedFlow p
   pub front_tuple : (point : ℕ) (cs : Trees ℕ) (d : PointData) → slice_get (points_of rules).points point ≡ Some d → IsBuiltClosure p (node point cs) → IsBuilt p d.rule (children cs)
   front_tuple point cs d at (of, (at_of, own)) = subst (λ (k : PointData). IsBuilt p k.rule (children cs)) (same_Some of d (sym at_of ∙ of_problem point d at)) own
 
-  pub built_parameter : (point : ℕ) (cs : Trees ℕ) (rule j : ℕ) (args : List ℕ) (ds : List Closure) → IsPoint rules point rule (Var j) args → IsBuiltFront (node point cs) ds
-      → (c : Closure) → slice_get (children cs) j ≡ Some c → Contains found (OfFlow (record { rule = rule; param = j; point = root c })) → IsBuiltFront c (argument_closures args cs ++ ds)
+  pub built_parameter : (point : ℕ) (cs : Trees ℕ) (rule j : ℕ) (args : List ℕ) (ds : List Closure) → IsPoint rules point rule (Var j) args → IsBuiltFront p (node point cs) ds
+      → (c : Closure) → slice_get (children cs) j ≡ Some c → Contains found (OfFlow (record { rule = rule; param = j; point = root c })) → IsBuiltFront p c (argument_closures args cs ++ ds)
   built_parameter point cs rule j args ds at built c e flows =
       let d : PointData = record { rule = rule; head = Var j; args = args } in
       let own = front_tuple point cs d at built.front in
@@ -128,9 +123,9 @@ module _ (p : ProblemData) (given : IsSortedProblem p) (closed : HasClosedFlow p
         pieces = λ G g h. spread point d cs ds at own built.pieces G g (root c, (flows, h));
       }
 
-  pub built_body : (point : ℕ) (cs : Trees ℕ) (rule f : ℕ) (args : List ℕ) (ds : List Closure) → IsPoint rules point rule (Nt f) args → IsBuiltFront (node point cs) ds
+  pub built_body : (point : ℕ) (cs : Trees ℕ) (rule f : ℕ) (args : List ℕ) (ds : List Closure) → IsPoint rules point rule (Nt f) args → IsBuiltFront p (node point cs) ds
       → (b : ℕ) (of : PointData) (r : Rule) → slice_get (points_of rules).points b ≡ Some of → of.rule ≡ f → slice_get rules f ≡ Some r → length (argument_closures args cs ++ ds) ≡ r.params
-      → IsBuiltFront (node b (forest (argument_closures args cs ++ ds))) []
+      → IsBuiltFront p (node b (forest (argument_closures args cs ++ ds))) []
   built_body point cs rule f args ds at built b of r at_b is_f is long =
       let d : PointData = record { rule = rule; head = Nt f; args = args } in
       let zs : List Closure = argument_closures args cs ++ ds in
@@ -142,9 +137,9 @@ module _ (p : ProblemData) (given : IsSortedProblem p) (closed : HasClosedFlow p
         pieces = λ G g h. no_more;
       }
 
-  pub built_child : (x : Closure) → IsBuiltClosure p x → IsBuiltFront x []
+  pub built_child : (x : Closure) → IsBuiltClosure p x → IsBuiltFront p x []
   built_child x h = record { front = h; stack = λ i y e. absurd (cc); pieces = λ G g k. no_more }
 
-  pub built_argument : (point : ℕ) (cs : Trees ℕ) (d : PointData) (ds : List Closure) → slice_get (points_of rules).points point ≡ Some d → IsBuiltFront (node point cs) ds
+  pub built_argument : (point : ℕ) (cs : Trees ℕ) (d : PointData) (ds : List Closure) → slice_get (points_of rules).points point ≡ Some d → IsBuiltFront p (node point cs) ds
       → (i : ℕ) (x : Closure) → slice_get (argument_closures d.args cs ++ ds) i ≡ Some x → IsBuiltClosure p x
   built_argument point cs d ds at built i x e = all_built point cs d ds at (front_tuple point cs d at built.front) built.stack i x e

@@ -42,10 +42,10 @@ use Rattle.hs_verdict.proofs.Unions.{union}
 use Rattle.hs_weak.specs.Weak.{WeaklyFollows, IsCoveredIn}
 use Rattle.hs_weak.specs.Reads.{last_state}
 use Rattle.hs_weak_laws.specs.WeaklyTyped.{HasWeakType, has, HaveSets, HasEnv}
-use Rattle.hs_weak_laws.specs.Built.{no_more, IsBuilt, IsBuiltClosure}
+use Rattle.hs_weak_laws.specs.Built.{no_more, IsBuilt, IsBuiltClosure, IsBuiltFront}
 use Rattle.hs_weak_laws.proofs.Relations.{IsStrength, arrows_by}
 use Rattle.hs_weak_laws.proofs.Choices.{pick, parts, have_by_place, weaken_row, weaken_env}
-use Rattle.hs_weak_laws.proofs.Building.{IsBuiltFront, front_tuple, built_parameter, built_body, built_child, built_argument}
+use Rattle.hs_weak_laws.proofs.Building.{front_tuple, built_parameter, built_body, built_child, built_argument}
 use Rattle.hs_weak_laws.proofs.Reading.{IsReadBy, IsReadFront, read_parameter, read_body, read_child, read_start}
 
 one_has : (n i j : ℕ) (t a : TypeTree) → Has (set (replicate n []) i (t ∷ [])) j a → (j ≡ i) × (a ≡ t)
@@ -113,7 +113,7 @@ module _ (p : ProblemData) (given : IsSortedProblem p) (closed : HasClosedFlow p
   -- a configuration along a reduction, in a state
   pub record IsKept (c : Closure) (ds : List Closure) (q : ℕ) : Type 0 where
     pub good : IsGood rules found c ds
-    pub built : IsBuiltFront p given closed term are c ds
+    pub built : IsBuiltFront p c ds
     pub read_in : IsReadFront p M enough.reads c ds q
 
   by_cover : (point : ℕ) (cs : Trees ℕ) (env : Env) (t : TypeTree) → IsCoveredIn R p T (record { point = point; env = env; ty = t }) → HasEnv R p T (children cs) env → Typed (node point cs) t

@@ -14,7 +14,7 @@ ghost use Rattle.hs_weak.specs.Weak.{WeaklyFollows, IsCompact};
 ghost use Rattle.hs_weak.specs.Void.{VoidData, IsVoid, IsVoidList};
 ghost use Rattle.hs_weak.specs.Certificate.{IsAcceptanceCertificate};
 ghost use Rattle.hs_weak_laws.specs.WeaklyTyped.{HasEnv};
-ghost use Rattle.hs_weak_laws.specs.Built.{IsBuilt};
+ghost use Rattle.hs_weak_laws.specs.Built.{IsBuilt, IsBuiltFront, ComesInFront};
 
 /// Over a flow that is closed, a certificate means that the automaton accepts the value tree of the
 /// start.
@@ -30,6 +30,13 @@ pub fn compact_tables_have_the_start()
     ensures { (p : ProblemData) (C : List EntryData) →
         IsSortedProblem p → HasClosedFlow p → IsCompact p C → (n : ℕ) (path : Path) →
         Fails p.sorted.scheme.rules p.sorted.automaton.transitions n 0 start path → HasStart p C }
+{}
+
+/// Along each reduction from the start, in front, the closure and those of its stack are built, and the
+/// stack is made of the arguments of sites, for each nonterminal that the closure's point may become.
+pub fn reductions_are_built()
+    ensures { (p : ProblemData) → IsSortedProblem p → HasClosedFlow p → (c : Closure) (ds : List Closure) →
+        ComesInFront p c ds → IsBuiltFront p c ds }
 {}
 
 /// No closures that calls build for the parameters of a nonterminal have what a void environment

@@ -6,5 +6,5 @@ mod laws;
 
 pub use laws::{
     built_tuples_are_never_void, certificates_accept, closed_tables_are_a_case,
-    compact_tables_have_the_start,
+    compact_tables_have_the_start, reductions_are_built,
 };

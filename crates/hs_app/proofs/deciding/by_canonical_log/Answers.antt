@@ -1,10 +1,12 @@
+use Rattle.std.proofs.Common.{sym, ap}
+use Rattle.hs_history.specs.Story.{Base}
 use Rattle.hs_core.specs.Core.{log_of}
-use Rattle.hs_app.proofs.DecidingLemmas.{within_greater, least_within}
+use Rattle.hs_app.proofs.DecidingLemmas.{least_within}
 use Rattle.hs_app.proofs.ReportedTables.{reported_least}
 use Rattle.hs_app.proofs.deciding.by_canonical_log.Goals as goal
 
-pub canonical_core-requires : goal.canonical_core-requires
-canonical_core-requires c = record { few = within_greater c.args.problem.now c.args.settings.entries 1000000 c.know_settings.ensures.most_entries c.requires.few }
+pub rejected-decided-requires-clause-problem : goal.rejected-decided-requires-clause-problem
+rejected-decided-requires-clause-problem c = sym (ap (λ (b : Base). b.problem) c.in_ok-ranked.ensures.base)
 
 pub rejected-decided-requires-clause-few : goal.rejected-decided-requires-clause-few
 rejected-decided-requires-clause-few c = least_within c.args.problem.now c.args.settings.entries (log_of c.in_ok-ranked.ranked) c.requires.few c.in_ok-ranked.ensures.canonical.least

@@ -1,23 +1,17 @@
-use Rattle.std.proofs.Common.{◌≡◌, ◌≢◌, sym, ◌∙◌, subst, Bool, true, false, List, All, AllPairs, Option, Some, None}
+use Rattle.std.proofs.Common.{◌≢◌, sym, ◌∙◌, subst, List, AllPairs, Option, Some, None}
 use Rattle.std.specs.Prelude.{if◌then◌else◌}
-use Rattle.std.proofs.lemmas.Option.{same_Some}
-use Rattle.hs_scheme.specs.acceptance.Automaton.{IsAutomaton}
+use Rattle.std.specs.Option.{option_map}
+use Rattle.std.proofs.lemmas.Result.{IfOk-weaker}
 use Rattle.hs_scheme.specs.Problem.{ProblemData}
-use Rattle.hs_table.specs.Entries.{EntryData, InShape}
+use Rattle.hs_table.specs.Entries.{EntryData}
 use Rattle.hs_minimal.proofs.CompactingLemmas.{ascending_distinct}
 use Rattle.hs_text.specs.declared.minimal.Minimal.{Minimal}
 use Rattle.hs_text.specs.declared.minimal.Minimal.TheVariants.{Table, More}
-use Rattle.hs_text.specs.Report.{HoldsOfList}
+use Rattle.hs_text.specs.Report.{HoldsOfList, IsReport}
 use Rattle.hs_words.specs.declared.options.Settings.{Settings}
-use Rattle.hs_core.specs.Core.{log_of}
-use Rattle.hs_core.proofs.Tables.{core_supports, core_shape}
 use Rattle.hs_app.specs.Verdict.{IsSought}
+use Rattle.hs_app.proofs.ToldTables.{table_shape, given_supported}
 use Rattle.hs_app.proofs.deciding.report_by.Goals as goal
-
--- what holds of the log holds of the entries that are shown
-shown : (P : List EntryData → Type 0) (log table : List EntryData) (b : Bool) → P log → (if b then Some log else None) ≡ Some table → P table
-shown P log table true h e = subst P (same_Some log table e) h
-shown P log table false h e = absurd (cc)
 
 -- no two entries of a list that is compact are equal
 list_distinct : (settings : Settings) (p : ProblemData) (minimal : Option Minimal) → IsSought settings p minimal → HoldsOfList (AllPairs (λ a b. a ≢ b)) minimal
@@ -25,18 +19,30 @@ list_distinct settings p None h = tt
 list_distinct settings p (Some (Table C)) h = ascending_distinct C.items h.1.ascending
 list_distinct settings p (Some (More budget)) h = tt
 
-pub report-text-requires-clause-shape : goal.report-text-requires-clause-shape
-report-text-requires-clause-shape c = λ table e.
-    shown (λ (t : List EntryData). All (InShape c.args.problem.now) t) (log_of c.args.core.now) table c.args.settings.table
-    (subst (λ (p : ProblemData). All (InShape p) (log_of c.args.core.now)) (sym c.requires.problem)
-    (core_shape c.args.core.now c.know_core.ensures (subst (λ (p : ProblemData). IsAutomaton p.sorted.automaton) c.requires.problem c.know_sorted_problem.ensures.automaton)))
-    (sym c.requires.table ∙ e)
+pub report-requires-clause-shape : goal.report-requires-clause-shape
+report-requires-clause-shape c = λ table e.
+    table_shape c.args.problem.now table c.know_sorted_problem.ensures.automaton (given_supported (λ v. v.items) c.args.problem.now c.args.entries.now table c.requires.entries (sym c.listed-table.ensures ∙ e))
 
-pub report-text-requires-clause-distinct : goal.report-text-requires-clause-distinct
-report-text-requires-clause-distinct c = λ table e.
-    shown (λ (t : List EntryData). AllPairs (λ a b. a ≢ b) t) (log_of c.args.core.now) table c.args.settings.table (core_supports c.args.core.now c.know_core.ensures).distinct (sym c.requires.table ∙ e)
+pub report-requires-clause-distinct : goal.report-requires-clause-distinct
+report-requires-clause-distinct c = λ table e. (given_supported (λ v. v.items) c.args.problem.now c.args.entries.now table c.requires.entries (sym c.listed-table.ensures ∙ e)).distinct
 
-pub report-text-requires-clause-list_distinct : goal.report-text-requires-clause-list_distinct
-report-text-requires-clause-list_distinct c =
+pub report-requires-clause-list_distinct : goal.report-requires-clause-list_distinct
+report-requires-clause-list_distinct c =
     subst (λ (m : Option Minimal). HoldsOfList (AllPairs (λ a b. a ≢ b)) m) (sym c.as_ref.ensures.value)
-    (list_distinct c.args.settings c.args.problem.now c.in_ok-minimal.minimal c.in_ok-minimal.ensures)
+    (list_distinct c.args.settings c.args.problem.now c.args.sought.now c.requires.sought)
+
+pub returns : goal.returns
+returns c =
+    let p = c.args.problem.now in
+    let v = c.args.verdict.now in
+    let removed = c.args.removed in
+    let told = c.listed-table.result in
+    let seen = c.as_ref.result in
+    IfOk-weaker c.report.result _ _ (λ text is log whole.
+    let with_log = subst (λ (t : Option (List EntryData)). IsReport p v t removed (option_map (λ m. m.now) seen) text.items) (c.listed-table.ensures ∙ whole) is in (
+      c.args.sought.now,
+      (
+        c.requires.sought,
+        subst (λ (m : Option Minimal). IsReport p v (if c.args.settings.table then Some log else None) removed m text.items) c.as_ref.ensures.value with_log,
+      ),
+    )) c.report.ensures

@@ -1,6 +1,6 @@
 use Rattle.std.proofs.Common.{ℕ, ◌<◌, length, get_or, arith, Bor}
 use borrow.Author.Count.{below_more}
-use Rattle.hs_table.specs.Entries.{EntryData}
+use Rattle.hs_types.specs.Interned.{RowData}
 use Rattle.hs_checker.proofs.StartLemmas.{start_kept_rows}
 use Rattle.hs_checker.proofs.index.start_at.Goals as goal
 
@@ -14,7 +14,7 @@ returns-then-are_behind c =
 pub loop-start-preserved : goal.loop-start-preserved
 loop-start-preserved c =
     let rows = c.args.rows.now in
-    λ k d lt. below_more (λ (n : ℕ). (e : Bor EntryData) → (get_or rows n e).now.point < c.args.point) c.loop-start.start (λ n l e. c.loop-start.invariant n e l)
+    λ k d lt. below_more (λ (n : ℕ). (e : Bor RowData) → (get_or rows n e).now.point < c.args.point) c.loop-start.start (λ n l e. c.loop-start.invariant n e l)
     (λ e. c.are_behind.ensures.before c.if-are_behind.false e c.loop-start-test.true) k lt d
 
 pub returns : goal.returns

@@ -1,11 +1,13 @@
 -- the points so far
 use Rattle.std.proofs.Common.{◌≡◌, length, ◌≤◌, vec_capacity}
+use Rattle.hs_types.specs.Interned.{InternerData}
+use Rattle.hs_checker.specs.Numbers.{entries_of}
 use Rattle.hs_checker.specs.Inert.{AreInert}
 use Rattle.hs_checker.proofs.inert.inert_points.Given as goal
 
 abbrev pub invariant-loop-point : goal.invariant-loop-point
 invariant-loop-point l = record {
   long : length l.marks.items ≡ l.point;
-  inert : AreInert l.problem l.index l.marks.items;
+  inert : (I : InternerData) → AreInert l.problem (entries_of I l.index) l.marks.items;
   room : l.count ≤ vec_capacity l.marks;
 }

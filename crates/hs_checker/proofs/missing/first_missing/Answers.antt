@@ -1,17 +1,25 @@
-use Rattle.std.proofs.Common.{◌≡◌, sym, ◌∙◌, ap, subst, ◌<◌, List, length, get_or, Contains}
-use Rattle.std.proofs.lemmas.List.{get_or_default}
-use Rattle.hs_table.specs.Entries.{EntryData}
+use Rattle.std.proofs.Common.{refl, sym, subst, ℕ, List, Contains, inl, inr}
+use Rattle.std.proofs.lemmas.List.{take_all}
+use Rattle.hs_table_plain.proofs.Members.{next_member}
+use Rattle.hs_types.specs.Interned.{RowData}
 use Rattle.hs_checker.proofs.missing.first_missing.Goals as goal
 
-pub returns-in-None : goal.returns-in-None
-returns-in-None c = λ e k. c.in-None.ensures e (subst (λ (es : List EntryData). Contains es e) (sym c.as_slice.ensures.value) k)
+pub loop-env-preserved : goal.loop-env-preserved
+loop-env-preserved c = λ k m.
+    let items = c.as_slice-env-items.result.now in
+    let own = c.env-item.result in
+    let row : ℕ → RowData = λ k. record { point = c.args.point; env = k; ty = c.args.found.now.ty } in
+    elim ((next_member items c.loop-env.env-index own k c.loop-env-test.true c.env-item.is).0 m) [
+      | inl before ↦ c.loop-env.invariant k before
+      | inr same ↦ subst (λ (j : ℕ). Contains c.args.index.now (row j)) (sym same) c.in-Some.ensures
+    ]
 
 pub returns : goal.returns
-returns c =
-    let items = c.args.entries.items in
-    let own = c.swap_remove.result in
-    let k = c.in-Some.place in
-    let within : k < length items = subst (λ (es : List EntryData). k < length es) c.as_slice.ensures.value c.in-Some.ensures.0 in
-    let read : get_or items k own ≡ own = get_or_default items k own _ within ∙ sym c.swap_remove.ensures.value in
-    let sliced : get_or c.as_slice.result.now k own ≡ own = ap (λ (es : List EntryData). get_or es k own) c.as_slice.ensures.value ∙ read in
-    ((k, within, read), λ there. c.in-Some.ensures.1 own (subst (λ (e : EntryData). Contains c.args.index.now e) (sym sliced) there))
+returns c = λ k m.
+    let items = c.as_slice-env-items.result.now in
+    c.loop-env.invariant k (subst (λ (ks : List ℕ). Contains ks k) (sym (take_all c.loop-env.env-index items c.loop-env-test.false)) (subst (λ (ks : List ℕ). Contains ks k) (sym c.as_slice-env-items.ensures.value) m))
+
+pub returns-in-None : goal.returns-in-None
+returns-in-None c =
+    let there : Contains c.as_slice-env-items.result.now c.env-item.result = (c.loop-env.env-index, c.loop-env-test.true, sym c.env-item.is) in
+    (refl, (refl, (subst (λ (ks : List ℕ). Contains ks c.env-item.result) c.as_slice-env-items.ensures.value there, c.in-None.ensures)))

@@ -18,7 +18,7 @@ returns-in-Some-clause-only c =
     let q = c.args.state in
     let b = c.args.becoming.now in
     let states = c.in-Some.states.now in
-    adds_such (IsArgumentRead c.args.args.now c.behind.result.now) (IsReadBehind ts q b c.args.args.now) c.args.pairs.now.keys c.add_children.new.pairs.keys c.add_children.ensures.only (λ x r. record {
+    adds_such (IsArgumentRead c.args.args.now c.behind.result.now) (IsReadBehind ts q b c.args.args.now) c.args.found.now.pairs c.add_children.new.found.pairs c.add_children.ensures.only (λ x r. record {
       states = states;
       place = r.place;
       moves = sym c.next_of.ensures ∙ ap option_copied c.in-Some.is;
@@ -27,4 +27,4 @@ returns-in-Some-clause-only c =
     })
 
 pub returns-in-None-clause-only : goal.returns-in-None-clause-only
-returns-in-None-clause-only c = adds_none (IsReadBehind c.args.sorted.now.automaton.transitions c.args.state c.args.becoming.now c.args.args.now) c.args.pairs.now.keys
+returns-in-None-clause-only c = adds_none (IsReadBehind c.args.sorted.now.automaton.transitions c.args.state c.args.becoming.now c.args.args.now) c.args.found.now.pairs

@@ -10,14 +10,15 @@ use Rattle.hs_reads.specs.Becomings.{AnyBecoming}
 use Rattle.hs_reads.specs.Growing.{AddsOnly}
 use Rattle.hs_reads.specs.Own.{IsBecoming}
 use Rattle.hs_reads.specs.Pairs.{IsDemandedBy, IsReadBehind}
-use Rattle.hs_reads.proofs.GrowLemmas.{grows_then, grows_has, both_ok, adds_such, adds_more}
+use Rattle.hs_reads.proofs.FoundLemmas.{gains_then, start_stays}
+use Rattle.hs_reads.proofs.GrowLemmas.{both_ok, adds_such, adds_more}
 use Rattle.hs_reads.proofs.ReadLemmas.{flow_read, later_read}
-use Rattle.hs_reads.proofs.HeadLemmas.{start_kept, demands_var, in_row, none_at}
+use Rattle.hs_reads.proofs.HeadLemmas.{demands_var, in_row, none_at}
 use Rattle.hs_reads.proofs.reading.add_by_parameter.Goals as goal
 
-pub returns-clause-grows : goal.returns-clause-grows
-returns-clause-grows c =
-    on_ok_weaker c.add_all_behind.result (λ g. grows_then c.args.pairs.now.keys c.add_points.new.pairs.keys c.add_all_behind.new.pairs.keys c.in_ok-add_points.ensures.grows g) c.add_all_behind.ensures.grows
+pub returns-clause-gains : goal.returns-clause-gains
+returns-clause-gains c =
+    on_ok_weaker c.add_all_behind.result (λ g. gains_then c.args.found.now c.add_points.new.found c.add_all_behind.new.found c.in_ok-add_points.ensures.gains g) c.add_all_behind.ensures.gains
 
 pub returns-clause-there : goal.returns-clause-there
 returns-clause-there c =
@@ -26,8 +27,7 @@ returns-clause-there c =
     let q = c.args.state in
     let x = c.args.param in
     let own = (point_at p.points w).rule in
-    let mid = c.add_points.new.pairs.keys in
-    let new = c.add_all_behind.new.pairs.keys in
+    let new = c.add_all_behind.new.found.pairs in
     let rule : c.rule_of-rule.result ≡ own = c.rule_of-rule.ensures.rule ∙ ap (λ (z : ProblemData). (point_at z.points w).rule) c.problem.view_is in
     let args : c.args_of-args.result.now ≡ (point_at p.points w).args = c.args_of-args.ensures.args ∙ ap (λ (z : ProblemData). (point_at z.points w).args) c.problem.view_is in
     let row : c.flow_of.result.now ≡ filter (λ (f : FlowPair). nat_eq f.rule own && nat_eq f.param x) p.flow.pairs =
@@ -37,15 +37,15 @@ returns-clause-there c =
     subst (λ (ns : List ℕ). IsParameter ns own x → c.list_at-list.result.now ≡ list_of c.args.terminals.now (parameter_of ns own x)) counts
     (subst (λ (n : ℕ). IsParameter c.params.result.now n x → c.list_at-list.result.now ≡ list_of c.args.terminals.now (parameter_of c.params.result.now n x)) rule c.list_at-list.ensures.list) c.requires.parameter in
     let automaton = ap (λ (z : ProblemData). z.sorted.automaton) c.problem.view_is in
-    both_ok c.add_all_behind.result (λ grows there start.
-    demands_var p w q new (start_kept p c.args.pairs.now.keys new (grows_then c.args.pairs.now.keys mid new c.in_ok-add_points.ensures.grows grows) start) p.points refl x (sym c.requires.head)
-    (λ v flows. grows_has mid new (v, q) grows (c.in_ok-add_points.ensures.there (record { rule = own; param = x; point = v })
+    both_ok c.add_all_behind.result (λ gains there start.
+    demands_var p w q new (start_stays p c.args.found.now c.add_all_behind.new.found (gains_then c.args.found.now c.add_points.new.found c.add_all_behind.new.found c.in_ok-add_points.ensures.gains gains) start) p.points refl x (sym c.requires.head)
+    (λ v flows. gains.kept (v, q) (c.in_ok-add_points.ensures.there (record { rule = own; param = x; point = v })
     (subst (λ (fs : List FlowPair). Contains fs (record { rule = own; param = x; point = v })) (sym row) (in_row p.flow.pairs own x v flows))))
     (λ v a g j u r qs flows becomes moves at_u at_r.
     there (record { rule = own; param = x; terminal = a; given = g }) j u r qs
     (subst (λ (bs : List AnyBecoming). Contains bs (record { rule = own; param = x; terminal = a; given = g })) (sym list) (c.requires.terminals own x v a g c.requires.parameter flows becomes))
     (subst (λ (z : AutomatonData). next z.transitions q a ≡ Some qs) (sym automaton) moves) (subst (λ (us : List ℕ). slice_get us j ≡ Some u) (sym args) at_u) at_r))
-    c.add_all_behind.ensures.grows c.add_all_behind.ensures.there
+    c.add_all_behind.ensures.gains c.add_all_behind.ensures.there
 
 pub returns-then-is_empty-clause-there : goal.returns-then-is_empty-clause-there
 returns-then-is_empty-clause-there c = λ start.
@@ -54,12 +54,12 @@ returns-then-is_empty-clause-there c = λ start.
     let q = c.args.state in
     let x = c.args.param in
     let own = (point_at p.points w).rule in
-    let new = c.add_points.new.pairs.keys in
+    let new = c.add_points.new.found.pairs in
     let rule : c.rule_of-rule.result ≡ own = c.rule_of-rule.ensures.rule ∙ ap (λ (z : ProblemData). (point_at z.points w).rule) c.problem.view_is in
     let args : c.args_of-args.result.now ≡ (point_at p.points w).args = c.args_of-args.ensures.args ∙ ap (λ (z : ProblemData). (point_at z.points w).args) c.problem.view_is in
     let row : c.flow_of.result.now ≡ filter (λ (f : FlowPair). nat_eq f.rule own && nat_eq f.param x) p.flow.pairs =
     c.flow_of.ensures.pairs ∙ (λ i. filter (λ (f : FlowPair). nat_eq f.rule (rule i) && nat_eq f.param x) (ap (λ (z : ProblemData). z.flow.pairs) c.problem.view_is i)) in
-    demands_var p w q new (start_kept p c.args.pairs.now.keys new c.in_ok-add_points.ensures.grows start) p.points refl x (sym c.requires.head)
+    demands_var p w q new (start_stays p c.args.found.now c.add_points.new.found c.in_ok-add_points.ensures.gains start) p.points refl x (sym c.requires.head)
     (λ v flows. c.in_ok-add_points.ensures.there (record { rule = own; param = x; point = v })
     (subst (λ (fs : List FlowPair). Contains fs (record { rule = own; param = x; point = v })) (sym row) (in_row p.flow.pairs own x v flows)))
     (λ v a g j u r qs flows becomes moves at_u at_r. absurd (none_at c.args_of-args.result.now j u c.is_empty.result c.is_empty.ensures c.if-is_empty.true (subst (λ (us : List ℕ). slice_get us j ≡ Some u) (sym args) at_u)))
@@ -74,7 +74,7 @@ returns-in_err-add_points-clause-only c =
     let rule : c.rule_of-rule.result ≡ own = c.rule_of-rule.ensures.rule ∙ ap (λ (z : ProblemData). (point_at z.points w).rule) c.problem.view_is in
     let row : c.flow_of.result.now ≡ filter (λ (f : FlowPair). nat_eq f.rule own && nat_eq f.param x) p.flow.pairs =
     c.flow_of.ensures.pairs ∙ (λ i. filter (λ (f : FlowPair). nat_eq f.rule (rule i) && nat_eq f.param x) (ap (λ (z : ProblemData). z.flow.pairs) c.problem.view_is i)) in
-    adds_such (λ (y : ℕ × ℕ). (f : FlowPair) × (Contains c.flow_of.result.now f × (y ≡ (f.point, q)))) (IsDemandedBy p (w, q)) c.args.pairs.now.keys c.add_points.new.pairs.keys c.add_points.ensures.only
+    adds_such (λ (y : ℕ × ℕ). (f : FlowPair) × (Contains c.flow_of.result.now f × (y ≡ (f.point, q)))) (IsDemandedBy p (w, q)) c.args.found.now.pairs c.add_points.new.found.pairs c.add_points.ensures.only
     (flow_read p w q c.requires.point x c.flow_of.result.now (sym c.requires.head) row)
 
 pub returns-then-is_empty-clause-only : goal.returns-then-is_empty-clause-only
@@ -87,7 +87,7 @@ returns-then-is_empty-clause-only c =
     let rule : c.rule_of-rule.result ≡ own = c.rule_of-rule.ensures.rule ∙ ap (λ (z : ProblemData). (point_at z.points w).rule) c.problem.view_is in
     let row : c.flow_of.result.now ≡ filter (λ (f : FlowPair). nat_eq f.rule own && nat_eq f.param x) p.flow.pairs =
     c.flow_of.ensures.pairs ∙ (λ i. filter (λ (f : FlowPair). nat_eq f.rule (rule i) && nat_eq f.param x) (ap (λ (z : ProblemData). z.flow.pairs) c.problem.view_is i)) in
-    adds_such (λ (y : ℕ × ℕ). (f : FlowPair) × (Contains c.flow_of.result.now f × (y ≡ (f.point, q)))) (IsDemandedBy p (w, q)) c.args.pairs.now.keys c.add_points.new.pairs.keys c.add_points.ensures.only
+    adds_such (λ (y : ℕ × ℕ). (f : FlowPair) × (Contains c.flow_of.result.now f × (y ≡ (f.point, q)))) (IsDemandedBy p (w, q)) c.args.found.now.pairs c.add_points.new.found.pairs c.add_points.ensures.only
     (flow_read p w q c.requires.point x c.flow_of.result.now (sym c.requires.head) row)
 
 pub returns-clause-only : goal.returns-clause-only
@@ -106,13 +106,13 @@ returns-clause-only c =
     subst (λ (ns : List ℕ). IsParameter ns own x → c.list_at-list.result.now ≡ list_of c.args.terminals.now (parameter_of ns own x)) counts
     (subst (λ (n : ℕ). IsParameter c.params.result.now n x → c.list_at-list.result.now ≡ list_of c.args.terminals.now (parameter_of c.params.result.now n x)) rule c.list_at-list.ensures.list) c.requires.parameter in
     let automaton = ap (λ (z : ProblemData). z.sorted.automaton) c.problem.view_is in
-    let mid = c.add_points.new.pairs.keys in
-    let first : AddsOnly (IsDemandedBy p (w, q)) c.args.pairs.now.keys mid =
-    adds_such (λ (y : ℕ × ℕ). (f : FlowPair) × (Contains c.flow_of.result.now f × (y ≡ (f.point, q)))) (IsDemandedBy p (w, q)) c.args.pairs.now.keys c.add_points.new.pairs.keys c.add_points.ensures.only
+    let mid = c.add_points.new.found.pairs in
+    let first : AddsOnly (IsDemandedBy p (w, q)) c.args.found.now.pairs mid =
+    adds_such (λ (y : ℕ × ℕ). (f : FlowPair) × (Contains c.flow_of.result.now f × (y ≡ (f.point, q)))) (IsDemandedBy p (w, q)) c.args.found.now.pairs c.add_points.new.found.pairs c.add_points.ensures.only
     (flow_read p w q c.requires.point x c.flow_of.result.now (sym c.requires.head) row) in
     let known : (b : AnyBecoming) → Contains c.list_at-list.result.now b → IsBecoming p (record { rule = own; param = x; terminal = b.terminal; given = b.given }) =
     λ b m. c.requires.only own x b c.requires.parameter (subst (λ (bs : List AnyBecoming). Contains bs b) list m) in
     let behind : AutomatonData → ℕ × ℕ → Type 0 = λ z y. (b : AnyBecoming) × (Contains c.list_at-list.result.now b × IsReadBehind z.transitions q b c.args_of-args.result.now y) in
-    adds_more (behind p.sorted.automaton) (IsDemandedBy p (w, q)) c.args.pairs.now.keys mid c.add_all_behind.new.pairs.keys first
-    (subst (λ (z : AutomatonData). AddsOnly (behind z) mid c.add_all_behind.new.pairs.keys) automaton c.add_all_behind.ensures.only)
+    adds_more (behind p.sorted.automaton) (IsDemandedBy p (w, q)) c.args.found.now.pairs mid c.add_all_behind.new.found.pairs first
+    (subst (λ (z : AutomatonData). AddsOnly (behind z) mid c.add_all_behind.new.found.pairs) automaton c.add_all_behind.ensures.only)
     (later_read p w q c.requires.point x c.list_at-list.result.now c.args_of-args.result.now (sym c.requires.head) args known)

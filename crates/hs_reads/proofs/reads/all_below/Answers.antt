@@ -1,5 +1,5 @@
 use Rattle.std.proofs.Common.{subst, sym, List, ℕ, ◌<◌, Contains, ◌↔◌, arith}
-use Rattle.hs_reads.proofs.ByPointLemmas.{below_none, below_next, below_all}
+use Rattle.hs_reads.proofs.BelowLemmas.{below_none, below_next, below_all}
 use Rattle.hs_reads.proofs.reads.all_below.Goals as goal
 
 pub loop-q-init : goal.loop-q-init

@@ -1,38 +1,53 @@
-use Rattle.std.proofs.Common.{sym, ◌∙◌, arith}
-use Rattle.std.proofs.lemmas.Option.{slice_get_within}
-use Rattle.hs_scheme.proofs.Lists.{Contains-at}
-use Rattle.hs_reads.proofs.GrowLemmas.{past_end}
-use Rattle.hs_reads.proofs.HeadLemmas.{start_kept, taken_more, all_taken}
+use Rattle.std.proofs.Common.{◌≡◌, sym, ◌∙◌, ap, subst, ℕ, ◌+◌, ◌≤◌, List, [], ◌∷◌, length, length-append, inl, arith}
+use Rattle.hs_weak.specs.Reads.{IsClosedReads}
+use Rattle.hs_reads.specs.Pairs.{HasStart, AreNeeded}
+use Rattle.hs_reads.proofs.FoundLemmas.{start_stays, one_taken, all_taken, none_left}
 use Rattle.hs_reads.proofs.ReadLemmas.{demanded_needed}
 use Rattle.hs_reads.proofs.reads.spread.Goals as goal
 
+pub loop-point-init : goal.loop-point-init
+loop-point-init c = record { few = c.requires.few; start = c.requires.start; needed = c.requires.needed; each = λ x m. inl (c.requires.waiting x m) }
+
 pub loop-point-smaller : goal.loop-point-smaller
 loop-point-smaller c =
-    let within = slice_get_within c.loop-point.pairs.keys c.loop-point.taken (c.in-Some.point, c.in-Some.state) (sym c.pair_at.ensures ∙ c.in-Some.is) in
-    omega (arith, within, c.loop-point.invariant.few)
+    let old = c.loop-point.found in
+    let mid = c.take.new.self in
+    let same : length mid.pairs ≡ length old.pairs = ap (λ (xs : List (ℕ × ℕ)). length xs) c.take.ensures.same in
+    let taken : length old.waiting ≡ length mid.waiting + 1 = ap (λ (xs : List (ℕ × ℕ)). length xs) c.in-Some.ensures.taken ∙ length-append mid.waiting ((c.in-Some.point, c.in-Some.state) ∷ []) in
+    omega (arith, same, taken, c.in_ok-add_demanded.ensures.gains.taken, c.loop-point.invariant.few)
 
 pub loop-point-preserved : goal.loop-point-preserved
 loop-point-preserved c =
     let p = c.args.problem.now in
-    let old = c.loop-point.pairs.keys in
-    let new = c.add_demanded.new.pairs.keys in
-    let grows = c.in_ok-add_demanded.ensures.grows in
+    let old = c.loop-point.found in
+    let mid = c.take.new.self in
+    let new = c.add_demanded.new.found in
+    let x : ℕ × ℕ = (c.in-Some.point, c.in-Some.state) in
+    let same = c.take.ensures.same in
+    let gains = c.in_ok-add_demanded.ensures.gains in
+    let start = subst (λ (xs : List (ℕ × ℕ)). HasStart p xs) (sym same) c.loop-point.invariant.start in
     record {
-      few = grows.few c.loop-point.invariant.few;
-      start = start_kept p old new grows c.loop-point.invariant.start;
-      needed = demanded_needed p old new (c.in-Some.point, c.in-Some.state) c.loop-point.invariant.needed (Contains-at old c.loop-point.taken (c.in-Some.point, c.in-Some.state) (sym c.pair_at.ensures ∙ c.in-Some.is)) c.add_demanded.ensures.only;
-      each = taken_more p old new c.loop-point.taken (c.in-Some.point, c.in-Some.state) grows (sym c.pair_at.ensures ∙ c.in-Some.is) c.loop-point.invariant.each
-          (c.in_ok-add_demanded.ensures.there c.loop-point.invariant.start);
+      few = gains.few (subst (λ (xs : List (ℕ × ℕ)). length xs ≤ 4000000) (sym same) c.loop-point.invariant.few);
+      start = start_stays p mid new gains start;
+      needed = demanded_needed p mid.pairs new.pairs x (subst (λ (xs : List (ℕ × ℕ)). AreNeeded p xs) (sym same) c.loop-point.invariant.needed) c.in-Some.ensures.there c.add_demanded.ensures.only;
+      each = one_taken p old mid new x same c.in-Some.ensures.taken gains c.loop-point.invariant.each (c.in_ok-add_demanded.ensures.there start);
     }
 
 pub returns-in_err-add_demanded-clause-needed : goal.returns-in_err-add_demanded-clause-needed
 returns-in_err-add_demanded-clause-needed c =
-    let old = c.loop-point.pairs.keys in
-    demanded_needed c.args.problem.now old c.add_demanded.new.pairs.keys (c.in-Some.point, c.in-Some.state) c.loop-point.invariant.needed
-    (Contains-at old c.loop-point.taken (c.in-Some.point, c.in-Some.state) (sym c.pair_at.ensures ∙ c.in-Some.is)) c.add_demanded.ensures.only
+    let p = c.args.problem.now in
+    let mid = c.take.new.self in
+    demanded_needed p mid.pairs c.add_demanded.new.found.pairs (c.in-Some.point, c.in-Some.state) (subst (λ (xs : List (ℕ × ℕ)). AreNeeded p xs) (sym c.take.ensures.same) c.loop-point.invariant.needed)
+    c.in-Some.ensures.there c.add_demanded.ensures.only
 
 pub returns-clause-closed : goal.returns-clause-closed
 returns-clause-closed c =
-    all_taken c.args.problem.now c.loop-point.pairs.keys c.loop-point.taken
-    (past_end c.pair_at.result c.loop-point.pairs.keys c.loop-point.taken c.pair_at.ensures (λ x e. c.in_default.not-Some x e))
-    c.loop-point.invariant.start c.loop-point.invariant.each
+    let p = c.args.problem.now in
+    subst (λ (xs : List (ℕ × ℕ)). IsClosedReads p xs) (sym c.take.ensures.same)
+    (all_taken p c.loop-point.found c.loop-point.invariant.start c.loop-point.invariant.each (none_left c.take.result (λ x e. c.in_default.not-Some x e) c.take.ensures.none))
+
+pub returns-clause-few : goal.returns-clause-few
+returns-clause-few c = subst (λ (xs : List (ℕ × ℕ)). length xs ≤ 4000000) (sym c.take.ensures.same) c.loop-point.invariant.few
+
+pub returns-clause-needed : goal.returns-clause-needed
+returns-clause-needed c = subst (λ (xs : List (ℕ × ℕ)). AreNeeded c.args.problem.now xs) (sym c.take.ensures.same) c.loop-point.invariant.needed

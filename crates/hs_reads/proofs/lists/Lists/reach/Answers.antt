@@ -1,4 +1,4 @@
-use Rattle.hs_reads.proofs.ByPointLemmas.{reached_more}
+use Rattle.hs_reads.proofs.BelowLemmas.{reached_more}
 use Rattle.hs_reads.proofs.lists.Lists.reach.Goals as goal
 
 pub loop-alloc-preserved : goal.loop-alloc-preserved

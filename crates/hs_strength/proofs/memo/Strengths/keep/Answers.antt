@@ -12,4 +12,5 @@ returns c = record {
         | inr own ↦ inr (ap (λ (x : Question × Bool). x.0) own, ap (λ (x : Question × Bool). x.1) own)
       ];
   seen = ap (λ (k : MemoData). k.seen) c.self.view_is ∙ c.make_room.ensures.seen;
+  kinds = ap (λ (k : MemoData). k.kinds) c.self.view_is ∙ c.make_room.ensures.kinds;
 }

@@ -4,7 +4,7 @@ use Rattle.hs_types.proofs.UnionLemmas.{unions_grow}
 use Rattle.hs_types.proofs.interner.Interner.import_ty.Goals as goal
 
 pub invariant_of-self : goal.invariant_of-self
-invariant_of-self c = unions_grow c.self.inside.nodes c.import_type.new.self c.self.inside.set_unions.known.entries c.self.inside.env_unions.known.entries c.import_type.ensures.grows c.self.invariant
+invariant_of-self c = unions_grow c.self.inside.nodes c.import_type.new.self c.self.inside.set_unions.known.items c.self.inside.env_unions.known.items c.import_type.ensures.grows c.self.invariant
 
 pub returns-clause-grows : goal.returns-clause-grows
 returns-clause-grows c = subst (λ (I : InternerData). Grows I c.import_type.new.self) c.self.view_is c.import_type.ensures.grows

@@ -45,22 +45,22 @@ loop-place-preserved c =
       each = joined_each I J K h.grows c.union_at.ensures.grows c.args.a c.args.b c.requires.a c.requires.b us c.push.new.self.items c.loop-place.place u h.long h.range c.in_ok-union_at.ensures.ok c.in_ok-push.ensures.ok h.each;
     }
 
-pub env-requires : goal.env-requires
-env-requires c = subst (λ (zs : List ℕ). All (λ s. s < length c.loop-place.self.sets) zs) (sym c.as_slice.ensures) c.loop-place.invariant.range
+pub env_among-requires : goal.env_among-requires
+env_among-requires c = subst (λ (zs : List ℕ). All (λ s. s < length c.loop-place.self.sets) zs) (sym c.as_slice.ensures) c.loop-place.invariant.range
 
 pub returns-clause-ok : goal.returns-clause-ok
 returns-clause-ok c =
     let I = c.args.self.now in
     let J = c.loop-place.self in
-    let K = c.env.new.self in
+    let K = c.env_among.new.self in
     let h = c.loop-place.invariant in
     let lc = sets_long I c.sets-count.result.now (env_of_id I c.args.a) c.sets-count.ensures.sets in
-    IfOk-weaker c.env.result (λ id. slice_get K.envs id ≡ Some (map (set_of_id J) c.as_slice.result.now)) (λ id. (id < length K.envs) × IsUnionEnv (env_of_id I c.args.a) (env_of_id I c.args.b) (env_of_id K id))
+    IfOk-weaker c.env_among.result (λ id. slice_get K.envs id ≡ Some (map (set_of_id J) c.as_slice.result.now)) (λ id. (id < length K.envs) × IsUnionEnv (env_of_id I c.args.a) (env_of_id I c.args.b) (env_of_id K id))
     (λ id at. joined_all (env_of_id I c.args.a) (env_of_id I c.args.b) J K c.loop-place.unions.items c.as_slice.result.now id c.requires.long
-    (omega (arith, h.long, lc, c.loop-place-test.false, c.loop-place.auto.place-end)) (λ k lt. h.each k (omega (arith, lt, lc, c.loop-place-test.false))) c.as_slice.ensures at) c.env.ensures.ok
+    (omega (arith, h.long, lc, c.loop-place-test.false, c.loop-place.auto.place-end)) (λ k lt. h.each k (omega (arith, lt, lc, c.loop-place-test.false))) c.as_slice.ensures at) c.env_among.ensures.ok
 
 pub returns-clause-grows : goal.returns-clause-grows
-returns-clause-grows c = Grows-trans c.args.self.now c.loop-place.self c.env.new.self c.loop-place.invariant.grows c.env.ensures.grows
+returns-clause-grows c = Grows-trans c.args.self.now c.loop-place.self c.env_among.new.self c.loop-place.invariant.grows c.env_among.ensures.grows
 
 pub loop-place-init : goal.loop-place-init
 loop-place-init c = record {

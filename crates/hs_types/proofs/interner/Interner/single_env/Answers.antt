@@ -4,7 +4,7 @@ use Rattle.hs_types.proofs.UnionLemmas.{unions_grow}
 use Rattle.hs_types.proofs.interner.Interner.single_env.Goals as goal
 
 pub invariant_of-self : goal.invariant_of-self
-invariant_of-self c = unions_grow c.self.inside.nodes c.single_env.new.self c.self.inside.set_unions.known.entries c.self.inside.env_unions.known.entries c.single_env.ensures.grows c.self.invariant
+invariant_of-self c = unions_grow c.self.inside.nodes c.single_env.new.self c.self.inside.set_unions.known.items c.self.inside.env_unions.known.items c.single_env.ensures.grows c.self.invariant
 
 pub returns-clause-grows : goal.returns-clause-grows
 returns-clause-grows c = subst (λ (I : InternerData). Grows I c.single_env.new.self) c.self.view_is c.single_env.ensures.grows

@@ -8,5 +8,5 @@ pub returns-clause-fits : goal.returns-clause-fits
 returns-clause-fits c = λ C V I are.
     let b = c.in_ok-basis.basis in
     let e = c.in_ok-basis.ensures in
-    fits_at_first b c.new-2.result c.new-2.ensures (subst (λ (p : ProblemData). AreSitesBy p b.sites) (sym e.problem) e.sites) C V I
+    fits_at_first b c.new-2.result c.new-3.result c.new-2.ensures c.new-3.ensures (subst (λ (p : ProblemData). AreSitesBy p b.sites) (sym e.problem) e.sites) C V I
     (basis_of b c.args.problem.now c.args.table.now c.args.void.now e.problem e.table e.void C V I are)

@@ -1,0 +1,15 @@
+use Rattle.std.proofs.Common.{◌≡◌, subst, map, slice_get, Some}
+use Rattle.std.specs.Result.{IfOk}
+use Rattle.hs_types.specs.Interned.{InternerData, set_of_id, Grows}
+use Rattle.hs_types.proofs.UnionLemmas.{unions_grow}
+use Rattle.hs_types.proofs.interner.Interner.env_among.Goals as goal
+
+pub invariant_of-self : goal.invariant_of-self
+invariant_of-self c = unions_grow c.self.inside.nodes c.env_among.new.self c.self.inside.set_unions.known.items c.self.inside.env_unions.known.items c.env_among.ensures.grows c.self.invariant
+
+pub returns-clause-grows : goal.returns-clause-grows
+returns-clause-grows c = subst (λ (I : InternerData). Grows I c.env_among.new.self) c.self.view_is c.env_among.ensures.grows
+
+pub returns-clause-ok : goal.returns-clause-ok
+returns-clause-ok c =
+    subst (λ (I : InternerData). IfOk c.env_among.result (λ id. slice_get c.env_among.new.self.envs id ≡ Some (map (set_of_id I) c.args.sets.now))) c.self.view_is c.env_among.ensures.ok
