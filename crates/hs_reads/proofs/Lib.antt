@@ -7,6 +7,7 @@ mod SpreadLemmas
 mod PushLemmas
 mod ListingLemmas
 mod HeadLemmas
+mod HandedLemmas
 mod HoldsLemmas
 mod BelowLemmas
 mod BitLemmas

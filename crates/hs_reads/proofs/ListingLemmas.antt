@@ -8,7 +8,7 @@ use Rattle.hs_scheme.proofs.Lists.{none_in}
 use Rattle.hs_weak.specs.Reads.{PointIs}
 use Rattle.hs_reads.specs.declared.becoming.Becoming.{Becoming}
 use Rattle.hs_reads.specs.Lists.{list_of}
-use Rattle.hs_reads.specs.Becomings.{IsByHead, IsByParameter, AreHeaded, AreApart}
+use Rattle.hs_reads.specs.Becomings.{IsTold, IsByHead, IsByParameter, AreHeaded, AreApart}
 use Rattle.hs_reads.proofs.GrowLemmas.{one_more, taken_all}
 
 none_headed : (p : ProblemData) (lists : List (List FlowPair)) → ((k : ℕ) → list_of lists k ≡ []) → AreHeaded p lists
@@ -24,15 +24,15 @@ module _ (p : ProblemData) (flows : List FlowPair) where
 
   pub by_head_more : (k : ℕ) (f : FlowPair) (old new : List (List FlowPair)) → k < length flows → f ≡ get_or flows k f → IsByHead p (take k flows) old → length new ≡ sum p.points.params
       → ((i : ℕ) (g : FlowPair) → Contains (list_of old i) g → Contains (list_of new i) g)
-      → ((rule x : ℕ) (args : List ℕ) → PointIs p f.point rule (Var x) args → IsParameter p.points.params rule x × Contains (list_of new (parameter_of p.points.params rule x)) f)
-      → (AreHeaded p old → AreHeaded p new)
+      → ((rule x : ℕ) (args : List ℕ) → PointIs p f.point rule (Var x) args → IsParameter p.points.params rule x × IsTold p (list_of new (parameter_of p.points.params rule x)) f)
+      → AreHeaded p new
       → IsByHead p (take (k + 1) flows) new
   by_head_more k f old new lt is so_far len kept there only = record {
     len = len;
     has = λ g rule x args m at.
-        one_more (λ (g : FlowPair). (rule x : ℕ) (args : List ℕ) → PointIs p g.point rule (Var x) args → IsParameter p.points.params rule x × Contains (list_of new (parameter_of p.points.params rule x)) g) flows k f lt is
-        (λ h n r y us e. let was = so_far.has h r y us n e in (was.0, kept (parameter_of p.points.params r y) h was.1)) there g m rule x args at;
-    only = only so_far.only;
+        one_more (λ (g : FlowPair). (rule x : ℕ) (args : List ℕ) → PointIs p g.point rule (Var x) args → IsParameter p.points.params rule x × IsTold p (list_of new (parameter_of p.points.params rule x)) g) flows k f lt is
+        (λ h n r y us e. let was = so_far.has h r y us n e in (was.0, (was.1.0, (kept (parameter_of p.points.params r y) was.1.0 was.1.1.0, was.1.1.1)))) there g m rule x args at;
+    only = only;
   }
 
   pub by_head_all : (k : ℕ) (lists : List (List FlowPair)) → length flows ≤ k → IsByHead p (take k flows) lists → IsByHead p flows lists

@@ -1,14 +1,13 @@
 -- What is read where a pair is, and nothing else.
-use Rattle.std.proofs.Common.{◌≡◌, sym, ◌∙◌, subst, ℕ, ◌+◌, ◌<◌, ◌≤◌, ◌&&◌, nat_eq, Bool, List, [], ◌∷◌, filter, length, slice_get, slice_index, Some, Contains, inl, inr, ◌↔◌, arith}
-use Rattle.std.proofs.lemmas.Bool.{eqb-true, and_parts, cases_lt}
+use Rattle.std.proofs.Common.{◌≡◌, sym, ◌∙◌, subst, ℕ, ◌+◌, ◌<◌, ◌≤◌, List, [], ◌∷◌, length, slice_get, slice_index, Some, Contains, inl, inr, ◌↔◌, arith}
+use Rattle.std.proofs.lemmas.Bool.{cases_lt}
 use Rattle.std.proofs.lemmas.Option.{slice_get-get_or, same_Some}
 use Rattle.hs_scheme.specs.declared.term.Head.{Head}
 use Rattle.hs_scheme.specs.declared.term.Head.TheVariants.{Var, Nt, Tm}
-use Rattle.hs_scheme.specs.declared.flow.FlowPair.{FlowPair}
 use Rattle.hs_scheme.specs.flow.Points.{point_at}
 use Rattle.hs_scheme.specs.acceptance.Automaton.{next}
 use Rattle.hs_scheme.specs.Problem.{ProblemData}
-use Rattle.hs_scheme.proofs.Lists.{none_in, here, only, filter_has, filter_passes}
+use Rattle.hs_scheme.proofs.Lists.{none_in, here, only}
 use Rattle.hs_weak.specs.Reads.{PointIs, FlowsTo, Read, reads_start, reads_body, reads_child, reads_flow, reads_later_child, IsClosedReads}
 use Rattle.hs_reads.specs.declared.becoming.Becoming.{Becoming}
 use Rattle.hs_reads.specs.Growing.{AddsOnly, AreTooMany}
@@ -58,16 +57,8 @@ module _ (p : ProblemData) (w q : ℕ) (lt : w < length p.points.points) where
   child_read a args states head are moves x r =
       reads_child r.place (here (w, q) []) (point_is p w (Tm a) lt head) (sym moves) (subst (λ (us : List ℕ). slice_get us r.place ≡ Some x.0) are r.arg) r.state
 
-  pub flow_read : (x : ℕ) (row : List FlowPair) → Var x ≡ (point_at p.points w).head → row ≡ filter (λ (f : FlowPair). nat_eq f.rule (point_at p.points w).rule && nat_eq f.param x) p.flow.pairs
-      → (y : ℕ × ℕ) → (f : FlowPair) × (Contains row f × (y ≡ (f.point, q))) → IsDemandedBy p (w, q) y
-  flow_read x row head is y (f, h) =
-      let own = (point_at p.points w).rule in
-      let m = subst (λ (fs : List FlowPair). Contains fs f) is h.0 in
-      let test : FlowPair → Bool = λ g. nat_eq g.rule own && nat_eq g.param x in
-      let parts = and_parts (nat_eq f.rule own) (nat_eq f.param x) (filter_passes test p.flow.pairs f m) in
-      let flows : FlowsTo p own x f.point =
-      subst (λ n. FlowsTo p own n f.point) (eqb-true f.param x parts.1) (subst (λ n. FlowsTo p n f.param f.point) (eqb-true f.rule own parts.0) (filter_has test p.flow.pairs f m)) in
-      subst (λ (z : ℕ × ℕ). IsDemandedBy p (w, q) z) (sym h.1) (reads_flow (here (w, q) []) (point_is p w (Var x) lt head) flows)
+  pub flow_read : (x : ℕ) → Var x ≡ (point_at p.points w).head → (y : ℕ × ℕ) → FlowsTo p (point_at p.points w).rule x y.0 × (y.1 ≡ q) → IsDemandedBy p (w, q) y
+  flow_read x head y h = subst (λ n. Read p ((w, q) ∷ []) y.0 n) (sym h.1) (reads_flow (here (w, q) []) (point_is p w (Var x) lt head) h.0)
 
   pub later_read : (x : ℕ) (list : List Becoming) (args : List ℕ) → Var x ≡ (point_at p.points w).head → args ≡ (point_at p.points w).args
       → ((b : Becoming) → Contains list b → IsBecoming p (record { rule = (point_at p.points w).rule; param = x; terminal = b.terminal; given = b.given }))

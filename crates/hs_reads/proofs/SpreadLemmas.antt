@@ -1,5 +1,5 @@
 -- What is passed on of what a parameter becomes.
-use Rattle.std.proofs.Common.{◌≡◌, sym, subst, ℕ, ◌+◌, ◌<◌, ◌≤◌, List, length, slice_get, Some, Contains, arith}
+use Rattle.std.proofs.Common.{◌≡◌, refl, sym, ◌∙◌, ap, subst, ℕ, ◌+◌, ◌<◌, ◌≤◌, List, length, slice_get, Some, Contains, arith}
 use Rattle.hs_scheme.specs.declared.term.Head.{Head}
 use Rattle.hs_scheme.specs.declared.term.Head.TheVariants.{Var, Tm}
 use Rattle.hs_scheme.specs.declared.flow.FlowPair.{FlowPair}
@@ -11,6 +11,7 @@ use Rattle.hs_reads.specs.declared.becoming.Becoming.{Becoming}
 use Rattle.hs_reads.specs.Growing.{Grows}
 use Rattle.hs_reads.specs.Lists.{list_of}
 use Rattle.hs_reads.specs.Becomings.{AreBecomings, IsByHead}
+use Rattle.hs_reads.proofs.BecomingLemmas.{parts_read}
 use Rattle.hs_reads.proofs.GrowLemmas.{grows_has, one_place_more}
 
 -- all that pairs with the parameter at their points' heads pass on of it is there
@@ -40,4 +41,14 @@ pub passed_now : (p : ProblemData) (lists : List (List FlowPair)) → IsByHead p
     → Contains found (record { rule = f.rule; param = f.param; terminal = b.terminal; given = b.given + length args })) → IsPassedOn p b found
 passed_now p lists by b row found is there f args m at =
     let has = by.has f b.rule b.param args m at in
-    there f b.rule (Var b.param) args (subst (λ (fs : List FlowPair). Contains fs f) (sym (is has.0)) has.1) at
+    let g = has.1.0 in
+    let alike = has.1.1.1 in
+    let own = by.only (parameter_of p.points.params b.rule b.param) g has.1.1.0 in
+    let us = own.headed.1.0 in
+    let long : length us ≡ length args =
+    sym (ap (λ (xs : List ℕ). length xs) (parts_read p p.points refl g.point own.rule (Var own.param) us own.headed.1.1).args_are)
+    ∙ (alike.long ∙ ap (λ (xs : List ℕ). length xs) (parts_read p p.points refl f.point b.rule (Var b.param) args at).args_are) in
+    let now = there g own.rule (Var own.param) us (subst (λ (fs : List FlowPair). Contains fs g) (sym (is has.0)) has.1.1.0) own.headed.1.1 in
+    subst (λ (n : ℕ). Contains found (record { rule = f.rule; param = f.param; terminal = b.terminal; given = b.given + n })) long
+    (subst (λ (n : ℕ). Contains found (record { rule = f.rule; param = n; terminal = b.terminal; given = b.given + length us })) alike.param
+    (subst (λ (n : ℕ). Contains found (record { rule = n; param = g.param; terminal = b.terminal; given = b.given + length us })) alike.rule now))

@@ -2,7 +2,9 @@
 --     AreBecomings p found       the list leaves out nothing that a parameter may become
 --     AreShort found             no more arguments are given than 500,000 for each that was found
 --     IsHeadedAt p rule x f      a flow pair, whose point has this parameter at its head
---     IsByHead p flows lists     each of the flow pairs whose point has a parameter at its head stands in the list of that parameter's number
+--     IsPassedAlike p f g        two flow pairs pass on the same: to one parameter, with as many arguments
+--     IsTold p list f            one of the pairs in the list passes on the same as f
+--     IsByHead p flows lists     each of the flow pairs whose point has a parameter at its head is told by the list of that parameter's number
 --     IsByParameter              what is found stands in the list of its parameter's number
 --     AreApart                   and nothing else does
 --     HasTerminals p lists       each parameter's list leaves out nothing that a point that flows to it may become
@@ -10,6 +12,7 @@
 use Rattle.std.specs.Prelude.{◌≡◌, ℕ, ◌+◌, ◌*◌, ◌≤◌, List, length, sum, Contains}
 use Rattle.hs_scheme.specs.declared.term.Head.TheVariants.{Var, Tm}
 use Rattle.hs_scheme.specs.declared.flow.FlowPair.{FlowPair}
+use Rattle.hs_scheme.specs.flow.Points.{point_at}
 use Rattle.hs_scheme.specs.sorting.Parameters.{IsParameter, parameter_of}
 use Rattle.hs_scheme.specs.Problem.{ProblemData}
 use Rattle.hs_weak.specs.Reads.{PointIs, FlowsTo, Becomes}
@@ -43,10 +46,18 @@ pub record IsHeadedBy (p : ProblemData) (k : ℕ) (f : FlowPair) : Type 0 where
 abbrev pub AreHeaded : ProblemData → List (List FlowPair) → Type 0
 AreHeaded p lists = (k : ℕ) (f : FlowPair) → Contains (list_of lists k) f → IsHeadedBy p k f
 
+pub record IsPassedAlike (p : ProblemData) (f g : FlowPair) : Type 0 where
+  pub rule : g.rule ≡ f.rule
+  pub param : g.param ≡ f.param
+  pub long : length (point_at p.points g.point).args ≡ length (point_at p.points f.point).args
+
+abbrev pub IsTold : ProblemData → List FlowPair → FlowPair → Type 0
+IsTold p list f = (g : FlowPair) × (Contains list g × IsPassedAlike p f g)
+
 pub record IsByHead (p : ProblemData) (flows : List FlowPair) (lists : List (List FlowPair)) : Type 0 where
   pub len : length lists ≡ sum p.points.params
   pub has : (f : FlowPair) (rule x : ℕ) (args : List ℕ) → Contains flows f → PointIs p f.point rule (Var x) args
-      → IsParameter p.points.params rule x × Contains (list_of lists (parameter_of p.points.params rule x)) f
+      → IsParameter p.points.params rule x × IsTold p (list_of lists (parameter_of p.points.params rule x)) f
   pub only : AreHeaded p lists
 
 pub record IsByParameter (params : List ℕ) (found : List Becoming) (lists : List (List Becoming)) : Type 0 where

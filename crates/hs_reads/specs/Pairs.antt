@@ -2,12 +2,14 @@
 --     all_pairs points states     all of them
 --     IsArgumentRead args states x     an argument with the state at its place
 --     IsReadBehind ts state b args x   an argument with the state behind those of the arguments that are given to the terminal
+--     AreHanded p handed pairs    where a parameter's number is handed on in a state, the pairs have each point that may stand for it, in this state
 --     AreNeeded p pairs           the pairs are in each closed list
 use Rattle.std.specs.Prelude.{◌≡◌, ℕ, zero, suc, ◌+◌, List, [], ◌∷◌, ◌++◌, slice_get, Some, Contains}
 use Rattle.hs_scheme.specs.acceptance.Transition.{TransitionData}
 use Rattle.hs_scheme.specs.acceptance.Automaton.{next}
 use Rattle.hs_scheme.specs.Problem.{ProblemData}
-use Rattle.hs_weak.specs.Reads.{Read, IsClosedReads}
+use Rattle.hs_scheme.specs.sorting.Parameters.{IsParameter, parameter_of}
+use Rattle.hs_weak.specs.Reads.{FlowsTo, Read, IsClosedReads}
 use Rattle.hs_reads.specs.declared.becoming.Becoming.{Becoming}
 
 abbrev pub states_at : ℕ → ℕ → List (ℕ × ℕ)
@@ -41,6 +43,10 @@ pub record IsReadBehind (ts : List TransitionData) (state : ℕ) (b : Becoming) 
   pub moves : next ts state b.terminal ≡ Some states
   pub arg : slice_get args place ≡ Some x.0
   pub state_is : slice_get states (b.given + place) ≡ Some x.1
+
+abbrev pub AreHanded : ProblemData → List (ℕ × ℕ) → List (ℕ × ℕ) → Type 0
+AreHanded p handed pairs =
+    (rule x v q : ℕ) → IsParameter p.points.params rule x → Contains handed (parameter_of p.points.params rule x, q) → FlowsTo p rule x v → Contains pairs (v, q)
 
 abbrev pub AreNeeded : ProblemData → List (ℕ × ℕ) → Type 0
 AreNeeded p pairs = (S : List (ℕ × ℕ)) → IsClosedReads p S → (x : ℕ × ℕ) → Contains pairs x → Contains S x

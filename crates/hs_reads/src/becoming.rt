@@ -1,6 +1,6 @@
 //! Which terminals parameters may become.
 
-ghost use Rattle.std.specs.Prelude.{◌≡◌, [], ◌+◌, ◌*◌, ◌<◌, ◌≤◌, ℕ, List, Contains, IfOk, OnOk, IsErrOf, length, slice_get, sum};
+ghost use Rattle.std.specs.Prelude.{◌≡◌, [], ◌+◌, ◌*◌, ◌<◌, ◌≤◌, ℕ, List, Contains, IfOk, OnOk, IsErrOf, IsTrue, length, slice_get, sum};
 ghost use Rattle.hs_scheme.specs.declared.flow.FlowPair.{FlowPair as AnyFlow};
 ghost use Rattle.hs_scheme.specs.declared.term.Head.{Head as AnyHead};
 ghost use Rattle.hs_scheme.specs.declared.term.Head.TheVariants.{Var, Tm};
@@ -11,7 +11,7 @@ ghost use Rattle.hs_reads.specs.Lists.{list_of};
 ghost use Rattle.hs_reads.specs.declared.stop.Stop.TheVariants.{Limit};
 ghost use Rattle.hs_reads.specs.Growing.{Grows, AddsOnly, AreTooMany};
 ghost use Rattle.hs_reads.specs.Own.{IsBecoming, AreMany};
-ghost use Rattle.hs_reads.specs.Becomings.{AnyBecoming, HasTerminals, HasTerminalsOnly, AreBecomings, AreShort, IsHeadedAt, AreHeaded, IsByHead, IsByParameter, AreApart};
+ghost use Rattle.hs_reads.specs.Becomings.{AnyBecoming, HasTerminals, HasTerminalsOnly, AreBecomings, AreShort, IsHeadedAt, AreHeaded, IsByHead, IsByParameter, AreApart, IsTold};
 
 use crate::lists::Lists;
 use crate::stop::Stop;
@@ -125,7 +125,23 @@ fn add_terminals(problem: &Problem, found: &mut IndexSet<Becoming>) -> Result<()
     Ok(())
 }
 
-/// Adds the pair to the list of the parameter at its point's head.
+/// Whether the last pair of the row passes on the same as this one: to the same parameter, with as many
+/// arguments.
+fn is_told(problem: &Problem, row: &[FlowPair], pair: FlowPair) -> bool
+    requires point { pair.point < length problem.now.points.points }
+    requires row { (f : AnyFlow) → Contains row.now f → f.point < length problem.now.points.points }
+    ensures { IsTrue result → IsTold problem.now row.now pair }
+{
+    let Some(last) = row.last() else {
+        return false;
+    };
+    last.rule == pair.rule
+        && last.param == pair.param
+        && given_at(problem, last.point) == given_at(problem, pair.point)
+}
+
+/// Adds the pair to the list of the parameter at its point's head, unless the last one there passes on the
+/// same.
 fn add_by_head(
     problem: &Problem,
     lists: &mut Lists<FlowPair>,
@@ -134,14 +150,15 @@ fn add_by_head(
     requires point { pair.point < length problem.now.points.points }
     requires flows { Contains problem.now.flow.pairs pair }
     requires lists { length lists.old ≡ sum problem.now.points.params }
+    requires only { AreHeaded problem.now lists.old }
     ensures len { OnOk result (length lists.new ≡ sum problem.now.points.params) }
     ensures kept { OnOk result ((k : ℕ) (f : AnyFlow) → Contains (list_of lists.old k) f → Contains (list_of
         lists.new k) f) }
     ensures there { OnOk result ((rule x : ℕ) (args : List ℕ)
         → PointIs problem.now pair.point rule (Var x) args
         → IsParameter problem.now.points.params rule x
-        × Contains (list_of lists.new (parameter_of problem.now.points.params rule x)) pair) }
-    ensures only { OnOk result (AreHeaded problem.now lists.old → AreHeaded problem.now lists.new) }
+        × IsTold problem.now (list_of lists.new (parameter_of problem.now.points.params rule x)) pair) }
+    ensures only { OnOk result (AreHeaded problem.now lists.new) }
 {
     let Head::Var(param) = problem.points.head_of(pair.point) else {
         return Ok(());
@@ -150,6 +167,9 @@ fn add_by_head(
     let Some(number) = problem.points.params().number(rule, param) else {
         return Ok(());
     };
+    if is_told(problem, lists.list(number as usize), pair) {
+        return Ok(());
+    }
     lists.push(number as usize, pair)
 }
 

@@ -48,8 +48,8 @@ fn reach(alloc: Global, rows: &mut Vec<StateSet>, point: usize) -> Result<(), Ou
     Ok(())
 }
 
-/// Adds the state to those of the point. Answers whether it wasn't there.
-fn add_state(
+/// Adds the state to those at the number. Answers whether it wasn't there.
+pub(crate) fn add_state(
     alloc: Global,
     rows: &mut Vec<StateSet>,
     point: u32,

@@ -6,17 +6,21 @@ ghost use Rattle.hs_scheme.specs.declared.term.Head.TheVariants.{Var, Tm};
 ghost use Rattle.hs_scheme.specs.flow.Points.{point_at};
 ghost use Rattle.hs_scheme.specs.sorting.Parameters.{IsParameter};
 ghost use Rattle.hs_scheme.specs.acceptance.Automaton.{next};
+ghost use Rattle.hs_weak.specs.Reads.{FlowsTo};
 ghost use Rattle.hs_reads.specs.declared.stop.Stop.TheVariants.{Limit};
 ghost use Rattle.hs_reads.specs.Growing.{AddsOnly, AreTooMany};
 ghost use Rattle.hs_reads.specs.Becomings.{AnyBecoming, HasTerminals, HasTerminalsOnly};
 ghost use Rattle.hs_reads.specs.Found.{Gains};
-ghost use Rattle.hs_reads.specs.Pairs.{HasStart, Demands, IsDemandedBy, IsArgumentRead, IsReadBehind};
+ghost use Rattle.hs_reads.specs.ByPoint.{pairs_by_point};
+ghost use Rattle.hs_reads.specs.Pairs.{HasStart, Demands, IsDemandedBy, IsArgumentRead, IsReadBehind, AreHanded};
 
 use crate::becoming::{Becoming, list_at};
-use crate::found::FoundPairs;
+use crate::found::{FoundPairs, add_state};
 use crate::lists::Lists;
+use crate::state_set::StateSet;
 use crate::stop::Stop;
 use hs_scheme::{FlowPair, Head, Problem, Sorted};
+use std::alloc::Global;
 
 /// Adds each argument with the state at its place.
 fn add_children(found: &mut FoundPairs, args: &[u32], states: &[u32]) -> Result<(), Stop>
@@ -113,11 +117,43 @@ fn add_points(found: &mut FoundPairs, row: &[FlowPair], state: u32) -> Result<()
     Ok(())
 }
 
+/// Adds each point that may stand for the parameter, with the state. That is done once, however many
+/// points have the parameter at their heads: `handed` has the states in which it was done, at the
+/// parameter's number.
+fn hand_on(
+    alloc: Global,
+    problem: &Problem,
+    found: &mut FoundPairs,
+    handed: &mut Vec<StateSet>,
+    rule: u32,
+    param: u32,
+    state: u32,
+) -> Result<(), Stop>
+    requires parameter { IsParameter problem.now.points.params rule param }
+    requires handed { AreHanded problem.now (pairs_by_point handed.old.items) found.old.pairs }
+    ensures gains { OnOk result (Gains found.old found.new) }
+    ensures handed { OnOk result
+        (AreHanded problem.now (pairs_by_point handed.new.items) found.new.pairs) }
+    ensures there { OnOk result ((v : ℕ) → FlowsTo problem.now rule param v
+        → Contains found.new.pairs (v, state)) }
+    ensures only { AddsOnly (λ x. FlowsTo problem.now rule param x.0 × (x.1 ≡ state))
+        found.old.pairs found.new.pairs }
+    ensures limit { IsErrOf result Limit → AreTooMany found.new.pairs }
+{
+    let number = problem.points.params().number(rule, param).unwrap();
+    if !add_state(alloc, handed, number, state)? {
+        return Ok(());
+    }
+    add_points(found, problem.flow.flow_of(rule, param), state)
+}
+
 /// Adds what a point with a parameter at its head demands.
 fn add_by_parameter(
+    alloc: Global,
     problem: &Problem,
     terminals: &Lists<Becoming>,
     found: &mut FoundPairs,
+    handed: &mut Vec<StateSet>,
     point: u32,
     param: u32,
     state: u32,
@@ -126,16 +162,19 @@ fn add_by_parameter(
     requires head { (point_at problem.now.points point).head ≡ Var param }
     requires parameter { IsParameter problem.now.points.params (point_at problem.now.points point).rule
         param }
+    requires handed { AreHanded problem.now (pairs_by_point handed.old.items) found.old.pairs }
     requires terminals { HasTerminals problem.now terminals.now }
     requires only { HasTerminalsOnly problem.now terminals.now }
     ensures gains { OnOk result (Gains found.old found.new) }
+    ensures handed { OnOk result
+        (AreHanded problem.now (pairs_by_point handed.new.items) found.new.pairs) }
     ensures there { OnOk result (HasStart problem.now found.old.pairs
         → Demands problem.now (point, state) found.new.pairs) }
     ensures only { AddsOnly (IsDemandedBy problem.now (point, state)) found.old.pairs found.new.pairs }
     ensures limit { IsErrOf result Limit → AreTooMany found.new.pairs }
 {
     let rule = problem.points.rule_of(point);
-    add_points(found, problem.flow.flow_of(rule, param), state)?;
+    hand_on(alloc, problem, found, handed, rule, param, state)?;
     let args = problem.points.args_of(point);
     if args.is_empty() {
         return Ok(());
@@ -182,15 +221,20 @@ pub(crate) fn add_start(problem: &Problem, found: &mut FoundPairs) -> Result<(),
 
 /// Adds what a pair demands. A number behind the last point demands nothing.
 pub(crate) fn add_demanded(
+    alloc: Global,
     problem: &Problem,
     terminals: &Lists<Becoming>,
     found: &mut FoundPairs,
+    handed: &mut Vec<StateSet>,
     point: u32,
     state: u32,
 ) -> Result<(), Stop>
+    requires handed { AreHanded problem.now (pairs_by_point handed.old.items) found.old.pairs }
     requires terminals { HasTerminals problem.now terminals.now }
     requires only { HasTerminalsOnly problem.now terminals.now }
     ensures gains { OnOk result (Gains found.old found.new) }
+    ensures handed { OnOk result
+        (AreHanded problem.now (pairs_by_point handed.new.items) found.new.pairs) }
     ensures there { OnOk result (HasStart problem.now found.old.pairs
         → Demands problem.now (point, state) found.new.pairs) }
     ensures only { AddsOnly (IsDemandedBy problem.now (point, state)) found.old.pairs found.new.pairs }
@@ -202,6 +246,10 @@ pub(crate) fn add_demanded(
     match problem.points.head_of(point) {
         Head::Nt(f) => found.add(problem.points.body_of(f), state),
         Head::Tm(terminal) => add_by_terminal(problem, found, point, terminal, state),
-        Head::Var(param) => add_by_parameter(problem, terminals, found, point, param, state),
+        Head::Var(param) => {
+            add_by_parameter(
+                alloc, problem, terminals, found, handed, point, param, state,
+            )
+        }
     }
 }

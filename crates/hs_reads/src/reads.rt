@@ -50,6 +50,7 @@ impl Model for Reads {
 
 /// Adds all pairs that are demanded by those that wait.
 fn spread(
+    alloc: Global,
     problem: &Problem,
     terminals: &Lists<Becoming>,
     found: &mut FoundPairs,
@@ -65,8 +66,9 @@ fn spread(
     ensures needed { AreNeeded problem.now found.new.pairs }
     ensures limit { IsErrOf result Limit → AreTooMany found.new.pairs }
 {
+    let mut handed = Vec::new(alloc);
     while let Some((point, state)) = found.take() {
-        add_demanded(problem, terminals, found, point, state)?;
+        add_demanded(alloc, problem, terminals, found, &mut handed, point, state)?;
     }
     Ok(())
 }
@@ -81,7 +83,7 @@ fn find(alloc: Global, problem: &Problem, found: &mut FoundPairs) -> Result<(), 
 {
     let terminals = terminals(alloc, problem)?;
     add_start(problem, found)?;
-    spread(problem, &terminals, found)
+    spread(alloc, problem, &terminals, found)
 }
 
 /// The number of states.
@@ -119,12 +121,15 @@ impl Reads {
     /// Where more than 4,000,000 pairs come, or parameters may become more than 4,000,000 terminals together,
     /// they are all pairs, which aren't stored.
     ///
-    /// Memory is in proportion to the points, the states, the flow and the pairs: 48 bytes for a point, four
-    /// to eight for a pair, where a point has more than 64 states bits for all states, and 8 to 16 for each
-    /// pair that waits, at most all, until the search ends. Time is in proportion to these and, for each pair
-    /// whose point has a parameter at its head, to the flow of that parameter, and to the terminals that it
-    /// may become times the point's arguments; for each of those terminals one transition is looked up, on
-    /// average in constant time.
+    /// Memory is in proportion to the points, the parameters, the states, the flow and the pairs: 48 bytes for
+    /// a point, four to eight for a pair, where a point has more than 64 states bits for all states, and 8 to
+    /// 16 for each pair that waits, at most all, until the search ends; until then also 48 for a parameter, and
+    /// four to eight for each state in which it is handed on to the points that may stand for it, which is done
+    /// once, however many points have it at their heads. Time is in proportion to these, to each parameter's
+    /// flow times the states in which it is handed on, to the terminals that a parameter may become times the
+    /// parameters for which points with it at their heads may stand, and to these terminals times the arguments
+    /// of such a point, in each state in which it is read; for each of those terminals one transition is looked
+    /// up, on average in constant time.
     pub fn of(alloc: Global, problem: &Problem) -> Result<Reads, OutOfMemory>
         ensures reads { IfOk result (AreReadsOf problem.now) }
         ensures closed { IfOk result (IsClosedReads problem.now) }

@@ -1,12 +1,14 @@
 use Rattle.std.proofs.Common.{◌≡◌, sym, ◌∙◌, ap, subst, ℕ, ◌+◌, ◌≤◌, List, [], ◌∷◌, length, length-append, inl, arith}
 use Rattle.hs_weak.specs.Reads.{IsClosedReads}
-use Rattle.hs_reads.specs.Pairs.{HasStart, AreNeeded}
+use Rattle.hs_reads.specs.ByPoint.{pairs_by_point}
+use Rattle.hs_reads.specs.Pairs.{HasStart, AreNeeded, AreHanded}
 use Rattle.hs_reads.proofs.FoundLemmas.{start_stays, one_taken, all_taken, none_left}
 use Rattle.hs_reads.proofs.ReadLemmas.{demanded_needed}
+use Rattle.hs_reads.proofs.HandedLemmas.{none_handed}
 use Rattle.hs_reads.proofs.reads.spread.Goals as goal
 
 pub loop-point-init : goal.loop-point-init
-loop-point-init c = record { few = c.requires.few; start = c.requires.start; needed = c.requires.needed; each = λ x m. inl (c.requires.waiting x m) }
+loop-point-init c = record { few = c.requires.few; start = c.requires.start; needed = c.requires.needed; each = λ x m. inl (c.requires.waiting x m); handed = none_handed c.args.problem.now c.new-handed.result.items c.args.found.now.pairs c.new-handed.ensures.items }
 
 pub loop-point-smaller : goal.loop-point-smaller
 loop-point-smaller c =
@@ -31,6 +33,7 @@ loop-point-preserved c =
       start = start_stays p mid new gains start;
       needed = demanded_needed p mid.pairs new.pairs x (subst (λ (xs : List (ℕ × ℕ)). AreNeeded p xs) (sym same) c.loop-point.invariant.needed) c.in-Some.ensures.there c.add_demanded.ensures.only;
       each = one_taken p old mid new x same c.in-Some.ensures.taken gains c.loop-point.invariant.each (c.in_ok-add_demanded.ensures.there start);
+      handed = c.in_ok-add_demanded.ensures.handed;
     }
 
 pub returns-in_err-add_demanded-clause-needed : goal.returns-in_err-add_demanded-clause-needed
@@ -51,3 +54,7 @@ returns-clause-few c = subst (λ (xs : List (ℕ × ℕ)). length xs ≤ 4000000
 
 pub returns-clause-needed : goal.returns-clause-needed
 returns-clause-needed c = subst (λ (xs : List (ℕ × ℕ)). AreNeeded c.args.problem.now xs) (sym c.take.ensures.same) c.loop-point.invariant.needed
+
+pub add_demanded-requires-clause-handed : goal.add_demanded-requires-clause-handed
+add_demanded-requires-clause-handed c =
+    subst (λ (xs : List (ℕ × ℕ)). AreHanded c.args.problem.now (pairs_by_point c.loop-point.handed.items) xs) (sym c.take.ensures.same) c.loop-point.invariant.handed

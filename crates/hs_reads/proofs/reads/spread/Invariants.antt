@@ -1,6 +1,7 @@
 -- so far what the pairs that were taken demand is there
 use Rattle.std.proofs.Common.{◌+◌, ◌-◌, ◌≤◌, length}
-use Rattle.hs_reads.specs.Pairs.{HasStart, AreNeeded}
+use Rattle.hs_reads.specs.ByPoint.{pairs_by_point}
+use Rattle.hs_reads.specs.Pairs.{HasStart, AreNeeded, AreHanded}
 use Rattle.hs_reads.proofs.FoundLemmas.{AreTaken}
 use Rattle.hs_reads.proofs.reads.spread.Given as goal
 
@@ -10,6 +11,7 @@ invariant-loop-point l = record {
   start : HasStart l.problem l.found.pairs;
   needed : AreNeeded l.problem l.found.pairs;
   each : AreTaken l.problem l.found;
+  handed : AreHanded l.problem (pairs_by_point l.handed.items) l.found.pairs;
 }
 
 abbrev pub decreases-loop-point : goal.decreases-loop-point
