@@ -7,7 +7,7 @@ use Rattle.hs_weak.specs.Void.{VoidData, void_cmp}
 use Rattle.hs_types.specs.Interned.{InternerData, RowData, IsRow, entry_of, Grows}
 use Rattle.hs_types.proofs.Numbers.{type_within, set_within, env_within, env_stays, row_within}
 use Rattle.hs_types.proofs.RowLemmas.{rows_stay}
-use Rattle.hs_numbered.specs.Certificates.{VoidRowData, IsVoidRow, void_of, AreHeld, CertificateData, IsAboveLast}
+use Rattle.hs_numbered.specs.Certificates.{VoidRowData, IsVoidRow, void_of, AreHeld, given_of, CertificateData, IsAboveLast}
 
 some_weaker : (o : Option ℕ) (m n : ℕ) → ((k : ℕ) → k < m → k < n) → IfSome o (λ k. k < m) → IfSome o (λ k. k < n)
 some_weaker None m n f h = tt
@@ -31,10 +31,10 @@ module _ (I J : InternerData) (g : Grows I J) where
       envs = some_weaker env (length I.envs) (length J.envs) (env_within I J g) h.envs;
     }
 
-    pub lists_stay : (d : CertificateData) → record { numbers = I; table = map (entry_of I) table; void = map (void_of I) void } ≡ d → (map (entry_of J) table ≡ d.table) × (map (void_of J) void ≡ d.void)
+    pub lists_stay : (d : CertificateData) → record { numbers = I; table = map (entry_of I) table; void = map (void_of I) void; given = given_of type set env } ≡ d → (map (entry_of J) table ≡ d.table) × (map (void_of J) void ≡ d.void)
     lists_stay d is = (rows_stay I J g table h.rows ∙ ap (λ (x : CertificateData). x.table) is, voids_stay void h.void_rows ∙ ap (λ (x : CertificateData). x.void) is)
 
-    module _ (d : CertificateData) (is : record { numbers = I; table = map (entry_of I) table; void = map (void_of I) void } ≡ d) where
+    module _ (d : CertificateData) (is : record { numbers = I; table = map (entry_of I) table; void = map (void_of I) void; given = given_of type set env } ≡ d) where
       -- one entry more
       module _ (row : RowData) (used : IsRow J row) (entry : EntryData) (same : entry_of J row ≡ entry) where
         pub row_added : (new : List RowData) → new ≡ table ++ row ∷ [] → map (entry_of J) new ≡ d.table ++ entry ∷ []
@@ -51,12 +51,12 @@ module _ (I J : InternerData) (g : Grows I J) where
               envs = more.envs;
             }
 
-        pub above_entries : (x : CertificateData) → record { numbers = J; table = map (entry_of J) table; void = map (void_of J) void } ≡ x → IsAboveLast entry_cmp x.table (entry_of x.numbers row) → IsAboveLast entry_cmp d.table entry
+        pub above_entries : (x : CertificateData) → record { numbers = J; table = map (entry_of J) table; void = map (void_of J) void; given = given_of type set env } ≡ x → IsAboveLast entry_cmp x.table (entry_of x.numbers row) → IsAboveLast entry_cmp d.table entry
         above_entries x x_is above =
             let own = subst (λ (z : CertificateData). IsAboveLast entry_cmp z.table (entry_of z.numbers row)) (sym x_is) above in
             subst (λ (z : EntryData). IsAboveLast entry_cmp d.table z) same (subst (λ (es : List EntryData). IsAboveLast entry_cmp es (entry_of J row)) (lists_stay d is).0 own)
 
-        pub entries_above : (x : CertificateData) → record { numbers = J; table = map (entry_of J) table; void = map (void_of J) void } ≡ x → IsAboveLast entry_cmp d.table entry → IsAboveLast entry_cmp x.table (entry_of x.numbers row)
+        pub entries_above : (x : CertificateData) → record { numbers = J; table = map (entry_of J) table; void = map (void_of J) void; given = given_of type set env } ≡ x → IsAboveLast entry_cmp d.table entry → IsAboveLast entry_cmp x.table (entry_of x.numbers row)
         entries_above x x_is above =
             subst (λ (z : CertificateData). IsAboveLast entry_cmp z.table (entry_of z.numbers row)) x_is
             (subst (λ (es : List EntryData). IsAboveLast entry_cmp es (entry_of J row)) (sym (lists_stay d is).0) (subst (λ (z : EntryData). IsAboveLast entry_cmp d.table z) (sym same) above))
@@ -77,12 +77,12 @@ module _ (I J : InternerData) (g : Grows I J) where
               envs = more.envs;
             }
 
-        pub above_pairs : (x : CertificateData) → record { numbers = J; table = map (entry_of J) table; void = map (void_of J) void } ≡ x → IsAboveLast void_cmp x.void (void_of x.numbers row) → IsAboveLast void_cmp d.void pair
+        pub above_pairs : (x : CertificateData) → record { numbers = J; table = map (entry_of J) table; void = map (void_of J) void; given = given_of type set env } ≡ x → IsAboveLast void_cmp x.void (void_of x.numbers row) → IsAboveLast void_cmp d.void pair
         above_pairs x x_is above =
             let own = subst (λ (z : CertificateData). IsAboveLast void_cmp z.void (void_of z.numbers row)) (sym x_is) above in
             subst (λ (z : VoidData). IsAboveLast void_cmp d.void z) same (subst (λ (es : List VoidData). IsAboveLast void_cmp es (void_of J row)) (lists_stay d is).1 own)
 
-        pub pairs_above : (x : CertificateData) → record { numbers = J; table = map (entry_of J) table; void = map (void_of J) void } ≡ x → IsAboveLast void_cmp d.void pair → IsAboveLast void_cmp x.void (void_of x.numbers row)
+        pub pairs_above : (x : CertificateData) → record { numbers = J; table = map (entry_of J) table; void = map (void_of J) void; given = given_of type set env } ≡ x → IsAboveLast void_cmp d.void pair → IsAboveLast void_cmp x.void (void_of x.numbers row)
         pairs_above x x_is above =
             subst (λ (z : CertificateData). IsAboveLast void_cmp z.void (void_of z.numbers row)) x_is
             (subst (λ (es : List VoidData). IsAboveLast void_cmp es (void_of J row)) (sym (lists_stay d is).1) (subst (λ (z : VoidData). IsAboveLast void_cmp d.void z) (sym same) above))

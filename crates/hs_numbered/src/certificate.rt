@@ -1,12 +1,12 @@
 //! A certificate whose types, sets and environments have numbers.
 
-ghost use Rattle.std.specs.Prelude.{◌≡◌, ◌≢◌, ◌↔◌, ◌<◌, ◌++◌, ◌∷◌, [], All, IfOk, IfSome, IsTrue, Ok, Some, true, false, length, map, slice_get};
+ghost use Rattle.std.specs.Prelude.{◌≡◌, ◌≢◌, ◌↔◌, ◌<◌, ◌≤◌, ◌++◌, ◌∷◌, [], All, IfOk, IfSome, IsTrue, Ok, Some, true, false, length, map, slice_get};
 ghost use Rattle.hs_table.specs.Types.{state, arrow};
 ghost use Rattle.hs_table.specs.Entries.{EntryData, entry_cmp};
 ghost use Rattle.hs_weak.specs.Void.{VoidData, void_cmp};
 ghost use Rattle.hs_types.specs.Interned.{type_of_id, set_of_id, env_of_id, IsRow, entry_of, Grows, IsSetOf};
 ghost use Rattle.hs_numbered.specs.Trees.{IsSomeEnv, IsSomeEntry};
-ghost use Rattle.hs_numbered.specs.Certificates.{IsVoidRow, void_of, IsAboveLast};
+ghost use Rattle.hs_numbered.specs.Certificates.{IsVoidRow, void_of, IsAboveLast, GivenGrows};
 
 use crate::import::{import_entry, import_env};
 use crate::order::{compare_rows, compare_void_rows};
@@ -22,9 +22,9 @@ use std::marker::Model;
 /// Entries and void pairs, with the numbers of what they are made of: a certificate of acceptance, or what is
 /// said to be one.
 ///
-/// Contracts see what has numbers, and the entries and the pairs as trees. Who fills it may be anybody: a number
-/// past the greatest that was given here is refused. Where a call answers want of memory, entries and pairs are
-/// as before.
+/// Contracts see what has numbers, the entries and the pairs as trees, and how many of the numbers are `given`:
+/// the greatest that was given here, and all below it. Who fills it may be anybody: just a number that isn't
+/// given is refused. Where a call answers want of memory, entries and pairs are as before.
 ///
 /// An entry takes 12 bytes and a pair 8; what their types take is said at `Interner`.
 #[derive(Drop)]
@@ -42,7 +42,7 @@ pub struct NumberedCertificate {
 impl Model for NumberedCertificate {
     ghost use Rattle.std.specs.Prelude.{map};
     ghost use Rattle.hs_types.specs.Interned.{entry_of};
-    ghost use Rattle.hs_numbered.specs.Certificates.{CertificateData, coded_certificate, AreHeld, void_of};
+    ghost use Rattle.hs_numbered.specs.Certificates.{CertificateData, coded_certificate, AreHeld, void_of, given_of};
 
     ghost Value = { CertificateData };
 
@@ -52,6 +52,7 @@ impl Model for NumberedCertificate {
       numbers = a.interner;
       table = map (entry_of a.interner) a.table.items;
       void = map (void_of a.interner) a.void.items;
+      given = given_of a.last_type a.last_set a.last_env;
     } };
 
     ghost invariant = { λ a. AreHeld a.interner a.table.items a.void.items a.last_type a.last_set a.last_env };
@@ -68,7 +69,12 @@ pub struct CertificateParts {
 impl NumberedCertificate {
     /// No entries and no pairs, and nothing has a number. Takes no memory.
     pub fn new(alloc: Global) -> NumberedCertificate
-        ensures { result ≡ record { numbers = record { types = []; sets = []; envs = [] }; table = []; void = [] } }
+        ensures { result ≡ record {
+          numbers = record { types = []; sets = []; envs = [] };
+          table = [];
+          void = [];
+          given = record { types = 0; sets = 0; envs = 0 };
+        } }
     {
         NumberedCertificate {
             alloc,
@@ -83,7 +89,8 @@ impl NumberedCertificate {
 
     /// Whether the type's number was given here.
     fn has_type(&self, ty: TyId) -> bool
-        ensures { IsTrue result → ty < length self.now.numbers.types }
+        ensures used { IsTrue result → ty < length self.now.numbers.types }
+        ensures given { IsTrue result ↔ ty < self.now.given.types }
     {
         match self.last_type {
             Some(last) => ty.number() <= last.number(),
@@ -93,7 +100,8 @@ impl NumberedCertificate {
 
     /// Whether the set's number was given here.
     fn has_set(&self, set: SetId) -> bool
-        ensures { IsTrue result → set < length self.now.numbers.sets }
+        ensures used { IsTrue result → set < length self.now.numbers.sets }
+        ensures given { IsTrue result ↔ set < self.now.given.sets }
     {
         match self.last_set {
             Some(last) => set.number() <= last.number(),
@@ -103,7 +111,8 @@ impl NumberedCertificate {
 
     /// Whether the environment's number was given here.
     fn has_env(&self, env: EnvId) -> bool
-        ensures { IsTrue result → env < length self.now.numbers.envs }
+        ensures used { IsTrue result → env < length self.now.numbers.envs }
+        ensures given { IsTrue result ↔ env < self.now.given.envs }
     {
         match self.last_env {
             Some(last) => env.number() <= last.number(),
@@ -114,7 +123,9 @@ impl NumberedCertificate {
     /// Keeps that the type's number was given.
     fn keep_type(&mut self, ty: TyId)
         requires { ty < length self.old.numbers.types }
-        ensures { self.new ≡ self.old }
+        ensures rest { (self.new.numbers ≡ self.old.numbers) × (self.new.table ≡ self.old.table)
+            × (self.new.void ≡ self.old.void) }
+        ensures given { (ty < self.new.given.types) × GivenGrows self.old.given self.new.given }
     {
         if !self.has_type(ty) {
             self.last_type = Some(ty);
@@ -124,7 +135,9 @@ impl NumberedCertificate {
     /// Keeps that the set's number was given.
     fn keep_set(&mut self, set: SetId)
         requires { set < length self.old.numbers.sets }
-        ensures { self.new ≡ self.old }
+        ensures rest { (self.new.numbers ≡ self.old.numbers) × (self.new.table ≡ self.old.table)
+            × (self.new.void ≡ self.old.void) }
+        ensures given { (set < self.new.given.sets) × GivenGrows self.old.given self.new.given }
     {
         if !self.has_set(set) {
             self.last_set = Some(set);
@@ -134,7 +147,9 @@ impl NumberedCertificate {
     /// Keeps that the environment's number was given.
     fn keep_env(&mut self, env: EnvId)
         requires { env < length self.old.numbers.envs }
-        ensures { self.new ≡ self.old }
+        ensures rest { (self.new.numbers ≡ self.old.numbers) × (self.new.table ≡ self.old.table)
+            × (self.new.void ≡ self.old.void) }
+        ensures given { (env < self.new.given.envs) × GivenGrows self.old.given self.new.given }
     {
         if !self.has_env(env) {
             self.last_env = Some(env);
@@ -144,6 +159,8 @@ impl NumberedCertificate {
     /// The type that is this state, counted from 0, as `Interner::base` answers.
     pub fn base(&mut self, q: u32) -> Result<TyId, OutOfMemory>
         ensures ok { IfOk result (λ id. slice_get self.new.numbers.types id ≡ Some (state q)) }
+        ensures given { IfOk result (λ id. id < self.new.given.types) }
+        ensures stays { GivenGrows self.old.given self.new.given }
         ensures grows { Grows self.old.numbers self.new.numbers }
         ensures same { (self.new.table ≡ self.old.table) × (self.new.void ≡ self.old.void) }
     {
@@ -153,10 +170,13 @@ impl NumberedCertificate {
     }
 
     /// The type with this set and this result, as `Interner::arrow` answers. Nothing where one of these numbers
-    /// wasn't given here.
+    /// isn't given.
     pub fn arrow(&mut self, set: SetId, rest: TyId) -> Result<Option<TyId>, OutOfMemory>
         ensures ok { IfOk result (λ made. IfSome made (λ id. slice_get self.new.numbers.types id
             ≡ Some (arrow (set_of_id self.old.numbers set) (type_of_id self.old.numbers rest)))) }
+        ensures nothing { result ≡ Ok None → set < self.old.given.sets → rest < self.old.given.types → ⊥ }
+        ensures given { IfOk result (λ made. IfSome made (λ id. id < self.new.given.types)) }
+        ensures stays { GivenGrows self.old.given self.new.given }
         ensures grows { Grows self.old.numbers self.new.numbers }
         ensures same { (self.new.table ≡ self.old.table) × (self.new.void ≡ self.old.void) }
     {
@@ -170,7 +190,8 @@ impl NumberedCertificate {
 
     /// Whether all types' numbers were given here.
     fn has_types(&self, types: &[TyId]) -> bool
-        ensures { IsTrue result → All (λ t. t < length self.now.numbers.types) types.now }
+        ensures used { IsTrue result → All (λ t. t < length self.now.numbers.types) types.now }
+        ensures given { All (λ t. t < self.now.given.types) types.now → IsTrue result }
     {
         for ty in types {
             if !self.has_type(*ty) {
@@ -182,7 +203,8 @@ impl NumberedCertificate {
 
     /// Whether all sets' numbers were given here.
     fn has_sets(&self, sets: &[SetId]) -> bool
-        ensures { IsTrue result → All (λ s. s < length self.now.numbers.sets) sets.now }
+        ensures used { IsTrue result → All (λ s. s < length self.now.numbers.sets) sets.now }
+        ensures given { All (λ s. s < self.now.given.sets) sets.now → IsTrue result }
     {
         for set in sets {
             if !self.has_set(*set) {
@@ -193,10 +215,13 @@ impl NumberedCertificate {
     }
 
     /// The set of these types, in any order and with repeats, as `Interner::set` answers. Nothing where one of
-    /// their numbers wasn't given here.
+    /// their numbers isn't given.
     pub fn set(&mut self, types: &[TyId]) -> Result<Option<SetId>, OutOfMemory>
         ensures ok { IfOk result (λ made. IfSome made (λ id. (id < length self.new.numbers.sets)
             × IsSetOf (map (type_of_id self.old.numbers) types.now) (set_of_id self.new.numbers id))) }
+        ensures nothing { result ≡ Ok None → All (λ t. t < self.old.given.types) types.now → ⊥ }
+        ensures given { IfOk result (λ made. IfSome made (λ id. id < self.new.given.sets)) }
+        ensures stays { GivenGrows self.old.given self.new.given }
         ensures grows { Grows self.old.numbers self.new.numbers }
         ensures same { (self.new.table ≡ self.old.table) × (self.new.void ≡ self.old.void) }
     {
@@ -208,11 +233,14 @@ impl NumberedCertificate {
         Ok(Some(set))
     }
 
-    /// The environment with these sets, as `Interner::env` answers. Nothing where one of their numbers wasn't
-    /// given here.
+    /// The environment with these sets, as `Interner::env` answers. Nothing where one of their
+    /// numbers isn't given.
     pub fn env(&mut self, sets: &[SetId]) -> Result<Option<EnvId>, OutOfMemory>
         ensures ok { IfOk result (λ made. IfSome made (λ id. slice_get self.new.numbers.envs id
             ≡ Some (map (set_of_id self.old.numbers) sets.now))) }
+        ensures nothing { result ≡ Ok None → All (λ s. s < self.old.given.sets) sets.now → ⊥ }
+        ensures given { IfOk result (λ made. IfSome made (λ id. id < self.new.given.envs)) }
+        ensures stays { GivenGrows self.old.given self.new.given }
         ensures grows { Grows self.old.numbers self.new.numbers }
         ensures same { (self.new.table ≡ self.old.table) × (self.new.void ≡ self.old.void) }
     {
@@ -225,12 +253,14 @@ impl NumberedCertificate {
     }
 
     /// Adds the entry with this point, environment and type behind the others. False where one of the two numbers
-    /// wasn't given here; nothing is added then.
+    /// isn't given; nothing is added then.
     pub fn add_entry(&mut self, point: u32, env: EnvId, ty: TyId) -> Result<bool, OutOfMemory>
         ensures added { result ≡ Ok true → self.new.table ≡ self.old.table
             ++ entry_of self.old.numbers (record { point = point; env = env; ty = ty }) ∷ [] }
+        ensures refused { result ≡ Ok false → env < self.old.given.envs → ty < self.old.given.types → ⊥ }
         ensures kept { result ≢ Ok true → self.new.table ≡ self.old.table }
         ensures same { (self.new.numbers ≡ self.old.numbers) × (self.new.void ≡ self.old.void) }
+        ensures given { self.new.given ≡ self.old.given }
     {
         if !(self.has_env(env) && self.has_type(ty)) {
             return Ok(false);
@@ -240,12 +270,14 @@ impl NumberedCertificate {
     }
 
     /// Adds the pair of the nonterminal of this rule and this environment behind the others. False where the
-    /// environment's number wasn't given here; nothing is added then.
+    /// environment's number isn't given; nothing is added then.
     pub fn add_void(&mut self, rule: u32, env: EnvId) -> Result<bool, OutOfMemory>
         ensures added { result ≡ Ok true → self.new.void ≡ self.old.void
             ++ void_of self.old.numbers (record { rule = rule; env = env }) ∷ [] }
+        ensures refused { result ≡ Ok false → env < self.old.given.envs → ⊥ }
         ensures kept { result ≢ Ok true → self.new.void ≡ self.old.void }
         ensures same { (self.new.numbers ≡ self.old.numbers) × (self.new.table ≡ self.old.table) }
+        ensures given { self.new.given ≡ self.old.given }
     {
         if !self.has_env(env) {
             return Ok(false);
@@ -286,6 +318,7 @@ impl NumberedCertificate {
         ensures kept { result ≢ Ok true → self.new.table ≡ self.old.table }
         ensures grows { Grows self.old.numbers self.new.numbers }
         ensures same { self.new.void ≡ self.old.void }
+        ensures given { self.new.given ≡ self.old.given }
     {
         let row = import_entry(self.alloc, &mut self.interner, entry)?;
         if !self.is_above_last(&row) {
@@ -306,6 +339,7 @@ impl NumberedCertificate {
         ensures kept { result ≢ Ok true → self.new.void ≡ self.old.void }
         ensures grows { Grows self.old.numbers self.new.numbers }
         ensures same { self.new.table ≡ self.old.table }
+        ensures given { self.new.given ≡ self.old.given }
     {
         let env = import_env(self.alloc, &mut self.interner, pair.env.as_slice())?;
         let row = VoidRow {
@@ -356,6 +390,7 @@ impl NumberedCertificate {
         ensures pair { IfOk result (λ v. slice_get self.old.void place ≡ Some v) }
         ensures grows { Grows self.old.numbers self.new.numbers }
         ensures same { (self.new.table ≡ self.old.table) × (self.new.void ≡ self.old.void) }
+        ensures given { self.new.given ≡ self.old.given }
     {
         let row = self.void[place];
         // A tree is made of an entry, which has a type.

@@ -1,6 +1,5 @@
-use Rattle.std.proofs.Common.{◌∙◌, ap}
+use Rattle.std.proofs.Common.{◌∙◌}
 use Rattle.std.proofs.lemmas.Option.{slice_get_within}
-use Rattle.hs_numbered.specs.Certificates.{CertificateData}
 use Rattle.hs_numbered.proofs.Growing.{held_more, lists_stay}
 use Rattle.hs_numbered.proofs.certificate.NumberedCertificate.arrow.Goals as goal
 
@@ -19,4 +18,4 @@ keep_type-requires c = slice_get_within c.arrow.new.self.types c.in_ok-ty.ty _ c
 pub returns-clause-same : goal.returns-clause-same
 returns-clause-same c =
     let stay = lists_stay c.self.inside.interner c.arrow.new.self c.arrow.ensures.grows c.self.inside.table.items c.self.inside.void.items c.self.inside.last_type c.self.inside.last_set c.self.inside.last_env c.self.invariant c.args.self.now c.self.view_is in
-    (ap (λ (d : CertificateData). d.table) c.keep_type.ensures ∙ stay.0, ap (λ (d : CertificateData). d.void) c.keep_type.ensures ∙ stay.1)
+    (c.keep_type.ensures.rest.1 ∙ stay.0, c.keep_type.ensures.rest.2 ∙ stay.1)

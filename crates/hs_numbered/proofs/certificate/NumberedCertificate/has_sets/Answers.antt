@@ -10,7 +10,7 @@ loop-set-preserved c =
     let xs = c.args.sets.now in
     let k = c.loop-set.set-index in
     subst (λ (zs : List ℕ). All (λ z. z < n) zs) (sym (taken_next xs k c.set-item.result c.loop-set-test.true c.set-item.is))
-    (All-push (λ z. z < n) (take k xs) c.set-item.result c.loop-set.invariant (c.has_set.ensures c.if-not-has_set.false))
+    (All-push (λ z. z < n) (take k xs) c.set-item.result c.loop-set.invariant (c.has_set.ensures.used c.if-not-has_set.false))
 
-pub returns : goal.returns
-returns c = λ _. subst (λ (zs : List ℕ). All (λ z. z < length c.args.self.now.numbers.sets) zs) (take_all c.loop-set.set-index c.args.sets.now c.loop-set-test.false) c.loop-set.invariant
+pub returns-clause-used : goal.returns-clause-used
+returns-clause-used c = λ _. subst (λ (zs : List ℕ). All (λ z. z < length c.args.self.now.numbers.sets) zs) (take_all c.loop-set.set-index c.args.sets.now c.loop-set-test.false) c.loop-set.invariant

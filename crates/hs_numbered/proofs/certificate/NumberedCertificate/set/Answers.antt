@@ -1,5 +1,4 @@
-use Rattle.std.proofs.Common.{◌∙◌, ap}
-use Rattle.hs_numbered.specs.Certificates.{CertificateData}
+use Rattle.std.proofs.Common.{◌∙◌}
 use Rattle.hs_numbered.proofs.Growing.{held_more, lists_stay}
 use Rattle.hs_numbered.proofs.certificate.NumberedCertificate.set.Goals as goal
 
@@ -18,4 +17,4 @@ keep_set-requires c = c.in_ok-set.ensures.ok.0
 pub returns-clause-same : goal.returns-clause-same
 returns-clause-same c =
     let stay = lists_stay c.self.inside.interner c.set.new.self c.set.ensures.grows c.self.inside.table.items c.self.inside.void.items c.self.inside.last_type c.self.inside.last_set c.self.inside.last_env c.self.invariant c.args.self.now c.self.view_is in
-    (ap (λ (d : CertificateData). d.table) c.keep_set.ensures ∙ stay.0, ap (λ (d : CertificateData). d.void) c.keep_set.ensures ∙ stay.1)
+    (c.keep_set.ensures.rest.1 ∙ stay.0, c.keep_set.ensures.rest.2 ∙ stay.1)
