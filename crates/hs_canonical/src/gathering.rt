@@ -3,15 +3,13 @@
 
 ghost use Rattle.std.specs.Prelude.{◌≡◌, ◌<◌, ◌≤◌, ℕ, length, OnOk};
 ghost use Rattle.hs_flow.specs.Dependents.{HasDependents};
-ghost use Rattle.hs_rules.specs.Found.{RowsAre};
 ghost use Rattle.hs_core.specs.Core.{log_of};
-ghost use Rattle.hs_rank.specs.Gathering.{AreNewDeduced, IsKnown, Gathered};
+ghost use Rattle.hs_rank.specs.Gathering.{HasRows, AreNewDeduced, IsKnown, Gathered};
 ghost use Rattle.hs_rank.specs.Following.{HasSeedBy, HasAtBy, HasPlaceBy};
 
 use hs_core::Core;
 use hs_flow::Dependents;
-use hs_rank::keep_new;
-use hs_rules::Found;
+use hs_rank::{Fresh, keep_new};
 use hs_scheme::OutOfMemory;
 use std::alloc::Global;
 
@@ -20,13 +18,13 @@ fn gather_seed(
     alloc: Global,
     core: &mut Core,
     point: u32,
-    fresh: &mut Found,
+    fresh: &mut Fresh,
 ) -> Result<(), OutOfMemory>
     requires point { point < length core.old.base.problem.points.points }
     requires fresh { AreNewDeduced core.old.base.problem core.old.ids (log_of core.old)
         fresh.old.list.items }
-    requires rows { RowsAre fresh.old.rows.keys fresh.old.list.items }
-    ensures rows { OnOk result (RowsAre fresh.new.rows.keys fresh.new.list.items) }
+    requires rows { HasRows fresh.old.rows.keys fresh.old.list.items }
+    ensures rows { OnOk result (HasRows fresh.new.rows.keys fresh.new.list.items) }
     ensures kept { OnOk result (core.new ≡ record core.old { ids = core.new.ids }) }
     ensures gathered { OnOk result (Gathered core.old.base.problem (log_of core.old)
         core.old.ids fresh.old.list.items core.new.ids fresh.new.list.items) }
@@ -43,14 +41,14 @@ fn gather_at(
     core: &mut Core,
     point: u32,
     place: u32,
-    fresh: &mut Found,
+    fresh: &mut Fresh,
 ) -> Result<(), OutOfMemory>
     requires point { point < length core.old.base.problem.points.points }
     requires place { place < length (log_of core.old) }
     requires fresh { AreNewDeduced core.old.base.problem core.old.ids (log_of core.old)
         fresh.old.list.items }
-    requires rows { RowsAre fresh.old.rows.keys fresh.old.list.items }
-    ensures rows { OnOk result (RowsAre fresh.new.rows.keys fresh.new.list.items) }
+    requires rows { HasRows fresh.old.rows.keys fresh.old.list.items }
+    ensures rows { OnOk result (HasRows fresh.new.rows.keys fresh.new.list.items) }
     ensures kept { OnOk result (core.new ≡ record core.old { ids = core.new.ids }) }
     ensures gathered { OnOk result (Gathered core.old.base.problem (log_of core.old)
         core.old.ids fresh.old.list.items core.new.ids fresh.new.list.items) }
@@ -67,15 +65,15 @@ fn gather_place(
     dependents: &Dependents,
     core: &mut Core,
     place: u32,
-    fresh: &mut Found,
+    fresh: &mut Fresh,
 ) -> Result<(), OutOfMemory>
     requires dependents { HasDependents core.old.base.problem.points core.old.base.problem.flow.pairs
         dependents.now }
     requires place { place < length (log_of core.old) }
     requires fresh { AreNewDeduced core.old.base.problem core.old.ids (log_of core.old)
         fresh.old.list.items }
-    requires rows { RowsAre fresh.old.rows.keys fresh.old.list.items }
-    ensures rows { OnOk result (RowsAre fresh.new.rows.keys fresh.new.list.items) }
+    requires rows { HasRows fresh.old.rows.keys fresh.old.list.items }
+    ensures rows { OnOk result (HasRows fresh.new.rows.keys fresh.new.list.items) }
     ensures kept { OnOk result (core.new ≡ record core.old { ids = core.new.ids }) }
     ensures gathered { OnOk result (Gathered core.old.base.problem (log_of core.old)
         core.old.ids fresh.old.list.items core.new.ids fresh.new.list.items) }
@@ -94,12 +92,12 @@ fn gather_place(
 pub(crate) fn gather_seeds(
     alloc: Global,
     core: &mut Core,
-    fresh: &mut Found,
+    fresh: &mut Fresh,
 ) -> Result<(), OutOfMemory>
     requires fresh { AreNewDeduced core.old.base.problem core.old.ids (log_of core.old)
         fresh.old.list.items }
-    requires rows { RowsAre fresh.old.rows.keys fresh.old.list.items }
-    ensures rows { OnOk result (RowsAre fresh.new.rows.keys fresh.new.list.items) }
+    requires rows { HasRows fresh.old.rows.keys fresh.old.list.items }
+    ensures rows { OnOk result (HasRows fresh.new.rows.keys fresh.new.list.items) }
     ensures kept { OnOk result (core.new ≡ record core.old { ids = core.new.ids }) }
     ensures gathered { OnOk result (Gathered core.old.base.problem (log_of core.old)
         core.old.ids fresh.old.list.items core.new.ids fresh.new.list.items) }
@@ -120,14 +118,14 @@ pub(crate) fn gather_places(
     dependents: &Dependents,
     core: &mut Core,
     from: u32,
-    fresh: &mut Found,
+    fresh: &mut Fresh,
 ) -> Result<(), OutOfMemory>
     requires dependents { HasDependents core.old.base.problem.points core.old.base.problem.flow.pairs
         dependents.now }
     requires fresh { AreNewDeduced core.old.base.problem core.old.ids (log_of core.old)
         fresh.old.list.items }
-    requires rows { RowsAre fresh.old.rows.keys fresh.old.list.items }
-    ensures rows { OnOk result (RowsAre fresh.new.rows.keys fresh.new.list.items) }
+    requires rows { HasRows fresh.old.rows.keys fresh.old.list.items }
+    ensures rows { OnOk result (HasRows fresh.new.rows.keys fresh.new.list.items) }
     ensures kept { OnOk result (core.new ≡ record core.old { ids = core.new.ids }) }
     ensures gathered { OnOk result (Gathered core.old.base.problem (log_of core.old)
         core.old.ids fresh.old.list.items core.new.ids fresh.new.list.items) }

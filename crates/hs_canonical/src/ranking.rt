@@ -5,10 +5,9 @@ ghost use Rattle.hs_flow.specs.Dependents.{HasDependents};
 ghost use Rattle.hs_table.specs.Entries.{EntryData};
 ghost use Rattle.hs_table.specs.Follows.{Support, FollowsBy};
 ghost use Rattle.hs_table.specs.Tables.{Exceeds, IsLeastTable};
-ghost use Rattle.hs_rules.specs.Found.{RowsAre};
 ghost use Rattle.hs_core.specs.Core.{state_of, log_of};
 ghost use Rattle.hs_rank.specs.Canonical.{IsCanonicalLog};
-ghost use Rattle.hs_rank.specs.Gathering.{AreNewDeduced, IsKnown};
+ghost use Rattle.hs_rank.specs.Gathering.{HasRows, AreNewDeduced, IsKnown};
 ghost use Rattle.hs_rank.specs.Ranked.{HoldsRound, IsAtRound};
 ghost use Rattle.hs_canonical.specs.Publishing.{HasNoStory};
 ghost use Rattle.hs_canonical.specs.Ranking.{IsRanking};
@@ -17,8 +16,7 @@ use crate::gathering::{gather_places, gather_seeds};
 use crate::publishing::{first_ticket, publish_round};
 use hs_core::Core;
 use hs_flow::Dependents;
-use hs_rank::{places_in_order, room_for};
-use hs_rules::{Found, none_found};
+use hs_rank::{Fresh, places_in_order, room_for};
 use hs_scheme::{OutOfMemory, Problem};
 use std::alloc::Global;
 
@@ -27,9 +25,9 @@ fn add_round(
     alloc: Global,
     core: &mut Core,
     ticket: u32,
-    fresh: &mut Found,
+    fresh: &mut Fresh,
 ) -> Result<(), OutOfMemory>
-    requires rows { RowsAre fresh.old.rows.keys fresh.old.list.items }
+    requires rows { HasRows fresh.old.rows.keys fresh.old.list.items }
     requires fresh { AreNewDeduced core.old.base.problem core.old.ids (log_of core.old)
         fresh.old.list.items }
     requires all { (s : Support) (e : EntryData) → FollowsBy core.old.base.problem (log_of core.old) s e
@@ -54,7 +52,7 @@ fn first_round(alloc: Global, core: &mut Core, ticket: u32) -> Result<(), OutOfM
     ensures at { OnOk result (IsAtRound core.old.base.problem 0 (log_of core.new)) }
     ensures ranking { OnOk result (IsRanking ticket core.new) }
 {
-    let mut fresh = none_found(alloc);
+    let mut fresh = room_for(alloc, 0)?;
     gather_seeds(alloc, core, &mut fresh)?;
     add_round(alloc, core, ticket, &mut fresh)
 }

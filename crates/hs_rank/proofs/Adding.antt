@@ -1,5 +1,5 @@
 -- A round that was gathered is added to the log.
-use Rattle.std.proofs.Common.{◌≡◌, ◌≢◌, sym, ◌∙◌, subst, ℕ, ◌≤◌, List, [], ◌∷◌, ◌++◌, length, map, get_or, ◌+◌, ◌<◌, arith, All, AllPairs, Contains, inl, inr}
+use Rattle.std.proofs.Common.{◌≢◌, sym, ◌∙◌, subst, ℕ, ◌≤◌, List, [], ◌∷◌, ◌++◌, length, map, get_or, ◌+◌, ◌<◌, arith, All, AllPairs, Contains, inl, inr}
 use Rattle.std.proofs.lemmas.Bool.{cases_lt}
 use Rattle.std.proofs.lemmas.List.{length-append, length-map, get_or-map}
 use Rattle.std.proofs.lemmas.List.Elements.{Contains-append_left, Contains-append_right}
@@ -11,9 +11,8 @@ use Rattle.hs_table_laws.proofs.Members.{from_map, into_map}
 use Rattle.hs_types.specs.Interned.{InternerData, RowData, IsRow, entry_of, IsInterner}
 use Rattle.hs_types.proofs.Numbers.{same_row}
 use Rattle.hs_rules.specs.Conclusions.{DeducedData}
-use Rattle.hs_rules.specs.Found.{RowsAre}
 use Rattle.hs_rules.proofs.Lists.{all_from}
-use Rattle.hs_rank.specs.Gathering.{AreNewDeduced, IsKnown}
+use Rattle.hs_rank.specs.Gathering.{HasRows, AreNewDeduced, IsKnown}
 use Rattle.hs_rank.specs.Ordering.{entries_of, picked, AreInOrder}
 use Rattle.hs_rank.specs.Ranked.{HoldsRound, IsNextRound}
 use Rattle.hs_rank.proofs.Filling.{next_ranked}
@@ -63,6 +62,6 @@ rows_known ids found known =
     all_from (IsRow ids) (map (λ (d : DeducedData). d.row) found)
     (λ r c. let d = from_map (λ (x : DeducedData). x.row) found r c in subst (λ (q : RowData). IsRow ids q) (sym d.is) (all_of (λ (x : DeducedData). IsRow ids x.row) found d.item known d.there))
 
-pub distinct_found : (ids : InternerData) (keys : List RowData) (found : List DeducedData) → IsInterner ids → All (λ d. IsRow ids d.row) found → RowsAre keys found → AllPairs (λ a b. a ≢ b) (entries_of ids found)
+pub distinct_found : (ids : InternerData) (keys : List RowData) (found : List DeducedData) → IsInterner ids → All (λ d. IsRow ids d.row) found → HasRows keys found → AllPairs (λ a b. a ≢ b) (entries_of ids found)
 distinct_found ids keys found is known rows =
     subst (λ es. AllPairs (λ a b. a ≢ b) es) (images_twice (λ (d : DeducedData). d.row) (entry_of ids) found) (distinct_entries ids (map (λ (d : DeducedData). d.row) found) is (rows_known ids found known) rows.once)

@@ -1,34 +1,30 @@
 -- The supports of the entries of one more round.
-use Rattle.std.proofs.Common.{◌≡◌, refl, sym, ◌∙◌, ap, subst, ℕ, suc, ◌+◌, ◌<◌, List, [], ◌∷◌, ◌++◌, length, map, get_or, take, slice_get, Some, option_map, arith, Contains, inl, inr}
-use Rattle.std.proofs.lemmas.Bool.{cases_lt}
-use Rattle.std.proofs.lemmas.List.{append_assoc, append-nil, length-append, length-map, map-append, take-append-le, take_all}
-use Rattle.std.proofs.lemmas.List.Elements.{Contains-append_cases}
+use Rattle.std.proofs.Common.{◌≡◌, refl, sym, ◌∙◌, ap, subst, ℕ, suc, List, [], ◌++◌, length, map, take, slice_get, Some, option_map, arith, Contains, inl, inr}
+use Rattle.std.proofs.lemmas.List.{length-append, length-map, take-append-le, take_all}
 use Rattle.std.proofs.lemmas.Option.{slice_get-map, same_Some}
 use Rattle.hs_scheme.specs.Problem.{ProblemData}
 use Rattle.hs_scheme.proofs.Lists.{none_in, Contains-at, place-append}
 use Rattle.hs_scheme.proofs.TransitionLemmas.{mapped}
 use Rattle.hs_table.specs.Entries.{EntryData}
 use Rattle.hs_table.specs.Follows.{Support, FollowsBy, premises}
-use Rattle.hs_table.specs.Tables.{IsLeastTable, HasSupports}
-use Rattle.hs_table_laws.proofs.Growing.{by_take}
-use Rattle.hs_table_laws.proofs.Members.{taken_next, pushed_cases, into_map}
+use Rattle.hs_table.specs.Tables.{IsLeastTable}
+use Rattle.hs_table_laws.proofs.Members.{into_map}
 use Rattle.hs_table_laws.proofs.Places.{within_from}
-use Rattle.hs_types.specs.Interned.{InternerData, RowData, IsRow, entry_of, IsInterner, Grows}
-use Rattle.hs_types.proofs.Numbers.{row_stays, row_within, same_row}
+use Rattle.hs_types.specs.Interned.{InternerData, RowData, entry_of, IsInterner}
+use Rattle.hs_types.proofs.Numbers.{same_row}
 use Rattle.hs_rules.specs.Order.{IsNoGreater}
 use Rattle.hs_rules.specs.Conclusions.{DeducedData}
 use Rattle.hs_rules.specs.Found.{RowsAre}
 use Rattle.hs_rules.proofs.Lists.{along}
 use Rattle.hs_rules.proofs.PartLemmas.{one_of_row}
-use Rattle.hs_rank.specs.Canonical.{IsByRank, IsCanonicalSupport, IsCanonicalLog}
+use Rattle.hs_rank.specs.Canonical.{IsByRank, IsCanonicalLog}
 use Rattle.hs_rank.specs.Fronts.{IsLeastSupport}
-use Rattle.hs_rank.specs.Gathering.{AreNewDeduced, IsKnown}
+use Rattle.hs_rank.specs.Gathering.{HasRows, AreNewDeduced, IsKnown}
 use Rattle.hs_rank.specs.Ordering.{entries_of, picked, AreInOrder}
 use Rattle.hs_rank.specs.Ranked.{HoldsRound, IsNextRound, HasLeastSupport, HaveLeastSupports}
 use Rattle.hs_rank.proofs.Rounds.{rank_same}
 use Rattle.hs_rank.proofs.Filling.{fresh_rank}
 use Rattle.hs_rank.proofs.Fronts.{canonical_of}
-use Rattle.hs_rank.proofs.Sorted.{all_of}
 
 -- what is read of images
 pub image_at : {X Y : Type 0} (f : X → Y) (xs : List X) (k : ℕ) (y : Y) → slice_get (map f xs) k ≡ Some y → (x : X) × ((slice_get xs k ≡ Some x) × (f x ≡ y))
@@ -81,8 +77,12 @@ module _ (p : ProblemData) (n : ℕ) (log fresh : List EntryData) (a : HoldsRoun
     least = subst (λ (E : List EntryData). IsLeastSupport p E s e) (sym fresh_front) h;
   }
 
+-- what was gathered is found with some of its rows
+pub as_found : (keys : List RowData) (found : List DeducedData) → HasRows keys found → (rows : List RowData) × RowsAre rows found
+as_found keys found h = (_, record { same = refl; once = h.once })
+
 -- what was gathered with its entry has the least support by the log
-pub gathered_least : (p : ProblemData) (ids : InternerData) (log : List EntryData) (keys : List RowData) (found : List DeducedData) → IsInterner ids → RowsAre keys found → AreNewDeduced p ids log found
+pub gathered_least : (p : ProblemData) (ids : InternerData) (log : List EntryData) (keys : List RowData) (found : List DeducedData) → IsInterner ids → HasRows keys found → AreNewDeduced p ids log found
     → ((s : Support) (e : EntryData) → FollowsBy p log s e → IsKnown ids log found s e) → (d : DeducedData) → Contains found d → IsLeastSupport p log d.support (entry_of ids d.row)
 gathered_least p ids log keys found numbers rows new all d there = record {
   follows = (new d there).deduced.follows;
@@ -90,13 +90,13 @@ gathered_least p ids log keys found numbers rows new all d there = record {
     | inl was ↦ absurd ((new d there).new was)
     | inr h ↦
         let row_is = same_row ids numbers h.item.row d.row (new h.item h.there).deduced.row (new d there).deduced.row h.is in
-        let same = one_of_row keys found rows h.item d h.there there row_is in
+        let same = one_of_row (as_found keys found rows).0 found (as_found keys found rows).1 h.item d h.there there row_is in
         subst (λ (x : DeducedData). IsNoGreater (premises x.support) (premises r)) same h.least
   ];
 }
 
 -- one more round
-module _ (p : ProblemData) (n : ℕ) (ids : InternerData) (log : List EntryData) (keys : List RowData) (found : List DeducedData) (places : List ℕ) (old : List Support) (numbers : IsInterner ids) (once : RowsAre keys found) (fresh : AreNewDeduced p ids log found)
+module _ (p : ProblemData) (n : ℕ) (ids : InternerData) (log : List EntryData) (keys : List RowData) (found : List DeducedData) (places : List ℕ) (old : List Support) (numbers : IsInterner ids) (once : HasRows keys found) (fresh : AreNewDeduced p ids log found)
     (all : (s : Support) (e : EntryData) → FollowsBy p log s e → IsKnown ids log found s e) (a : HoldsRound p n log) (order : AreInOrder ids found places) (b : IsNextRound p log (entries_of ids (picked found places))) (was : HaveLeastSupports p log old) where
   abbrev round : List DeducedData
   round = picked found places

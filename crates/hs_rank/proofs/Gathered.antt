@@ -1,33 +1,25 @@
 -- What is gathered of a round, step by step.
-use Rattle.std.proofs.Common.{◌≡◌, refl, sym, ◌∙◌, ap, subst, ℕ, ◌<◌, List, [], length, get_or, take, drop, slice_get, Some, arith, All, Contains, inl, inr}
+use Rattle.std.proofs.Common.{◌≡◌, refl, sym, ◌∙◌, ap, subst, ℕ, List, [], take, drop, arith, All, Contains, inl, inr}
 use Rattle.std.proofs.lemmas.List.{take-append-drop}
-use Rattle.std.proofs.lemmas.Option.{same_Some, get_or_from_slice_get}
-use Rattle.hs_scheme.specs.flow.Dependents.{IsDependent}
 use Rattle.hs_scheme.specs.Problem.{ProblemData}
-use Rattle.hs_scheme.proofs.Lists.{slice_get-read, Contains-at}
-use Rattle.hs_table_laws.proofs.Places.{within_from}
-use Rattle.hs_scheme.specs.flow.Points.{PointsData}
-use Rattle.hs_scheme.specs.declared.flow.FlowPair.{FlowPair}
-use Rattle.hs_table.specs.Entries.{EntryData, InShape}
+use Rattle.hs_table.specs.Entries.{EntryData}
 use Rattle.hs_table.specs.Follows.{Support, FollowsBy, premises}
 use Rattle.hs_table_laws.proofs.Growing.{by_append}
 use Rattle.hs_table_laws.proofs.Members.{from_map}
 use Rattle.hs_types.specs.Interned.{InternerData, RowData, entry_of, Grows}
 use Rattle.hs_types.proofs.Numbers.{Grows-refl, Grows-trans, row_stays}
 use Rattle.hs_rules.specs.Conclusions.{DeducedData, IsDeduced, IsLeastOf, AreConclusions}
-use Rattle.hs_rules.specs.Found.{RowsAre}
 use Rattle.hs_rules.proofs.Lists.{along}
 use Rattle.hs_rules.proofs.OrderLemmas.{no_greater_then}
 use Rattle.hs_rules.proofs.ConcludeLemmas.{deduced_later}
-use Rattle.hs_rank.specs.Following.{HasAtBy, HasPlaceBy}
-use Rattle.hs_rank.specs.Gathering.{IsNewDeduced, AreNewDeduced, IsKnown, AddsNew, Gathered}
+use Rattle.hs_rank.specs.Gathering.{HasRows, IsNewDeduced, AreNewDeduced, IsKnown, AddsNew, Gathered}
 use Rattle.hs_rank.proofs.Sorted.{all_of}
 
 -- nothing gathered
-pub rows_none : (rows : List RowData) (found : List DeducedData) → rows ≡ [] → found ≡ [] → RowsAre rows found
+pub rows_none : (rows : List RowData) (found : List DeducedData) → rows ≡ [] → found ≡ [] → HasRows rows found
 rows_none rows found no_rows none =
-    let nothing : RowsAre [] [] = record { same = refl; once = λ i j d lt below. absurd (omega (arith, below)) } in
-    along (λ i. RowsAre (sym no_rows i) (sym none i)) nothing
+    let nothing : HasRows [] [] = record { same = refl; once = λ i j d lt below. absurd (omega (arith, below)) } in
+    along (λ i. HasRows (sym no_rows i) (sym none i)) nothing
 
 new_grows : (p : ProblemData) (I J : InternerData) → Grows I J → (log : List EntryData) (d : DeducedData) → IsNewDeduced p I log d → IsNewDeduced p J log d
 new_grows p I J g log d f = record { deduced = deduced_later p log I J d g f.deduced; new = λ c. f.new (subst (λ e. Contains log e) (row_stays I J g d.row f.deduced.row) c) }

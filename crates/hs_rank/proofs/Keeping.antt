@@ -1,10 +1,9 @@
 -- What was deduced is added to what was gathered.
-use Rattle.std.proofs.Common.{◌≡◌, sym, ◌∙◌, subst, length, arith, List, [], ◌∷◌, ◌++◌, All, Contains, ◌⊎◌, inl, inr}
-use Rattle.std.proofs.lemmas.List.{append-nil}
-use Rattle.std.proofs.lemmas.List.Elements.{Contains-append_left, Contains-append_right, Contains-push}
-use Rattle.hs_scheme.proofs.Lists.{here}
+use Rattle.std.proofs.Common.{◌≡◌, sym, ◌∙◌, ap, subst, List, [], ◌∷◌, ◌++◌, All, Contains, ◌⊎◌, inl, inr}
+use Rattle.std.proofs.lemmas.List.{append-nil, append_assoc}
+use Rattle.std.proofs.lemmas.List.Elements.{Contains-append_left, Contains-push}
+use Rattle.hs_scheme.proofs.Lists.{none_in, here, later, uncons}
 use Rattle.hs_table.specs.Entries.{EntryData}
-use Rattle.hs_table_laws.proofs.Members.{pushed_cases}
 use Rattle.hs_types.specs.Interned.{InternerData, entry_of}
 use Rattle.hs_rules.specs.Conclusions.{DeducedData}
 use Rattle.hs_rules.specs.Found.{HasNoGreater, Lowers}
@@ -30,33 +29,50 @@ module _ (ids : InternerData) (log : List EntryData) (old new : List DeducedData
     there = λ x is. inl (subst (λ (y : DeducedData). Contains log (entry_of ids y.row)) (sym is) known);
   }
 
-pub adds_none : (ids : InternerData) (log : List EntryData) (Among : DeducedData → Type 0) (old : List DeducedData) → ((d : DeducedData) → Among d → ⊥) → AddsNew ids log Among old old
+adds_none : (ids : InternerData) (log : List EntryData) (Among : DeducedData → Type 0) (old : List DeducedData) → ((d : DeducedData) → Among d → ⊥) → AddsNew ids log Among old old
 adds_none ids log Among old never = record { lowers = lowers_none old; only = λ x c. inl c; there = λ x a. absurd (never x a) }
 
 module _ (ids : InternerData) (log : List EntryData) (a b c : List DeducedData) where
-  pub adds_next : (xs : List DeducedData) (d : DeducedData) → AddsNew ids log (Contains xs) a b → AddsNew ids log (λ x. x ≡ d) b c → AddsNew ids log (Contains (xs ++ d ∷ [])) a c
+  adds_next : (xs : List DeducedData) (d : DeducedData) → AddsNew ids log (Contains xs) a b → AddsNew ids log (λ x. x ≡ d) b c → AddsNew ids log (Contains (d ∷ xs)) a c
   adds_next xs d before one = record {
     lowers = lowers_then a b c before.lowers one.lowers;
     only = λ x h. elim (one.only x h) [
       | inl was ↦ elim (before.only x was) [
         | inl older ↦ inl older
-        | inr (among, absent) ↦ inr (Contains-append_left xs (d ∷ []) x among, absent)
+        | inr (among, absent) ↦ inr (later d x xs among, absent)
       ]
-      | inr (x_is, absent) ↦ inr (subst (λ (y : DeducedData). Contains (xs ++ d ∷ []) y) (sym x_is) (Contains-push xs d), absent)
+      | inr (x_is, absent) ↦ inr (subst (λ (y : DeducedData). Contains (d ∷ xs) y) (sym x_is) (here d xs), absent)
     ];
-    there = λ x h. elim (pushed_cases xs d x h) [
-      | inl was ↦ elim (before.there x was) [
+    there = λ x h. elim (uncons d x xs h) [
+      | inl is ↦ one.there x is
+      | inr was ↦ elim (before.there x was) [
         | inl known ↦ inl known
         | inr kept_there ↦ inr (lower_then b c x.row x.support kept_there one.lowers)
       ]
-      | inr x_is ↦ one.there x x_is
     ];
   }
 
--- what comes next is among all
-pub next_among : (P : DeducedData → Type 0) (xs rest found : List DeducedData) (d : DeducedData) → All P found → xs ++ d ∷ rest ≡ found → P d
-next_among P xs rest found d all whole = all_of P found d all (subst (λ ds. Contains ds d) whole (Contains-append_right xs (d ∷ rest) d (here d rest)))
+-- those behind what is left were added
+pub record HasAdded (ids : InternerData) (log : List EntryData) (found left old new : List DeducedData) : Type 0 where
+  pub done : List DeducedData
+  pub whole : left ++ done ≡ found
+  pub adds : AddsNew ids log (Contains done) old new
 
-pub all_yielded : (ys rest found : List DeducedData) → length rest ≡ 0 → ys ++ rest ≡ found → ys ≡ found
-all_yielded ys [] found none whole = sym (append-nil ys) ∙ whole
-all_yielded ys (x ∷ rest) found none whole = absurd (omega arith)
+pub added_none : (ids : InternerData) (log : List EntryData) (found old : List DeducedData) → HasAdded ids log found found old old
+added_none ids log found old = record { done = []; whole = append-nil found; adds = adds_none ids log (λ (d : DeducedData). Contains [] d) old (λ d there. none_in d there) }
+
+pub added_next : (ids : InternerData) (log : List EntryData) (found left rest old mid new : List DeducedData) (d : DeducedData) → left ≡ rest ++ d ∷ [] → HasAdded ids log found left old mid → AddsNew ids log (λ x. x ≡ d) mid new
+    → HasAdded ids log found rest old new
+added_next ids log found left rest old mid new d is h one = record {
+  done = d ∷ h.done;
+  whole = sym (append_assoc rest (d ∷ []) h.done) ∙ (ap (λ (ds : List DeducedData). ds ++ h.done) (sym is) ∙ h.whole);
+  adds = adds_next ids log old mid new h.done d h.adds one;
+}
+
+pub added_all : (ids : InternerData) (log : List EntryData) (found left old new : List DeducedData) → left ≡ [] → HasAdded ids log found left old new → AddsNew ids log (Contains found) old new
+added_all ids log found left old new none h = subst (λ (ds : List DeducedData). AddsNew ids log (Contains ds) old new) (ap (λ (ds : List DeducedData). ds ++ h.done) (sym none) ∙ h.whole) h.adds
+
+-- what comes next is among all
+pub next_among : (P : DeducedData → Type 0) (ids : InternerData) (log : List EntryData) (found left rest old new : List DeducedData) (d : DeducedData) → left ≡ rest ++ d ∷ [] → HasAdded ids log found left old new → All P found → P d
+next_among P ids log found left rest old new d is h all =
+    all_of P found d all (subst (λ (ds : List DeducedData). Contains ds d) h.whole (Contains-append_left left h.done d (subst (λ (ds : List DeducedData). Contains ds d) (sym is) (Contains-push rest d))))

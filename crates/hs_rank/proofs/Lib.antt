@@ -5,8 +5,11 @@ mod Supports
 pub mod Filling
 pub mod Adding
 pub mod Sorted
+mod Spreading
+mod Joined
 pub mod Gathered
 mod Keeping
 mod Reading
 mod Fronts
 pub mod Backing
+mod Lesser

@@ -1,3 +1,4 @@
+pub mod Buckets
 pub mod Canonical
 pub mod CanonicalExample
 pub mod Following

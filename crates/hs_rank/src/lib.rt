@@ -2,11 +2,12 @@
 //! nothing but the problem.
 #![tactic(auto)]
 
+mod buckets;
 mod comparing;
 mod gathering;
 mod laws;
 mod ordering;
 
-pub use gathering::{keep_new, room_for};
+pub use gathering::{Fresh, keep_new, room_for};
 pub use laws::{canonical_logs_are_equal, least_supports_are_canonical};
 pub use ordering::places_in_order;

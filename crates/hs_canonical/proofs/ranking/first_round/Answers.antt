@@ -13,10 +13,10 @@ use Rattle.hs_canonical.specs.Ranking.{IsRanking}
 use Rattle.hs_canonical.proofs.ranking.first_round.Goals as goal
 
 pub gather_seeds-requires-clause-fresh : goal.gather_seeds-requires-clause-fresh
-gather_seeds-requires-clause-fresh c = λ d there. absurd (none_in d (subst (λ (xs : List DeducedData). Contains xs d) c.none_found-fresh.ensures.list there))
+gather_seeds-requires-clause-fresh c = λ d there. absurd (none_in d (subst (λ (xs : List DeducedData). Contains xs d) c.in_ok-fresh.ensures.list there))
 
 pub gather_seeds-requires-clause-rows : goal.gather_seeds-requires-clause-rows
-gather_seeds-requires-clause-rows c = rows_none c.none_found-fresh.result.rows.keys c.none_found-fresh.result.list.items c.none_found-fresh.ensures.rows c.none_found-fresh.ensures.list
+gather_seeds-requires-clause-rows c = rows_none c.in_ok-fresh.fresh.rows.keys c.in_ok-fresh.fresh.list.items c.in_ok-fresh.ensures.rows c.in_ok-fresh.ensures.list
 
 pub add_round-requires-clause-fresh : goal.add_round-requires-clause-fresh
 add_round-requires-clause-fresh c =

@@ -19,9 +19,9 @@ returns-clause-adds c =
     let r = c.args.replica.now in
     let d = c.args.deduced in
     let old = c.args.fresh.now.list.items in
-    let new = c.add_deduced.new.found.list.items in
+    let new = c.add.new.fresh.list.items in
     let absent = subst (λ (x : DeducedData). Contains r.log (entry_of r.ids x.row) → ⊥) c.deduced.view_is c.in_default.ensures.absent in
-    on_ok_both c.add_deduced.result (Lowers old new × ((x : DeducedData) → Contains new x → Contains old x ⊎ (x ≡ d))) (HasNoGreater new d.row d.support) (AddsNew r.ids r.log (λ x. x ≡ d) old new)
+    on_ok_both c.add.result (Lowers old new × ((x : DeducedData) → Contains new x → Contains old x ⊎ (x ≡ d))) (HasNoGreater new d.row d.support) (AddsNew r.ids r.log (λ x. x ≡ d) old new)
     (λ both there. adds_one r.ids r.log old new d both.0 both.1 there absent)
-    (on_ok_both c.add_deduced.result (Lowers old new) ((x : DeducedData) → Contains new x → Contains old x ⊎ (x ≡ d)) (Lowers old new × ((x : DeducedData) → Contains new x → Contains old x ⊎ (x ≡ d))) (λ a b. (a, b)) c.add_deduced.ensures.lowers c.add_deduced.ensures.only)
-    c.add_deduced.ensures.there
+    (on_ok_both c.add.result (Lowers old new) ((x : DeducedData) → Contains new x → Contains old x ⊎ (x ≡ d)) (Lowers old new × ((x : DeducedData) → Contains new x → Contains old x ⊎ (x ≡ d))) (λ a b. (a, b)) c.add.ensures.lowers c.add.ensures.only)
+    c.add.ensures.there

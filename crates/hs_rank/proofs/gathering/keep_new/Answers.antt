@@ -1,36 +1,25 @@
-use Rattle.std.proofs.Common.{◌≡◌, sym, ◌∙◌, ap, subst, List, [], ◌∷◌, ◌++◌, length, append_assoc, Contains}
-use Rattle.hs_scheme.proofs.Lists.{none_in}
+use Rattle.std.proofs.Common.{◌≡◌, ◌∙◌, ap, [], take, append-nil, ◌-◌, arith}
 use Rattle.hs_types.specs.Interned.{IsRow}
 use Rattle.hs_rules.specs.Conclusions.{DeducedData}
-use Rattle.hs_rank.specs.Gathering.{AddsNew}
-use Rattle.hs_rank.proofs.Keeping.{adds_none, adds_next, next_among, all_yielded}
+use Rattle.hs_rank.proofs.Keeping.{added_none, added_next, added_all, next_among}
 use Rattle.hs_rank.proofs.gathering.keep_new.Goals as goal
 
 pub loop-deduced-init : goal.loop-deduced-init
-loop-deduced-init c =
-    let r = c.args.replica.now in
-    record {
-      rows = c.requires.rows;
-      adds = adds_none r.ids r.log (λ (d : DeducedData). Contains [] d) c.args.fresh.now.list.items (λ d there. none_in d there);
-      whole = c.into_iter-deduced-iterator.ensures.into_iter_gives.0;
-    }
+loop-deduced-init c = record { rows = c.requires.rows; adds = added_none c.args.replica.now.ids c.args.replica.now.log c.args.found.items c.args.fresh.now.list.items }
 
 pub keep-requires-clause-row : goal.keep-requires-clause-row
 keep-requires-clause-row c =
-    let ids = c.args.replica.now.ids in
-    let d = c.in-Some.deduced in
-    let whole = sym (ap (λ xs. c.loop-deduced.yielded ++ xs) c.in-Some.ensures.steps.0) ∙ c.loop-deduced.invariant.whole in
-    next_among (λ (x : DeducedData). IsRow ids x.row) c.loop-deduced.yielded _ c.args.found.items d c.requires.known whole
+    let r = c.args.replica.now in
+    next_among (λ (x : DeducedData). IsRow r.ids x.row) r.ids r.log c.args.found.items c.loop-deduced.left.items c.pop.new.self.items c.args.fresh.now.list.items c.loop-deduced.fresh.list.items c.in-Some.deduced c.in-Some.ensures.items
+    c.loop-deduced.invariant.adds c.requires.known
 
 pub loop-deduced-preserved : goal.loop-deduced-preserved
 loop-deduced-preserved c =
     let r = c.args.replica.now in
-    let d = c.in-Some.deduced in
-    let whole = sym (ap (λ xs. c.loop-deduced.yielded ++ xs) c.in-Some.ensures.steps.0) ∙ c.loop-deduced.invariant.whole in
     record {
       rows = c.in_ok-keep.ensures.rows;
-      adds = adds_next r.ids r.log c.args.fresh.now.list.items c.loop-deduced.fresh.list.items c.keep.new.fresh.list.items c.loop-deduced.yielded d c.loop-deduced.invariant.adds c.in_ok-keep.ensures.adds;
-      whole = append_assoc c.loop-deduced.yielded (d ∷ []) _ ∙ whole;
+      adds = added_next r.ids r.log c.args.found.items c.loop-deduced.left.items c.pop.new.self.items c.args.fresh.now.list.items c.loop-deduced.fresh.list.items c.keep.new.fresh.list.items c.in-Some.deduced c.in-Some.ensures.items
+          c.loop-deduced.invariant.adds c.in_ok-keep.ensures.adds;
     }
 
 pub returns-clause-rows : goal.returns-clause-rows
@@ -39,5 +28,8 @@ returns-clause-rows c = c.loop-deduced.invariant.rows
 pub returns-clause-adds : goal.returns-clause-adds
 returns-clause-adds c =
     let r = c.args.replica.now in
-    let whole = all_yielded c.loop-deduced.yielded _ c.args.found.items (sym c.loop-deduced.deduced-iterator.rest.ok.0 ∙ c.in-None.ensures.steps.0) c.loop-deduced.invariant.whole in
-    subst (λ (xs : List DeducedData). AddsNew r.ids r.log (Contains xs) c.args.fresh.now.list.items c.loop-deduced.fresh.list.items) whole c.loop-deduced.invariant.adds
+    let left = c.loop-deduced.left.items in
+    let e = c.in_default.ensures in
+    let empty : c.loop-deduced.left.len - 1 ≡ 0 = omega (arith, e.cases.0) in
+    let none : left ≡ [] = e.items ∙ (append-nil c.pop.new.self.items ∙ (e.rest ∙ ap (λ n. take n left) empty)) in
+    added_all r.ids r.log c.args.found.items left c.args.fresh.now.list.items c.loop-deduced.fresh.list.items none c.loop-deduced.invariant.adds

@@ -1,12 +1,14 @@
--- those so far were kept
-use Rattle.std.proofs.Common.{◌≡◌, ◌++◌, Contains}
-use Rattle.hs_rules.specs.Found.{RowsAre}
-use Rattle.hs_rank.specs.Gathering.{AddsNew}
+-- those that were taken were kept
+use Rattle.std.proofs.Common.{length}
+use Rattle.hs_rank.specs.Gathering.{HasRows}
+use Rattle.hs_rank.proofs.Keeping.{HasAdded}
 use Rattle.hs_rank.proofs.gathering.keep_new.Given as goal
 
 abbrev pub invariant-loop-deduced : goal.invariant-loop-deduced
 invariant-loop-deduced l = record {
-  rows : RowsAre l.fresh.rows.keys l.fresh.list.items;
-  adds : AddsNew l.replica.ids l.replica.log (Contains l.yielded) l.fn.fresh.list.items l.fresh.list.items;
-  whole : l.yielded ++ l.deduced-iterator.rest.items ≡ l.fn.found.items;
+  rows : HasRows l.fresh.rows.keys l.fresh.list.items;
+  adds : HasAdded l.replica.ids l.replica.log l.fn.found.items l.left.items l.fn.fresh.list.items l.fresh.list.items;
 }
+
+abbrev pub decreases-loop-deduced : goal.decreases-loop-deduced
+decreases-loop-deduced l = length l.left.items
