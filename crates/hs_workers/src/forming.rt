@@ -69,7 +69,7 @@ fn form_at(
     Ok(found)
 }
 
-/// What follows at the point from no entry, and isn't in the log.
+/// What follows at the point from no entry, and isn't in the log. However much it is, it is no burst.
 fn form_seed(
     alloc: Global,
     problem: &Problem,
@@ -84,7 +84,7 @@ fn form_seed(
         (Work.Seed point) found.items) }
 {
     let formed = seed_conclusions(alloc, problem, replica, point)?;
-    tally.add(formed.len());
+    tally.formed = tally.formed.saturating_add(formed.len());
     let mut found = Vec::new(alloc);
     keep_new(replica, formed, &mut found)?;
     Ok(found)

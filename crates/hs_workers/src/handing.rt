@@ -16,7 +16,7 @@ ghost use Rattle.hs_workers.specs.Working.{StepsInHold, IfServes};
 
 use crate::common::Common;
 use crate::job::Job;
-use crate::sharing::goes_on;
+use crate::sharing::{goes_on, tally_behind};
 use crate::stock::Stock;
 use hs_core::{Published, Taken, Tally};
 use hs_rules::{Deduced, Replica};
@@ -193,6 +193,7 @@ fn do_one<'p>(
         hold.give_back(seat, job.ticket);
         return false;
     }
+    let before = *tally;
     let done = hold.work(
         common.alloc,
         seat,
@@ -201,6 +202,7 @@ fn do_one<'p>(
         job.ticket,
         tally,
     );
+    *tally = tally_behind(job.work, &before, tally);
     goes_on(done.unwrap_or(false), tally)
 }
 

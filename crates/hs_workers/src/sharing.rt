@@ -12,7 +12,7 @@
 //! Where much follows from little, what enters the log next matters more than who does it: once the
 //! workers have met two bursts (`Tally` of `hs_core`), all end, and one selects what enters the log.
 
-use hs_core::Tally;
+use hs_core::{Tally, Work};
 use std::sync::Wait;
 use std::sync::atomic::AtomicU64;
 use std::sync::atomic::Ordering::SeqCst;
@@ -37,6 +37,18 @@ const LONG: u64 = 32_768;
 /// little.
 pub(crate) fn goes_on(closed: bool, tally: &Tally) -> bool {
     closed && !tally.is_bursting()
+}
+
+/// The tally behind a work, before which it was `before`: a seed is no burst.
+pub(crate) fn tally_behind(work: Work, before: &Tally, tally: &Tally) -> Tally {
+    let bursts = match work {
+        Work::Seed(_) => before.bursts,
+        Work::Place(_) => tally.bursts,
+    };
+    Tally {
+        formed: tally.formed,
+        bursts,
+    }
 }
 
 /// Who works, and how much of what was formed lately was known already.
