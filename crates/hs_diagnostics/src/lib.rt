@@ -14,5 +14,5 @@ mod syntax;
 
 pub use names::names_text;
 pub use passed::limit_text;
-pub use placing::{push_placed, push_rule};
+pub use placing::{push_placed, push_rule, push_shown};
 pub use syntax::syntax_text;

@@ -2,6 +2,7 @@
 
 use crate::grammar::{Place, expected_at, place_behind};
 use crate::lexemes::{Follows, Lexeme, Span, follow_all};
+use crate::placing::push_shown;
 use hs_scheme::OutOfMemory;
 use hs_trace::push_number;
 use std::alloc::Global;
@@ -68,7 +69,7 @@ fn push_found(bytes: &[u8], offence: Offence, text: &mut Vec<u8>) -> Result<(), 
         None => found,
     };
     text.extend_from_slice(b"`")?;
-    text.extend_from_slice(shown)?;
+    push_shown(shown, text)?;
     text.extend_from_slice(b"` stands")?;
     Ok(())
 }

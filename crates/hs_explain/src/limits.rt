@@ -103,6 +103,8 @@ pub(crate) fn entries_text(alloc: Global, entries: u32) -> Result<Vec<u8>, OutOf
     push_number(u64::from(entries), &mut text)?;
     text.extend_from_slice(b" entries; --entries takes a number up to ")?;
     push_number(MOST_ENTRIES, &mut text)?;
-    text.extend_from_slice(b"\n")?;
+    text.extend_from_slice(
+        b", and --quick, where it isn't given, may find a verdict without the table\n",
+    )?;
     Ok(text)
 }

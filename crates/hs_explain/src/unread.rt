@@ -1,5 +1,6 @@
 //! Why a file wasn't read.
 
+use hs_diagnostics::push_shown;
 use hs_front::Refusal;
 use hs_reader::MAX_BYTES;
 use hs_scheme::OutOfMemory;
@@ -13,7 +14,7 @@ fn named(alloc: Global, name: &str, says: &[u8]) -> Result<Vec<u8>, OutOfMemory>
         text.extend_from_slice(b"standard input")?;
     } else {
         text.extend_from_slice(b"`")?;
-        text.extend_from_slice(name.as_bytes())?;
+        push_shown(name.as_bytes(), &mut text)?;
         text.extend_from_slice(b"`")?;
     }
     text.extend_from_slice(says)?;

@@ -1,5 +1,6 @@
 //! Which word of a command line is wrong.
 
+use hs_diagnostics::push_shown;
 use hs_scheme::OutOfMemory;
 use hs_trace::push_number;
 use std::alloc::Global;
@@ -202,7 +203,7 @@ fn wrong_line(
     text.extend_from_slice(b"word ")?;
     push_number(place as u64, &mut text)?;
     text.extend_from_slice(b" `")?;
-    text.extend_from_slice(word.as_bytes())?;
+    push_shown(word.as_bytes(), &mut text)?;
     text.extend_from_slice(b"`: ")?;
     push_wrong(wrong, &mut text)?;
     Ok(text)
