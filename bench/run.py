@@ -7,10 +7,12 @@ Usage: bench/run.py [FAMILY ..]
 
 The time is that of the processor, in whatever thread and in the system: the least of the runs counts.
 In the environment:
+CLOCK         if it is set, the time is that of the clock, from the start of a program to its end
 OTHER         a command, as "/path/program word", that is run on the same file, alternately with ours, with the
               file's name as its last word; the table has its time, its memory and the ratio of ours to it
 PROGRAM       which of our programs is run, with its words, in the place of the one that the family has; or
-              several, as "costs, costs core", which are run in turn and have a row each
+              several, as "costs, costs core" or "horsat, horsat --workers 4", which are run in turn and have a
+              row each
 RUNS          how often each is run (5)
 WORKERS       with how many workers horsat runs (1)
 INSTRUCTIONS  if it is set, instructions are counted by valgrind in the place of times, in one run of each
@@ -22,6 +24,7 @@ import shlex
 import subprocess
 import sys
 import tempfile
+import time
 
 TOP = os.path.dirname(os.path.dirname(os.path.abspath(__file__)))
 MEBIBYTE = 1 << 20
@@ -30,6 +33,7 @@ PROGRAMS = [shlex.split(words) for words in os.environ.get("PROGRAM", "").split(
 RUNS = int(os.environ.get("RUNS", "5"))
 WORKERS = os.environ.get("WORKERS", "1")
 INSTRUCTIONS = bool(os.environ.get("INSTRUCTIONS"))
+CLOCK = bool(os.environ.get("CLOCK"))
 
 
 def framed(rules, transitions):
@@ -210,6 +214,21 @@ def numerals(twos, modulus=3):
     return framed([*lines, "A z -> a z.\n"], [*moves, "q1 c -> .\n"])
 
 
+def several(order, count, states, ends):
+    """Functions that are handed on two at once, to one of order 3 that composes them both ways round, or to one of order 4 that does
+    so twice. They move the state on, and the tree may end in some of the states."""
+    lines = ["S -> M0.\n", "Comp f g x -> f (g x).\n", "Both p f g x -> p f g (p g f x).\n"]
+    if order == 4:
+        lines.append("All q p f g x -> q p f g (q p g f x).\n")
+    head = "All Both Comp" if order == 4 else "Both Comp"
+    for i in range(count):
+        lines.append(f"G{i} x -> {'s (' * (i % states)}x{')' * (i % states)}.\n")
+        call = f"{head} G{i} G{(3 * i + 1) % count} end"
+        lines.append(f"M{i} -> br ({call}) M{i + 1}.\n" if i + 1 < count else f"M{i} -> {call}.\n")
+    moves = [f"q{j} s -> q{(j + 1) % states}.\n" for j in range(states)]
+    return framed(lines, ["q0 br -> q0 q0.\n", *moves, *(f"q{j} end -> .\n" for j in ends)])
+
+
 def booleans(rules, count=10):
     """Rules that hand on booleans as selectors: each turns one of them, or opens a file where it is set, that is closed behind it."""
     kept = [f"b{j}" for j in range(count)]
@@ -293,6 +312,10 @@ FAMILIES = {
     "budget_3": (lambda steps: iterated(3, steps), [2, 11, 20], "steps", "horsat --entries 200000"),
     "budget_4": (lambda steps: iterated(4, steps), [1, 4], "steps", "horsat --entries 200000"),
     "budget_5": (lambda steps: iterated(5, steps), [1, 4], "steps", "horsat --entries 200000"),
+    "several_3": (lambda count: several(3, count, 4, [0, 2]), [100, 200, 300], "functions", "horsat"),
+    "several_3r": (lambda count: several(3, count, 4, [0]), [100, 200, 300], "functions", "horsat"),
+    "several_4": (lambda count: several(4, count, 2, [0]), [50, 100, 200], "functions", "horsat"),
+    "several_4r": (lambda count: several(4, count, 2, [1]), [50, 100, 200], "functions", "horsat"),
     "numerals": (numerals, [1, 2, 3], "twos", "horsat --quick"),
     "numerals_5": (lambda twos: numerals(twos, 5), [2, 3], "twos", "horsat --quick"),
     "booleans": (booleans, [50, 100, 200], "rules", "horsat --quick"),
@@ -311,7 +334,8 @@ def words_of(words, path):
     if name != "horsat":
         return [program(name), *others]
     entries = [] if "--entries" in others else ["--entries", "1000000"]
-    return [program(name), "--workers", WORKERS, *entries, *others, path]
+    workers = [] if "--workers" in others else ["--workers", WORKERS]
+    return [program(name), *workers, *entries, *others, path]
 
 
 def programs_of(family):
@@ -334,12 +358,13 @@ def write(make, size, path):
 
 
 def run(words, path):
-    """The processor's seconds, the peak memory in MiB, the status and the answer of one run."""
+    """The processor's seconds, or those of the clock, the peak memory in MiB, the status and the answer of one run."""
+    before = time.monotonic()
     with open(path) as file:
         child = subprocess.Popen(words, stdin=file, stdout=subprocess.PIPE, stderr=subprocess.STDOUT)
     answer = child.stdout.read().decode().strip()
     _, status, usage = os.wait4(child.pid, 0)
-    seconds = usage.ru_utime + usage.ru_stime
+    seconds = time.monotonic() - before if CLOCK else usage.ru_utime + usage.ru_stime
     return seconds, usage.ru_maxrss / 1024, os.waitstatus_to_exitcode(status), answer
 
 
