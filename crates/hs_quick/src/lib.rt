@@ -6,6 +6,12 @@
 //! whoever takes the evidence checks it (McConnell, Mehlhorn, Naeher, Schweitzer, "Certifying algorithms",
 //! Computer Science Review 2011). No function has a contract here: they are shown to return.
 //!
+//! An environment says which types are asked of a nonterminal's parameters. It is void where no arguments that
+//! the nonterminal is ever given have all of them: on each way in which calls give these, some argument has no
+//! entry for a type that is asked of it, or whatever entries are chosen for them ask something void of the
+//! caller's own parameters. An entry with a void environment rejects nothing that comes about, so the proposal
+//! does without it.
+//!
 //! How it searches stands in docs/METHOD.md, "How evidence is sought".
 #![tactic(auto)]
 
