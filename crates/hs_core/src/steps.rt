@@ -4,6 +4,7 @@ ghost use Rattle.std.specs.Prelude.{◌≡◌, ◌-◌, ◌<◌, ◌≤◌, ◌�
 ghost use Rattle.hs_history.specs.declared.step.Work.{Work};
 ghost use Rattle.hs_table.specs.Follows.{FollowsBy};
 ghost use Rattle.hs_types.specs.Interned.{IsRow, entry_of, Grows};
+ghost use Rattle.hs_types.specs.Translations.{AreFound};
 ghost use Rattle.hs_history.specs.Story.{takes, adds, passes, finishes, gives_back};
 ghost use Rattle.hs_history.specs.CoreStep.{GoesOn, CanTake, CanAdd, CanPass, CanFinish, Holds, IsClosedSeed};
 ghost use Rattle.hs_core.specs.Core.{state_of, log_of, deduction_of, stepped};
@@ -18,7 +19,7 @@ use crate::state::Core;
 use hs_history::{Event, Flight, Step, Work};
 use hs_rules::Deduced;
 use hs_scheme::OutOfMemory;
-use hs_types::{Interner, Row};
+use hs_types::{ImportedNumbers, Interner, Row};
 
 /// The ticket of a work that is taken where nothing is in flight, and closed at once.
 const ONLY_TICKET: u32 = 0;
@@ -102,7 +103,33 @@ impl<'p> Core<'p> {
         self.spare -= 1;
     }
 
-    /// The same deduction in the numbers of this core's interner.
+    /// The same deduction in the numbers of this core's interner. `found` tells what was imported from the
+    /// other one: only what it doesn't tell of is walked, and it tells of it then.
+    pub fn bring_with(
+        &mut self,
+        found: &mut ImportedNumbers,
+        from: &Interner,
+        deduced: &Deduced,
+    ) -> Result<Deduced, OutOfMemory>
+        requires row { IsRow from.now deduced.now.row }
+        requires found { AreFound from.now self.old.ids found.old }
+        ensures row { IfOk result (λ d. IsRow self.new.ids d.row) }
+        ensures same { IfOk result (λ d. deduction_of self.new.ids d ≡ deduction_of from.now deduced.now) }
+        ensures found { AreFound from.now self.new.ids found.new }
+        ensures kept { self.new ≡ record self.old { ids = self.new.ids } }
+        ensures grows { Grows self.old.ids self.new.ids }
+    {
+        let row = self.replica.import_with(found, from, deduced.row)?;
+        let args = deduced.args.clone()?;
+        Ok(Deduced {
+            row,
+            head: deduced.head,
+            args,
+        })
+    }
+
+    /// The same deduction in the numbers of this core's interner. Takes some 4 bytes for each number of the
+    /// other interner up to those that the deduction names.
     pub fn bring(&mut self, from: &Interner, deduced: &Deduced) -> Result<Deduced, OutOfMemory>
         requires { IsRow from.now deduced.now.row }
         ensures row { IfOk result (λ d. IsRow self.new.ids d.row) }
@@ -110,13 +137,8 @@ impl<'p> Core<'p> {
         ensures kept { self.new ≡ record self.old { ids = self.new.ids } }
         ensures grows { Grows self.old.ids self.new.ids }
     {
-        let row = self.replica.import(from, deduced.row)?;
-        let args = deduced.args.clone()?;
-        Ok(Deduced {
-            row,
-            head: deduced.head,
-            args,
-        })
+        let mut found = ImportedNumbers::new(*deduced.args.allocator());
+        self.bring_with(&mut found, from, deduced)
     }
 
     /// The place of the start entry once the row's entry stands at the end of the log.

@@ -47,6 +47,9 @@ impl Replica {
         ensures ok { OnOk result (typed_to self.new point ≡ self.new.indexed) }
         ensures kept { ListsMore self.old self.new }
     {
+        if number_of(self.by_type.as_slice(), point) == self.indexed {
+            return Ok(());
+        }
         add_types(
             &mut self.lists,
             &mut self.by_type,

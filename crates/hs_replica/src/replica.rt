@@ -3,6 +3,7 @@
 ghost use Rattle.std.specs.Prelude.{◌≡◌, ◌+◌, ◌-◌, ◌^◌, ◌<◌, ◌≤◌, ◌++◌, ◌∷◌, [], length, max, slice_get, Some, Contains, IfNone, IfOk, IfSome, OnErr, OnOk};
 ghost use mathlib.Core.List.{IsPrefix};
 ghost use Rattle.hs_types.specs.Interned.{IsRow, entry_of, Grows};
+ghost use Rattle.hs_types.specs.Translations.{AreFound};
 ghost use Rattle.hs_replica.specs.Replica.{IsReplica, KeepsLog};
 ghost use Rattle.hs_replica.specs.Extending.{CanExtend, extended};
 
@@ -175,6 +176,24 @@ impl Replica {
         self.interner.import(from, row)
     }
 
+    /// The same, where `found` tells what was imported from there: walks only what isn't told of, and tells
+    /// of it then.
+    pub fn import_with(
+        &mut self,
+        found: &mut ImportedNumbers,
+        from: &Interner,
+        row: Row,
+    ) -> Result<Row, OutOfMemory>
+        requires row { IsRow from.now row }
+        requires found { AreFound from.now self.old.ids found.old }
+        ensures row { IfOk result (λ r. IsRow self.new.ids r) }
+        ensures entry { IfOk result (λ r. entry_of self.new.ids r ≡ entry_of from.now row) }
+        ensures found { AreFound from.now self.new.ids found.new }
+        ensures kept { KeepsLog self.old self.new }
+    {
+        self.interner.import_with(found, from, row)
+    }
+
     /// Makes room for `k` entries.
     fn make_room(&mut self, k: u32) -> Result<(), OutOfMemory>
         ensures ok { OnOk result (self.new ≡ record self.old { spare = max self.old.spare k }) }
@@ -202,6 +221,7 @@ impl Replica {
         ensures grows { Grows self.old.ids self.new.ids }
     {
         let begin = self.rows.len();
+        found.clear();
         let rows = self
             .interner
             .import_rows(found, &from.interner, &from.rows.as_slice()[begin..])?;
@@ -261,6 +281,9 @@ impl Replica {
         ensures kept { self.new ≡ record self.old { indexed = self.new.indexed } }
         ensures more { self.old.indexed ≤ self.new.indexed }
     {
+        if self.indexed as usize == self.rows.len() {
+            return Ok(());
+        }
         add_places(&mut self.lists, self.rows.as_slice(), &mut self.indexed)
     }
 }

@@ -1,3 +1,4 @@
 pub mod Seen
 pub mod Leaving
+pub mod Publishing
 pub mod Crossing

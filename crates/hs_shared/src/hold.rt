@@ -4,6 +4,7 @@ ghost use Rattle.std.specs.Prelude.{◌≡◌, ◌<◌, ◌^◌, ◌++◌, ℕ, 
 ghost use mathlib.Core.List.{IsPrefix};
 ghost use Rattle.hs_table.specs.Follows.{FollowsBy};
 ghost use Rattle.hs_types.specs.Interned.{IsRow, entry_of, Grows};
+ghost use Rattle.hs_types.specs.Translations.{AreFound};
 ghost use Rattle.hs_history.specs.CoreStep.{Holds};
 ghost use Rattle.hs_core.specs.Core.{CoreData, IsCore, state_of, log_of, deduction_of};
 ghost use Rattle.hs_history.specs.Story.{Story};
@@ -16,6 +17,7 @@ use crate::held::Held;
 use hs_core::{Core, Deduced, Published, Replica, Taken};
 use hs_scheme::OutOfMemory;
 use hs_turn::{Guard, Seat};
+use hs_types::ImportedNumbers;
 
 /// How many steps the core has gone through.
 pub(crate) fn count(core: &Core) -> usize
@@ -84,18 +86,21 @@ pub(crate) fn publish_deduction(
     ticket: u32,
     replica: &Replica,
     deduced: &Deduced,
+    found: &mut ImportedNumbers,
 ) -> Result<Published, OutOfMemory>
     requires holds { Holds (state_of core.old) worker ticket }
     requires row { IsRow replica.now.ids deduced.now.row }
     requires follows { FollowsBy core.old.base.problem (log_of core.old) deduced.now.support
         (entry_of replica.now.ids deduced.now.row) }
+    requires found { AreFound replica.now.ids core.old.ids found.old }
     ensures ok { IfOk result (λ published. (found : CoreData) × IsCore found × (found.base ≡ core.old.base)
         × (found.story ≡ core.old.story)
         × Publishes found worker ticket (deduction_of replica.now.ids deduced.now) published core.new) }
     ensures err { OnErr result ((core.new.base ≡ core.old.base) × (core.new.story ≡ core.old.story)) }
+    ensures found { AreFound replica.now.ids core.new.ids found.new }
 {
     core.reserve_some()?;
-    let brought = core.bring(replica.interner(), deduced)?;
+    let brought = core.bring_with(found, replica.interner(), deduced)?;
     core.know_core();
     Ok(core.publish(worker, ticket, brought))
 }

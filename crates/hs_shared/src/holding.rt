@@ -4,6 +4,7 @@ ghost use Rattle.std.specs.Prelude.{◌≡◌, ℕ, Some, None, IfOk, OnOk, OnEr
 ghost use mathlib.Core.List.{IsPrefix};
 ghost use Rattle.hs_table.specs.Follows.{FollowsBy};
 ghost use Rattle.hs_types.specs.Interned.{IsRow, entry_of, Grows};
+ghost use Rattle.hs_types.specs.Translations.{AreFound};
 ghost use Rattle.hs_replica.specs.Extending.{CanExtend, extended};
 ghost use Rattle.hs_history.specs.Story.{finishes, gives_back};
 ghost use Rattle.hs_flow.specs.Dependents.{HasDependents};
@@ -79,25 +80,29 @@ impl<'a, 'p> Hold<'a, 'p> {
 
     /// Publishes a deduction under a ticket, in the numbers of the replica's interner, as
     /// `Core::publish` does. The seat has the ticket, and the deduction follows from the core's log.
-    /// After a refusal of memory nothing has happened.
+    /// `found` tells what was imported from that interner during this hold; only what it doesn't tell of
+    /// is walked. After a refusal of memory nothing has happened.
     pub fn publish(
         &mut self,
         seat: &mut Seat<Held<'p>>,
         ticket: u32,
         replica: &Replica,
         deduced: &Deduced,
+        found: &mut ImportedNumbers,
     ) -> Result<Published, OutOfMemory>
         requires holds { IsHolding seat.old self.old }
         requires ticket { Holds (state_of self.old.core) seat.old.known.number ticket }
         requires row { IsRow replica.now.ids deduced.now.row }
         requires follows { FollowsBy self.old.core.base.problem (log_of self.old.core) deduced.now.support
             (entry_of replica.now.ids deduced.now.row) }
+        requires found { AreFound replica.now.ids self.old.core.ids found.old }
         ensures ok { IfOk result (λ published. (found : CoreData) × IsCore found
             × (found.base ≡ self.old.core.base) × (found.story ≡ self.old.core.story)
             × Publishes found seat.old.known.number ticket
             (deduction_of replica.now.ids deduced.now) published self.new.core) }
         ensures err { OnErr result ((self.new.core.base ≡ self.old.core.base)
             × (self.new.core.story ≡ self.old.core.story)) }
+        ensures found { AreFound replica.now.ids self.new.core.ids found.new }
         ensures turn { self.new.turn ≡ self.old.turn }
         ensures told { HasTold seat.old self.new.core.story seat.new }
         ensures holds { IsHolding seat.new self.new }
@@ -110,6 +115,7 @@ impl<'a, 'p> Hold<'a, 'p> {
             ticket,
             replica,
             deduced,
+            found,
         );
         tell(&mut self.guard, seat, before);
         published

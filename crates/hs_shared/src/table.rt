@@ -19,6 +19,7 @@ use crate::holding::Hold;
 use hs_core::{Core, Deduced, Published, Replica, Taken};
 use hs_scheme::OutOfMemory;
 use hs_turn::{Rested, Seat, Turn};
+use hs_types::ImportedNumbers;
 use std::alloc::Global;
 use std::marker::Model;
 use std::sync::Wait;
@@ -118,8 +119,10 @@ impl<'p> SharedTable<'p> {
         ensures err { OnErr result (Looks seat.old seat.new) }
     {
         let mut hold = self.enter(rt, seat);
-        let published = hold.publish(seat, ticket, replica, deduced);
+        let mut found = ImportedNumbers::new(*deduced.args.allocator());
+        let published = hold.publish(seat, ticket, replica, deduced, &mut found);
         hold.leave(seat);
+        drop(found);
         published
     }
 

@@ -1,5 +1,5 @@
 -- A list that is looked up among the lists stored, or stored as one more.
-use Rattle.std.proofs.Common.{◌≡◌, refl, sym, ◌∙◌, ap, subst, ℕ, ◌+◌, Bool, true, false, not, nat_eq, cond, List, [], ◌∷◌, ◌++◌, length, map, get_or, slice_get, position, option_map, Some, Vec, Contains, inl, inr, arith, ◌<◌}
+use Rattle.std.proofs.Common.{◌≡◌, refl, sym, ◌∙◌, ap, subst, ℕ, Bool, true, false, not, nat_eq, cond, List, [], ◌∷◌, ◌++◌, length, map, get_or, slice_get, position, option_map, Some, Vec, Contains, inl, inr, arith, ◌<◌}
 use Rattle.std.specs.Bool.{Decides}
 use Rattle.std.specs.List.{list_any}
 use Rattle.std.specs.Cmp.Lexicographic.{pointwise}

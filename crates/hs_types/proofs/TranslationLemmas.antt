@@ -3,7 +3,8 @@ use Rattle.std.proofs.Common.{◌≡◌, sym, ◌∙◌, ap, subst, ℕ, List, [
 use Rattle.std.proofs.lemmas.List.Elements.{Contains-append_cases}
 use Rattle.hs_scheme.proofs.Lists.{only}
 use Rattle.hs_types.specs.declared.translations.Translation.{Translation}
-use Rattle.hs_types.specs.Interned.{Begins}
+use Rattle.hs_types.specs.Interned.{InternerData, type_of_id, set_of_id, env_of_id, Begins, Grows}
+use Rattle.hs_types.specs.Translations.{ImportedData, AreFound}
 
 -- each pair leads from a number of the other's to a place where the same stands here
 abbrev pub Lead : {X : Type 0} → List X → (ℕ → X) → List Translation → Type 0
@@ -23,3 +24,34 @@ lead_more xs ys F pairs new other id own n g lead o e at is p k =
           let q : p ≡ x = only x p one in
           ap (λ (t : Translation). slice_get ys t.own) q ∙ ap (λ (j : ℕ). slice_get ys j) e ∙ at ∙ sym (ap (λ (t : Translation). Some (F t.other)) q ∙ ap (λ (j : ℕ). Some (F j)) o)
     ]
+
+pub more_types : (from K : InternerData) (f : ImportedData) (new : List Translation) (other id own n : ℕ) → AreFound from K f → other ≡ id → own ≡ n → slice_get K.types n ≡ Some (type_of_id from id)
+    → new ≡ f.types ++ record { other = other; own = own } ∷ [] → AreFound from K (record { types = new; sets = f.sets; envs = f.envs })
+more_types from K f new other id own n h o e at is = record {
+  types_are = lead_more K.types K.types (type_of_id from) f.types new other id own n (λ i x p. p) h.types_are o e at is;
+  sets_are = h.sets_are;
+  envs_are = h.envs_are;
+}
+
+pub more_sets : (from K : InternerData) (f : ImportedData) (new : List Translation) (other id own n : ℕ) → AreFound from K f → other ≡ id → own ≡ n → slice_get K.sets n ≡ Some (set_of_id from id)
+    → new ≡ f.sets ++ record { other = other; own = own } ∷ [] → AreFound from K (record { types = f.types; sets = new; envs = f.envs })
+more_sets from K f new other id own n h o e at is = record {
+  types_are = h.types_are;
+  sets_are = lead_more K.sets K.sets (set_of_id from) f.sets new other id own n (λ i x p. p) h.sets_are o e at is;
+  envs_are = h.envs_are;
+}
+
+pub more_envs : (from K : InternerData) (f : ImportedData) (new : List Translation) (other id own n : ℕ) → AreFound from K f → other ≡ id → own ≡ n → slice_get K.envs n ≡ Some (env_of_id from id)
+    → new ≡ f.envs ++ record { other = other; own = own } ∷ [] → AreFound from K (record { types = f.types; sets = f.sets; envs = new })
+more_envs from K f new other id own n h o e at is = record {
+  types_are = h.types_are;
+  sets_are = h.sets_are;
+  envs_are = lead_more K.envs K.envs (env_of_id from) f.envs new other id own n (λ i x p. p) h.envs_are o e at is;
+}
+
+pub found_grow : (from J K : InternerData) (f : ImportedData) → Grows J K → AreFound from J f → AreFound from K f
+found_grow from J K f g h = record {
+  types_are = λ p k. g.types p.own (type_of_id from p.other) (h.types_are p k);
+  sets_are = λ p k. g.sets p.own (set_of_id from p.other) (h.sets_are p k);
+  envs_are = λ p k. g.envs p.own (env_of_id from p.other) (h.envs_are p k);
+}

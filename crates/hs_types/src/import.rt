@@ -4,10 +4,12 @@ ghost use Rattle.std.specs.Prelude.{◌≡◌, ◌<◌, All, IfOk, IfSome, Some,
 ghost use Rattle.hs_table.specs.Types.{IsSet};
 ghost use Rattle.hs_types.specs.Interned.{type_of_id, set_of_id, env_of_id, Grows};
 ghost use Rattle.hs_types.specs.Nodes.{node_type, IsInRange};
+ghost use Rattle.hs_types.specs.Translations.{AreFound};
 
-use crate::guesses::{Guesses, guess, keep};
+use crate::guesses::{guess, keep};
 use crate::ids::{EnvId, SetId, TyId, View};
 use crate::nodes::Nodes;
+use crate::translations::ImportedNumbers;
 use hs_scheme::OutOfMemory;
 use smallvec::SmallVec;
 use std::alloc::Global;
@@ -108,31 +110,52 @@ impl Nodes {
         Ok(own)
     }
 
-    /// The number here of the other's type. Recurses as deep as it is.
+    /// The number here of the other's type, which isn't sought in `found`.
+    #[cycle(import)]
+    fn make_type(
+        &mut self,
+        alloc: Global,
+        found: &mut ImportedNumbers,
+        from: &Nodes,
+        id: TyId,
+    ) -> Result<TyId, OutOfMemory>
+        requires id { id < length from.now.types }
+        requires found { AreFound from.now self.old found.old }
+        ensures ok { IfOk result (λ own. slice_get self.new.types own ≡ Some (type_of_id from.now id)) }
+        ensures found { AreFound from.now self.new found.new }
+        ensures grows { Grows self.old self.new }
+    {
+        match from.view(id) {
+            View::State(q) => self.add_type(View::State(q)),
+            View::Arrow(set, rest) => {
+                let own_set = self.import_set(alloc, found, from, set)?;
+                let own_rest = self.import_type(alloc, found, from, rest)?;
+                self.add_type(View::Arrow(own_set, own_rest))
+            }
+        }
+    }
+
+    /// The number here of the other's type. Recurses as deep as it is, where it isn't found.
     #[cycle(import)]
     pub(crate) fn import_type(
         &mut self,
         alloc: Global,
-        guesses: &mut Guesses,
+        found: &mut ImportedNumbers,
         from: &Nodes,
         id: TyId,
     ) -> Result<TyId, OutOfMemory>
-        requires { id < length from.now.types }
+        requires id { id < length from.now.types }
+        requires found { AreFound from.now self.old found.old }
         ensures ok { IfOk result (λ own. slice_get self.new.types own ≡ Some (type_of_id from.now id)) }
+        ensures found { AreFound from.now self.new found.new }
         ensures grows { Grows self.old self.new }
     {
-        match from.view(id) {
-            View::State(q) => self.number_type(&mut guesses.types, id.stored(), View::State(q)),
-            View::Arrow(set, rest) => {
-                let own_set = self.import_set(alloc, guesses, from, set)?;
-                let own_rest = self.import_type(alloc, guesses, from, rest)?;
-                self.number_type(
-                    &mut guesses.types,
-                    id.stored(),
-                    View::Arrow(own_set, own_rest),
-                )
-            }
+        if let Some(own) = found.types.find(id.stored()) {
+            return Ok(TyId::at(own));
         }
+        let own = self.make_type(alloc, found, from, id)?;
+        found.types.keep(id.stored(), own.stored())?;
+        Ok(own)
     }
 
     /// The number here of the other's set, whose types are in order here, too.
@@ -140,40 +163,54 @@ impl Nodes {
     fn import_set(
         &mut self,
         alloc: Global,
-        guesses: &mut Guesses,
+        found: &mut ImportedNumbers,
         from: &Nodes,
         id: SetId,
     ) -> Result<SetId, OutOfMemory>
-        requires { id < length from.now.sets }
+        requires id { id < length from.now.sets }
+        requires found { AreFound from.now self.old found.old }
         ensures ok { IfOk result (λ own. slice_get self.new.sets own ≡ Some (set_of_id from.now id)) }
+        ensures found { AreFound from.now self.new found.new }
         ensures grows { Grows self.old self.new }
     {
+        if let Some(own) = found.sets.find(id.stored()) {
+            return Ok(SetId::at(own));
+        }
         from.know_numbers();
         let members = from.members(id);
         let mut types: SmallVec<TyId, 8> = SmallVec::new(alloc);
         for member in members {
-            types.push(self.import_type(alloc, guesses, from, *member)?)?;
+            types.push(self.import_type(alloc, found, from, *member)?)?;
         }
-        self.number_set(&mut guesses.sets, id.stored(), types.as_slice())
+        let own = self.add_set(types.as_slice())?;
+        found.sets.keep(id.stored(), own.stored())?;
+        Ok(own)
     }
 
     /// The number here of the other's environment.
     pub(crate) fn import_env(
         &mut self,
         alloc: Global,
-        guesses: &mut Guesses,
+        found: &mut ImportedNumbers,
         from: &Nodes,
         id: EnvId,
     ) -> Result<EnvId, OutOfMemory>
-        requires { id < length from.now.envs }
+        requires id { id < length from.now.envs }
+        requires found { AreFound from.now self.old found.old }
         ensures ok { IfOk result (λ own. slice_get self.new.envs own ≡ Some (env_of_id from.now id)) }
+        ensures found { AreFound from.now self.new found.new }
         ensures grows { Grows self.old self.new }
     {
+        if let Some(own) = found.envs.find(id.stored()) {
+            return Ok(EnvId::at(own));
+        }
         let sets = from.sets(id);
         let mut own_sets: SmallVec<SetId, 8> = SmallVec::new(alloc);
         for set in sets {
-            own_sets.push(self.import_set(alloc, guesses, from, *set)?)?;
+            own_sets.push(self.import_set(alloc, found, from, *set)?)?;
         }
-        self.number_env(&mut guesses.envs, id.stored(), own_sets.as_slice())
+        let own = self.add_env(own_sets.as_slice())?;
+        found.envs.keep(id.stored(), own.stored())?;
+        Ok(own)
     }
 }

@@ -6,8 +6,8 @@ ghost use Rattle.hs_table.specs.Types.{TypeTree, state, arrow, type_cmp};
 ghost use Rattle.hs_table.specs.Entries.{set_at};
 ghost use Rattle.hs_types.specs.Unions.{IsSetUnion, IsEnvUnion};
 ghost use Rattle.hs_types.specs.Interned.{type_of_id, set_of_id, env_of_id, IsRow, entry_of, IsView, IsInterner, Grows, IsSetOf, IsUnion, IsUnionEnv};
+ghost use Rattle.hs_types.specs.Translations.{AreFound};
 
-use crate::guesses::Guesses;
 use crate::ids::{EnvId, Row, SetId, TyId, View};
 use crate::latest::Latest;
 use crate::nodes::Nodes;
@@ -36,8 +36,9 @@ pub struct Interner {
     nodes: Nodes,
     set_unions: Unions,
     env_unions: Unions,
-    guesses: Guesses,
     latest: Latest,
+    /// What one row is imported with, kept so that the next one takes no memory anew.
+    imported: ImportedNumbers,
 }
 
 impl Model for Interner {
@@ -63,8 +64,8 @@ impl Interner {
             nodes: Nodes::new(alloc),
             set_unions: Unions::new(alloc),
             env_unions: Unions::new(alloc),
-            guesses: Guesses::new(alloc),
             latest: Latest::new(alloc),
+            imported: ImportedNumbers::new(alloc),
         }
     }
 
@@ -140,59 +141,54 @@ impl Interner {
             .single_env(self.alloc, &mut self.latest, n, x as usize, ty)
     }
 
-    /// The number here of a type of the other interner. Walks the whole type, as deep as it is, and
-    /// hashes only what wasn't imported from there before.
-    pub fn import_ty(&mut self, from: &Interner, ty: TyId) -> Result<TyId, OutOfMemory>
-        requires { ty < length from.now.types }
-        ensures ok { IfOk result (λ id. slice_get self.new.types id ≡ Some (type_of_id from.now ty)) }
-        ensures grows { Grows self.old self.new }
-    {
-        self.nodes
-            .import_type(self.alloc, &mut self.guesses, &from.nodes, ty)
-    }
-
-    /// The number here of an environment of the other interner. Walks all its types.
-    pub fn import_env(&mut self, from: &Interner, env: EnvId) -> Result<EnvId, OutOfMemory>
-        requires { env < length from.now.envs }
-        ensures ok { IfOk result (λ id. slice_get self.new.envs id ≡ Some (env_of_id from.now env)) }
-        ensures grows { Grows self.old self.new }
-    {
-        self.nodes
-            .import_env(self.alloc, &mut self.guesses, &from.nodes, env)
-    }
-
-    /// The row that stands here for the entry that `row` stands for in the other interner.
+    /// The row that stands here for the entry that `row` stands for in the other interner. Walks each of its
+    /// types and sets once.
     pub fn import(&mut self, from: &Interner, row: Row) -> Result<Row, OutOfMemory>
         requires { IsRow from.now row }
         ensures row { IfOk result (λ r. IsRow self.new r) }
         ensures entry { IfOk result (λ r. entry_of self.new r ≡ entry_of from.now row) }
         ensures grows { Grows self.old self.new }
     {
-        let env = self.import_env(from, row.env)?;
-        let ty = self.import_ty(from, row.ty)?;
-        Ok(Row {
-            point: row.point,
-            env,
-            ty,
-        })
+        self.imported.clear();
+        self.nodes
+            .import_row(self.alloc, &mut self.imported, &from.nodes, row)
+    }
+
+    /// The same, where `found` tells what was imported from there: walks only what isn't told of, and tells
+    /// of it then.
+    pub fn import_with(
+        &mut self,
+        found: &mut ImportedNumbers,
+        from: &Interner,
+        row: Row,
+    ) -> Result<Row, OutOfMemory>
+        requires row { IsRow from.now row }
+        requires found { AreFound from.now self.old found.old }
+        ensures row { IfOk result (λ r. IsRow self.new r) }
+        ensures entry { IfOk result (λ r. entry_of self.new r ≡ entry_of from.now row) }
+        ensures found { AreFound from.now self.new found.new }
+        ensures grows { Grows self.old self.new }
+    {
+        self.nodes.import_row(self.alloc, found, &from.nodes, row)
     }
 
     /// The rows that stand here for the entries that these rows of the other interner stand for. Walks
-    /// each type and each environment once, and then finds it by its number.
+    /// each type, set and environment that isn't in `found` once, and then finds it by its number.
     pub fn import_rows(
         &mut self,
         found: &mut ImportedNumbers,
         from: &Interner,
         rows: &[Row],
     ) -> Result<Vec<Row>, OutOfMemory>
-        requires { All (IsRow from.now) rows.now }
+        requires rows { All (IsRow from.now) rows.now }
+        requires found { AreFound from.now self.old found.old }
         ensures rows { IfOk result (λ own. All (IsRow self.new) own.items) }
         ensures entries { IfOk result (λ own. map (entry_of self.new) own.items ≡ map
             (entry_of from.now) rows.now) }
+        ensures found { AreFound from.now self.new found.new }
         ensures grows { Grows self.old self.new }
     {
-        self.nodes
-            .import_rows(self.alloc, &mut self.guesses, found, &from.nodes, rows)
+        self.nodes.import_rows(self.alloc, found, &from.nodes, rows)
     }
 
     /// What the type is. Constant time, and takes no memory.

@@ -1,10 +1,11 @@
 //! Numbers of another interner with those that were found for them here.
 
-ghost use Rattle.std.specs.Prelude.{◌≡◌, ◌++◌, ◌∷◌, [], IfSome, OnOk, Contains};
+ghost use Rattle.std.specs.Prelude.{◌≡◌, ◌++◌, ◌∷◌, [], IfSome, OnOk, OnErr, Contains};
 ghost use Rattle.hs_types.specs.declared.translations.Translation.{Translation as AnyTranslation};
 
 use hs_scheme::OutOfMemory;
 use std::alloc::Global;
+use std::marker::Model;
 
 /// A number of another interner, and the number here of what it stands for there.
 #[derive(Clone, Copy)]
@@ -55,10 +56,11 @@ impl Translations {
 
     /// Keeps the number here for the other's number.
     pub(crate) fn keep(&mut self, other: u32, own: u32) -> Result<(), OutOfMemory>
-        ensures { OnOk result (self.new.pairs.items ≡ self.old.pairs.items ++ record {
+        ensures ok { OnOk result (self.new.pairs.items ≡ self.old.pairs.items ++ record {
           other = other;
           own = own;
         } ∷ []) }
+        ensures err { OnErr result (self.new.pairs.items ≡ self.old.pairs.items) }
     {
         let at = other as usize;
         if self.places.len() <= at {
@@ -74,30 +76,44 @@ impl Translations {
     }
 }
 
-/// What rows are imported with: the numbers that are found for types and environments. Each import
-/// begins without any; it is kept so that the next one takes no memory anew. It takes some 4 bytes for
-/// each number of the other interner.
+/// What was imported: the types, sets and environments of another interner that have been numbered here
+/// lately, so that none of them is walked a second time. It tells of one other interner, and of one here.
+/// It takes some 4 bytes for each number of the other interner, and 8 for each that it tells of.
+///
+/// Contracts see the three lists of translations.
 #[derive(Drop)]
 pub struct ImportedNumbers {
     pub(crate) types: Translations,
+    pub(crate) sets: Translations,
     pub(crate) envs: Translations,
 }
 
+impl Model for ImportedNumbers {
+    ghost use Rattle.hs_types.specs.Translations.{ImportedData};
+
+    ghost Value = { ImportedData };
+
+    ghost view = { λ a. record { types = a.types.pairs.items; sets = a.sets.pairs.items; envs = a.envs.pairs.items } };
+}
+
 impl ImportedNumbers {
-    /// Nothing was found. Takes no memory.
-    pub fn new(alloc: Global) -> ImportedNumbers {
+    /// Nothing was imported. Takes no memory.
+    pub fn new(alloc: Global) -> ImportedNumbers
+        ensures { result ≡ record { types = []; sets = []; envs = [] } }
+    {
         ImportedNumbers {
             types: Translations::new(alloc),
+            sets: Translations::new(alloc),
             envs: Translations::new(alloc),
         }
     }
 
-    /// Forgets all. Takes no memory, and constant time.
-    pub(crate) fn clear(&mut self)
-        ensures types { self.new.types.pairs.items ≡ [] }
-        ensures envs { self.new.envs.pairs.items ≡ [] }
+    /// Forgets all, but keeps its memory. Takes constant time.
+    pub fn clear(&mut self)
+        ensures { self.new ≡ record { types = []; sets = []; envs = [] } }
     {
         self.types.clear();
+        self.sets.clear();
         self.envs.clear();
     }
 }

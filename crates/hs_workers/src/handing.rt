@@ -3,6 +3,7 @@
 ghost use Rattle.std.specs.Prelude.{◌≡◌, ℕ, [], None, IfOk, IsTrue, All, Contains};
 ghost use mathlib.Core.List.{IsPrefix};
 ghost use Rattle.hs_types.specs.Interned.{entry_of};
+ghost use Rattle.hs_types.specs.Translations.{AreFound};
 ghost use Rattle.hs_rules.specs.Conclusions.{IsDeduced};
 ghost use Rattle.hs_replica.specs.Extending.{CanExtend, extended};
 ghost use Rattle.hs_history.specs.CoreStep.{Holds, put, IsClosedWork};
@@ -22,7 +23,7 @@ use hs_core::{Published, Taken, Tally};
 use hs_rules::{Deduced, Replica};
 use hs_scheme::OutOfMemory;
 use hs_shared::{Held, Hold, Seat};
-use hs_types::Row;
+use hs_types::{ImportedNumbers, Row};
 use std::mem::replace;
 
 /// A worker takes at most so many works at once.
@@ -51,17 +52,20 @@ fn publish_one<'p>(
     ticket: u32,
     replica: &Replica,
     deduced: &Deduced,
+    exported: &mut ImportedNumbers,
 ) -> Result<bool, OutOfMemory>
     requires holds { IsHolding seat.old hold.old }
     requires ticket { Holds (state_of hold.old.core) seat.old.known.number ticket }
     requires begins { IsPrefix replica.now.log (log_of hold.old.core) }
     requires deduced { IsDeduced hold.old.core.base.problem replica.now.ids replica.now.log deduced.now }
+    requires exported { AreFound replica.now.ids hold.old.core.ids exported.old }
+    ensures exported { AreFound replica.now.ids hold.new.core.ids exported.new }
     ensures goes { StepsInHold seat.old seat.new hold.old hold.new }
     ensures flight { SameFlight hold.old.core hold.new.core }
     ensures there { IfOk result (λ room. IsTrue room →
         Contains (log_of hold.new.core) (entry_of replica.now.ids deduced.now.row)) }
 {
-    let published = hold.publish(seat, ticket, replica, deduced)?;
+    let published = hold.publish(seat, ticket, replica, deduced, exported)?;
     if let Published::Over = published {
         return Ok(false);
     }
@@ -75,18 +79,21 @@ fn publish_all<'p>(
     ticket: u32,
     replica: &Replica,
     found: &[Deduced],
+    exported: &mut ImportedNumbers,
 ) -> Result<bool, OutOfMemory>
     requires holds { IsHolding seat.old hold.old }
     requires ticket { Holds (state_of hold.old.core) seat.old.known.number ticket }
     requires begins { IsPrefix replica.now.log (log_of hold.old.core) }
     requires found { All (IsDeduced hold.old.core.base.problem replica.now.ids replica.now.log) found.now }
+    requires exported { AreFound replica.now.ids hold.old.core.ids exported.old }
+    ensures exported { AreFound replica.now.ids hold.new.core.ids exported.new }
     ensures goes { StepsInHold seat.old seat.new hold.old hold.new }
     ensures flight { SameFlight hold.old.core hold.new.core }
     ensures all { IfOk result (λ all. IsTrue all
         → HasFound replica.now.ids found.now (log_of hold.new.core)) }
 {
     for deduced in found {
-        if !publish_one(hold, seat, ticket, replica, deduced)? {
+        if !publish_one(hold, seat, ticket, replica, deduced, exported)? {
             return Ok(false);
         }
     }
@@ -101,11 +108,14 @@ fn publish_job<'p>(
     replica: &Replica,
     job: &Job,
     going: bool,
+    exported: &mut ImportedNumbers,
 ) -> bool
     requires holds { IsHolding seat.old hold.old }
     requires ticket { Holds (state_of hold.old.core) seat.old.known.number job.now.ticket }
     requires begins { IsPrefix replica.now.log (log_of hold.old.core) }
     requires formed { IsFormed hold.old.core.base.problem replica.now.ids replica.now.log job.now }
+    requires exported { AreFound replica.now.ids hold.old.core.ids exported.old }
+    ensures exported { AreFound replica.now.ids hold.new.core.ids exported.new }
     ensures goes { StepsInHold seat.old seat.new hold.old hold.new }
     ensures flight { SameFlight hold.old.core hold.new.core }
     ensures closed { IsTrue result
@@ -117,7 +127,7 @@ fn publish_job<'p>(
     let Some(found) = &job.found else {
         return false;
     };
-    match publish_all(hold, seat, job.ticket, replica, found.as_slice()) {
+    match publish_all(hold, seat, job.ticket, replica, found.as_slice(), exported) {
         Ok(all) => all,
         Err(_) => false,
     }
@@ -131,17 +141,20 @@ fn settle<'p>(
     replica: &Replica,
     job: &Job,
     going: bool,
+    exported: &mut ImportedNumbers,
 ) -> bool
     requires holds { IsHolding seat.old hold.old }
     requires flies { (state_of hold.old.core).flight job.now.ticket ≡ Some
         (record { worker = seat.old.known.number; work = job.now.work }) }
     requires begins { IsPrefix replica.now.log (log_of hold.old.core) }
     requires formed { IsFormed hold.old.core.base.problem replica.now.ids replica.now.log job.now }
+    requires exported { AreFound replica.now.ids hold.old.core.ids exported.old }
+    ensures exported { AreFound replica.now.ids hold.new.core.ids exported.new }
     ensures goes { StepsInHold seat.old seat.new hold.old hold.new }
     ensures flight { (ticket : ℕ) → (state_of hold.new.core).flight ticket ≡ put job.now.ticket None
         (state_of hold.old.core).flight ticket }
 {
-    if publish_job(hold, seat, replica, job, going) {
+    if publish_job(hold, seat, replica, job, going, exported) {
         hold.finish(seat, job.ticket);
         return true;
     }
@@ -156,6 +169,7 @@ fn hand_in<'p>(
     seat: &mut Seat<Held<'p>>,
     replica: &Replica,
     jobs: Vec<Job>,
+    exported: &mut ImportedNumbers,
 ) -> bool
     requires holds { IsHolding seat.old hold.old }
     requires carries { Carries seat.old.known.number (state_of hold.old.core).flight (keys jobs.items) }
@@ -163,9 +177,10 @@ fn hand_in<'p>(
     requires formed { All (IsFormed hold.old.core.base.problem replica.now.ids replica.now.log) jobs.items }
     ensures goes { StepsInHold seat.old seat.new hold.old hold.new }
 {
+    exported.clear();
     let mut going = true;
     for job in jobs {
-        going = settle(hold, seat, replica, &job, going);
+        going = settle(hold, seat, replica, &job, going, exported);
         drop(job);
     }
     going
@@ -318,7 +333,7 @@ fn take_and_read<'p>(
     }
     let Ok(read) = hold.read_new(&mut stock.replica, &mut stock.imported) else {
         let taken = replace(&mut stock.jobs, Vec::new(common.alloc));
-        let _ = hand_in(hold, seat, &stock.replica, taken);
+        let _ = hand_in(hold, seat, &stock.replica, taken, &mut stock.exported);
         return Next::End;
     };
     *rows = read;
@@ -389,7 +404,7 @@ fn hand_over<'p>(
     let all = if sharing.is_lone(worker) {
         do_each(common, hold, seat, jobs, &mut stock.tally)
     } else {
-        hand_in(hold, seat, &stock.replica, jobs)
+        hand_in(hold, seat, &stock.replica, jobs, &mut stock.exported)
     };
     let entries = hold.entries();
     let new = entries.saturating_sub(before);

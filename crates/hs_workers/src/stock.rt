@@ -15,6 +15,8 @@ pub(crate) struct Stock {
     pub(crate) replica: Replica,
     /// What rows are read with, kept so that the next time takes no memory anew.
     pub(crate) imported: ImportedNumbers,
+    /// What deductions are published with, kept for the same reason.
+    pub(crate) exported: ImportedNumbers,
     /// The works that it holds.
     pub(crate) jobs: Vec<Job>,
     /// How many conclusions it has formed since its last turn, known ones too.
@@ -30,6 +32,7 @@ impl Stock {
         Stock {
             replica: Replica::new(alloc),
             imported: ImportedNumbers::new(alloc),
+            exported: ImportedNumbers::new(alloc),
             jobs: Vec::new(alloc),
             tally: Tally::new(),
         }

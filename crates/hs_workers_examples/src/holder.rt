@@ -12,6 +12,7 @@ use hs_fixtures::know;
 use hs_flow::Dependents;
 use hs_scheme::Problem;
 use hs_shared::{Deduced, Hold, Published, SharedTable, Taken, Tally, Work};
+use hs_types::ImportedNumbers;
 use std::alloc::Global;
 use std::process::Abort;
 
@@ -70,8 +71,15 @@ fn publish_one<'p, R: Abort>(
     ensures { IsHolder table.now problem.now worker.new.seat hold.new
         worker.new.replica.log worker.new.held }
 {
-    hold.publish(&mut worker.seat, ticket, &worker.replica, deduced)
-        .expect(rt, "memory")
+    let mut exported = ImportedNumbers::new(*deduced.args.allocator());
+    let published = hold.publish(
+        &mut worker.seat,
+        ticket,
+        &worker.replica,
+        deduced,
+        &mut exported,
+    );
+    published.expect(rt, "memory")
 }
 
 /// Publishes the one entry that follows at the point by the work that the worker holds.

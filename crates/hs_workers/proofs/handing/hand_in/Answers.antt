@@ -11,6 +11,7 @@ loop-job-preserved c =
     let ys = c.loop-job.yielded in
     record {
       goes = goes_trans c.args.seat.now c.loop-job.seat c.settle-going.new.seat c.args.hold.now c.loop-job.hold c.settle-going.new.hold before.goes now.goes;
+      exported = now.exported;
       carries = carries_next c.loop-job.seat.known.number c.settle-going.new.seat.known.number (state_of c.loop-job.hold.core).flight (state_of c.settle-going.new.hold.core).flight
           c.loop-job.job-iterator.rest.items c.next.new.self.rest.items c.in-Some.job c.in-Some.ensures.steps.0 now.goes.number now.flight before.carries;
       whole = append_assoc ys (c.in-Some.job ∷ []) c.next.new.self.rest.items ∙ sym (ap (λ xs. ys ++ xs) c.in-Some.ensures.steps.0) ∙ before.whole;

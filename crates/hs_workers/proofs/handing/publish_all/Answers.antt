@@ -31,6 +31,7 @@ publish_one-requires-clause-deduced c =
 pub loop-deduced-init : goal.loop-deduced-init
 loop-deduced-init c = record {
   goes = goes_none c.args.seat.now c.args.hold.now c.requires.holds;
+  exported = c.requires.exported;
   flight = λ t. refl;
   there = λ k d lt. absurd (omega arith);
 }
@@ -44,6 +45,7 @@ loop-deduced-preserved c =
     let n = c.loop-deduced.deduced-index in
     record {
       goes = goes_trans c.args.seat.now c.loop-deduced.seat c.publish_one.new.seat c.args.hold.now c.loop-deduced.hold c.publish_one.new.hold before.goes now.goes;
+      exported = now.exported;
       flight = λ t. now.flight t ∙ before.flight t;
       there = λ k d lt. elim (cases_lt k n) [
         | inl below ↦ in_whole (log_of c.loop-deduced.hold.core) (log_of c.publish_one.new.hold.core) (entry_of ids (get_or found k d).row) now.goes.log (before.there k d below)

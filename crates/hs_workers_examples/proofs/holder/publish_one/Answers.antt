@@ -3,13 +3,13 @@ use Rattle.hs_workers_examples.proofs.StepLemmas.{expected, same_story, publishe
 use Rattle.hs_workers_examples.proofs.HoldLemmas.{holds_on, held_ticket, held_follows}
 use Rattle.hs_workers_examples.proofs.holder.publish_one.Goals as goal
 
-pub publish-requires-clause-ticket : goal.publish-requires-clause-ticket
-publish-requires-clause-ticket g c =
+pub publish-published-requires-clause-ticket : goal.publish-published-requires-clause-ticket
+publish-published-requires-clause-ticket g c =
     let w = c.args.worker.now in
     held_ticket c.args.table.now c.args.problem.now w.seat c.args.hold.now w.replica.log w.held c.requires.holder c.args.work c.args.ticket c.requires.held
 
-pub publish-requires-clause-follows : goal.publish-requires-clause-follows
-publish-requires-clause-follows g c =
+pub publish-published-requires-clause-follows : goal.publish-published-requires-clause-follows
+publish-published-requires-clause-follows g c =
     let w = c.args.worker.now in
     held_follows c.args.table.now c.args.problem.now w.seat c.args.hold.now w.replica.log w.held c.requires.holder w.replica.ids c.args.deduced.now c.requires.deduced
 
@@ -20,8 +20,8 @@ returns g c =
     let p = c.args.problem.now in
     let log = w.replica.log in
     let core = c.args.hold.now.core in
-    let new = c.publish.new.self in
+    let new = c.publish-published.new.self in
     let answer = c.expect.result in
-    let done = expected _ c.publish.result answer c.expect.ensures c.publish.ensures.ok in
-    holds_on c.args.table.now p w.seat c.args.hold.now log w.held c.requires.holder c.publish.new.seat new w.held c.publish.ensures.turn c.publish.ensures.told c.publish.ensures.holds
+    let done = expected _ c.publish-published.result answer c.expect.ensures c.publish-published.ensures.ok in
+    holds_on c.args.table.now p w.seat c.args.hold.now log w.held c.requires.holder c.publish-published.new.seat new w.held c.publish-published.ensures.turn c.publish-published.ensures.told c.publish-published.ensures.holds
     (publishes_on p n log done.0 new.core w.held c.args.ticket (deduction_of w.replica.ids c.args.deduced.now) answer (same_story p n log core done.0 w.held done.2 done.3 c.requires.holder.works) done.4).1

@@ -9,14 +9,14 @@ use Rattle.hs_replica.proofs.replica.Replica.list_types.Goals as goal
 pub add_types-requires-clause-index : goal.add_types-requires-clause-index
 add_types-requires-clause-index c =
     let a = c.self.inside in
-    subst (λ (rows : List RowData). IsTypedIndex a.interner (log_of a.interner rows) a.indexed a.by_type.items (list_at a.lists)) (sym c.as_slice.ensures.keys) (a.asked.items, c.self.invariant.index)
+    subst (λ (rows : List RowData). IsTypedIndex a.interner (log_of a.interner rows) a.indexed a.by_type.items (list_at a.lists)) (sym c.as_slice-2.ensures.keys) (a.asked.items, c.self.invariant.index)
 
 pub invariant_of-self : goal.invariant_of-self
 invariant_of-self c =
     let a = c.self.inside in
     kept_index a.interner a.rows.keys (spare a.rows) a.reserved a.indexed a.indexed a.by_type.items a.asked.items c.add_types.new.by_type.items a.asked.items (list_at a.lists) (list_at c.add_types.new.lists) c.self.invariant
     c.self.invariant.within
-    (subst (λ (rows : List RowData). KeepsTyped a.interner (log_of a.interner rows) a.indexed a.by_type.items c.add_types.new.by_type.items (list_at a.lists) (list_at c.add_types.new.lists)) c.as_slice.ensures.keys
+    (subst (λ (rows : List RowData). KeepsTyped a.interner (log_of a.interner rows) a.indexed a.by_type.items c.add_types.new.by_type.items (list_at a.lists) (list_at c.add_types.new.lists)) c.as_slice-2.ensures.keys
     c.add_types.ensures.index a.asked.items c.self.invariant.index)
 
 pub returns-clause-kept : goal.returns-clause-kept

@@ -1,15 +1,10 @@
-use Rattle.hs_types.proofs.Numbers.{Grows-trans}
-use Rattle.hs_types.proofs.RowLemmas.{found_row, found_entry}
+use Rattle.std.proofs.Common.{subst}
+use Rattle.hs_types.specs.Interned.{InternerData, Grows}
+use Rattle.hs_types.proofs.UnionLemmas.{unions_grow}
 use Rattle.hs_types.proofs.interner.Interner.import.Goals as goal
 
-pub returns-in_err-ty-clause-grows : goal.returns-in_err-ty-clause-grows
-returns-in_err-ty-clause-grows c = Grows-trans c.args.self.now c.import_env.new.self c.import_ty.new.self c.import_env.ensures.grows c.import_ty.ensures.grows
-
-pub returns-clause-row : goal.returns-clause-row
-returns-clause-row c = found_row c.import_env.new.self c.import_ty.new.self c.args.from.now c.import_ty.ensures.grows c.args.row c.in_ok-env.env c.in_ok-ty.ty c.in_ok-env.ensures.ok c.in_ok-ty.ensures.ok
-
-pub returns-clause-entry : goal.returns-clause-entry
-returns-clause-entry c = found_entry c.import_env.new.self c.import_ty.new.self c.args.from.now c.import_ty.ensures.grows c.args.row c.in_ok-env.env c.in_ok-ty.ty c.in_ok-env.ensures.ok c.in_ok-ty.ensures.ok
+pub invariant_of-self : goal.invariant_of-self
+invariant_of-self c = unions_grow c.self.inside.nodes c.import_row.new.self c.self.inside.set_unions.known.items c.self.inside.env_unions.known.items c.import_row.ensures.grows c.self.invariant
 
 pub returns-clause-grows : goal.returns-clause-grows
-returns-clause-grows c = Grows-trans c.args.self.now c.import_env.new.self c.import_ty.new.self c.import_env.ensures.grows c.import_ty.ensures.grows
+returns-clause-grows c = subst (λ (I : InternerData). Grows I c.import_row.new.self) c.self.view_is c.import_row.ensures.grows

@@ -9,24 +9,24 @@ use Rattle.hs_types.proofs.nodes.Nodes.import_rows.Goals as goal
 pub loop-row-preserved : goal.loop-row-preserved
 loop-row-preserved c =
     let J = c.loop-row.self in
-    let K = c.find_row.new.self in
-    let g = c.find_row.ensures.grows in
+    let K = c.import_row.new.self in
+    let g = c.import_row.ensures.grows in
     let h = c.loop-row.invariant in
-    let own = c.in_ok-find_row.field-0 in
+    let own = c.in_ok-import_row.field-0 in
     record {
       grows = Grows-trans c.args.self.now J K h.grows g;
-      found = c.in_ok-find_row.ensures.found;
-      known = rows_known J K g c.loop-row.own.items c.push_reserved.new.self.items own h.known c.in_ok-find_row.ensures.row c.push_reserved.ensures.items;
+      found = c.import_row.ensures.found;
+      known = rows_known J K g c.loop-row.own.items c.push_reserved.new.self.items own h.known c.in_ok-import_row.ensures.row c.push_reserved.ensures.items;
       same = rows_same J K c.args.from.now g c.loop-row.own.items c.push_reserved.new.self.items c.args.rows.now own c.row-item.result c.loop-row.row-index
-          h.known h.same c.in_ok-find_row.ensures.entry c.loop-row-test.true c.row-item.is c.push_reserved.ensures.items;
+          h.known h.same c.in_ok-import_row.ensures.entry c.loop-row-test.true c.row-item.is c.push_reserved.ensures.items;
       room = omega (arith, c.push_reserved.ensures.capacity, c.loop-row.invariant.room);
     }
 
-pub find_row-requires-clause-row : goal.find_row-requires-clause-row
-find_row-requires-clause-row c = subst (λ (r : RowData). IsRow c.args.from.now r) (sym c.row-item.is) (c.requires c.loop-row.row-index c.row-item.result c.loop-row-test.true)
+pub import_row-requires-clause-row : goal.import_row-requires-clause-row
+import_row-requires-clause-row c = subst (λ (r : RowData). IsRow c.args.from.now r) (sym c.row-item.is) (c.requires.rows c.loop-row.row-index c.row-item.result c.loop-row-test.true)
 
-pub returns-in_err-find_row-clause-grows : goal.returns-in_err-find_row-clause-grows
-returns-in_err-find_row-clause-grows c = Grows-trans c.args.self.now c.loop-row.self c.find_row.new.self c.loop-row.invariant.grows c.find_row.ensures.grows
+pub returns-in_err-import_row-clause-grows : goal.returns-in_err-import_row-clause-grows
+returns-in_err-import_row-clause-grows c = Grows-trans c.args.self.now c.loop-row.self c.import_row.new.self c.loop-row.invariant.grows c.import_row.ensures.grows
 
 pub push_reserved-requires : goal.push_reserved-requires
 push_reserved-requires c =

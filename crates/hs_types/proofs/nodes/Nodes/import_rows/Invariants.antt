@@ -7,7 +7,7 @@ use Rattle.hs_types.proofs.nodes.Nodes.import_rows.Given as goal
 abbrev pub invariant-loop-row : goal.invariant-loop-row
 invariant-loop-row l = record {
   grows : Grows l.fn.self l.self;
-  found : AreFound l.from l.self l.found.types.pairs.items l.found.envs.pairs.items;
+  found : AreFound l.from l.self l.found;
   known : All (IsRow l.self) l.own.items;
   same : map (entry_of l.self) l.own.items ≡ map (entry_of l.from) (take l.row-index l.rows);
   room : length l.rows ≤ vec_capacity l.own;
