@@ -4,7 +4,7 @@
 ghost use Rattle.std.specs.Prelude.{◌≡◌, ◌<◌, ◌≤◌, ℕ, length, OnOk};
 ghost use Rattle.hs_flow.specs.Dependents.{HasDependents};
 ghost use Rattle.hs_core.specs.Core.{log_of};
-ghost use Rattle.hs_rank.specs.Gathering.{HasRows, AreNewDeduced, IsKnown, Gathered};
+ghost use Rattle.hs_rank.specs.Gathering.{AreNewDeduced, IsKnown, Gathered};
 ghost use Rattle.hs_rank.specs.Following.{HasSeedBy, HasAtBy, HasPlaceBy};
 
 use hs_core::Core;
@@ -23,8 +23,6 @@ fn gather_seed(
     requires point { point < length core.old.base.problem.points.points }
     requires fresh { AreNewDeduced core.old.base.problem core.old.ids (log_of core.old)
         fresh.old.list.items }
-    requires rows { HasRows fresh.old.rows.keys fresh.old.list.items }
-    ensures rows { OnOk result (HasRows fresh.new.rows.keys fresh.new.list.items) }
     ensures kept { OnOk result (core.new ≡ record core.old { ids = core.new.ids }) }
     ensures gathered { OnOk result (Gathered core.old.base.problem (log_of core.old)
         core.old.ids fresh.old.list.items core.new.ids fresh.new.list.items) }
@@ -47,8 +45,6 @@ fn gather_at(
     requires place { place < length (log_of core.old) }
     requires fresh { AreNewDeduced core.old.base.problem core.old.ids (log_of core.old)
         fresh.old.list.items }
-    requires rows { HasRows fresh.old.rows.keys fresh.old.list.items }
-    ensures rows { OnOk result (HasRows fresh.new.rows.keys fresh.new.list.items) }
     ensures kept { OnOk result (core.new ≡ record core.old { ids = core.new.ids }) }
     ensures gathered { OnOk result (Gathered core.old.base.problem (log_of core.old)
         core.old.ids fresh.old.list.items core.new.ids fresh.new.list.items) }
@@ -72,8 +68,6 @@ fn gather_place(
     requires place { place < length (log_of core.old) }
     requires fresh { AreNewDeduced core.old.base.problem core.old.ids (log_of core.old)
         fresh.old.list.items }
-    requires rows { HasRows fresh.old.rows.keys fresh.old.list.items }
-    ensures rows { OnOk result (HasRows fresh.new.rows.keys fresh.new.list.items) }
     ensures kept { OnOk result (core.new ≡ record core.old { ids = core.new.ids }) }
     ensures gathered { OnOk result (Gathered core.old.base.problem (log_of core.old)
         core.old.ids fresh.old.list.items core.new.ids fresh.new.list.items) }
@@ -96,8 +90,6 @@ pub(crate) fn gather_seeds(
 ) -> Result<(), OutOfMemory>
     requires fresh { AreNewDeduced core.old.base.problem core.old.ids (log_of core.old)
         fresh.old.list.items }
-    requires rows { HasRows fresh.old.rows.keys fresh.old.list.items }
-    ensures rows { OnOk result (HasRows fresh.new.rows.keys fresh.new.list.items) }
     ensures kept { OnOk result (core.new ≡ record core.old { ids = core.new.ids }) }
     ensures gathered { OnOk result (Gathered core.old.base.problem (log_of core.old)
         core.old.ids fresh.old.list.items core.new.ids fresh.new.list.items) }
@@ -124,8 +116,6 @@ pub(crate) fn gather_places(
         dependents.now }
     requires fresh { AreNewDeduced core.old.base.problem core.old.ids (log_of core.old)
         fresh.old.list.items }
-    requires rows { HasRows fresh.old.rows.keys fresh.old.list.items }
-    ensures rows { OnOk result (HasRows fresh.new.rows.keys fresh.new.list.items) }
     ensures kept { OnOk result (core.new ≡ record core.old { ids = core.new.ids }) }
     ensures gathered { OnOk result (Gathered core.old.base.problem (log_of core.old)
         core.old.ids fresh.old.list.items core.new.ids fresh.new.list.items) }

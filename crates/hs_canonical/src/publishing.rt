@@ -1,6 +1,6 @@
 //! A round is published under one ticket, in the order of its entries.
 
-ghost use Rattle.std.specs.Prelude.{◌≡◌, ◌≢◌, ◌<◌, ◌≤◌, ◌∷◌, [], ℕ, length, slice_get, Some, false, IfNone, IfSome, OnOk, Contains};
+ghost use Rattle.std.specs.Prelude.{◌≡◌, ◌<◌, ◌≤◌, ◌∷◌, [], length, false, IfNone, IfSome, OnOk, Contains};
 ghost use Rattle.hs_types.specs.Interned.{IsRow, entry_of};
 ghost use Rattle.hs_table.specs.Follows.{FollowsBy};
 ghost use Rattle.hs_history.specs.CoreStep.{Holds};
@@ -9,10 +9,10 @@ ghost use Rattle.hs_rank.specs.Ordering.{picked};
 ghost use Rattle.hs_canonical.specs.Publishing.{HasNoStory, HasNothing, HasPublished, CanPublish};
 
 use hs_core::{Core, Taken};
+use hs_rank::take_out;
 use hs_rules::Deduced;
 use hs_scheme::OutOfMemory;
 use std::alloc::Global;
-use std::mem::replace;
 
 /// The worker in whose name all is done.
 const WORKER: u32 = 1;
@@ -37,21 +37,6 @@ pub(crate) fn first_ticket(core: &mut Core) -> Option<u32>
         Taken::Idle => None,
         Taken::Over => None,
         Taken::Found { place: _ } => None,
-    }
-}
-
-/// Takes what stands at the place, and leaves its row and its head there.
-fn take_out(alloc: Global, found: &mut Vec<Deduced>, place: usize) -> Deduced
-    requires { place < length found.old.items }
-    ensures taken { slice_get found.old.items place ≡ Some result }
-    ensures others { (k : ℕ) → k ≢ place → slice_get found.new.items k ≡ slice_get found.old.items k }
-{
-    let there = &mut found[place];
-    let args = replace(&mut there.args, Vec::new(alloc));
-    Deduced {
-        row: there.row,
-        head: there.head,
-        args,
     }
 }
 

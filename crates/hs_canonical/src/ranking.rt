@@ -7,7 +7,7 @@ ghost use Rattle.hs_table.specs.Follows.{Support, FollowsBy};
 ghost use Rattle.hs_table.specs.Tables.{Exceeds, IsLeastTable};
 ghost use Rattle.hs_core.specs.Core.{state_of, log_of};
 ghost use Rattle.hs_rank.specs.Canonical.{IsCanonicalLog};
-ghost use Rattle.hs_rank.specs.Gathering.{HasRows, AreNewDeduced, IsKnown};
+ghost use Rattle.hs_rank.specs.Gathering.{AreNewDeduced, IsKnown};
 ghost use Rattle.hs_rank.specs.Ranked.{HoldsRound, IsAtRound};
 ghost use Rattle.hs_canonical.specs.Publishing.{HasNoStory};
 ghost use Rattle.hs_canonical.specs.Ranking.{IsRanking};
@@ -27,7 +27,6 @@ fn add_round(
     ticket: u32,
     fresh: &mut Fresh,
 ) -> Result<(), OutOfMemory>
-    requires rows { HasRows fresh.old.rows.keys fresh.old.list.items }
     requires fresh { AreNewDeduced core.old.base.problem core.old.ids (log_of core.old)
         fresh.old.list.items }
     requires all { (s : Support) (e : EntryData) → FollowsBy core.old.base.problem (log_of core.old) s e
@@ -40,7 +39,7 @@ fn add_round(
     ensures ranking { OnOk result (IsRanking ticket core.new) }
 {
     core.know_core();
-    let places = places_in_order(alloc, core.replica(), fresh)?;
+    let places = places_in_order(alloc, core.replica(), fresh.list.as_slice())?;
     publish_round(alloc, core, ticket, &mut fresh.list, places.as_slice())
 }
 
@@ -150,13 +149,14 @@ fn rank_anew(alloc: Global, problem: &Problem, core: &mut Core) -> Result<(), Ou
 /// the least table in whatever order, and uses its memory and the types that it has numbered.
 ///
 /// Round by round the conclusions are formed that use an entry of the last one, as saturation forms
-/// them, each with its least support. Of those that are new the lesser support is kept, and when the
-/// round is whole they are sorted and published. The core is made by its public steps: a seed is taken,
-/// and each entry is published under its ticket. So the seed stays in flight, and all other works stay
-/// pending.
+/// them, each with its least support. When the round is whole, those that are new are sorted, of each
+/// entry the one with the least support is kept, and these are published. The core is made by its
+/// public steps: a seed is taken, and each entry is published under its ticket. So the seed stays in
+/// flight, and all other works stay pending.
 ///
-/// So it takes the time of saturation, and that of sorting. Beside the core an entry takes some 90
-/// bytes while its round is formed, and a list of its chosen arguments.
+/// So it takes the time of saturation, and that of sorting. Beside the core a conclusion takes some 80
+/// bytes while its round is formed, and a list of its chosen arguments; there are not more than some
+/// four times as many as the round or the one before it has entries, or some thousands.
 pub fn canonical<'p>(
     alloc: Global,
     problem: &'p Problem,

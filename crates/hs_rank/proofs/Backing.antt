@@ -1,25 +1,28 @@
 -- The supports of the entries of one more round.
-use Rattle.std.proofs.Common.{◌≡◌, refl, sym, ◌∙◌, ap, subst, ℕ, suc, List, [], ◌++◌, length, map, take, slice_get, Some, option_map, arith, Contains, inl, inr}
-use Rattle.std.proofs.lemmas.List.{length-append, length-map, take-append-le, take_all}
+use Rattle.std.proofs.Common.{◌≡◌, refl, sym, ◌∙◌, ap, subst, ℕ, suc, ◌<◌, List, [], ◌++◌, length, map, get_or, take, slice_get, Some, option_map, arith, Contains, inl, inr}
+use Rattle.std.specs.declared.cmp.Ordering.TheVariants.{Less, Equal}
+use Rattle.std.proofs.lemmas.Bool.{cases_order}
+use Rattle.std.proofs.lemmas.Cmp.{tied_itself}
+use Rattle.std.proofs.lemmas.List.{get_or-map, get_or_default, length-append, length-map, take-append-le, take_all}
 use Rattle.std.proofs.lemmas.Option.{slice_get-map, same_Some}
 use Rattle.hs_scheme.specs.Problem.{ProblemData}
 use Rattle.hs_scheme.proofs.Lists.{none_in, Contains-at, place-append}
 use Rattle.hs_scheme.proofs.TransitionLemmas.{mapped}
-use Rattle.hs_table.specs.Entries.{EntryData}
+use Rattle.hs_scheme.specs.flow.Flow.{IsAscending}
+use Rattle.hs_table.specs.Entries.{EntryData, entry_cmp}
 use Rattle.hs_table.specs.Follows.{Support, FollowsBy, premises}
 use Rattle.hs_table.specs.Tables.{IsLeastTable}
 use Rattle.hs_table_laws.proofs.Members.{into_map}
+use Rattle.hs_table_laws.proofs.Orders.{entry_cmp_total}
 use Rattle.hs_table_laws.proofs.Places.{within_from}
-use Rattle.hs_types.specs.Interned.{InternerData, RowData, entry_of, IsInterner}
-use Rattle.hs_types.proofs.Numbers.{same_row}
+use Rattle.hs_types.specs.Interned.{InternerData, entry_of}
 use Rattle.hs_rules.specs.Order.{IsNoGreater}
 use Rattle.hs_rules.specs.Conclusions.{DeducedData}
-use Rattle.hs_rules.specs.Found.{RowsAre}
 use Rattle.hs_rules.proofs.Lists.{along}
-use Rattle.hs_rules.proofs.PartLemmas.{one_of_row}
+use Rattle.hs_rules.proofs.OrderLemmas.{no_greater_then}
 use Rattle.hs_rank.specs.Canonical.{IsByRank, IsCanonicalLog}
 use Rattle.hs_rank.specs.Fronts.{IsLeastSupport}
-use Rattle.hs_rank.specs.Gathering.{HasRows, AreNewDeduced, IsKnown}
+use Rattle.hs_rank.specs.Gathering.{AreNewDeduced, IsKnown}
 use Rattle.hs_rank.specs.Ordering.{entries_of, picked, AreInOrder}
 use Rattle.hs_rank.specs.Ranked.{HoldsRound, IsNextRound, HasLeastSupport, HaveLeastSupports}
 use Rattle.hs_rank.proofs.Rounds.{rank_same}
@@ -77,26 +80,42 @@ module _ (p : ProblemData) (n : ℕ) (log fresh : List EntryData) (a : HoldsRoun
     least = subst (λ (E : List EntryData). IsLeastSupport p E s e) (sym fresh_front) h;
   }
 
--- what was gathered is found with some of its rows
-pub as_found : (keys : List RowData) (found : List DeducedData) → HasRows keys found → (rows : List RowData) × RowsAre rows found
-as_found keys found h = (_, record { same = refl; once = h.once })
+-- of a list in order no two have one entry
+pub one_of_entry : (f : DeducedData → EntryData) (xs : List DeducedData) (a b : DeducedData) → IsAscending entry_cmp (map f xs) → Contains xs a → Contains xs b → f a ≡ f b → a ≡ b
+one_of_entry f xs a b up (i, i_in, i_at) (j, j_in, j_at) same = elim (cases_order i j) [
+  | inl is ↦ sym i_at ∙ ((λ k. get_or xs (is k) a) ∙ (get_or_default xs j a b j_in ∙ j_at))
+  | inr (inl less) ↦ absurd (never i j a b less i_in j_in i_at j_at same)
+  | inr (inr more) ↦ absurd (never j i b a more j_in i_in j_at i_at (sym same))
+]
+  where
+    never : (i j : ℕ) (a b : DeducedData) → i < j → i < length xs → j < length xs → get_or xs i a ≡ a → get_or xs j b ≡ b → f a ≡ f b → ⊥
+    never i j a b less i_in j_in i_at j_at same =
+        let long = length-map xs f in
+        let up_at = up i j (f a) less (omega (arith, j_in, long)) in
+        let one : get_or (map f xs) i (f a) ≡ f a = get_or-map f xs i a (f a) i_in ∙ ap f i_at in
+        let two : get_or (map f xs) j (f a) ≡ f a = get_or-map f xs j b (f a) j_in ∙ (ap f j_at ∙ sym same) in
+        let itself : entry_cmp (f a) (f a) ≡ Less = (λ k. entry_cmp (sym one k) (sym two k)) ∙ up_at in
+        let bad : Equal ≡ Less = sym (tied_itself entry_cmp_total (f a)) ∙ itself in
+        cc
 
--- what was gathered with its entry has the least support by the log
-pub gathered_least : (p : ProblemData) (ids : InternerData) (log : List EntryData) (keys : List RowData) (found : List DeducedData) → IsInterner ids → HasRows keys found → AreNewDeduced p ids log found
-    → ((s : Support) (e : EntryData) → FollowsBy p log s e → IsKnown ids log found s e) → (d : DeducedData) → Contains found d → IsLeastSupport p log d.support (entry_of ids d.row)
-gathered_least p ids log keys found numbers rows new all d there = record {
-  follows = (new d there).deduced.follows;
-  least = λ r by. elim (all r (entry_of ids d.row) by) [
-    | inl was ↦ absurd ((new d there).new was)
-    | inr h ↦
-        let row_is = same_row ids numbers h.item.row d.row (new h.item h.there).deduced.row (new d there).deduced.row h.is in
-        let same = one_of_row (as_found keys found rows).0 found (as_found keys found rows).1 h.item d h.there there row_is in
-        subst (λ (x : DeducedData). IsNoGreater (premises x.support) (premises r)) same h.least
-  ];
-}
+-- what is published with its entry has the least support by the log
+pub gathered_least : (p : ProblemData) (ids : InternerData) (log : List EntryData) (found : List DeducedData) (places : List ℕ) → AreInOrder ids found places → AreNewDeduced p ids log found
+    → ((s : Support) (e : EntryData) → FollowsBy p log s e → IsKnown ids log found s e) → (d : DeducedData) → Contains (picked found places) d → IsLeastSupport p log d.support (entry_of ids d.row)
+gathered_least p ids log found places order new all d there =
+    let own = new d (order.only d there) in
+    record {
+      follows = own.deduced.follows;
+      least = λ r by. elim (all r (entry_of ids d.row) by) [
+        | inl was ↦ absurd (own.new was)
+        | inr h ↦
+            let low = order.lowers h.item h.there in
+            let same = one_of_entry (λ (x : DeducedData). entry_of ids x.row) (picked found places) low.item d order.ascending low.there there (ap (entry_of ids) low.is ∙ h.is) in
+            subst (λ (x : DeducedData). IsNoGreater (premises x.support) (premises r)) same (no_greater_then (premises low.item.support) (premises h.item.support) (premises r) low.least h.least)
+      ];
+    }
 
 -- one more round
-module _ (p : ProblemData) (n : ℕ) (ids : InternerData) (log : List EntryData) (keys : List RowData) (found : List DeducedData) (places : List ℕ) (old : List Support) (numbers : IsInterner ids) (once : HasRows keys found) (fresh : AreNewDeduced p ids log found)
+module _ (p : ProblemData) (n : ℕ) (ids : InternerData) (log : List EntryData) (found : List DeducedData) (places : List ℕ) (old : List Support) (fresh : AreNewDeduced p ids log found)
     (all : (s : Support) (e : EntryData) → FollowsBy p log s e → IsKnown ids log found s e) (a : HoldsRound p n log) (order : AreInOrder ids found places) (b : IsNextRound p log (entries_of ids (picked found places))) (was : HaveLeastSupports p log old) where
   abbrev round : List DeducedData
   round = picked found places
@@ -114,7 +133,7 @@ module _ (p : ProblemData) (n : ℕ) (ids : InternerData) (log : List EntryData)
       let among = Contains-at round k d.0 d.1.0 in
       let there : Contains (entries_of ids round) (entry d.0) = into_map entry round d.0 among in
       along (λ i. HasLeastSupport p (log ++ entries_of ids round) (d.1.1 i) (image i))
-      (least_here p n log (entries_of ids round) a b d.0.support (entry d.0) there (gathered_least p ids log keys found numbers once fresh all d.0 ((order.same d.0).0 among)))
+      (least_here p n log (entries_of ids round) a b d.0.support (entry d.0) there (gathered_least p ids log found places order fresh all d.0 among))
 
   least_at : (place : ℕ) (s : Support) (e : EntryData) → slice_get (old ++ supports) place ≡ Some s → slice_get (log ++ entries_of ids round) place ≡ Some e → HasLeastSupport p (log ++ entries_of ids round) s e
   least_at place s e at here = elim (place-append old supports place s at) [

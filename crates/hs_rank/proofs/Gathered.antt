@@ -6,23 +6,21 @@ use Rattle.hs_table.specs.Entries.{EntryData}
 use Rattle.hs_table.specs.Follows.{Support, FollowsBy, premises}
 use Rattle.hs_table_laws.proofs.Growing.{by_append}
 use Rattle.hs_table_laws.proofs.Members.{from_map}
-use Rattle.hs_types.specs.Interned.{InternerData, RowData, entry_of, Grows}
+use Rattle.hs_types.specs.Interned.{InternerData, IsRow, entry_of, Grows}
 use Rattle.hs_types.proofs.Numbers.{Grows-refl, Grows-trans, row_stays}
 use Rattle.hs_rules.specs.Conclusions.{DeducedData, IsDeduced, IsLeastOf, AreConclusions}
-use Rattle.hs_rules.proofs.Lists.{along}
+use Rattle.hs_rules.proofs.Lists.{all_from}
 use Rattle.hs_rules.proofs.OrderLemmas.{no_greater_then}
 use Rattle.hs_rules.proofs.ConcludeLemmas.{deduced_later}
-use Rattle.hs_rank.specs.Gathering.{HasRows, IsNewDeduced, AreNewDeduced, IsKnown, AddsNew, Gathered}
+use Rattle.hs_rank.specs.Gathering.{IsNewDeduced, AreNewDeduced, IsKnown, AddsNew, Gathered}
 use Rattle.hs_rank.proofs.Sorted.{all_of}
-
--- nothing gathered
-pub rows_none : (rows : List RowData) (found : List DeducedData) → rows ≡ [] → found ≡ [] → HasRows rows found
-rows_none rows found no_rows none =
-    let nothing : HasRows [] [] = record { same = refl; once = λ i j d lt below. absurd (omega (arith, below)) } in
-    along (λ i. HasRows (sym no_rows i) (sym none i)) nothing
 
 new_grows : (p : ProblemData) (I J : InternerData) → Grows I J → (log : List EntryData) (d : DeducedData) → IsNewDeduced p I log d → IsNewDeduced p J log d
 new_grows p I J g log d f = record { deduced = deduced_later p log I J d g f.deduced; new = λ c. f.new (subst (λ e. Contains log e) (row_stays I J g d.row f.deduced.row) c) }
+
+-- the rows of what was gathered keep their meaning
+pub rows_after : (p : ProblemData) (I J : InternerData) → Grows I J → (log : List EntryData) (found : List DeducedData) → AreNewDeduced p I log found → All (λ d. IsRow J d.row) found
+rows_after p I J g log found fresh = all_from (λ (d : DeducedData). IsRow J d.row) found (λ d there. (deduced_later p log I J d g (fresh d there).deduced).row)
 
 -- what follows from the beginning of a log follows from the log
 pub by_front : (p : ProblemData) (n : ℕ) (log : List EntryData) (s : Support) (e : EntryData) → FollowsBy p (take n log) s e → FollowsBy p log s e

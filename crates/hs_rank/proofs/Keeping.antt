@@ -4,10 +4,11 @@ use Rattle.std.proofs.lemmas.List.{append-nil, append_assoc}
 use Rattle.std.proofs.lemmas.List.Elements.{Contains-append_left, Contains-push}
 use Rattle.hs_scheme.proofs.Lists.{none_in, here, later, uncons}
 use Rattle.hs_table.specs.Entries.{EntryData}
-use Rattle.hs_types.specs.Interned.{InternerData, entry_of}
+use Rattle.hs_types.specs.Interned.{InternerData, IsRow, entry_of}
 use Rattle.hs_rules.specs.Conclusions.{DeducedData}
 use Rattle.hs_rules.specs.Found.{HasNoGreater, Lowers}
 use Rattle.hs_rules.proofs.FoundLemmas.{lowers_none, lower_then, lowers_then}
+use Rattle.hs_rules.proofs.Lists.{all_from}
 use Rattle.hs_rank.specs.Gathering.{AddsNew}
 use Rattle.hs_rank.proofs.Sorted.{all_of}
 
@@ -76,3 +77,21 @@ added_all ids log found left old new none h = subst (λ (ds : List DeducedData).
 pub next_among : (P : DeducedData → Type 0) (ids : InternerData) (log : List EntryData) (found left rest old new : List DeducedData) (d : DeducedData) → left ≡ rest ++ d ∷ [] → HasAdded ids log found left old new → All P found → P d
 next_among P ids log found left rest old new d is h all =
     all_of P found d all (subst (λ (ds : List DeducedData). Contains ds d) h.whole (Contains-append_left left h.done d (subst (λ (ds : List DeducedData). Contains ds d) (sym is) (Contains-push rest d))))
+
+-- of what was gathered some is left, with no greater supports
+pub adds_then : (ids : InternerData) (log : List EntryData) (Among : DeducedData → Type 0) (a b c : List DeducedData) → AddsNew ids log Among a b → Lowers b c → ((d : DeducedData) → Contains c d → Contains b d) → AddsNew ids log Among a c
+adds_then ids log Among a b c adds lowers only = record {
+  lowers = lowers_then a b c adds.lowers lowers;
+  only = λ d h. adds.only d (only d h);
+  there = λ d h. elim (adds.there d h) [
+    | inl known ↦ inl known
+    | inr kept_there ↦ inr (lower_then b c d.row d.support kept_there lowers)
+  ];
+}
+
+-- all that is gathered has numbers
+pub known_after : (ids : InternerData) (log : List EntryData) (found old new : List DeducedData) → All (λ d. IsRow ids d.row) found → All (λ d. IsRow ids d.row) old → AddsNew ids log (Contains found) old new → All (λ d. IsRow ids d.row) new
+known_after ids log found old new f o adds = all_from (λ (d : DeducedData). IsRow ids d.row) new (λ d there. elim (adds.only d there) [
+  | inl was ↦ all_of (λ (x : DeducedData). IsRow ids x.row) old d o was
+  | inr (among, absent) ↦ all_of (λ (x : DeducedData). IsRow ids x.row) found d f among
+])

@@ -1,28 +1,16 @@
 -- What is gathered of a round: entries that follow from the log and that it lacks, with supports.
---     HasRows                  these are the rows of what was gathered, each once
---     IsLesser                 of two that were deduced, this one has the lesser support
 --     IsNewDeduced, AreNewDeduced            so is one of these; so are all of them
 --     IsKnown                  an entry is in the log, or was gathered with no greater support
---     AddsNew                  those of a kind whose entries the log lacks were added, with the lesser supports
+--     AddsNew                  those of a kind whose entries the log lacks were added, or are there with no greater supports
 --     Gathered old xs new ys   xs became ys, while the interner gained what it may
-use Rattle.std.specs.Prelude.{◌≡◌, ◌≢◌, List, map, AllPairs, Contains, ◌⊎◌}
+use Rattle.std.specs.Prelude.{List, Contains, ◌⊎◌}
 use Rattle.hs_scheme.specs.Problem.{ProblemData}
 use Rattle.hs_table.specs.Entries.{EntryData}
-use Rattle.hs_table.specs.Follows.{Support, premises}
-use Rattle.hs_types.specs.Interned.{InternerData, RowData, entry_of, Grows}
-use Rattle.hs_rules.specs.Order.{IsNoGreater}
+use Rattle.hs_table.specs.Follows.{Support}
+use Rattle.hs_types.specs.Interned.{InternerData, entry_of, Grows}
 use Rattle.hs_rules.specs.Conclusions.{DeducedData, IsDeduced}
 use Rattle.hs_rules.specs.Found.{HasNoGreater, Lowers}
 use Rattle.hs_rules.specs.Parts.{HasRowFor}
-
-pub record HasRows (rows : List RowData) (found : List DeducedData) : Type 0 where
-  pub same : rows ≡ map (λ d. d.row) found
-  pub once : AllPairs (λ a b. a ≢ b) (map (λ d. d.row) found)
-
-pub record IsLesser (one other lesser : DeducedData) : Type 0 where
-  pub which : (lesser ≡ one) ⊎ (lesser ≡ other)
-  pub least : IsNoGreater (premises lesser.support) (premises one.support)
-  pub other_least : IsNoGreater (premises lesser.support) (premises other.support)
 
 pub record IsNewDeduced (p : ProblemData) (ids : InternerData) (log : List EntryData) (d : DeducedData) : Type 0 where
   pub deduced : IsDeduced p ids log d

@@ -1,72 +1,91 @@
 //! The places of what was found, in buckets by their points, so that few have to be compared.
 
-ghost use Rattle.std.specs.Prelude.{◌≡◌, ◌+◌, ◌<◌, ◌≤◌, [], ◌∷◌, ◌++◌, ℕ, length, set, Contains, IfOk, OnOk};
+ghost use Rattle.std.specs.Prelude.{◌≡◌, ◌+◌, ◌<◌, ◌≤◌, [], ◌∷◌, ◌++◌, ℕ, length, set, vec_len, vec_capacity, IfOk, OnOk};
 ghost use Rattle.std.specs.List.{concat, range_with_len};
 ghost use Rattle.std.specs.List.Sorted.{IsPermutation};
 ghost use Rattle.hs_flow.specs.Lists.{list_of};
-ghost use Rattle.hs_rank.specs.Buckets.{bucket_of, AreApart};
+ghost use Rattle.hs_rules.specs.Conclusions.{DeducedData};
+ghost use Rattle.hs_rank.specs.Buckets.{bucket_of, lists_in, IsLinked, AreApart};
 
 use hs_rules::Deduced;
 use hs_scheme::OutOfMemory;
 use std::alloc::Global;
-use std::marker::Model;
 
 /// A bucket has about so many places.
 const SHARE: usize = 4;
 
-/// Lists of places. Contracts see the list of them.
+/// Lists of places, each place in one of them. A list is told from its last place back.
 #[derive(Drop)]
 pub(crate) struct Buckets {
-    buckets: Vec<Vec<usize>>,
+    /// For each bucket the place that was added to it last, counted from 1, or 0.
+    lasts: Vec<usize>,
+    /// For each place the one that was added to its bucket before it, counted from 1, or 0.
+    before: Vec<usize>,
 }
 
-impl Model for Buckets {
-    ghost use Rattle.std.specs.Prelude.{ℕ, List, map};
-
-    ghost Value = { List (List ℕ) };
-
-    ghost view = { λ a. map (λ places. places.items) a.buckets.items };
+/// So many empty buckets, with room for so many places.
+fn empty_buckets(alloc: Global, count: usize, places: usize) -> Result<Buckets, OutOfMemory>
+    ensures len { IfOk result (λ buckets. length buckets.lasts.items ≡ count) }
+    ensures none { IfOk result (λ buckets. buckets.before.items ≡ []) }
+    ensures linked { IfOk result (λ buckets. IsLinked buckets.before.items buckets.lasts.items) }
+    ensures empty { IfOk result (λ buckets. (k : ℕ)
+        → list_of (lists_in buckets.before.items buckets.lasts.items) k ≡ []) }
+    ensures room { IfOk result (λ buckets. places ≤ vec_capacity buckets.before) }
+{
+    let before = Vec::with_capacity(alloc, places)?;
+    let mut lasts = Vec::with_capacity(alloc, count)?;
+    for _ in 0..count {
+        lasts.push_reserved(0);
+    }
+    Ok(Buckets { lasts, before })
 }
 
-impl Buckets {
-    /// So many empty buckets.
-    fn empty(alloc: Global, count: usize) -> Result<Buckets, OutOfMemory>
-        ensures len { IfOk result (λ buckets. length buckets ≡ count) }
-        ensures empty { IfOk result (λ buckets. (k : ℕ) → list_of buckets k ≡ []) }
-    {
-        let mut buckets = Vec::with_capacity(alloc, count)?;
-        for _ in 0..count {
-            buckets.push_reserved(Vec::new(alloc));
-        }
-        Ok(Buckets { buckets })
-    }
+/// Adds the next place to the bucket of this number. There is room.
+fn add_next(buckets: &mut Buckets, number: usize)
+    requires number { number < length buckets.old.lasts.items }
+    requires linked { IsLinked buckets.old.before.items buckets.old.lasts.items }
+    requires room { vec_len buckets.old.before < vec_capacity buckets.old.before }
+    ensures linked { IsLinked buckets.new.before.items buckets.new.lasts.items }
+    ensures added { lists_in buckets.new.before.items buckets.new.lasts.items
+        ≡ set (lists_in buckets.old.before.items buckets.old.lasts.items) number
+        (list_of (lists_in buckets.old.before.items buckets.old.lasts.items) number
+        ++ length buckets.old.before.items ∷ []) }
+    ensures next { length buckets.new.before.items ≡ length buckets.old.before.items + 1 }
+    ensures len { length buckets.new.lasts.items ≡ length buckets.old.lasts.items }
+    ensures room { vec_capacity buckets.new.before ≡ vec_capacity buckets.old.before }
+{
+    let last = buckets.lasts[number];
+    buckets.before.push_reserved(last);
+    buckets.lasts[number] = buckets.before.len();
+}
 
-    /// How many buckets there are.
-    pub(crate) fn len(&self) -> usize
-        ensures { result ≡ length self.now }
-    {
-        self.buckets.len()
+/// Lists the places in the bucket of this number, in the order in which they were added.
+pub(crate) fn list_bucket(
+    buckets: &Buckets,
+    number: usize,
+    places: &mut Vec<usize>,
+) -> Result<(), OutOfMemory>
+    requires number { number < length buckets.now.lasts.items }
+    requires linked { IsLinked buckets.now.before.items buckets.now.lasts.items }
+    ensures { OnOk result (places.new.items
+        ≡ list_of (lists_in buckets.now.before.items buckets.now.lasts.items) number) }
+{
+    places.clear();
+    let mut at = buckets.lasts[number];
+    while at != 0 {
+        at -= 1;
+        places.push(at)?;
+        at = buckets.before[at];
     }
+    places.reverse();
+    Ok(())
+}
 
-    /// The places in the bucket of this number; none where there is no such bucket.
-    pub(crate) fn bucket(&self, number: usize) -> &[usize]
-        ensures { result.now ≡ list_of self.now number }
-    {
-        match self.buckets.get(number) {
-            Some(places) => places.as_slice(),
-            None => &[],
-        }
-    }
-
-    /// Adds a place to the bucket of this number.
-    fn push(&mut self, number: usize, place: usize) -> Result<(), OutOfMemory>
-        requires { number < length self.old }
-        ensures { OnOk result (self.new ≡ set self.old number (list_of self.old number ++ place ∷ [])) }
-    {
-        let bucket = &mut self.buckets[number];
-        bucket.push(place)?;
-        Ok(())
-    }
+/// How many buckets there are.
+pub(crate) fn bucket_count(buckets: &Buckets) -> usize
+    ensures { result ≡ length buckets.now.lasts.items }
+{
+    buckets.lasts.len()
 }
 
 /// How points are spread over buckets, the lesser ones over the first.
@@ -111,18 +130,20 @@ fn bucket_for(spread: Spread, point: u32) -> usize
 }
 
 /// The places of what was found, counted from 0, in buckets, where lesser points come first. Takes time
-/// in proportion to their number.
+/// in proportion to their number, and some 10 bytes for each.
 pub(crate) fn buckets_of(alloc: Global, found: &[Deduced]) -> Result<Buckets, OutOfMemory>
+    ensures linked { IfOk result (λ buckets. IsLinked buckets.before.items buckets.lasts.items) }
     ensures all { IfOk result (λ buckets. IsPermutation (range_with_len 0 (length found.now))
-        (concat buckets)) }
-    ensures apart { IfOk result (AreApart found.now) }
+        (concat (lists_in buckets.before.items buckets.lasts.items))) }
+    ensures apart { IfOk result (λ buckets. AreApart found.now
+        (lists_in buckets.before.items buckets.lasts.items)) }
 {
     let spread = spread_of(found);
-    let mut buckets = Buckets::empty(alloc, spread.count)?;
+    let mut buckets = empty_buckets(alloc, spread.count, found.len())?;
     for place in 0..found.len() {
         let deduced = &found[place];
         let number = bucket_for(spread, deduced.row.point);
-        buckets.push(number, place)?;
+        add_next(&mut buckets, number);
     }
     Ok(buckets)
 }

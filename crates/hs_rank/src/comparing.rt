@@ -77,6 +77,7 @@ fn compare_rows(interner: &Interner, row: Row, other: Row) -> Ordering
 
 /// The order of the entries at two places of what was found; behind its end there is none, which is
 /// less.
+#[inline(always)]
 pub(crate) fn compare_places(
     interner: &Interner,
     found: &[Deduced],

@@ -1,114 +1,64 @@
-//! What is kept of a round's conclusions: those whose entries the log lacks, each entry with its least
-//! support.
+//! What is gathered of a round: conclusions whose entries the log lacks.
 
-ghost use Rattle.std.specs.Prelude.{◌≡◌, [], ◌⊎◌, All, IfOk, OnOk, Contains};
+ghost use Rattle.std.specs.Prelude.{◌≡◌, [], All, IfOk, OnOk, Contains};
 ghost use Rattle.hs_types.specs.Interned.{IsRow};
 ghost use Rattle.hs_rules.specs.Conclusions.{DeducedData};
-ghost use Rattle.hs_rules.specs.Found.{HasNoGreater, Lowers};
-ghost use Rattle.hs_rank.specs.Gathering.{HasRows, IsLesser, AddsNew};
+ghost use Rattle.hs_rules.specs.Found.{Lowers};
+ghost use Rattle.hs_rank.specs.Gathering.{AddsNew};
 
-use hs_rules::{Deduced, Replica, add_deduced, none_found};
+use crate::merging::merged;
+use hs_rules::{Deduced, Replica};
 use hs_scheme::OutOfMemory;
-use hs_types::Row;
-use indexmap::IndexSet;
 use std::alloc::Global;
-use std::mem::replace;
 
-/// What is gathered of a round, each entry once, with the least support by which it was deduced.
+/// Fewer than so many stay as they came until their round is whole.
+const FEW: usize = 4096;
+
+/// Conclusions of one entry are merged where there are so many times as many as were left the last
+/// time.
+const TIMES: usize = 4;
+
+/// What is gathered of a round. An entry may stand there several times, by several supports.
 #[derive(Drop)]
 pub struct Fresh {
-    /// What was gathered, in the order in which the entries came.
+    /// What was gathered.
     pub list: Vec<Deduced>,
-    /// The rows of the list, in the same order.
-    pub rows: IndexSet<Row>,
+    /// Where there are so many, those of one entry are merged.
+    bound: usize,
+}
+
+/// Where so many are merged that were this many the last time.
+fn bound_for(count: usize) -> usize {
+    count.saturating_mul(TIMES).max(FEW)
 }
 
 /// Nothing gathered, with room for so much.
 pub fn room_for(alloc: Global, count: usize) -> Result<Fresh, OutOfMemory>
-    ensures list { IfOk result (λ fresh. fresh.list.items ≡ []) }
-    ensures rows { IfOk result (λ fresh. fresh.rows.keys ≡ []) }
+    ensures { IfOk result (λ fresh. fresh.list.items ≡ []) }
 {
     Ok(Fresh {
         list: Vec::with_capacity(alloc, count)?,
-        rows: IndexSet::with_capacity(alloc, count)?,
+        bound: bound_for(count),
     })
-}
-
-/// Takes what stands there, and leaves its row and its head.
-fn take_out(there: &mut Deduced) -> Deduced
-    ensures { result ≡ there.old }
-{
-    let none = Vec::new(*there.args.allocator());
-    let args = replace(&mut there.args, none);
-    Deduced {
-        row: there.row,
-        head: there.head,
-        args,
-    }
-}
-
-/// Keeps the one with the lesser support of the two, which are of one entry. Nothing is copied.
-fn keep_lesser(there: &mut Deduced, other: Deduced) -> Result<(), OutOfMemory>
-    requires { other.row ≡ there.old.row }
-    ensures { OnOk result (IsLesser there.old other there.new) }
-{
-    let mut both = none_found(*other.args.allocator());
-    let old = take_out(there);
-    add_deduced(&mut both, old)?;
-    add_deduced(&mut both, other)?;
-    match both.list.pop() {
-        Some(lesser) => {
-            *there = lesser;
-            Ok(())
-        }
-        None => Ok(()),
-    }
-}
-
-/// Adds what was deduced; where its entry is there, by the lesser of the two supports. Nothing is
-/// copied, and the row is hashed once.
-fn add(fresh: &mut Fresh, deduced: Deduced) -> Result<(), OutOfMemory>
-    requires { HasRows fresh.old.rows.keys fresh.old.list.items }
-    ensures rows { OnOk result (HasRows fresh.new.rows.keys fresh.new.list.items) }
-    ensures lowers { OnOk result (Lowers fresh.old.list.items fresh.new.list.items) }
-    ensures only { OnOk result ((d : DeducedData) → Contains fresh.new.list.items d
-        → Contains fresh.old.list.items d ⊎ (d ≡ deduced)) }
-    ensures there { OnOk result (HasNoGreater fresh.new.list.items deduced.row deduced.support) }
-{
-    let (place, is_new) = fresh.rows.insert_full(deduced.row)?;
-    if is_new {
-        fresh.list.push(deduced)?;
-        return Ok(());
-    }
-    let there = &mut fresh.list[place];
-    keep_lesser(there, deduced)
 }
 
 /// Adds what was deduced where the log lacks its entry.
 fn keep(replica: &Replica, deduced: Deduced, fresh: &mut Fresh) -> Result<(), OutOfMemory>
-    requires row { IsRow replica.now.ids deduced.row }
-    requires rows { HasRows fresh.old.rows.keys fresh.old.list.items }
-    ensures rows { OnOk result (HasRows fresh.new.rows.keys fresh.new.list.items) }
-    ensures adds { OnOk result (AddsNew replica.now.ids replica.now.log (λ d. d ≡ deduced)
+    requires { IsRow replica.now.ids deduced.row }
+    ensures { OnOk result (AddsNew replica.now.ids replica.now.log (λ d. d ≡ deduced)
         fresh.old.list.items fresh.new.list.items) }
 {
     if let Some(_place) = replica.find(deduced.row) {
         return Ok(());
     }
-    add(fresh, deduced)
+    fresh.list.push(deduced)?;
+    Ok(())
 }
 
-/// Adds of what was found that of which the log lacks the entries; where an entry is there already, the
-/// lesser support stays. Takes constant time for each, on average.
-pub fn keep_new(
-    replica: &Replica,
-    found: Vec<Deduced>,
-    fresh: &mut Fresh,
-) -> Result<(), OutOfMemory>
-    requires known { All (λ d. IsRow replica.now.ids d.row) found.items }
-    requires rows { HasRows fresh.old.rows.keys fresh.old.list.items }
-    ensures rows { OnOk result (HasRows fresh.new.rows.keys fresh.new.list.items) }
-    ensures adds { OnOk result (AddsNew replica.now.ids replica.now.log (Contains found.items)
+/// Adds of what was found that of which the log lacks the entries.
+fn keep_all(replica: &Replica, found: Vec<Deduced>, fresh: &mut Fresh) -> Result<(), OutOfMemory>
+    requires { All (λ d. IsRow replica.now.ids d.row) found.items }
+    ensures { OnOk result (AddsNew replica.now.ids replica.now.log (Contains found.items)
         fresh.old.list.items fresh.new.list.items) }
 {
     let mut left = found;
@@ -116,4 +66,39 @@ pub fn keep_new(
         keep(replica, deduced, fresh)?;
     }
     Ok(())
+}
+
+/// Keeps of each entry the conclusion with the least support.
+fn merge(replica: &Replica, fresh: &mut Fresh) -> Result<(), OutOfMemory>
+    requires { All (λ d. IsRow replica.now.ids d.row) fresh.old.list.items }
+    ensures lowers { OnOk result (Lowers fresh.old.list.items fresh.new.list.items) }
+    ensures only { OnOk result ((d : DeducedData) → Contains fresh.new.list.items d
+        → Contains fresh.old.list.items d) }
+{
+    let alloc = *fresh.list.allocator();
+    let left = merged(alloc, replica, &mut fresh.list)?;
+    fresh.bound = bound_for(left.len());
+    fresh.list = left;
+    Ok(())
+}
+
+/// Adds of what was found that of which the log lacks the entries. An entry may come to stand there
+/// several times, by several supports, but not so often that there is more than four times what the
+/// round or the one before it has: then of each entry the conclusion with the least support is kept.
+/// Takes constant time for each, on average, and that of sorting where conclusions are merged.
+pub fn keep_new(
+    replica: &Replica,
+    found: Vec<Deduced>,
+    fresh: &mut Fresh,
+) -> Result<(), OutOfMemory>
+    requires known { All (λ d. IsRow replica.now.ids d.row) found.items }
+    requires gathered { All (λ d. IsRow replica.now.ids d.row) fresh.old.list.items }
+    ensures { OnOk result (AddsNew replica.now.ids replica.now.log (Contains found.items)
+        fresh.old.list.items fresh.new.list.items) }
+{
+    keep_all(replica, found, fresh)?;
+    if fresh.list.len() < fresh.bound {
+        return Ok(());
+    }
+    merge(replica, fresh)
 }

@@ -6,8 +6,9 @@ mod buckets;
 mod comparing;
 mod gathering;
 mod laws;
+mod merging;
 mod ordering;
 
 pub use gathering::{Fresh, keep_new, room_for};
 pub use laws::{canonical_logs_are_equal, least_supports_are_canonical};
-pub use ordering::places_in_order;
+pub use merging::{places_in_order, take_out};

@@ -42,12 +42,7 @@ fn premise(head: HeadBy, args: &[(u32, u32)], number: usize) -> u32
 }
 
 /// The order of two supports: place by place, a proper prefix first.
-pub(crate) fn compare(
-    head: HeadBy,
-    args: &[(u32, u32)],
-    other: HeadBy,
-    others: &[(u32, u32)],
-) -> Ordering
+pub fn compare(head: HeadBy, args: &[(u32, u32)], other: HeadBy, others: &[(u32, u32)]) -> Ordering
     ensures { result ≡ places_cmp (premises (record { head = head; args = args.now }))
         (premises (record { head = other; args = others.now })) }
 {

@@ -18,7 +18,6 @@ list-dependent-items-requires c =
 
 pub loop-dependent-init : goal.loop-dependent-init
 loop-dependent-init c = record {
-  rows = c.requires.rows;
   kept = refl;
   gathered = gathered_same c.args.core.now.base.problem (log_of c.args.core.now) c.args.core.now.ids c.args.fresh.now.list.items c.requires.fresh;
   all = λ k lt. absurd (omega arith);
@@ -53,7 +52,6 @@ loop-dependent-preserved c =
     let kept = c.loop-dependent.invariant.kept in
     let later = subst (λ (x : CoreData). Gathered x.base.problem (log_of x) b.ids ys e.ids zs) kept c.in_ok-gather_at.ensures.gathered in
     record {
-      rows = c.in_ok-gather_at.ensures.rows;
       kept = kept_then a b e kept c.in_ok-gather_at.ensures.kept;
       gathered = gathered_then p (log_of a) a.ids b.ids e.ids c.args.fresh.now.list.items ys zs c.loop-dependent.invariant.gathered later;
       all = λ k lt. elim (cases_lt k n) [

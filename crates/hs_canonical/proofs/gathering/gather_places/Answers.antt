@@ -10,7 +10,6 @@ use Rattle.hs_canonical.proofs.gathering.gather_places.Goals as goal
 
 pub loop-place-init : goal.loop-place-init
 loop-place-init c = record {
-  rows = c.requires.rows;
   kept = refl;
   gathered = gathered_same c.args.core.now.base.problem (log_of c.args.core.now) c.args.core.now.ids c.args.fresh.now.list.items c.requires.fresh;
   all = λ k le lt. absurd (omega (arith, le, lt));
@@ -42,7 +41,6 @@ loop-place-preserved c =
     let kept = c.loop-place.invariant.kept in
     let later = subst (λ (x : CoreData). Gathered x.base.problem (log_of x) b.ids ys e.ids zs) kept c.in_ok-gather_place.ensures.gathered in
     record {
-      rows = c.in_ok-gather_place.ensures.rows;
       kept = kept_then a b e kept c.in_ok-gather_place.ensures.kept;
       gathered = gathered_then p (log_of a) a.ids b.ids e.ids c.args.fresh.now.list.items ys zs c.loop-place.invariant.gathered later;
       all = λ k le lt. elim (cases_lt k n) [

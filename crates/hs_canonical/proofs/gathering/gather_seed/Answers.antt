@@ -6,7 +6,7 @@ use Rattle.hs_rules.specs.Conclusions.{AnySupport}
 use Rattle.hs_rules.proofs.Lists.{along}
 use Rattle.hs_core.specs.Core.{CoreData, log_of}
 use Rattle.hs_rank.specs.Gathering.{AddsNew}
-use Rattle.hs_rank.proofs.Gathered.{deduced_of, gathered_by, found_known}
+use Rattle.hs_rank.proofs.Gathered.{rows_after, deduced_of, gathered_by, found_known}
 use Rattle.hs_canonical.proofs.gathering.gather_seed.Goals as goal
 
 pub keep_new-requires-clause-known : goal.keep_new-requires-clause-known
@@ -15,7 +15,7 @@ keep_new-requires-clause-known c =
     along (λ i. All (λ d. IsRow (sym c.replica.ensures.ids i) d.row) found) (λ k d lt. (c.in_ok-found.ensures.found.deduced k d lt).row)
 
 pub returns-clause-kept : goal.returns-clause-kept
-returns-clause-kept c = on_ok_weaker c.keep_new.result (λ rows. c.in_ok-found.ensures.kept) c.keep_new.ensures.rows
+returns-clause-kept c = on_ok_weaker c.keep_new.result (λ adds. c.in_ok-found.ensures.kept) c.keep_new.ensures
 
 pub returns-clause-gathered : goal.returns-clause-gathered
 returns-clause-gathered c =
@@ -26,7 +26,7 @@ returns-clause-gathered c =
     on_ok_weaker c.keep_new.result
     (λ adds. gathered_by a.base.problem (log_of a) a.ids m.ids c.args.fresh.now.list.items c.keep_new.new.fresh.list.items (Contains found) c.in_ok-found.ensures.grows
     (deduced_of a.base.problem m.ids [] (log_of a) found c.in_ok-found.ensures.found.deduced (λ s e by. by_append a.base.problem [] (log_of a) s e by)) c.requires.fresh
-    (along (λ i. AddsNew (c.replica.ensures.ids i) (log i) (Contains found) c.args.fresh.now.list.items c.keep_new.new.fresh.list.items) adds)) c.keep_new.ensures.adds
+    (along (λ i. AddsNew (c.replica.ensures.ids i) (log i) (Contains found) c.args.fresh.now.list.items c.keep_new.new.fresh.list.items) adds)) c.keep_new.ensures
 
 pub returns-clause-all : goal.returns-clause-all
 returns-clause-all c =
@@ -36,7 +36,10 @@ returns-clause-all c =
     let log : c.replica.result.now.log ≡ log_of a = c.replica.ensures.log ∙ ap (λ (x : CoreData). log_of x) c.in_ok-found.ensures.kept in
     on_ok_weaker c.keep_new.result
     (λ adds s e at by. found_known a.base.problem m.ids [] (log_of a) c.args.point AnySupport found c.args.fresh.now.list.items c.keep_new.new.fresh.list.items c.in_ok-found.ensures.found
-    (along (λ i. AddsNew (c.replica.ensures.ids i) (log i) (Contains found) c.args.fresh.now.list.items c.keep_new.new.fresh.list.items) adds) s e at by tt) c.keep_new.ensures.adds
+    (along (λ i. AddsNew (c.replica.ensures.ids i) (log i) (Contains found) c.args.fresh.now.list.items c.keep_new.new.fresh.list.items) adds) s e at by tt) c.keep_new.ensures
 
-pub returns-clause-rows : goal.returns-clause-rows
-returns-clause-rows c = c.keep_new.ensures.rows
+pub keep_new-requires-clause-gathered : goal.keep_new-requires-clause-gathered
+keep_new-requires-clause-gathered c =
+    let a = c.args.core.now in
+    let xs = c.args.fresh.now.list.items in
+    along (λ i. All (λ d. IsRow (sym c.replica.ensures.ids i) d.row) xs) (rows_after a.base.problem a.ids c.at_seed.new.self.ids c.in_ok-found.ensures.grows (log_of a) xs c.requires.fresh)

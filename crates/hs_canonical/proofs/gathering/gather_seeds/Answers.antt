@@ -10,7 +10,6 @@ use Rattle.hs_canonical.proofs.gathering.gather_seeds.Goals as goal
 
 pub loop-point-init : goal.loop-point-init
 loop-point-init c = record {
-  rows = c.requires.rows;
   kept = refl;
   gathered = gathered_same c.args.core.now.base.problem (log_of c.args.core.now) c.args.core.now.ids c.args.fresh.now.list.items c.requires.fresh;
   all = λ k lt. absurd (omega arith);
@@ -44,7 +43,6 @@ loop-point-preserved c =
     let kept = c.loop-point.invariant.kept in
     let later = subst (λ (x : CoreData). Gathered x.base.problem (log_of x) b.ids ys e.ids zs) kept c.in_ok-gather_seed.ensures.gathered in
     record {
-      rows = c.in_ok-gather_seed.ensures.rows;
       kept = kept_then a b e kept c.in_ok-gather_seed.ensures.kept;
       gathered = gathered_then p (log_of a) a.ids b.ids e.ids c.args.fresh.now.list.items ys zs c.loop-point.invariant.gathered later;
       all = λ k lt. elim (cases_lt k n) [

@@ -17,10 +17,10 @@ use Rattle.hs_rank.proofs.Backing.{supported_next}
 use Rattle.hs_canonical.specs.Publishing.{CanPublish}
 use Rattle.hs_canonical.proofs.ranking.add_round.Goals as goal
 
-pub places_in_order-requires-clause-known : goal.places_in_order-requires-clause-known
-places_in_order-requires-clause-known c =
+pub places_in_order-requires : goal.places_in_order-requires
+places_in_order-requires c =
     let found = c.args.fresh.now.list.items in
-    subst (λ (I : InternerData). All (λ d. IsRow I d.row) found) (sym c.replica.ensures.ids) (all_from (λ (d : DeducedData). IsRow c.args.core.now.ids d.row) found (λ d there. (c.requires.fresh d there).deduced.row))
+    along (λ i. All (λ d. IsRow (sym c.replica.ensures.ids i) d.row) (sym c.as_slice.ensures.value i)) (all_from (λ (d : DeducedData). IsRow c.args.core.now.ids d.row) found (λ d there. (c.requires.fresh d there).deduced.row))
 
 pub publish_round-requires-clause-holds : goal.publish_round-requires-clause-holds
 publish_round-requires-clause-holds c = c.requires.ranking.holds
@@ -31,10 +31,10 @@ publish_round-requires-clause-can c =
     let p = a.base.problem in
     let found = c.args.fresh.now.list.items in
     let places = c.in_ok-places.places.items in
-    let order = subst (λ (I : InternerData). AreInOrder I found places) c.replica.ensures.ids c.in_ok-places.ensures in
+    let order = along (λ i. AreInOrder (c.replica.ensures.ids i) (c.as_slice.ensures.value i) places) c.in_ok-places.ensures in
     let next = sorted_round p a.ids (log_of a) found places c.requires.fresh c.requires.all order in
     let few = few_new p a.base.budget c.requires.ranked.0 (log_of a) (entries_of a.ids (picked found places)) c.requires.ranking.fits c.requires.ranked.1 next in
-    subst (λ ps. CanPublish a found ps) (sym c.as_slice.ensures.value) (record {
+    subst (λ ps. CanPublish a found ps) (sym c.as_slice-2.ensures.value) (record {
       fresh = c.requires.fresh;
       order = order;
       room = omega (arith, few, length-map (picked found places) (λ (d : DeducedData). entry_of a.ids d.row), length-map places (nth found));
@@ -49,10 +49,10 @@ returns-clause-at c =
     let p = a.base.problem in
     let found = c.args.fresh.now.list.items in
     let places = c.in_ok-places.places.items in
-    let order = subst (λ (I : InternerData). AreInOrder I found places) c.replica.ensures.ids c.in_ok-places.ensures in
+    let order = along (λ i. AreInOrder (c.replica.ensures.ids i) (c.as_slice.ensures.value i) places) c.in_ok-places.ensures in
     let next = sorted_round p a.ids (log_of a) found places c.requires.fresh c.requires.all order in
     on_ok_weaker c.publish_round.result
-    (λ h. let log = h.log ∙ ap (λ ps. log_of a ++ entries_of a.ids (picked found ps)) c.as_slice.ensures.value in
+    (λ h. let log = h.log ∙ ap (λ ps. log_of a ++ entries_of a.ids (picked found ps)) c.as_slice-2.ensures.value in
     subst (λ (L : List EntryData). IsAtRound p (length (log_of a)) L) (sym log) (next_at p c.requires.ranked.0 (log_of a) (entries_of a.ids (picked found places)) c.requires.ranked.1 next)) c.publish_round.ensures
 
 pub returns-clause-ranking : goal.returns-clause-ranking
@@ -61,17 +61,17 @@ returns-clause-ranking c =
     let p = a.base.problem in
     let found = c.args.fresh.now.list.items in
     let places = c.in_ok-places.places.items in
-    let order = subst (λ (I : InternerData). AreInOrder I found places) c.replica.ensures.ids c.in_ok-places.ensures in
+    let order = along (λ i. AreInOrder (c.replica.ensures.ids i) (c.as_slice.ensures.value i) places) c.in_ok-places.ensures in
     let next = sorted_round p a.ids (log_of a) found places c.requires.fresh c.requires.all order in
     on_ok_weaker c.publish_round.result
-    (λ h. let log = h.log ∙ ap (λ ps. log_of a ++ entries_of a.ids (picked found ps)) c.as_slice.ensures.value in
+    (λ h. let log = h.log ∙ ap (λ ps. log_of a ++ entries_of a.ids (picked found ps)) c.as_slice-2.ensures.value in
     let base : a.base ≡ c.publish_round.new.core.base = sym h.base in
-    let supports = h.supports ∙ ap (λ ps. (state_of a).supports ++ map (λ (d : DeducedData). d.support) (picked found ps)) c.as_slice.ensures.value in
+    let supports = h.supports ∙ ap (λ ps. (state_of a).supports ++ map (λ (d : DeducedData). d.support) (picked found ps)) c.as_slice-2.ensures.value in
     record {
       fits = subst (λ (b : Base). Exceeds b.problem b.budget → ⊥) (sym h.base) c.requires.ranking.fits;
       holds = h.holds;
       supports =
           along (λ i. HaveLeastSupports (base i).problem (sym log i) (sym supports i))
-          (supported_next p c.requires.ranked.0 a.ids (log_of a) c.args.fresh.now.rows.keys found places (state_of a).supports c.know_core.ensures.ids c.requires.rows c.requires.fresh c.requires.all c.requires.ranked.1 order next
+          (supported_next p c.requires.ranked.0 a.ids (log_of a) found places (state_of a).supports c.requires.fresh c.requires.all c.requires.ranked.1 order next
           c.requires.ranking.supports);
     }) c.publish_round.ensures

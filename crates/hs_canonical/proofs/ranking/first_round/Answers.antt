@@ -8,15 +8,11 @@ use Rattle.hs_core.specs.Core.{CoreData, log_of}
 use Rattle.hs_rank.specs.Gathering.{AreNewDeduced, IsKnown}
 use Rattle.hs_rank.specs.Ranked.{HoldsRound, IsAtRound}
 use Rattle.hs_rank.proofs.Filling.{nothing_ranked, seeds_follow}
-use Rattle.hs_rank.proofs.Gathered.{rows_none}
 use Rattle.hs_canonical.specs.Ranking.{IsRanking}
 use Rattle.hs_canonical.proofs.ranking.first_round.Goals as goal
 
-pub gather_seeds-requires-clause-fresh : goal.gather_seeds-requires-clause-fresh
-gather_seeds-requires-clause-fresh c = λ d there. absurd (none_in d (subst (λ (xs : List DeducedData). Contains xs d) c.in_ok-fresh.ensures.list there))
-
-pub gather_seeds-requires-clause-rows : goal.gather_seeds-requires-clause-rows
-gather_seeds-requires-clause-rows c = rows_none c.in_ok-fresh.fresh.rows.keys c.in_ok-fresh.fresh.list.items c.in_ok-fresh.ensures.rows c.in_ok-fresh.ensures.list
+pub gather_seeds-requires : goal.gather_seeds-requires
+gather_seeds-requires c = record { fresh = λ d there. absurd (none_in d (subst (λ (xs : List DeducedData). Contains xs d) c.in_ok-fresh.ensures there)) }
 
 pub add_round-requires-clause-fresh : goal.add_round-requires-clause-fresh
 add_round-requires-clause-fresh c =

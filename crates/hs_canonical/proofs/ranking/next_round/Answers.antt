@@ -8,15 +8,11 @@ use Rattle.hs_core.specs.Core.{CoreData, log_of}
 use Rattle.hs_rank.specs.Gathering.{AreNewDeduced, IsKnown}
 use Rattle.hs_rank.specs.Ranked.{HoldsRound, IsAtRound}
 use Rattle.hs_rank.proofs.Filling.{all_follow}
-use Rattle.hs_rank.proofs.Gathered.{rows_none}
 use Rattle.hs_canonical.specs.Ranking.{IsRanking}
 use Rattle.hs_canonical.proofs.ranking.next_round.Goals as goal
 
 pub gather_places-requires-clause-fresh : goal.gather_places-requires-clause-fresh
-gather_places-requires-clause-fresh c = λ d there. absurd (none_in d (subst (λ (xs : List DeducedData). Contains xs d) c.in_ok-fresh.ensures.list there))
-
-pub gather_places-requires-clause-rows : goal.gather_places-requires-clause-rows
-gather_places-requires-clause-rows c = rows_none c.in_ok-fresh.fresh.rows.keys c.in_ok-fresh.fresh.list.items c.in_ok-fresh.ensures.rows c.in_ok-fresh.ensures.list
+gather_places-requires-clause-fresh c = λ d there. absurd (none_in d (subst (λ (xs : List DeducedData). Contains xs d) c.in_ok-fresh.ensures there))
 
 pub add_round-requires-clause-fresh : goal.add_round-requires-clause-fresh
 add_round-requires-clause-fresh c =

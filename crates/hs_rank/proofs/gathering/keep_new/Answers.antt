@@ -1,35 +1,21 @@
-use Rattle.std.proofs.Common.{◌≡◌, ◌∙◌, ap, [], take, append-nil, ◌-◌, arith}
-use Rattle.hs_types.specs.Interned.{IsRow}
+use Rattle.std.proofs.Common.{Contains}
 use Rattle.hs_rules.specs.Conclusions.{DeducedData}
-use Rattle.hs_rank.proofs.Keeping.{added_none, added_next, added_all, next_among}
+use Rattle.hs_rules.specs.Found.{Lowers}
+use Rattle.hs_rules.proofs.Lists.{on_ok_both}
+use Rattle.hs_rank.specs.Gathering.{AddsNew}
+use Rattle.hs_rank.proofs.Keeping.{adds_then, known_after}
 use Rattle.hs_rank.proofs.gathering.keep_new.Goals as goal
 
-pub loop-deduced-init : goal.loop-deduced-init
-loop-deduced-init c = record { rows = c.requires.rows; adds = added_none c.args.replica.now.ids c.args.replica.now.log c.args.found.items c.args.fresh.now.list.items }
-
-pub keep-requires-clause-row : goal.keep-requires-clause-row
-keep-requires-clause-row c =
+pub merge-requires : goal.merge-requires
+merge-requires c =
     let r = c.args.replica.now in
-    next_among (λ (x : DeducedData). IsRow r.ids x.row) r.ids r.log c.args.found.items c.loop-deduced.left.items c.pop.new.self.items c.args.fresh.now.list.items c.loop-deduced.fresh.list.items c.in-Some.deduced c.in-Some.ensures.items
-    c.loop-deduced.invariant.adds c.requires.known
+    known_after r.ids r.log c.args.found.items c.args.fresh.now.list.items c.keep_all.new.fresh.list.items c.requires.known c.requires.gathered c.in_ok-keep_all.ensures
 
-pub loop-deduced-preserved : goal.loop-deduced-preserved
-loop-deduced-preserved c =
+pub returns : goal.returns
+returns c =
     let r = c.args.replica.now in
-    record {
-      rows = c.in_ok-keep.ensures.rows;
-      adds = added_next r.ids r.log c.args.found.items c.loop-deduced.left.items c.pop.new.self.items c.args.fresh.now.list.items c.loop-deduced.fresh.list.items c.keep.new.fresh.list.items c.in-Some.deduced c.in-Some.ensures.items
-          c.loop-deduced.invariant.adds c.in_ok-keep.ensures.adds;
-    }
-
-pub returns-clause-rows : goal.returns-clause-rows
-returns-clause-rows c = c.loop-deduced.invariant.rows
-
-pub returns-clause-adds : goal.returns-clause-adds
-returns-clause-adds c =
-    let r = c.args.replica.now in
-    let left = c.loop-deduced.left.items in
-    let e = c.in_default.ensures in
-    let empty : c.loop-deduced.left.len - 1 ≡ 0 = omega (arith, e.cases.0) in
-    let none : left ≡ [] = e.items ∙ (append-nil c.pop.new.self.items ∙ (e.rest ∙ ap (λ n. take n left) empty)) in
-    added_all r.ids r.log c.args.found.items left c.args.fresh.now.list.items c.loop-deduced.fresh.list.items none c.loop-deduced.invariant.adds
+    let old = c.args.fresh.now.list.items in
+    let mid = c.keep_all.new.fresh.list.items in
+    let new = c.merge.new.fresh.list.items in
+    on_ok_both c.merge.result (Lowers mid new) ((d : DeducedData) → Contains new d → Contains mid d) (AddsNew r.ids r.log (Contains c.args.found.items) old new)
+    (λ lowers only. adds_then r.ids r.log (Contains c.args.found.items) old mid new c.in_ok-keep_all.ensures lowers only) c.merge.ensures.lowers c.merge.ensures.only
