@@ -10,7 +10,7 @@ use Rattle.hs_core.specs.declared.answers.Done.TheVariants.{Least, Over, First}
 use Rattle.hs_core.specs.Core.{CoreData}
 use Rattle.hs_core.specs.Answers.{IsLeastAnswer, IsOverAnswer, IsFirstAnswer}
 use Rattle.hs_workers.specs.declared.saturating.End.{End}
-use Rattle.hs_workers.specs.declared.saturating.End.TheVariants.{Least as AtRest, Over as PastBudget, First as Found, Unfinished}
+use Rattle.hs_workers.specs.declared.saturating.End.TheVariants.{Least as AtRest, Over as PastBudget, First as Found}
 
 -- no step is of worker 0, nor of one past the last
 abbrev pub IsOfWorkers : ℕ → CoreStep → Type 0
@@ -29,7 +29,6 @@ abbrev pub IsEnd : CoreData → End → Type 0
 IsEnd c AtRest = IsLeastAnswer c
 IsEnd c PastBudget = IsOverAnswer c
 IsEnd c Found = IsFirstAnswer c
-IsEnd c Unfinished = Unit {0}
 
 abbrev pub IsDoneOf : CoreData → Done → Type 0
 IsDoneOf c (Least d) = (d ≡ c) × IsLeastAnswer c

@@ -5,7 +5,7 @@ ghost use Rattle.hs_flow.specs.Dependents.{HasDependents};
 ghost use Rattle.hs_turn.specs.Seats.{RestsIn};
 ghost use Rattle.hs_verdict.specs.Premises.{HasClosedFlow};
 ghost use Rattle.hs_core.specs.Core.{IsCore};
-ghost use Rattle.hs_core.specs.Draining.{GoesAlone};
+ghost use Rattle.hs_core.specs.Draining.{GoesAlone, EndsAtRest};
 ghost use Rattle.hs_core.specs.Saturation.{IsVerdict};
 ghost use Rattle.hs_workers.specs.Working.{IsFirstSeat, HasSeenNothing, IsBased, RestsSeated};
 ghost use Rattle.hs_workers.specs.Answers.{IsOfWorkers, IsSharedDone, IsEnd, IsDoneOf};
@@ -106,12 +106,11 @@ enum End {
     Over,
     /// Only the start entry was sought, and the log has it.
     First,
-    /// Works are left.
-    Unfinished,
 }
 
-/// What has come of the core.
+/// What has come of the core, in which nothing is left to do.
 fn end_of(core: &Core) -> End
+    requires { EndsAtRest core.now }
     ensures { IsEnd core.now result }
 {
     core.know_core();
@@ -121,24 +120,18 @@ fn end_of(core: &Core) -> End
     if core.past().is_some() {
         return End::Over;
     }
-    if !core.quiet() {
-        return End::Unfinished;
-    }
     End::Least
 }
 
-/// The answer that the core of the workers gives, or that memory was refused where works are left.
-fn answer<'p>(core: Core<'p>) -> Result<Done<'p>, OutOfMemory>
-    ensures { IfOk result (IsDoneOf core.entry) }
+/// The answer that the core of the workers gives, in which nothing is left to do.
+fn answer<'p>(core: Core<'p>) -> Done<'p>
+    requires { EndsAtRest core }
+    ensures { IsDoneOf core.entry result }
 {
     match end_of(&core) {
-        End::Least => Ok(Done::Least(core)),
-        End::Over => Ok(Done::Over(core)),
-        End::First => Ok(Done::First(core)),
-        End::Unfinished => {
-            drop(core);
-            Err(OutOfMemory)
-        }
+        End::Least => Done::Least(core),
+        End::Over => Done::Over(core),
+        End::First => Done::First(core),
     }
 }
 
@@ -209,36 +202,48 @@ fn work_by_one<'p, G: Gate>(
     core: Core<'p>,
     dependents: &Dependents,
     gate: &G,
-) -> Core<'p>
+) -> Result<Core<'p>, OutOfMemory>
     requires story { core.story ≡ [] }
     requires dependents { HasDependents core.base.problem.points core.base.problem.flow.pairs dependents.now }
-    ensures base { result.base ≡ core.entry.base }
-    ensures workers { All (IsOfWorkers 1) result.story }
+    ensures base { IfOk result (λ left. left.base ≡ core.entry.base) }
+    ensures workers { IfOk result (λ left. All (IsOfWorkers 1) left.story) }
+    ensures ends { IfOk result EndsAtRest }
 {
     let mut core = core;
-    // After a refusal of memory works are left in it.
-    let _ended = work_alone(alloc, &mut core, dependents, 1, gate);
-    core
+    match work_alone(alloc, &mut core, dependents, 1, gate) {
+        Ok(()) => Ok(core),
+        Err(refused) => {
+            drop(core);
+            Err(refused)
+        }
+    }
 }
 
 /// The core once one worker, whose number is 1, has done what the others have left, in the caller's
-/// thread. They end before all is done where much follows from little.
+/// thread. They end before all is done where much follows from little, or memory was refused to them; a
+/// worker that ends has given its works back, so no work is in flight.
 fn end_by_one<'p, G: Gate>(
     alloc: Global,
     core: Core<'p>,
     dependents: &Dependents,
     gate: &G,
-) -> Core<'p>
+) -> Result<Core<'p>, OutOfMemory>
     requires { HasDependents core.base.problem.points core.base.problem.flow.pairs dependents.now }
-    ensures { GoesAlone 1 core.entry result }
+    ensures goes { IfOk result (λ left. GoesAlone 1 core.entry left) }
+    ensures ends { IfOk result EndsAtRest }
 {
     let mut core = core;
     if !core.nothing_flies() {
-        return core;
+        drop(core);
+        return Err(OutOfMemory);
     }
-    // After a refusal of memory works are left in it.
-    let _ended = select_alone(alloc, &mut core, dependents, 1, gate);
-    core
+    match select_alone(alloc, &mut core, dependents, 1, gate) {
+        Ok(()) => Ok(core),
+        Err(refused) => {
+            drop(core);
+            Err(refused)
+        }
+    }
 }
 
 /// The core that so many workers leave, from one in which nothing has happened. Nobody else does
@@ -259,13 +264,14 @@ fn work<'p, R: Threads + Wait + Sync, G: Gate + Sync>(
     requires story { core.story ≡ [] }
     ensures base { IfOk result (λ left. left.base ≡ core.entry.base) }
     ensures workers { IfOk result (λ left. All (IsOfWorkers workers) left.story) }
+    ensures ends { IfOk result EndsAtRest }
 {
     if workers == 1 {
-        return Ok(work_by_one(alloc, core, dependents, gate));
+        return work_by_one(alloc, core, dependents, gate);
     }
     let (table, seat) = share(alloc, core)?;
     let core = work_together(rt, alloc, problem, dependents, workers, table, seat, gate)?;
-    Ok(end_by_one(alloc, core, dependents, gate))
+    end_by_one(alloc, core, dependents, gate)
 }
 
 /// The least table of the problem, formed by so many workers, 1 to 16; or, where `first` is set and
@@ -306,5 +312,5 @@ pub fn saturate<'p, R: Threads + Wait + Sync, G: Gate + Sync>(
     least_tables_decide();
     let core = Core::new(alloc, problem, budget, first)?;
     let core = work(rt, alloc, problem, dependents, workers, core, gate)?;
-    answer(core)
+    Ok(answer(core))
 }
