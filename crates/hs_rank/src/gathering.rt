@@ -83,9 +83,10 @@ fn merge(replica: &Replica, fresh: &mut Fresh) -> Result<(), OutOfMemory>
 }
 
 /// Adds of what was found that of which the log lacks the entries. An entry may come to stand there
-/// several times, by several supports, but not so often that there is more than four times what the
-/// round or the one before it has: then of each entry the conclusion with the least support is kept.
-/// Takes constant time for each, on average, and that of sorting where conclusions are merged.
+/// several times, by several supports. Once there are 4,096 conclusions, and four times as many as
+/// there was room for or as were left the last time, of each entry the one with the least support is
+/// kept. No clause says so. Takes constant time for each, on average, and that of sorting where
+/// conclusions are merged.
 pub fn keep_new(
     replica: &Replica,
     found: Vec<Deduced>,
