@@ -1,3 +1,4 @@
+mod Stretches
 mod Beginning
 pub mod Telling
 pub mod Keeping

@@ -1,5 +1,5 @@
 -- The work that is pending first: seen, taken, and, where it is a seed, passed.
-use Rattle.std.proofs.Common.{◌≡◌, refl, sym, ◌∙◌, ap, subst, ℕ, ◌-◌, ◌<◌, true, List, [], ◌∷◌, ◌++◌, length, drop, get_or, Option, Some, None, arith, inl, inr}
+use Rattle.std.proofs.Common.{◌≡◌, refl, sym, ◌∙◌, ap, subst, ℕ, ◌-◌, true, List, [], ◌∷◌, ◌++◌, drop, slice_get, Option, Some, None, inl, inr}
 use Rattle.std.proofs.lemmas.Bool.{cases_eq}
 use Rattle.hs_scheme.proofs.Lists.{Contains-at}
 use Rattle.hs_table.specs.Entries.{EntryData}
@@ -16,10 +16,14 @@ use Rattle.hs_core.specs.Draining.{NothingFlies, IsNextSeed, passed_by}
 use Rattle.hs_core.specs.Inside.{Fields, IsInside}
 use Rattle.hs_core.proofs.Stepping.{state_in, can_take, Goes, taken, takes_goes, finished, finishes_goes, goes_as, value_of, steps_to, seen, seen_base, seen_kept, none_past, no_start, goes_on}
 
--- a list with a first item
-pub first_of : (xs : List Work) (w : Work) → 0 < length xs → get_or xs 0 w ≡ w → xs ≡ w ∷ drop 1 xs
-first_of [] w lt e = absurd (omega arith)
-first_of (x ∷ xs) w lt e = ap (λ (y : Work). y ∷ xs) e
+-- a list with a first item, and one without
+pub first_of : (xs : List Work) (w : Work) → slice_get xs 0 ≡ Some w → xs ≡ w ∷ drop 1 xs
+first_of [] w e = absurd (cc)
+first_of (x ∷ xs) w e = let same : x ≡ w = (cc) in ap (λ (y : Work). y ∷ xs) same
+
+pub none_of : (xs : List Work) → slice_get xs 0 ≡ None → xs ≡ []
+none_of [] e = refl
+none_of (x ∷ xs) e = absurd (cc)
 
 -- a ticket that is used and free again
 pub put_back : (flown : Option Flight) (flight : ℕ → Option Flight) → flight 0 ≡ None → (t : ℕ) → flight t ≡ put 0 None (put 0 flown flight) t

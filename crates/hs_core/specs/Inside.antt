@@ -65,7 +65,7 @@ pub record KnowsStart (p : ProblemData) (log : List EntryData) (start : Option �
   pub none : start ≡ None → HasStart p log → ⊥
 
 -- the numbers of a core: events for which there is room, works in flight, and of each list how many items it has and how many it can have; of
--- the journal for how many more there is room
+-- the pending works and of the journal for how many more there is room
 pub record Counts : Type 0 where
   pub spare : ℕ
   pub replica : ℕ
@@ -73,7 +73,6 @@ pub record Counts : Type 0 where
   pub tickets : ℕ
   pub supports : ℕ
   pub supports_room : ℕ
-  pub pending : ℕ
   pub pending_room : ℕ
   pub journal_room : ℕ
 
@@ -81,7 +80,7 @@ pub record HasRoom (n : Counts) : Type 0 where
   pub replica : n.spare ≤ n.replica
   pub tickets : n.held + n.spare ≤ n.tickets
   pub supports : n.supports + n.spare ≤ n.supports_room
-  pub pending : n.pending + n.held + n.spare ≤ n.pending_room
+  pub pending : n.held + n.spare ≤ n.pending_room
   pub journal : n.held + 2 * n.spare ≤ n.journal_room
 
 pub record IsInside (base : Base) (f : Fields) : Type 0 where

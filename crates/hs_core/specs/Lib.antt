@@ -3,6 +3,8 @@ pub mod Answers
 pub mod Saturation
 pub mod Tickets
 pub mod Journal
+pub mod Works
+pub mod Pending
 pub mod Inside
 pub mod Draining
 pub mod Waiting

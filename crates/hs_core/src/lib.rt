@@ -14,6 +14,7 @@ mod concluding;
 mod draining;
 mod gate;
 mod journal;
+mod pending;
 mod priority;
 mod selecting;
 mod start;

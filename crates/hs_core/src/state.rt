@@ -2,10 +2,8 @@
 
 ghost use Rattle.std.specs.Prelude.{◌≡◌, ◌-◌, ◌<◌, ◌≤◌, ◌↔◌, ◌++◌, ◌∷◌, [], ℕ, length, max, slice_get, Some, None, IfOk, IfSome, IfNone, IsTrue, OnOk, OnErr};
 ghost use Rattle.std.specs.Option.{option_map, option_copied};
-ghost use Rattle.std.specs.VecDeque.{deque_len, deque_capacity};
 ghost use Rattle.hs_table.specs.Tables.{HasStart};
 ghost use Rattle.hs_types.specs.Interned.{IsRow};
-ghost use Rattle.hs_history.specs.CoreStep.{seeds};
 ghost use Rattle.hs_history.specs.History.{IsAtRest, told};
 ghost use Rattle.hs_core.specs.Core.{state_of, log_of, deduction_of, StartsAt, IsCore};
 ghost use Rattle.hs_core.specs.Answers.{IsFound};
@@ -13,14 +11,14 @@ ghost use Rattle.hs_core.specs.Draining.{NothingFlies};
 
 use crate::backing::Backing;
 use crate::journal::Journal;
+use crate::pending::Pending;
 use crate::tickets::Tickets;
-use hs_history::{Flight, Work};
+use hs_history::Flight;
 use hs_rules::{Deduced, Replica};
 use hs_scheme::{OutOfMemory, Problem};
 use hs_table::{Entry, HeadBy};
 use hs_types::Interner;
 use std::alloc::Global;
-use std::collections::VecDeque;
 use std::marker::Model;
 
 /// So many events have room at once where room is made ahead.
@@ -35,8 +33,9 @@ const AHEAD: u32 = 64;
 /// story leads to.
 ///
 /// Beside what the replica needs, an entry costs a support of some 50 bytes, with 8 more for each
-/// chosen argument where there are more than two, 8 bytes while its work is pending, and some three
-/// events of the journal, which take 3 bytes each with one worker and mostly 11 with several.
+/// chosen argument where there are more than two, and some three events of the journal, which take 3
+/// bytes each with one worker and mostly 11 with several. Pending works take 12 bytes a stretch of
+/// points or of places that follow one another, however long it is.
 #[derive(Drop)]
 pub struct Core<'p> {
     pub(crate) problem: &'p Problem,
@@ -46,7 +45,7 @@ pub struct Core<'p> {
     /// The support of each entry of the log.
     pub(crate) supports: Vec<Backing>,
     /// The pending works, of which the front is taken first.
-    pub(crate) pending: VecDeque<Work>,
+    pub(crate) pending: Pending,
     pub(crate) tickets: Tickets,
     pub(crate) past: Option<Deduced>,
     pub(crate) journal: Journal,
@@ -56,7 +55,6 @@ pub struct Core<'p> {
 }
 
 impl<'p> Model for Core<'p> {
-    ghost use Rattle.std.specs.VecDeque.{deque_len, deque_capacity};
     ghost use Rattle.std.specs.Vec.{vec_len, vec_capacity};
     ghost use Rattle.hs_core.specs.Core.{CoreData, coded_core};
     ghost use Rattle.hs_core.specs.Tickets.{under, held};
@@ -78,7 +76,7 @@ impl<'p> Model for Core<'p> {
           ids = a.replica.ids;
           log = a.replica.log;
           supports = a.supports.items;
-          pending = a.pending.items;
+          pending = a.pending.works;
           flight = under a.tickets;
           past = a.past;
           journal = a.journal.steps;
@@ -91,27 +89,9 @@ impl<'p> Model for Core<'p> {
           tickets = a.tickets.capacity;
           supports = vec_len a.supports;
           supports_room = vec_capacity a.supports;
-          pending = deque_len a.pending;
-          pending_room = deque_capacity a.pending;
+          pending_room = a.pending.room;
           journal_room = a.journal.room;
         }) };
-}
-
-/// Puts the seeds of the points below n, in their order, in the place of what is pending. After a
-/// refusal of memory that stays.
-fn put_seeds(pending: &mut VecDeque<Work>, n: u32) -> Result<(), OutOfMemory>
-    ensures items { OnOk result (pending.new.items ≡ seeds n) }
-    ensures room { OnOk result (deque_len pending.new ≤ deque_capacity pending.new) }
-    ensures err { OnErr result (pending.new.items ≡ pending.old.items) }
-    ensures err_room { OnErr result (deque_len pending.new ≡ deque_len pending.old) }
-    ensures capacity { deque_capacity pending.old ≤ deque_capacity pending.new }
-{
-    pending.reserve(n as usize)?;
-    pending.clear();
-    for point in 0..n {
-        pending.push_back_reserved(Work::Seed(point));
-    }
-    Ok(())
 }
 
 impl<'p> Core<'p> {
@@ -119,7 +99,7 @@ impl<'p> Core<'p> {
     /// point is pending. The log is to hold at most `budget` entries, 1 to 1,000,000. Where `first`
     /// is set, no work is given out once the log has the start entry.
     ///
-    /// Memory and time are in proportion to the points.
+    /// Takes constant time, and little memory.
     pub fn new(
         alloc: Global,
         problem: &'p Problem,
@@ -135,8 +115,8 @@ impl<'p> Core<'p> {
           spare = 0;
         }) }
     {
-        let mut pending = VecDeque::new(alloc);
-        put_seeds(&mut pending, problem.points.count())?;
+        let mut pending = Pending::new(alloc);
+        pending.put_seeds(problem.points.count())?;
         Ok(Core {
             problem,
             budget,
@@ -156,7 +136,7 @@ impl<'p> Core<'p> {
     /// of each point is pending, as in a new core. But what the interner has stays there, and so does the
     /// memory, but for that of the journal. After a refusal of memory nothing has changed.
     ///
-    /// Time is in proportion to what there was, and to the points.
+    /// Time is in proportion to what there was.
     pub fn restart(&mut self, budget: u32, first: bool) -> Result<(), OutOfMemory>
         requires least { 1 ≤ budget }
         requires greatest { budget ≤ 1000000 }
@@ -169,7 +149,7 @@ impl<'p> Core<'p> {
         ensures err { OnErr result (self.new ≡ self.old) }
     {
         let problem = self.problem;
-        put_seeds(&mut self.pending, problem.points.count())?;
+        self.pending.put_seeds(problem.points.count())?;
         self.replica.clear();
         self.supports.clear();
         self.tickets.clear();

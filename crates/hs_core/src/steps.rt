@@ -38,14 +38,13 @@ impl<'p> Core<'p> {
         if self.past.is_some() {
             return Taken::Over;
         }
-        let Some(first) = self.pending.front() else {
+        let Some(work) = self.pending.front() else {
             return if self.tickets.count() == 0 {
                 Taken::Quiet
             } else {
                 Taken::Idle
             };
         };
-        let work = *first;
         let ticket = self.take_first(worker, work);
         Taken::Item { work, ticket }
     }
@@ -54,10 +53,7 @@ impl<'p> Core<'p> {
     pub(crate) fn next_seed(&self) -> Option<u32>
         ensures { IfSome result (IsNextSeed self.now) }
     {
-        let Some(first) = self.pending.front() else {
-            return None;
-        };
-        let Work::Seed(point) = *first else {
+        let Some(Work::Seed(point)) = self.pending.front() else {
             return None;
         };
         if self.found().is_some() {
@@ -79,7 +75,7 @@ impl<'p> Core<'p> {
         ensures can { CanTake self.old.base (state_of self.old) work result }
         ensures stepped { self.new ≡ stepped self.old worker (takes work result) (self.old.spare - 1) }
     {
-        let _ = self.pending.pop_front();
+        self.pending.pop_front();
         let ticket = self.tickets.insert(Flight { worker, work });
         self.journal.push(Step {
             worker,
@@ -98,7 +94,7 @@ impl<'p> Core<'p> {
         requires spare { 1 ≤ self.old.spare }
         ensures { self.new ≡ passed_by self.old worker point (self.old.spare - 1) }
     {
-        let _ = self.pending.pop_front();
+        self.pending.pop_front();
         self.journal.push_passed(worker, ONLY_TICKET, point);
         self.spare -= 1;
     }
@@ -171,7 +167,7 @@ impl<'p> Core<'p> {
         self.replica.add(deduced.row);
         let Deduced { row: _, head, args } = deduced;
         self.supports.push_reserved(Backing::of(head, args));
-        self.pending.push_back_reserved(Work::Place(place));
+        self.pending.push_back(Work::Place(place));
         self.journal.push(Step {
             worker,
             event: Event::Added { ticket, place },
@@ -242,7 +238,7 @@ impl<'p> Core<'p> {
         ensures { self.new ≡ stepped self.old worker (gives_back ticket) self.old.spare }
     {
         let flight = self.tickets.remove(ticket);
-        self.pending.push_back_reserved(flight.work);
+        self.pending.push_back(flight.work);
         self.journal.push(Step {
             worker,
             event: Event::GiveBack { ticket },

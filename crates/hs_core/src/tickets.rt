@@ -1,6 +1,6 @@
 //! Tickets: the works in flight.
 
-ghost use Rattle.std.specs.Prelude.{◌≡◌, ◌+◌, ◌<◌, ◌≤◌, ℕ, [], length, Some, None, IsSome, OnOk, OnErr};
+ghost use Rattle.std.specs.Prelude.{◌≡◌, ◌+◌, ◌<◌, ◌≤◌, ◌^◌, ℕ, [], length, Some, None, IsSome, OnOk, OnErr};
 ghost use Rattle.hs_history.specs.CoreStep.{put};
 ghost use Rattle.hs_core.specs.Tickets.{under, held};
 
@@ -55,7 +55,8 @@ impl Tickets {
 
     /// How many works are in flight.
     pub fn count(&self) -> usize
-        ensures { result ≡ held self.now }
+        ensures count { result ≡ held self.now }
+        ensures few { self.now.capacity < 2 ^ 32 }
     {
         self.slots.len()
     }

@@ -12,7 +12,7 @@ use denote.Struct.Tuple.{parts, type_at, TupleAt}
 use denote.RattleType.{RattleType}
 use mathlib.Core.List.{List, [], ◌∷◌}
 use mir.Syntax.{Sym}
-use Rattle.std.proofs.Crossing.{crosses, Vec-send, Vec-sync, Deque-send}
+use Rattle.std.proofs.Crossing.{crosses, Vec-send, Vec-sync}
 use Rattle.std.proofs.alloc.Global.TheSendSync as Global
 use Rattle.std.proofs.option.Option.TheSendSync as Option
 use Rattle.hs_scheme.proofs.automaton.Automaton.TheSendSync as Automaton
@@ -24,8 +24,8 @@ use Rattle.hs_scheme.proofs.sort.Sort.TheLaws.TheKnot as SortKnot
 use Rattle.hs_scheme.proofs.term.Term.TheLaws.TheKnot as TermKnot
 use Rattle.hs_core.proofs.backing.Backing.TheSendSync as Backing
 use Rattle.hs_core.proofs.journal.Journal.TheSendSync as Journal
+use Rattle.hs_core.proofs.pending.Pending.TheSendSync as Pending
 use Rattle.hs_core.proofs.tickets.Tickets.TheSendSync as Tickets
-use Rattle.hs_history.proofs.step.Work.TheSendSync as Work
 use Rattle.hs_rules.proofs.deduced.Deduced.TheSendSync as Deduced
 use Rattle.hs_replica.proofs.replica.Replica.TheSendSync as Replica
 use Rattle.hs_scheme.specs.contracts.sort.Sort.{the_row as sort_row}
@@ -72,7 +72,7 @@ problem_sync = view_sync problem_inside _ _ _ _ (all_shared problem_type (sorted
 
 -- the fields of a core, in their order
 all_send : (κ : NamedLft) → AllSend (fields (inside_type κ))
-all_send κ = (shr_send _ _ problem_row problem_sync, (search sendable, (search sendable, (Replica.the_send, (Vec-send _ Backing.the_send, (Deque-send _ Work.the_send, (Tickets.the_send, (search (Option.the_field_send, Option.the_send, Deduced.the_send) depth 4 fits 50, (Journal.the_send, (search (Option.the_field_send, Option.the_send, sendable) depth 4 fits 50, (search sendable, tt)))))))))))
+all_send κ = (shr_send _ _ problem_row problem_sync, (search sendable, (search sendable, (Replica.the_send, (Vec-send _ Backing.the_send, (Pending.the_send, (Tickets.the_send, (search (Option.the_field_send, Option.the_send, Deduced.the_send) depth 4 fits 50, (Journal.the_send, (search (Option.the_field_send, Option.the_send, sendable) depth 4 fits 50, (search sendable, tt)))))))))))
 
 pub core_send : (κ : NamedLft) → IsSend (the_row κ)
 core_send κ = view_send (inside_row κ) _ _ _ _ (all_sent (inside_type κ) (all_send κ))

@@ -19,8 +19,8 @@ add-requires-clause-spare c = omega (arith, c.requires.spare, ap (λ (v : CoreDa
 pub push_reserved-requires : goal.push_reserved-requires
 push_reserved-requires c = omega (arith, c.requires.spare, ap (λ (v : CoreData). v.spare) c.self.view_is, c.self.invariant.1.supports)
 
-pub push_back_reserved-requires : goal.push_back_reserved-requires
-push_back_reserved-requires c = omega (arith, c.requires.spare, ap (λ (v : CoreData). v.spare) c.self.view_is, c.self.invariant.1.pending)
+pub push_back-requires : goal.push_back-requires
+push_back-requires c = omega (arith, c.requires.spare, ap (λ (v : CoreData). v.spare) c.self.view_is, c.self.invariant.1.pending)
 
 pub push-requires : goal.push-requires
 push-requires c = omega (arith, c.requires.spare, ap (λ (v : CoreData). v.spare) c.self.view_is, c.self.invariant.1.journal)
@@ -32,7 +32,7 @@ goes : (c : goal.After-self-2-1) → Goes (base_of c.self.inside) (fields_of c.s
   ids = c.add.new.self.ids;
   log = c.add.new.self.log;
   supports = c.push_reserved.new.self.items;
-  pending = c.push_back_reserved.new.self.items;
+  pending = c.push_back.new.self.works;
   flight = under c.self.inside.tickets;
   past = c.self.inside.past;
   journal = c.push.new.self.steps;
@@ -53,7 +53,7 @@ goes c =
       ids = (c.add.ensures i).ids;
       log = (ap (λ (r : ReplicaData). r.log) c.add.ensures ∙ ap (λ (x : DeducedData). f.log ++ entry_of f.ids x.row ∷ []) c.deduced.view_is) i;
       supports = (c.push_reserved.ensures.items ∙ (ap (λ (s : Support). f.supports ++ s ∷ []) c.of.ensures ∙ ap (λ (x : DeducedData). f.supports ++ x.support ∷ []) c.deduced.view_is)) i;
-      pending = (c.push_back_reserved.ensures.items ∙ ap (λ n. f.pending ++ Place n ∷ []) c.len-place.ensures.len) i;
+      pending = (c.push_back.ensures.works ∙ ap (λ n. f.pending ++ Place n ∷ []) c.len-place.ensures.len) i;
       flight = f.flight;
       past = f.past;
       journal = (c.push.ensures.steps ∙ ap (λ n. f.journal ++ (record { worker = c.args.worker; event = Added c.args.ticket n }) ∷ []) c.len-place.ensures.len) i;

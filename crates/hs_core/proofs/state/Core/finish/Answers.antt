@@ -10,7 +10,7 @@ goes : (c : goal.After-push) → Goes (base_of c.self.inside) (fields_of c.self.
   ids = c.self.inside.replica.ids;
   log = c.self.inside.replica.log;
   supports = c.self.inside.supports.items;
-  pending = c.self.inside.pending.items;
+  pending = c.self.inside.pending.works;
   flight = under c.remove-closed.new.self;
   past = c.self.inside.past;
   journal = c.push.new.self.steps;

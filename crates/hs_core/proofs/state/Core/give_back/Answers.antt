@@ -10,7 +10,7 @@ goes : (c : goal.After-push) → Goes (base_of c.self.inside) (fields_of c.self.
   ids = c.self.inside.replica.ids;
   log = c.self.inside.replica.log;
   supports = c.self.inside.supports.items;
-  pending = c.push_back_reserved.new.self.items;
+  pending = c.push_back.new.self.works;
   flight = under c.remove-flight.new.self;
   past = c.self.inside.past;
   journal = c.push.new.self.steps;
@@ -26,7 +26,7 @@ goes c =
       ids = f.ids;
       log = f.log;
       supports = f.supports;
-      pending = c.push_back_reserved.ensures.items i;
+      pending = c.push_back.ensures.works i;
       flight = λ t. c.remove-flight.ensures.updates t i;
       past = f.past;
       journal = c.push.ensures.steps i;

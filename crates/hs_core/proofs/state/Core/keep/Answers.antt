@@ -11,7 +11,7 @@ goes : (c : goal.After-self-2-1) → Goes (base_of c.self.inside) (fields_of c.s
   ids = c.self.inside.replica.ids;
   log = c.self.inside.replica.log;
   supports = c.self.inside.supports.items;
-  pending = c.self.inside.pending.items;
+  pending = c.self.inside.pending.works;
   flight = under c.self.inside.tickets;
   past = Some c.args.deduced;
   journal = c.push.new.self.steps;

@@ -14,7 +14,7 @@ invariant_of-result c =
       ids = c.new.result.ids;
       log = c.new.result.log;
       supports = c.new-2.result.items;
-      pending = c.put_seeds.new.pending.items;
+      pending = c.put_seeds.new.self.works;
       flight = under c.new-3.result;
       past = None;
       journal = c.new-4.result.steps;
@@ -23,7 +23,7 @@ invariant_of-result c =
       ids = c.new.result.ids;
       log = (c.new.ensures i).log;
       supports = c.new-2.ensures.items i;
-      pending = (c.in_ok-put_seeds.ensures.items ∙ (ap seeds c.count.ensures.points ∙ ap (λ (p : ProblemData). seeds (length p.points.points)) c.problem.view_is)) i;
+      pending = (c.in_ok-put_seeds.ensures.ok ∙ (ap seeds c.count.ensures.points ∙ ap (λ (p : ProblemData). seeds (length p.points.points)) c.problem.view_is)) i;
       flight = λ t. under (c.new-3.ensures i) t;
       past = None;
       journal = (c.new-4.ensures i).steps;
@@ -34,7 +34,7 @@ invariant_of-result c =
         replica = omega arith;
         tickets = omega (arith, ap (λ (t : TicketsData). held t) c.new-3.ensures);
         supports = omega (arith, c.new-2.ensures.len);
-        pending = omega (arith, ap (λ (t : TicketsData). held t) c.new-3.ensures, c.in_ok-put_seeds.ensures.room);
+        pending = omega (arith, ap (λ (t : TicketsData). held t) c.new-3.ensures);
         journal = omega (arith, ap (λ (t : TicketsData). held t) c.new-3.ensures);
       },
     )

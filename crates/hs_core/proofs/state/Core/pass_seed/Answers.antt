@@ -12,7 +12,7 @@ fields c = record {
   ids = c.self.inside.replica.ids;
   log = c.self.inside.replica.log;
   supports = c.self.inside.supports.items;
-  pending = c.pop_front.new.self.items;
+  pending = c.pop_front.new.self.works;
   flight = under c.self.inside.tickets;
   past = c.self.inside.past;
   journal = c.push_passed.new.self.steps;
@@ -27,7 +27,7 @@ same c =
       ids = f.ids;
       log = f.log;
       supports = f.supports;
-      pending = (c.pop_front.ensures.rest ∙ ap (λ ws. drop 1 ws) (seed_front (base_of a) f c.self.invariant.0 a.spare c.args.self.now c.self.view_is c.args.point c.requires.next)) i;
+      pending = (c.pop_front.ensures.works ∙ ap (λ ws. drop 1 ws) (seed_front (base_of a) f c.self.invariant.0 a.spare c.args.self.now c.self.view_is c.args.point c.requires.next)) i;
       flight = f.flight;
       past = f.past;
       journal = c.push_passed.ensures.steps i;
@@ -46,7 +46,7 @@ invariant_of-self c =
         replica = omega (arith, spare_is c);
         tickets = omega (arith, spare_is c);
         supports = omega (arith, spare_is c);
-        pending = omega (arith, spare_is c, c.pop_front.ensures.capacity, c.pop_front.ensures.len);
+        pending = omega (arith, spare_is c, c.pop_front.ensures.room);
         journal = omega (arith, spare_is c);
       },
     )

@@ -28,7 +28,7 @@ module _ (a : Inside) (replica : ReplicaData) (supports : List Support) (pending
     start = a.start;
   }
 
-  module _ (ids : replica.ids ≡ a.replica.ids) (log : replica.log ≡ a.replica.log) (as_supports : supports ≡ a.supports.items) (as_pending : pending ≡ a.pending.items) (slots : tickets.slots ≡ a.tickets.slots) (steps : journal ≡ a.journal.steps) where
+  module _ (ids : replica.ids ≡ a.replica.ids) (log : replica.log ≡ a.replica.log) (as_supports : supports ≡ a.supports.items) (as_pending : pending ≡ a.pending.works) (slots : tickets.slots ≡ a.tickets.slots) (steps : journal ≡ a.journal.steps) where
     same : roomier ≡ fields_of a
     same = λ i. record {
       ids = ids i;
@@ -57,7 +57,7 @@ pub invariant_of-self : goal.invariant_of-self
 invariant_of-self c =
     let a = c.self.inside in
     let same = c.in_err-reserve.ensures.err in (
-      inside_still a c.reserve.new.self a.supports.items a.pending.items a.tickets a.journal.steps (ap (λ (r : ReplicaData). r.ids) same) (ap (λ (r : ReplicaData). r.log) same) refl refl refl refl c.self.invariant.0,
+      inside_still a c.reserve.new.self a.supports.items a.pending.works a.tickets a.journal.steps (ap (λ (r : ReplicaData). r.ids) same) (ap (λ (r : ReplicaData). r.log) same) refl refl refl refl c.self.invariant.0,
       record {
         replica = omega (arith, ap (λ (r : ReplicaData). r.spare) same, c.self.invariant.1.replica);
         tickets = c.self.invariant.1.tickets;
@@ -71,13 +71,13 @@ pub returns-in_err-reserve-clause-err : goal.returns-in_err-reserve-clause-err
 returns-in_err-reserve-clause-err c =
     let a = c.self.inside in
     let same = c.in_err-reserve.ensures.err in
-    on_err c.from_residual.result _ (value_still a c.reserve.new.self a.supports.items a.pending.items a.tickets a.journal.steps (ap (λ (r : ReplicaData). r.ids) same) (ap (λ (r : ReplicaData). r.log) same) refl refl refl refl c.args.self.now c.self.view_is)
+    on_err c.from_residual.result _ (value_still a c.reserve.new.self a.supports.items a.pending.works a.tickets a.journal.steps (ap (λ (r : ReplicaData). r.ids) same) (ap (λ (r : ReplicaData). r.log) same) refl refl refl refl c.args.self.now c.self.view_is)
 
 pub invariant_of-self-in_err-reserve-2 : goal.invariant_of-self-in_err-reserve-2
 invariant_of-self-in_err-reserve-2 c =
     let a = c.self.inside in
     let more = c.in_ok-reserve.ensures.ok in (
-      inside_still a c.reserve.new.self c.reserve-2.new.self.items a.pending.items a.tickets a.journal.steps (ap (λ (r : ReplicaData). r.ids) more) (ap (λ (r : ReplicaData). r.log) more) c.in_err-reserve-2.ensures.items refl refl refl c.self.invariant.0,
+      inside_still a c.reserve.new.self c.reserve-2.new.self.items a.pending.works a.tickets a.journal.steps (ap (λ (r : ReplicaData). r.ids) more) (ap (λ (r : ReplicaData). r.log) more) c.in_err-reserve-2.ensures.items refl refl refl c.self.invariant.0,
       record {
         replica = omega (arith, ap (λ (r : ReplicaData). r.spare) more, le-max_left a.replica.spare c.args.k, c.self.invariant.1.replica);
         tickets = c.self.invariant.1.tickets;
@@ -92,19 +92,19 @@ returns-in_err-reserve-2-clause-err c =
     let a = c.self.inside in
     let more = c.in_ok-reserve.ensures.ok in
     on_err c.from_residual-in_err-reserve-2.result _
-    (value_still a c.reserve.new.self c.reserve-2.new.self.items a.pending.items a.tickets a.journal.steps (ap (λ (r : ReplicaData). r.ids) more) (ap (λ (r : ReplicaData). r.log) more) c.in_err-reserve-2.ensures.items refl refl refl c.args.self.now c.self.view_is)
+    (value_still a c.reserve.new.self c.reserve-2.new.self.items a.pending.works a.tickets a.journal.steps (ap (λ (r : ReplicaData). r.ids) more) (ap (λ (r : ReplicaData). r.log) more) c.in_err-reserve-2.ensures.items refl refl refl c.args.self.now c.self.view_is)
 
 pub invariant_of-self-in_err-reserve-3 : goal.invariant_of-self-in_err-reserve-3
 invariant_of-self-in_err-reserve-3 c =
     let a = c.self.inside in
     let more = c.in_ok-reserve.ensures.ok in (
-      inside_still a c.reserve.new.self c.reserve-2.new.self.items c.reserve-3.new.self.items a.tickets a.journal.steps (ap (λ (r : ReplicaData). r.ids) more) (ap (λ (r : ReplicaData). r.log) more) c.in_ok-reserve-2.ensures.items
-          c.in_err-reserve-3.ensures.items refl refl c.self.invariant.0,
+      inside_still a c.reserve.new.self c.reserve-2.new.self.items c.reserve-3.new.self.works a.tickets a.journal.steps (ap (λ (r : ReplicaData). r.ids) more) (ap (λ (r : ReplicaData). r.log) more) c.in_ok-reserve-2.ensures.items
+          c.in_err-reserve-3.ensures.works refl refl c.self.invariant.0,
       record {
         replica = omega (arith, ap (λ (r : ReplicaData). r.spare) more, le-max_left a.replica.spare c.args.k, c.self.invariant.1.replica);
         tickets = c.self.invariant.1.tickets;
         supports = omega (arith, c.in_ok-reserve-2.ensures.len, c.in_ok-reserve-2.ensures.capacity, c.self.invariant.1.supports);
-        pending = omega (arith, c.in_err-reserve-3.ensures.len, c.in_err-reserve-3.ensures.capacity, c.self.invariant.1.pending);
+        pending = omega (arith, c.in_err-reserve-3.ensures.more, c.self.invariant.1.pending);
         journal = c.self.invariant.1.journal;
       },
     )
@@ -114,21 +114,21 @@ returns-in_err-reserve-3-clause-err c =
     let a = c.self.inside in
     let more = c.in_ok-reserve.ensures.ok in
     on_err c.from_residual-in_err-reserve-3.result _
-    (value_still a c.reserve.new.self c.reserve-2.new.self.items c.reserve-3.new.self.items a.tickets a.journal.steps (ap (λ (r : ReplicaData). r.ids) more) (ap (λ (r : ReplicaData). r.log) more) c.in_ok-reserve-2.ensures.items
-    c.in_err-reserve-3.ensures.items refl refl c.args.self.now c.self.view_is)
+    (value_still a c.reserve.new.self c.reserve-2.new.self.items c.reserve-3.new.self.works a.tickets a.journal.steps (ap (λ (r : ReplicaData). r.ids) more) (ap (λ (r : ReplicaData). r.log) more) c.in_ok-reserve-2.ensures.items
+    c.in_err-reserve-3.ensures.works refl refl c.args.self.now c.self.view_is)
 
 pub invariant_of-self-in_err-reserve-4 : goal.invariant_of-self-in_err-reserve-4
 invariant_of-self-in_err-reserve-4 c =
     let a = c.self.inside in
     let more = c.in_ok-reserve.ensures.ok in
     let flies = same_held c.reserve-4.new.self a.tickets c.in_err-reserve-4.ensures.slots in (
-      inside_still a c.reserve.new.self c.reserve-2.new.self.items c.reserve-3.new.self.items c.reserve-4.new.self a.journal.steps (ap (λ (r : ReplicaData). r.ids) more) (ap (λ (r : ReplicaData). r.log) more) c.in_ok-reserve-2.ensures.items
-          c.in_ok-reserve-3.ensures.items c.in_err-reserve-4.ensures.slots refl c.self.invariant.0,
+      inside_still a c.reserve.new.self c.reserve-2.new.self.items c.reserve-3.new.self.works c.reserve-4.new.self a.journal.steps (ap (λ (r : ReplicaData). r.ids) more) (ap (λ (r : ReplicaData). r.log) more) c.in_ok-reserve-2.ensures.items
+          c.in_ok-reserve-3.ensures.works c.in_err-reserve-4.ensures.slots refl c.self.invariant.0,
       record {
         replica = omega (arith, ap (λ (r : ReplicaData). r.spare) more, le-max_left a.replica.spare c.args.k, c.self.invariant.1.replica);
         tickets = omega (arith, flies, c.in_err-reserve-4.ensures.more, c.self.invariant.1.tickets);
         supports = omega (arith, c.in_ok-reserve-2.ensures.len, c.in_ok-reserve-2.ensures.capacity, c.self.invariant.1.supports);
-        pending = omega (arith, flies, c.in_ok-reserve-3.ensures.len, c.in_ok-reserve-3.ensures.capacity, c.self.invariant.1.pending);
+        pending = omega (arith, flies, c.in_ok-reserve-3.ensures.more, c.self.invariant.1.pending);
         journal = omega (arith, flies, c.self.invariant.1.journal);
       },
     )
@@ -138,21 +138,21 @@ returns-in_err-reserve-4-clause-err c =
     let a = c.self.inside in
     let more = c.in_ok-reserve.ensures.ok in
     on_err c.from_residual-in_err-reserve-4.result _
-    (value_still a c.reserve.new.self c.reserve-2.new.self.items c.reserve-3.new.self.items c.reserve-4.new.self a.journal.steps (ap (λ (r : ReplicaData). r.ids) more) (ap (λ (r : ReplicaData). r.log) more) c.in_ok-reserve-2.ensures.items
-    c.in_ok-reserve-3.ensures.items c.in_err-reserve-4.ensures.slots refl c.args.self.now c.self.view_is)
+    (value_still a c.reserve.new.self c.reserve-2.new.self.items c.reserve-3.new.self.works c.reserve-4.new.self a.journal.steps (ap (λ (r : ReplicaData). r.ids) more) (ap (λ (r : ReplicaData). r.log) more) c.in_ok-reserve-2.ensures.items
+    c.in_ok-reserve-3.ensures.works c.in_err-reserve-4.ensures.slots refl c.args.self.now c.self.view_is)
 
 pub invariant_of-self-in_err-reserve-5 : goal.invariant_of-self-in_err-reserve-5
 invariant_of-self-in_err-reserve-5 c =
     let a = c.self.inside in
     let more = c.in_ok-reserve.ensures.ok in
     let flies = same_held c.reserve-4.new.self a.tickets c.in_ok-reserve-4.ensures.slots in (
-      inside_still a c.reserve.new.self c.reserve-2.new.self.items c.reserve-3.new.self.items c.reserve-4.new.self c.reserve-5.new.self.steps (ap (λ (r : ReplicaData). r.ids) more) (ap (λ (r : ReplicaData). r.log) more)
-          c.in_ok-reserve-2.ensures.items c.in_ok-reserve-3.ensures.items c.in_ok-reserve-4.ensures.slots c.in_err-reserve-5.ensures.steps c.self.invariant.0,
+      inside_still a c.reserve.new.self c.reserve-2.new.self.items c.reserve-3.new.self.works c.reserve-4.new.self c.reserve-5.new.self.steps (ap (λ (r : ReplicaData). r.ids) more) (ap (λ (r : ReplicaData). r.log) more)
+          c.in_ok-reserve-2.ensures.items c.in_ok-reserve-3.ensures.works c.in_ok-reserve-4.ensures.slots c.in_err-reserve-5.ensures.steps c.self.invariant.0,
       record {
         replica = omega (arith, ap (λ (r : ReplicaData). r.spare) more, le-max_left a.replica.spare c.args.k, c.self.invariant.1.replica);
         tickets = omega (arith, flies, c.in_ok-reserve-4.ensures.more, c.self.invariant.1.tickets);
         supports = omega (arith, c.in_ok-reserve-2.ensures.len, c.in_ok-reserve-2.ensures.capacity, c.self.invariant.1.supports);
-        pending = omega (arith, flies, c.in_ok-reserve-3.ensures.len, c.in_ok-reserve-3.ensures.capacity, c.self.invariant.1.pending);
+        pending = omega (arith, flies, c.in_ok-reserve-3.ensures.more, c.self.invariant.1.pending);
         journal = omega (arith, flies, c.in_err-reserve-5.ensures.more, c.self.invariant.1.journal);
       },
     )
@@ -162,22 +162,22 @@ returns-in_err-reserve-5-clause-err c =
     let a = c.self.inside in
     let more = c.in_ok-reserve.ensures.ok in
     on_err c.from_residual-in_err-reserve-5.result _
-    (value_still a c.reserve.new.self c.reserve-2.new.self.items c.reserve-3.new.self.items c.reserve-4.new.self c.reserve-5.new.self.steps (ap (λ (r : ReplicaData). r.ids) more) (ap (λ (r : ReplicaData). r.log) more)
-    c.in_ok-reserve-2.ensures.items c.in_ok-reserve-3.ensures.items c.in_ok-reserve-4.ensures.slots c.in_err-reserve-5.ensures.steps c.args.self.now c.self.view_is)
+    (value_still a c.reserve.new.self c.reserve-2.new.self.items c.reserve-3.new.self.works c.reserve-4.new.self c.reserve-5.new.self.steps (ap (λ (r : ReplicaData). r.ids) more) (ap (λ (r : ReplicaData). r.log) more)
+    c.in_ok-reserve-2.ensures.items c.in_ok-reserve-3.ensures.works c.in_ok-reserve-4.ensures.slots c.in_err-reserve-5.ensures.steps c.args.self.now c.self.view_is)
 
 pub invariant_of-self-2 : goal.invariant_of-self-2
 invariant_of-self-2 c =
     let a = c.self.inside in
     let more = c.in_ok-reserve.ensures.ok in
     let flies = same_held c.reserve-4.new.self a.tickets c.in_ok-reserve-4.ensures.slots in (
-      inside_still a c.reserve.new.self c.reserve-2.new.self.items c.reserve-3.new.self.items c.reserve-4.new.self c.reserve-5.new.self.steps (ap (λ (r : ReplicaData). r.ids) more) (ap (λ (r : ReplicaData). r.log) more)
-          c.in_ok-reserve-2.ensures.items c.in_ok-reserve-3.ensures.items c.in_ok-reserve-4.ensures.slots c.in_ok-reserve-5.ensures.steps c.self.invariant.0,
+      inside_still a c.reserve.new.self c.reserve-2.new.self.items c.reserve-3.new.self.works c.reserve-4.new.self c.reserve-5.new.self.steps (ap (λ (r : ReplicaData). r.ids) more) (ap (λ (r : ReplicaData). r.log) more)
+          c.in_ok-reserve-2.ensures.items c.in_ok-reserve-3.ensures.works c.in_ok-reserve-4.ensures.slots c.in_ok-reserve-5.ensures.steps c.self.invariant.0,
       record {
         replica = omega (arith, ap (λ (r : ReplicaData). r.spare) more, le-max_right a.replica.spare c.args.k);
         tickets = omega (arith, flies, c.in_ok-reserve-4.ensures.ok);
         supports = omega (arith, c.in_ok-reserve-2.ensures.len, c.in_ok-reserve-2.ensures.ok);
-        pending = omega (arith, flies, c.count-held.ensures, c.in_ok-reserve-3.ensures.len, c.in_ok-reserve-3.ensures.ok);
-        journal = omega (arith, flies, c.count-held.ensures, c.in_ok-reserve-5.ensures.ok);
+        pending = omega (arith, flies, c.count-held.ensures.count, c.in_ok-reserve-3.ensures.ok);
+        journal = omega (arith, flies, c.count-held.ensures.count, c.in_ok-reserve-5.ensures.ok);
       },
     )
 
@@ -186,6 +186,6 @@ returns-clause-ok c =
     let a = c.self.inside in
     let v = c.args.self.now in
     let more = c.in_ok-reserve.ensures.ok in
-    value_with a c.reserve.new.self c.reserve-2.new.self.items c.reserve-3.new.self.items c.reserve-4.new.self c.reserve-5.new.self.steps (ap (λ (r : ReplicaData). r.ids) more) (ap (λ (r : ReplicaData). r.log) more)
-    c.in_ok-reserve-2.ensures.items c.in_ok-reserve-3.ensures.items c.in_ok-reserve-4.ensures.slots c.in_ok-reserve-5.ensures.steps v c.args.k (max v.spare c.args.k) c.self.view_is
+    value_with a c.reserve.new.self c.reserve-2.new.self.items c.reserve-3.new.self.works c.reserve-4.new.self c.reserve-5.new.self.steps (ap (λ (r : ReplicaData). r.ids) more) (ap (λ (r : ReplicaData). r.log) more)
+    c.in_ok-reserve-2.ensures.items c.in_ok-reserve-3.ensures.works c.in_ok-reserve-4.ensures.slots c.in_ok-reserve-5.ensures.steps v c.args.k (max v.spare c.args.k) c.self.view_is
     (omega (arith, ap (λ (w : CoreData). w.spare) c.self.view_is))

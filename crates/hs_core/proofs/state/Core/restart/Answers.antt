@@ -4,6 +4,7 @@ use Rattle.hs_history.specs.declared.step.Work.{Work}
 use Rattle.hs_history.specs.Story.{Base}
 use Rattle.hs_history.specs.CoreStep.{seeds}
 use Rattle.hs_core.specs.Inside.{Fields, IsInside}
+use Rattle.hs_core.specs.Pending.{PendingData}
 use Rattle.hs_core.specs.Tickets.{TicketsData, under, held}
 use Rattle.hs_core.proofs.Beginning.{fresh, inside_fresh}
 use Rattle.hs_core.proofs.Stepping.{base_of}
@@ -21,12 +22,12 @@ invariant_of-self c =
         past = a.past;
         journal = a.journal.steps;
         start = a.start;
-      })) (sym c.in_err-put_seeds.ensures.err) c.self.invariant.0,
+      })) (sym (ap (λ (v : PendingData). v.works) c.in_err-put_seeds.ensures.err)) c.self.invariant.0,
       record {
         replica = c.self.invariant.1.replica;
         tickets = c.self.invariant.1.tickets;
         supports = c.self.invariant.1.supports;
-        pending = omega (arith, c.in_err-put_seeds.ensures.err_room, c.put_seeds.ensures.capacity, c.self.invariant.1.pending);
+        pending = omega (arith, ap (λ (v : PendingData). v.room) c.in_err-put_seeds.ensures.err, c.self.invariant.1.pending);
         journal = c.self.invariant.1.journal;
       },
     )
@@ -40,7 +41,7 @@ invariant_of-self-2 c =
       ids = c.clear.new.self.ids;
       log = c.clear.new.self.log;
       supports = c.clear-2.new.self.items;
-      pending = c.put_seeds.new.pending.items;
+      pending = c.put_seeds.new.self.works;
       flight = under c.clear-3.new.self;
       past = None;
       journal = c.new.result.steps;
@@ -49,7 +50,7 @@ invariant_of-self-2 c =
       ids = c.clear.new.self.ids;
       log = (c.clear.ensures i).log;
       supports = c.clear-2.ensures.items i;
-      pending = (c.in_ok-put_seeds.ensures.items ∙ (ap seeds c.count.ensures.points ∙ ap (λ (p : ProblemData). seeds (length p.points.points)) c.problem.view_is)) i;
+      pending = (c.in_ok-put_seeds.ensures.ok ∙ (ap seeds c.count.ensures.points ∙ ap (λ (p : ProblemData). seeds (length p.points.points)) c.problem.view_is)) i;
       flight = λ t. under (c.clear-3.ensures i) t;
       past = None;
       journal = (c.new.ensures i).steps;
@@ -60,7 +61,7 @@ invariant_of-self-2 c =
         replica = omega arith;
         tickets = omega (arith, none);
         supports = omega (arith, c.clear-2.ensures.len);
-        pending = omega (arith, none, c.in_ok-put_seeds.ensures.room);
+        pending = omega (arith, none);
         journal = omega (arith, none);
       },
     )

@@ -1,12 +1,9 @@
-use Rattle.std.proofs.Common.{◌≡◌, refl, sym, subst, ◌∙◌, ◌<◌, true, false, [], ℕ, zero, suc, length, drop, arith}
-use Rattle.std.proofs.lemmas.Bool.{false≢true}
-use Rattle.std.specs.VecDeque.{deque_len}
-use Rattle.std.proofs.lemmas.List.{nil_from_length}
+use Rattle.std.proofs.Common.{◌≡◌, refl, sym, subst, ◌∙◌, [], ℕ, drop}
 use Rattle.hs_core.specs.declared.answers.Taken.{Taken}
 use Rattle.hs_core.specs.Answers.{IsFound, Takes}
 use Rattle.hs_core.proofs.Slots.{none_there, some_there, not_some}
 use Rattle.hs_core.proofs.Stepping.{base_of, fields_of, seen, goes_on, seen_kept, some_kept}
-use Rattle.hs_core.proofs.Passing.{first_of}
+use Rattle.hs_core.proofs.Passing.{first_of, none_of}
 use Rattle.hs_core.proofs.state.Core.take.Goals as goal
 use Rattle.hs_core.proofs.state.Core.take.Goals.{then-count-eq0, else-count-eq0}
 
@@ -22,10 +19,6 @@ returns-then-is_some c =
       refl,
     )
 
-none_first : (n : ℕ) → (0 < n → false ≡ true) → n ≡ 0
-none_first zero h = refl
-none_first (suc n) h = absurd (false≢true (h (omega arith)))
-
 pub returns-in_default-front : goal.returns-in_default-front
 returns-in_default-front c =
     let a = c.self.inside in
@@ -35,13 +28,13 @@ returns-in_default-front c =
     let on = goes_on (base_of a) (fields_of a) c.self.invariant.0 a.spare v c.self.view_is never in
     let past = not_some a.past (sym c.is_some.ensures ∙ c.if-is_some.false) in
     let kept = seen_kept (base_of a) (fields_of a) c.self.invariant.0 a.spare v c.self.view_is past in
-    let empty : a.pending.items ≡ [] = nil_from_length a.pending.items (omega (arith, none_first (deque_len a.pending) c.in_default-front.ensures.variant.1, a.pending.ok.0)) in
+    let empty : a.pending.works ≡ [] = none_of a.pending.works (sym c.in_default-front.ensures) in
     elim c.if-count-eq0.branch [
       | then-count-eq0 w ↦
           subst (λ (r : Taken). Takes v c.args.worker r v) (sym w.result-is)
-          (on, record { pending = shown.pending ∙ empty; flight = λ t. shown.flight t ∙ none_there a.tickets.slots t (sym c.count.ensures ∙ w.if-count-eq0.true); kept = kept }, refl)
+          (on, record { pending = shown.pending ∙ empty; flight = λ t. shown.flight t ∙ none_there a.tickets.slots t (sym c.count.ensures.count ∙ w.if-count-eq0.true); kept = kept }, refl)
       | else-count-eq0 w ↦
-          let there = some_there a.tickets.slots (λ none. w.if-count-eq0.false (c.count.ensures ∙ none)) in
+          let there = some_there a.tickets.slots (λ none. w.if-count-eq0.false (c.count.ensures.count ∙ none)) in
           subst (λ (r : Taken). Takes v c.args.worker r v) (sym w.result-is)
           (on, record { none_kept = kept; pending = shown.pending ∙ empty; ticket = there.0; flown = there.1; flight = shown.flight there.0 ∙ there.2 }, refl)
     ]
@@ -59,8 +52,7 @@ take_first-ticket-requires-clause-goes_on c =
 pub take_first-ticket-requires-clause-first : goal.take_first-ticket-requires-clause-first
 take_first-ticket-requires-clause-first c =
     let a = c.self.inside in
-    let some : 0 < length a.pending.items = omega (arith, c.in-Some-front.ensures.variant.0 refl, a.pending.ok.0) in
-    (drop 1 a.pending.items, (seen (base_of a) (fields_of a) c.self.invariant.0 a.spare c.args.self.now c.self.view_is).pending ∙ first_of a.pending.items _ some (sym c.in-Some-front.ensures.lookup))
+    (drop 1 a.pending.works, (seen (base_of a) (fields_of a) c.self.invariant.0 a.spare c.args.self.now c.self.view_is).pending ∙ first_of a.pending.works _ (sym c.in-Some-front.ensures))
 
 pub take_first-ticket-requires-clause-spare : goal.take_first-ticket-requires-clause-spare
 take_first-ticket-requires-clause-spare c = c.requires

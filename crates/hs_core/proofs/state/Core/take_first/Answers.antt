@@ -1,4 +1,4 @@
-use Rattle.std.proofs.Common.{refl, ap, ◌∙◌, ◌-◌, ◌≤◌, length, drop, arith}
+use Rattle.std.proofs.Common.{refl, ap, ◌∙◌, ◌-◌, ◌≤◌, drop, arith}
 use Rattle.hs_history.specs.Story.{takes}
 use Rattle.hs_core.specs.Tickets.{under}
 use Rattle.hs_core.specs.Core.{CoreData}
@@ -10,7 +10,7 @@ goes : (c : goal.After-self-1) → Goes (base_of c.self.inside) (fields_of c.sel
   ids = c.self.inside.replica.ids;
   log = c.self.inside.replica.log;
   supports = c.self.inside.supports.items;
-  pending = c.pop_front.new.self.items;
+  pending = c.pop_front.new.self.works;
   flight = under c.insert-ticket.new.self;
   past = c.self.inside.past;
   journal = c.push.new.self.steps;
@@ -30,7 +30,7 @@ goes c =
       ids = f.ids;
       log = f.log;
       supports = f.supports;
-      pending = (c.pop_front.ensures.rest ∙ ap (λ ws. drop 1 ws) (front base f inside a.spare v c.self.view_is c.args.work r.first.0 r.none_kept r.goes_on r.first.1)) i;
+      pending = (c.pop_front.ensures.works ∙ ap (λ ws. drop 1 ws) (front base f inside a.spare v c.self.view_is c.args.work r.first.0 r.none_kept r.goes_on r.first.1)) i;
       flight = λ t. c.insert-ticket.ensures.updates t i;
       past = f.past;
       journal = c.push.ensures.steps i;
@@ -41,19 +41,16 @@ spare_is : (c : goal.After-self-1) → 1 ≤ c.self.inside.spare
 spare_is c = omega (arith, c.requires.spare, ap (λ (v : CoreData). v.spare) c.self.view_is)
 
 pub invariant_of-self : goal.invariant_of-self
-invariant_of-self c =
-    let a = c.self.inside in
-    let r = c.requires in
-    let front_is = front (base_of a) (fields_of a) c.self.invariant.0 a.spare c.args.self.now c.self.view_is c.args.work r.first.0 r.none_kept r.goes_on r.first.1 in (
-      (goes c).inside,
-      record {
-        replica = omega (arith, spare_is c);
-        tickets = omega (arith, spare_is c);
-        supports = omega (arith, spare_is c);
-        pending = omega (arith, spare_is c, c.pop_front.ensures.capacity, a.pending.ok.0, c.pop_front.new.self.ok.0, ap (λ ws. length ws) front_is, ap (λ ws. length ws) (c.pop_front.ensures.rest ∙ ap (λ ws. drop 1 ws) front_is));
-        journal = omega (arith, spare_is c);
-      },
-    )
+invariant_of-self c = (
+  (goes c).inside,
+  record {
+    replica = omega (arith, spare_is c);
+    tickets = omega (arith, spare_is c);
+    supports = omega (arith, spare_is c);
+    pending = omega (arith, spare_is c, c.pop_front.ensures.room);
+    journal = omega (arith, spare_is c);
+  },
+)
 
 pub returns-clause-can : goal.returns-clause-can
 returns-clause-can c =
