@@ -93,9 +93,9 @@ pub(crate) fn publish_deduction(
     requires follows { FollowsBy core.old.base.problem (log_of core.old) deduced.now.support
         (entry_of replica.now.ids deduced.now.row) }
     requires found { AreFound replica.now.ids core.old.ids found.old }
-    ensures ok { IfOk result (λ published. (found : CoreData) × IsCore found × (found.base ≡ core.old.base)
-        × (found.story ≡ core.old.story)
-        × Publishes found worker ticket (deduction_of replica.now.ids deduced.now) published core.new) }
+    ensures ok { IfOk result (λ published. (prepared : CoreData) × IsCore prepared
+        × (prepared.base ≡ core.old.base) × (prepared.story ≡ core.old.story)
+        × Publishes prepared worker ticket (deduction_of replica.now.ids deduced.now) published core.new) }
     ensures err { OnErr result ((core.new.base ≡ core.old.base) × (core.new.story ≡ core.old.story)) }
     ensures found { AreFound replica.now.ids core.new.ids found.new }
 {

@@ -96,9 +96,9 @@ impl<'a, 'p> Hold<'a, 'p> {
         requires follows { FollowsBy self.old.core.base.problem (log_of self.old.core) deduced.now.support
             (entry_of replica.now.ids deduced.now.row) }
         requires found { AreFound replica.now.ids self.old.core.ids found.old }
-        ensures ok { IfOk result (λ published. (found : CoreData) × IsCore found
-            × (found.base ≡ self.old.core.base) × (found.story ≡ self.old.core.story)
-            × Publishes found seat.old.known.number ticket
+        ensures ok { IfOk result (λ published. (prepared : CoreData) × IsCore prepared
+            × (prepared.base ≡ self.old.core.base) × (prepared.story ≡ self.old.core.story)
+            × Publishes prepared seat.old.known.number ticket
             (deduction_of replica.now.ids deduced.now) published self.new.core) }
         ensures err { OnErr result ((self.new.core.base ≡ self.old.core.base)
             × (self.new.core.story ≡ self.old.core.story)) }

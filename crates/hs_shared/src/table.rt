@@ -119,10 +119,10 @@ impl<'p> SharedTable<'p> {
         ensures err { OnErr result (Looks seat.old seat.new) }
     {
         let mut hold = self.enter(rt, seat);
-        let mut found = ImportedNumbers::new(*deduced.args.allocator());
-        let published = hold.publish(seat, ticket, replica, deduced, &mut found);
+        let mut imported = ImportedNumbers::new(*deduced.args.allocator());
+        let published = hold.publish(seat, ticket, replica, deduced, &mut imported);
         hold.leave(seat);
-        drop(found);
+        drop(imported);
         published
     }
 

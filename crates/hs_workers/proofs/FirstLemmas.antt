@@ -8,14 +8,15 @@ use Rattle.hs_scheme.specs.Problem.{ProblemData}
 use Rattle.hs_scheme.proofs.Lists.{here}
 use Rattle.hs_history.specs.Story.{Base, CoreStep, Story}
 use Rattle.hs_history.specs.CoreStep.{State}
-use Rattle.hs_history.specs.History.{IsLegal}
+use Rattle.hs_history.specs.History.{state_after, IsLegal}
 use Rattle.hs_turn.specs.declared.known.Known.{Known}
 use Rattle.hs_turn.specs.Story.{told_by}
 use Rattle.hs_turn.specs.Seats.{RestsIn}
 use Rattle.hs_turn.specs.Views.{first_seat, having_split, split_off, having_joined}
 use Rattle.hs_shared.specs.Seats.{SeatData, worker_of}
 use Rattle.hs_shared.proofs.Seen.{see, none_by}
-use Rattle.hs_workers.specs.Working.{IsFree, IsFirstSeat, IsBased, HasSeenNothing, RestsSeated}
+use Rattle.hs_workers.specs.Jobs.{CarriesAll}
+use Rattle.hs_workers.specs.Working.{IsFree, CarriesNothing, IsFirstSeat, IsBased, HasSeenNothing, RestsSeated}
 use Rattle.hs_workers.specs.Answers.{IsOfWorkers}
 
 abbrev with_known : SeatData → Known Base CoreStep → SeatData
@@ -50,8 +51,13 @@ module _ (table : TableId) (p : ProblemData) (start old : SeatData) (n : ℕ) (f
     begins = see new_seat based.base (λ (b : Base) (state : State). IsPrefix [] state.log) new_knows (_, refl);
   }
 
+  -- nothing is in flight at the beginning
+  new_nothing : CarriesNothing new_seat
+  new_nothing = see new_seat based.base (λ (b : Base) (state : State). CarriesAll new_seat.known.number state.flight []) new_knows
+      (subst (λ (xs : Story). CarriesAll new_seat.known.number (state_after based.base xs).flight []) (sym nothing) (λ t w h. absurd (let e = h in cc)))
+
   pub split_rests : (seat : SeatData) (rested : List SeatData) → seat ≡ with_known old (split_off old.known) → rested ≡ seat ∷ [] → RestsSeated table p rested
-  split_rests seat rested is rests = record { seat = seat; is = rests; free = subst (λ s. IsFree table p s []) (sym is) new_free }
+  split_rests seat rested is rests = record { seat = seat; is = rests; free = subst (λ s. IsFree table p s []) (sym is) new_free; nothing = subst (λ s. CarriesNothing s) (sym is) new_nothing }
 
 -- no step is of another than the workers
 pub by_workers : (workers : ℕ) (story : Story) → told_by worker_of 0 story ≡ [] → ((n : ℕ) → workers < n → told_by worker_of n story ≡ []) → All (IsOfWorkers workers) story

@@ -18,8 +18,9 @@ use Rattle.hs_rules.specs.Conclusions.{DeducedData, IsDeduced}
 use Rattle.hs_history.specs.declared.step.Work.{Work}
 use Rattle.hs_history.specs.Story.{Base, Deduction, takes, adds, passes, Story}
 use Rattle.hs_history.specs.CoreStep.{State, put, Holds}
+use Rattle.hs_history.specs.CoreStep.{opening}
 use Rattle.hs_history.specs.History.{state_after, IsLegal}
-use Rattle.hs_history.proofs.Histories.{grown, tickets_after}
+use Rattle.hs_history.proofs.Histories.{grown, state_append, tickets_after}
 use Rattle.hs_core.specs.declared.answers.Taken.{Taken}
 use Rattle.hs_core.specs.declared.answers.Taken.TheVariants.{Item, Quiet, Idle, Over, Found}
 use Rattle.hs_core.specs.declared.answers.Published.{Published}
@@ -33,11 +34,11 @@ use Rattle.hs_shared.specs.Calls.{Finds}
 use Rattle.hs_shared.specs.Holding.{HoldData, having_left, HasTold, IsHolding}
 use Rattle.hs_shared.proofs.Seen.{sees, replica_begins, others, see, seen, prefix_trans}
 use Rattle.hs_workers.specs.declared.job.Job.{Job}
-use Rattle.hs_workers.specs.Jobs.{keys, Carries, IsFormed}
+use Rattle.hs_workers.specs.Jobs.{keys, Carries, CarriesAll, IsFormed}
 use Rattle.hs_workers.specs.declared.handing.Next.{Next}
 use Rattle.hs_workers.specs.declared.handing.Next.TheVariants.{Serve, Pass, Rest, Wait, End}
-use Rattle.hs_workers.specs.Working.{IsSeated, StepsInHold, IfServes, IsFree, IsLoaded}
-use Rattle.hs_workers.proofs.JobLemmas.{carries_kept}
+use Rattle.hs_workers.specs.Working.{IsSeated, StepsInHold, IfServes, IfEnds, CarriesNothing, IsFree, IsLoaded}
+use Rattle.hs_workers.proofs.JobLemmas.{carries_kept, others_give_nothing}
 use Rattle.hs_workers.proofs.WorkingLemmas.{shapes}
 
 -- what one call tells
@@ -130,6 +131,15 @@ module _ (table : TableId) (p : ProblemData) (old : SeatData) (core : CoreData) 
       ∙ tickets_after core.base old.known.seen finds.begins.0 n t w legal (others old core finds) h)
       here
 
+  pub found_all : (ks : List (ℕ × Work)) → Sees old (λ base state. CarriesAll old.known.number state.flight ks) → CarriesAll old.known.number (state_of core).flight ks
+  found_all ks all =
+      let n = old.known.number in
+      let more = finds.begins.0 in
+      let here = sees old core finds (λ base state. CarriesAll n state.flight ks) all in
+      λ t w h. here t w (others_give_nothing (state_after core.base old.known.seen) more n t w (others old core finds)
+      (sym (ap (λ (s : State). s.flight t) (state_append (opening core.base) old.known.seen more))
+      ∙ ap (λ (story : Story). (state_after core.base story).flight t) finds.begins.1 ∙ h))
+
 module _ (table : TableId) (p : ProblemData) (mid new : SeatData) (h : HoldData) (is : IsHolding mid h) (turn : h.turn ≡ table) (gone : new ≡ having_left mid) where
   sees_left : (P : Base → State → Type 0) → P h.core.base (state_of h.core) → Sees new P
   sees_left P x =
@@ -145,8 +155,8 @@ module _ (table : TableId) (p : ProblemData) (mid new : SeatData) (h : HoldData)
   })
 
   pub left_loaded : (ids : InternerData) (log : List EntryData) (jobs : List Job) → h.core.base.problem ≡ p → IsPrefix log (log_of h.core) → Carries mid.known.number (state_of h.core).flight (keys jobs)
-      → All (IsFormed p ids log) jobs → IsLoaded table p new ids log jobs
-  left_loaded ids log jobs upon begins carries formed = record {
+      → CarriesAll mid.known.number (state_of h.core).flight (keys jobs) → All (IsFormed p ids log) jobs → IsLoaded table p new ids log jobs
+  left_loaded ids log jobs upon begins carries all formed = record {
     free = record {
       seated = left_seated;
       upon = sees_left (λ base state. base.problem ≡ p) upon;
@@ -155,6 +165,9 @@ module _ (table : TableId) (p : ProblemData) (mid new : SeatData) (h : HoldData)
     carries =
         let number : new.known.number ≡ mid.known.number = ap (λ (s : SeatData). s.known.number) gone in
         subst (λ n. Sees new (λ base state. Carries n state.flight (keys jobs))) (sym number) (sees_left (λ base state. Carries mid.known.number state.flight (keys jobs)) carries);
+    all =
+        let number : new.known.number ≡ mid.known.number = ap (λ (s : SeatData). s.known.number) gone in
+        subst (λ n. Sees new (λ base state. CarriesAll n state.flight (keys jobs))) (sym number) (sees_left (λ base state. CarriesAll mid.known.number state.flight (keys jobs)) all);
     formed = formed;
   }
 
@@ -172,14 +185,17 @@ pub loaded_on : (table : TableId) (p : ProblemData) (s : SeatData) (ids jds : In
 loaded_on table p s ids jds log after jobs formed l same ks all = record {
   free = subst (λ xs. IsFree table p s xs) (sym same) l.free;
   carries = subst (λ k. Sees s (λ base state. Carries s.known.number state.flight k)) (sym ks) l.carries;
+  all = subst (λ k. Sees s (λ base state. CarriesAll s.known.number state.flight k)) (sym ks) l.all;
   formed = all;
 }
 
 -- a worker that has done nothing yet
-pub loaded_none : (table : TableId) (p : ProblemData) (s : SeatData) (ids : InternerData) (log : List EntryData) (jobs : List Job) → IsFree table p s [] → log ≡ [] → jobs ≡ [] → IsLoaded table p s ids log jobs
-loaded_none table p s ids log jobs f empty none = record {
+pub loaded_none : (table : TableId) (p : ProblemData) (s : SeatData) (ids : InternerData) (log : List EntryData) (jobs : List Job) → IsFree table p s [] → CarriesNothing s → log ≡ [] → jobs ≡ []
+    → IsLoaded table p s ids log jobs
+loaded_none table p s ids log jobs f nothing empty none = record {
   free = subst (λ xs. IsFree table p s xs) (sym empty) f;
   carries = subst (λ (js : List Job). Sees s (λ base state. Carries s.known.number state.flight (keys js))) (sym none) (see s f.seated.base (λ base state. Carries s.known.number state.flight []) f.seated.knows tt);
+  all = subst (λ (js : List Job). Sees s (λ base state. CarriesAll s.known.number state.flight (keys js))) (sym none) nothing;
   formed = subst (λ (js : List Job). All (IsFormed p ids log) js) (sym none) (All-nil (IsFormed p ids log));
 }
 
@@ -195,3 +211,17 @@ served Pass f p = tt
 served Rest f p = tt
 served Wait f p = tt
 served End f p = tt
+
+pub ended : {P : Type 0} (next : Next) → P → IfEnds next P
+ended Serve p = tt
+ended Pass p = tt
+ended Rest p = tt
+ended Wait p = tt
+ended End p = p
+
+pub ends_so : {P Q : Type 0} (next : Next) → (P → Q) → IfEnds next P → IfEnds next Q
+ends_so Serve f p = tt
+ends_so Pass f p = tt
+ends_so Rest f p = tt
+ends_so Wait f p = tt
+ends_so End f p = f p

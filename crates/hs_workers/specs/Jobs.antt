@@ -1,9 +1,10 @@
 -- The works that a worker holds.
 --     keys            their tickets and works
 --     Carries         in flight each of these is the worker's, under its ticket, and no ticket comes twice
+--     CarriesAll      no other work is in flight for the worker
 --     IsUnformed      nothing is formed for it yet
 --     IsFormed        what is formed for it, where it is, is all that the log lacks
-use Rattle.std.specs.Prelude.{◌≡◌, ℕ, List, [], ◌∷◌, map, Option, Some, None, IfSome}
+use Rattle.std.specs.Prelude.{◌≡◌, ℕ, List, [], ◌∷◌, map, Option, Some, None, IfSome, Contains}
 use Rattle.hs_scheme.specs.Problem.{ProblemData}
 use Rattle.hs_table.specs.Entries.{EntryData}
 use Rattle.hs_types.specs.Interned.{InternerData}
@@ -22,6 +23,9 @@ keys jobs = map key jobs
 abbrev pub Carries : ℕ → (ℕ → Option Flight) → List (ℕ × Work) → Type 0
 Carries worker flight [] = Unit {0}
 Carries worker flight (k ∷ ks) = (flight k.0 ≡ Some (record { worker = worker; work = k.1 })) × Carries worker (put k.0 None flight) ks
+
+abbrev pub CarriesAll : ℕ → (ℕ → Option Flight) → List (ℕ × Work) → Type 0
+CarriesAll worker flight ks = (ticket : ℕ) (work : Work) → flight ticket ≡ Some (record { worker = worker; work = work }) → Contains ks (ticket, work)
 
 abbrev pub IsUnformed : Job → Type 0
 IsUnformed j = j.found ≡ None

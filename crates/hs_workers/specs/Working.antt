@@ -8,8 +8,11 @@
 --     IfServes            it holds where the worker forms next, on its replica
 --     IsFree              a worker with a replica that begins what it has seen
 --     IsLoaded            it carries works
+--     IfEnds              it holds where the worker ends
+--     CarriesNothing      no work is in flight under the seat's number
 --     IsFirstSeat         seat 0, which has told of nothing
 --     RestsSeated         a seat rests there
+--     RestsIdle           which carries nothing
 use Rattle.std.specs.Prelude.{◌≡◌, ℕ, List, [], ◌∷◌, Some, All}
 use mathlib.Core.List.{IsPrefix}
 use Rattle.atomic_table.specs.Seated.{TableId}
@@ -25,7 +28,7 @@ use Rattle.hs_shared.specs.Holding.{HoldData, IsHolding}
 use Rattle.hs_workers.specs.declared.job.Job.{Job}
 use Rattle.hs_workers.specs.declared.handing.Next.{Next}
 use Rattle.hs_workers.specs.declared.handing.Next.TheVariants.{Serve, Pass, Rest, Wait, End}
-use Rattle.hs_workers.specs.Jobs.{keys, Carries, IsFormed}
+use Rattle.hs_workers.specs.Jobs.{keys, Carries, CarriesAll, IsFormed}
 
 pub record CommonData : Type 0 where
   pub table : TableId
@@ -64,6 +67,16 @@ IfServes Rest P = Unit {0}
 IfServes Wait P = Unit {0}
 IfServes End P = Unit {0}
 
+abbrev pub IfEnds : Next → Type 0 → Type 0
+IfEnds Serve P = Unit {0}
+IfEnds Pass P = Unit {0}
+IfEnds Rest P = Unit {0}
+IfEnds Wait P = Unit {0}
+IfEnds End P = P
+
+abbrev pub CarriesNothing : SeatData → Type 0
+CarriesNothing s = Sees s (λ base state. CarriesAll s.known.number state.flight [])
+
 -- a worker that holds no work: its seat is the table's, upon this problem, and its replica's log begins what it has seen
 pub record IsFree (table : TableId) (p : ProblemData) (s : SeatData) (log : List EntryData) : Type 0 where
   pub seated : IsSeated table s
@@ -74,6 +87,7 @@ pub record IsFree (table : TableId) (p : ProblemData) (s : SeatData) (log : List
 pub record IsLoaded (table : TableId) (p : ProblemData) (s : SeatData) (ids : InternerData) (log : List EntryData) (jobs : List Job) : Type 0 where
   pub free : IsFree table p s log
   pub carries : Sees s (λ base state. Carries s.known.number state.flight (keys jobs))
+  pub all : Sees s (λ base state. CarriesAll s.known.number state.flight (keys jobs))
   pub formed : All (IsFormed p ids log) jobs
 
 -- seat 0, which has split off and joined so many seats
@@ -98,3 +112,7 @@ pub record RestsSeated (table : TableId) (p : ProblemData) (rested : List SeatDa
   pub seat : SeatData
   pub is : rested ≡ seat ∷ []
   pub free : IsFree table p seat []
+  pub nothing : CarriesNothing seat
+
+abbrev pub RestsIdle : List SeatData → Type 0
+RestsIdle rested = (seat : SeatData) × (rested ≡ seat ∷ []) × CarriesNothing seat

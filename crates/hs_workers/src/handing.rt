@@ -12,8 +12,8 @@ ghost use Rattle.hs_core.specs.Core.{state_of, log_of};
 ghost use Rattle.hs_core.specs.Draining.{SameFlight};
 ghost use Rattle.hs_shared.specs.Holding.{IsHolding};
 ghost use Rattle.hs_workers.specs.Forming.{HasFound};
-ghost use Rattle.hs_workers.specs.Jobs.{key, keys, Carries, IsUnformed, IsFormed};
-ghost use Rattle.hs_workers.specs.Working.{StepsInHold, IfServes};
+ghost use Rattle.hs_workers.specs.Jobs.{key, keys, Carries, CarriesAll, IsUnformed, IsFormed};
+ghost use Rattle.hs_workers.specs.Working.{StepsInHold, IfServes, IfEnds};
 
 use crate::common::Common;
 use crate::job::Job;
@@ -173,9 +173,11 @@ fn hand_in<'p>(
 ) -> bool
     requires holds { IsHolding seat.old hold.old }
     requires carries { Carries seat.old.known.number (state_of hold.old.core).flight (keys jobs.items) }
+    requires all { CarriesAll seat.old.known.number (state_of hold.old.core).flight (keys jobs.items) }
     requires begins { IsPrefix replica.now.log (log_of hold.old.core) }
     requires formed { All (IsFormed hold.old.core.base.problem replica.now.ids replica.now.log) jobs.items }
     ensures goes { StepsInHold seat.old seat.new hold.old hold.new }
+    ensures all { CarriesAll seat.new.known.number (state_of hold.new.core).flight [] }
 {
     exported.clear();
     let mut going = true;
@@ -233,8 +235,10 @@ fn do_each<'p>(
 ) -> bool
     requires holds { IsHolding seat.old hold.old }
     requires carries { Carries seat.old.known.number (state_of hold.old.core).flight (keys jobs.items) }
+    requires all { CarriesAll seat.old.known.number (state_of hold.old.core).flight (keys jobs.items) }
     requires upon { hold.old.core.base.problem ≡ common.now.problem }
     ensures goes { StepsInHold seat.old seat.new hold.old hold.new }
+    ensures all { CarriesAll seat.new.known.number (state_of hold.new.core).flight [] }
 {
     let mut going = true;
     for job in jobs {
@@ -252,10 +256,12 @@ fn take_one<'p>(
 ) -> Result<Taken, OutOfMemory>
     requires holds { IsHolding seat.old hold.old }
     requires carries { Carries seat.old.known.number (state_of hold.old.core).flight (keys jobs.old.items) }
+    requires all { CarriesAll seat.old.known.number (state_of hold.old.core).flight (keys jobs.old.items) }
     requires unformed { All IsUnformed jobs.old.items }
     ensures goes { StepsInHold seat.old seat.new hold.old hold.new }
     ensures log { log_of hold.new.core ≡ log_of hold.old.core }
     ensures carries { Carries seat.new.known.number (state_of hold.new.core).flight (keys jobs.new.items) }
+    ensures all { CarriesAll seat.new.known.number (state_of hold.new.core).flight (keys jobs.new.items) }
     ensures unformed { All IsUnformed jobs.new.items }
 {
     jobs.reserve(1)?;
@@ -279,10 +285,12 @@ fn take_some<'p>(
 ) -> Next
     requires holds { IsHolding seat.old hold.old }
     requires carries { Carries seat.old.known.number (state_of hold.old.core).flight (keys jobs.old.items) }
+    requires all { CarriesAll seat.old.known.number (state_of hold.old.core).flight (keys jobs.old.items) }
     requires unformed { All IsUnformed jobs.old.items }
     ensures goes { StepsInHold seat.old seat.new hold.old hold.new }
     ensures log { log_of hold.new.core ≡ log_of hold.old.core }
     ensures carries { Carries seat.new.known.number (state_of hold.new.core).flight (keys jobs.new.items) }
+    ensures all { CarriesAll seat.new.known.number (state_of hold.new.core).flight (keys jobs.new.items) }
     ensures unformed { All IsUnformed jobs.new.items }
 {
     for _ in 0..share {
@@ -316,11 +324,15 @@ fn take_and_read<'p>(
     requires begins { IsPrefix stock.old.replica.log (log_of hold.old.core) }
     requires none { rows.old.items ≡ [] }
     requires free { stock.old.jobs.items ≡ [] }
+    requires all { CarriesAll seat.old.known.number (state_of hold.old.core).flight [] }
     ensures goes { StepsInHold seat.old seat.new hold.old hold.new }
     ensures fits { CanExtend stock.new.replica rows.new.items }
     ensures begins { IsPrefix (extended stock.new.replica rows.new.items) (log_of hold.new.core) }
     ensures carries { Carries seat.new.known.number (state_of hold.new.core).flight
         (keys stock.new.jobs.items) }
+    ensures all { CarriesAll seat.new.known.number (state_of hold.new.core).flight
+        (keys stock.new.jobs.items) }
+    ensures ends { IfEnds result (stock.new.jobs.items ≡ []) }
     ensures unformed { All IsUnformed stock.new.jobs.items }
     ensures works { IfServes result (All (λ j. IsWork hold.new.core.base.problem
         (extended stock.new.replica rows.new.items) j.work) stock.new.jobs.items) }
@@ -352,11 +364,15 @@ fn take_next<'p>(
     requires begins { IsPrefix stock.old.replica.log (log_of hold.old.core) }
     requires none { rows.old.items ≡ [] }
     requires free { stock.old.jobs.items ≡ [] }
+    requires all { CarriesAll seat.old.known.number (state_of hold.old.core).flight [] }
     ensures goes { StepsInHold seat.old seat.new hold.old hold.new }
     ensures fits { CanExtend stock.new.replica rows.new.items }
     ensures begins { IsPrefix (extended stock.new.replica rows.new.items) (log_of hold.new.core) }
     ensures carries { Carries seat.new.known.number (state_of hold.new.core).flight
         (keys stock.new.jobs.items) }
+    ensures all { CarriesAll seat.new.known.number (state_of hold.new.core).flight
+        (keys stock.new.jobs.items) }
+    ensures ends { IfEnds result (stock.new.jobs.items ≡ []) }
     ensures unformed { All IsUnformed stock.new.jobs.items }
     ensures works { IfServes result (All (λ j. IsWork hold.new.core.base.problem
         (extended stock.new.replica rows.new.items) j.work) stock.new.jobs.items) }
@@ -389,12 +405,15 @@ fn hand_over<'p>(
     requires holds { IsHolding seat.old hold.old }
     requires carries { Carries seat.old.known.number (state_of hold.old.core).flight
         (keys stock.old.jobs.items) }
+    requires all { CarriesAll seat.old.known.number (state_of hold.old.core).flight
+        (keys stock.old.jobs.items) }
     requires begins { IsPrefix stock.old.replica.log (log_of hold.old.core) }
     requires formed { All (IsFormed hold.old.core.base.problem stock.old.replica.ids stock.old.replica.log)
         stock.old.jobs.items }
     requires upon { hold.old.core.base.problem ≡ common.now.problem }
     ensures goes { StepsInHold seat.old seat.new hold.old hold.new }
     ensures free { stock.new.jobs.items ≡ [] }
+    ensures all { CarriesAll seat.new.known.number (state_of hold.new.core).flight [] }
     ensures replica { stock.new.replica ≡ stock.old.replica }
 {
     let jobs = replace(&mut stock.jobs, Vec::new(common.alloc));
@@ -425,6 +444,8 @@ pub(crate) fn turn<'p>(
     requires holds { IsHolding seat.old hold.old }
     requires carries { Carries seat.old.known.number (state_of hold.old.core).flight
         (keys stock.old.jobs.items) }
+    requires all { CarriesAll seat.old.known.number (state_of hold.old.core).flight
+        (keys stock.old.jobs.items) }
     requires begins { IsPrefix stock.old.replica.log (log_of hold.old.core) }
     requires formed { All (IsFormed hold.old.core.base.problem stock.old.replica.ids stock.old.replica.log)
         stock.old.jobs.items }
@@ -435,6 +456,9 @@ pub(crate) fn turn<'p>(
     ensures begins { IsPrefix (extended stock.new.replica rows.new.items) (log_of hold.new.core) }
     ensures carries { Carries seat.new.known.number (state_of hold.new.core).flight
         (keys stock.new.jobs.items) }
+    ensures all { CarriesAll seat.new.known.number (state_of hold.new.core).flight
+        (keys stock.new.jobs.items) }
+    ensures ends { IfEnds result (stock.new.jobs.items ≡ []) }
     ensures unformed { All IsUnformed stock.new.jobs.items }
     ensures works { IfServes result (All (λ j. IsWork hold.new.core.base.problem
         (extended stock.new.replica rows.new.items) j.work) stock.new.jobs.items) }

@@ -3,7 +3,7 @@
 ghost use Rattle.std.specs.Prelude.{◌≡◌, [], All};
 ghost use Rattle.hs_history.specs.History.{IsWork};
 ghost use Rattle.hs_turn.specs.Seats.{RestsIn};
-ghost use Rattle.hs_workers.specs.Working.{IsFree, RestsSeated, IfServes};
+ghost use Rattle.hs_workers.specs.Working.{IsFree, CarriesNothing, RestsSeated, RestsIdle, IfServes, IfEnds};
 
 use crate::common::Common;
 use crate::handing::{Next, turn};
@@ -51,7 +51,8 @@ impl<'c, 'a, 'p> Model for Worker<'c, 'a, 'p> {
 impl<'c, 'a, 'p> Worker<'c, 'a, 'p> {
     /// A worker at this seat that has done nothing yet. Takes no memory.
     fn new(common: &'c Common<'a, 'p>, seat: Seat<Held<'p>>) -> Worker<'c, 'a, 'p>
-        requires { IsFree common.now.table common.now.problem seat [] }
+        requires free { IsFree common.now.table common.now.problem seat [] }
+        requires nothing { CarriesNothing seat }
         ensures { result.table ≡ common.now.table }
     {
         let stock = Stock::new(common.alloc);
@@ -67,6 +68,7 @@ impl<'c, 'a, 'p> Worker<'c, 'a, 'p> {
     fn exchange<R: Wait>(&mut self, rt: &R) -> Next
         ensures table { self.new.table ≡ self.old.table }
         ensures works { IfServes result (All (IsWork self.new.problem self.new.log) self.new.works) }
+        ensures ends { IfEnds result (self.new.works ≡ []) }
     {
         let common = self.common;
         let mut rows = Vec::new(common.alloc);
@@ -95,9 +97,10 @@ impl<'c, 'a, 'p> Worker<'c, 'a, 'p> {
         form_each(common, gate, self.seat.number(), &mut self.stock);
     }
 
-    /// Takes works and does them until none is left or none is given out any more.
+    /// Takes works and does them until none is left or none is given out any more. It has none then.
     fn work_on<R: Wait, G: Gate>(&mut self, rt: &R, gate: &G)
-        ensures { self.new.table ≡ self.old.table }
+        ensures table { self.new.table ≡ self.old.table }
+        ensures ends { self.new.works ≡ [] }
     {
         let common = self.common;
         let bell = common.bell;
@@ -130,7 +133,9 @@ impl<'c, 'a, 'p> Worker<'c, 'a, 'p> {
 
     /// The seat, at rest.
     fn into_rested(self) -> RestedSeat
-        ensures { RestsIn self.entry.table result }
+        requires { self.works ≡ [] }
+        ensures rests { RestsIn self.entry.table result }
+        ensures idle { RestsIdle result }
     {
         let Worker {
             common: _,
@@ -142,7 +147,8 @@ impl<'c, 'a, 'p> Worker<'c, 'a, 'p> {
     }
 }
 
-/// Works at the seat that rests here until no work is left or none is given out any more.
+/// Works at the seat that rests here until no work is left or none is given out any more. Then no work is
+/// in flight for it.
 pub(crate) fn run_worker<'p, R: Wait, G: Gate>(
     rt: &R,
     common: &Common<'_, 'p>,
@@ -150,7 +156,8 @@ pub(crate) fn run_worker<'p, R: Wait, G: Gate>(
     rested: &mut RestedSeat,
 )
     requires { RestsSeated common.now.table common.now.problem rested.old }
-    ensures { RestsIn common.now.table rested.new }
+    ensures rests { RestsIn common.now.table rested.new }
+    ensures idle { RestsIdle rested.new }
 {
     let seat = replace(rested, Rested::blank()).into_seat::<Held<'p>>();
     let mut worker = Worker::new(common, seat);

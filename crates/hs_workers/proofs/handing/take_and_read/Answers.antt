@@ -1,5 +1,6 @@
 use Rattle.std.proofs.Common.{◌≡◌, refl, sym, ◌∙◌, subst, []}
-use Rattle.std.proofs.lemmas.List.{append-nil}
+use Rattle.std.proofs.lemmas.Bool.{eqb-true}
+use Rattle.std.proofs.lemmas.List.{append-nil, nil_from_length}
 use Rattle.hs_shared.proofs.Seen.{prefix_trans}
 use mathlib.Core.List.{IsPrefix}
 use Rattle.hs_history.specs.declared.step.Work.{Work}
@@ -7,8 +8,8 @@ use Rattle.hs_history.specs.History.{IsWork}
 use Rattle.hs_replica.specs.Extending.{extended}
 use Rattle.hs_core.specs.Core.{state_of, log_of}
 use Rattle.hs_core.proofs.Flying.{flying_work}
-use Rattle.hs_workers.proofs.JobLemmas.{carried}
-use Rattle.hs_workers.proofs.HoldLemmas.{goes_trans, begins_none}
+use Rattle.hs_workers.proofs.JobLemmas.{carried, all_none}
+use Rattle.hs_workers.proofs.HoldLemmas.{goes_trans, begins_none, ended}
 use Rattle.hs_workers.proofs.NothingLemmas.{carries_none, unformed_none, fits_none}
 use Rattle.hs_workers.proofs.handing.take_and_read.Goals as goal
 
@@ -77,3 +78,18 @@ returns-clause-works c =
     carried n (state_of new).flight c.take_some-next.new.jobs.items (λ (w : Work). IsWork new.base.problem log w)
     (λ t w e. subst (λ xs. IsWork new.base.problem xs w) (sym is) (flying_work new c.take_some-next.ensures.goes.holds.know_core t n w e))
     c.take_some-next.ensures.carries
+
+pub take_some-next-requires-clause-all : goal.take_some-next-requires-clause-all
+take_some-next-requires-clause-all c = all_none c.args.seat.now.known.number (state_of c.args.hold.now.core).flight c.args.stock.now.jobs.items c.requires.free c.requires.all
+
+pub returns-then-is_empty-clause-all : goal.returns-then-is_empty-clause-all
+returns-then-is_empty-clause-all c = c.take_some-next.ensures.all
+
+pub returns-clause-all : goal.returns-clause-all
+returns-clause-all c = c.take_some-next.ensures.all
+
+pub returns-clause-ends : goal.returns-clause-ends
+returns-clause-ends c = tt
+
+pub returns-then-is_empty-clause-ends : goal.returns-then-is_empty-clause-ends
+returns-then-is_empty-clause-ends c = ended c.take_some-next.result (nil_from_length c.take_some-next.new.jobs.items (sym c.take_some-next.new.jobs.ok.0 ∙ eqb-true _ _ (sym c.if-is_empty.ensures)))

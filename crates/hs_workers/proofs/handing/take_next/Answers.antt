@@ -1,7 +1,10 @@
-use Rattle.std.proofs.Common.{refl, sym, subst}
+use Rattle.std.proofs.Common.{refl, sym, ◌∙◌, subst}
+use Rattle.std.proofs.lemmas.Bool.{eqb-true}
+use Rattle.std.proofs.lemmas.List.{nil_from_length}
 use mathlib.Core.List.{IsPrefix}
 use Rattle.hs_core.specs.Core.{state_of, log_of}
-use Rattle.hs_workers.proofs.HoldLemmas.{goes_none, begins_none}
+use Rattle.hs_workers.proofs.JobLemmas.{all_none}
+use Rattle.hs_workers.proofs.HoldLemmas.{goes_none, begins_none, ended}
 use Rattle.hs_workers.proofs.NothingLemmas.{carries_none, unformed_none, fits_none}
 use Rattle.hs_workers.proofs.handing.take_next.Goals as goal
 
@@ -84,3 +87,30 @@ returns-else-is_empty-clause-unformed c = c.take_some-next.ensures.unformed
 
 pub returns-else-is_empty-clause-works : goal.returns-else-is_empty-clause-works
 returns-else-is_empty-clause-works c = tt
+
+pub returns-then-is_resting-clause-all : goal.returns-then-is_resting-clause-all
+returns-then-is_resting-clause-all c = all_none c.args.seat.now.known.number (state_of c.args.hold.now.core).flight c.args.stock.now.jobs.items c.requires.free c.requires.all
+
+pub returns-then-is_resting-clause-ends : goal.returns-then-is_resting-clause-ends
+returns-then-is_resting-clause-ends c = tt
+
+pub returns-then-not-is_lone-clause-all : goal.returns-then-not-is_lone-clause-all
+returns-then-not-is_lone-clause-all c = c.take_and_read.ensures.all
+
+pub returns-then-not-is_lone-clause-ends : goal.returns-then-not-is_lone-clause-ends
+returns-then-not-is_lone-clause-ends c = c.take_and_read.ensures.ends
+
+pub take_some-next-requires-clause-all : goal.take_some-next-requires-clause-all
+take_some-next-requires-clause-all c = all_none c.args.seat.now.known.number (state_of c.args.hold.now.core).flight c.args.stock.now.jobs.items c.requires.free c.requires.all
+
+pub returns-then-is_empty-clause-all : goal.returns-then-is_empty-clause-all
+returns-then-is_empty-clause-all c = c.take_some-next.ensures.all
+
+pub returns-else-is_empty-clause-all : goal.returns-else-is_empty-clause-all
+returns-else-is_empty-clause-all c = c.take_some-next.ensures.all
+
+pub returns-else-is_empty-clause-ends : goal.returns-else-is_empty-clause-ends
+returns-else-is_empty-clause-ends c = tt
+
+pub returns-then-is_empty-clause-ends : goal.returns-then-is_empty-clause-ends
+returns-then-is_empty-clause-ends c = ended c.take_some-next.result (nil_from_length c.take_some-next.new.jobs.items (sym c.take_some-next.new.jobs.ok.0 ∙ eqb-true _ _ (sym c.if-is_empty.ensures)))

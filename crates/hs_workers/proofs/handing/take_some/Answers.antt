@@ -7,6 +7,7 @@ loop-init c = record {
   goes = goes_none c.args.seat.now c.args.hold.now c.requires.holds;
   log = refl;
   carries = c.requires.carries;
+  all = c.requires.all;
   unformed = c.requires.unformed;
 }
 
@@ -15,6 +16,7 @@ loop-preserved c = record {
   goes = goes_trans c.args.seat.now c.loop.seat c.take_one.new.seat c.args.hold.now c.loop.hold c.take_one.new.hold c.loop.invariant.goes c.take_one.ensures.goes;
   log = c.take_one.ensures.log ∙ c.loop.invariant.log;
   carries = c.take_one.ensures.carries;
+  all = c.take_one.ensures.all;
   unformed = c.take_one.ensures.unformed;
 }
 
@@ -43,3 +45,9 @@ returns-in-Err-clause-carries c = c.take_one.ensures.carries
 
 pub returns-in-Err-clause-unformed : goal.returns-in-Err-clause-unformed
 returns-in-Err-clause-unformed c = c.take_one.ensures.unformed
+
+pub returns-in-Ok-Idle-clause-all : goal.returns-in-Ok-Idle-clause-all
+returns-in-Ok-Idle-clause-all c = c.take_one.ensures.all
+
+pub returns-in-Err-clause-all : goal.returns-in-Err-clause-all
+returns-in-Err-clause-all c = c.take_one.ensures.all

@@ -3,6 +3,7 @@ use mathlib.Core.List.{IsPrefix}
 use Rattle.hs_replica.specs.Replica.{ReplicaData}
 use Rattle.hs_shared.proofs.Seen.{prefix_trans}
 use Rattle.hs_core.specs.Core.{state_of, log_of}
+use Rattle.hs_workers.proofs.JobLemmas.{all_none}
 use Rattle.hs_workers.proofs.HoldLemmas.{goes_trans, begins_none}
 use Rattle.hs_workers.proofs.NothingLemmas.{carries_none, unformed_none, fits_none}
 use Rattle.hs_workers.proofs.handing.turn.Goals as goal
@@ -60,3 +61,19 @@ returns-clause-unformed c = c.take_next.ensures.unformed
 
 pub returns-clause-works : goal.returns-clause-works
 returns-clause-works c = c.take_next.ensures.works
+
+pub returns-then-not-hand_over-clause-all : goal.returns-then-not-hand_over-clause-all
+returns-then-not-hand_over-clause-all c =
+    all_none c.hand_over.new.seat.known.number (state_of c.hand_over.new.hold.core).flight c.hand_over.new.stock.jobs.items c.hand_over.ensures.free c.hand_over.ensures.all
+
+pub returns-then-not-hand_over-clause-ends : goal.returns-then-not-hand_over-clause-ends
+returns-then-not-hand_over-clause-ends c = c.hand_over.ensures.free
+
+pub take_next-requires-clause-all : goal.take_next-requires-clause-all
+take_next-requires-clause-all c = c.hand_over.ensures.all
+
+pub returns-clause-all : goal.returns-clause-all
+returns-clause-all c = c.take_next.ensures.all
+
+pub returns-clause-ends : goal.returns-clause-ends
+returns-clause-ends c = c.take_next.ensures.ends

@@ -1,4 +1,4 @@
-use Rattle.std.proofs.Common.{sym, ◌∙◌, ap, subst, List, All}
+use Rattle.std.proofs.Common.{sym, ◌∙◌, ap, subst, List, All, map}
 use Rattle.std.proofs.lemmas.List.Elements.{All-map}
 use mathlib.Core.List.{IsPrefix}
 use Rattle.hs_table.specs.Entries.{EntryData}
@@ -9,10 +9,10 @@ use Rattle.hs_history.specs.History.{IsWork}
 use Rattle.hs_core.specs.Core.{state_of, log_of}
 use Rattle.hs_shared.specs.Seats.{SeatData, IsSeatOf}
 use Rattle.hs_workers.specs.declared.job.Job.{Job}
-use Rattle.hs_workers.specs.Jobs.{keys, Carries, IsFormed}
+use Rattle.hs_workers.specs.Jobs.{keys, Carries, CarriesAll, IsFormed}
 use Rattle.hs_workers.specs.Working.{CommonData, WorkerData}
 use Rattle.hs_workers.proofs.JobLemmas.{all_unformed}
-use Rattle.hs_workers.proofs.HoldLemmas.{found_problem, found_begins, found_carries, left_loaded, served}
+use Rattle.hs_workers.proofs.HoldLemmas.{found_problem, found_begins, found_carries, found_all, left_loaded, served, ends_so}
 use Rattle.hs_workers.proofs.worker.Worker.exchange.Goals as goal
 
 pub enter-hold-requires : goal.enter-hold-requires
@@ -61,7 +61,7 @@ invariant_of-self g c =
     (sym (ap (λ (r : ReplicaData). r.log) c.extend.ensures ∙ ap (extended c.turn-next.new.stock.replica) c.as_slice.ensures.value)) now.begins in
     left_loaded own.common.now.table own.common.now.problem c.turn-next.new.seat c.leave.new.seat hold now.goes.holds
     (now.goes.turn ∙ c.enter-hold.ensures.turn ∙ ap (λ (v : CommonData). v.table) c.common.view_is) c.leave.ensures
-    ids log jobs upon begins now.carries (all_unformed own.common.now.problem ids log jobs now.unformed)
+    ids log jobs upon begins now.carries now.all (all_unformed own.common.now.problem ids log jobs now.unformed)
 
 pub returns-clause-table : goal.returns-clause-table
 returns-clause-table g c = ap (λ (w : WorkerData). w.table) c.self.view_is
@@ -80,3 +80,14 @@ returns-clause-works g c =
     (subst (λ (xs : List EntryData). All (λ (j : Job). IsWork p xs j.work) jobs) (sym log)
     (subst (λ q. All (λ (j : Job). IsWork q (extended c.turn-next.new.stock.replica c.turn-next.new.rows.items) j.work) jobs) upon works)))
     now.works
+
+pub turn-next-requires-clause-all : goal.turn-next-requires-clause-all
+turn-next-requires-clause-all g c =
+    let own = c.self.inside in
+    let core = c.enter-hold.result.core in
+    let ks = keys own.stock.jobs.items in
+    subst (λ (s : SeatData). CarriesAll s.known.number (state_of core).flight ks) (sym c.enter-hold.ensures.seat)
+    (found_all own.common.now.table own.common.now.problem own.seat core c.enter-hold.ensures.finds ks c.self.invariant.all)
+
+pub returns-clause-ends : goal.returns-clause-ends
+returns-clause-ends g c = ends_so c.turn-next.result (λ none. ap (λ (js : List Job). map (λ (j : Job). j.work) js) none) c.turn-next.ensures.ends
