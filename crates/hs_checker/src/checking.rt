@@ -153,6 +153,7 @@ fn count_points(
     ensures closed { OnOk result (IsClosedTable problem.now (entries_of types.old index.now)) }
     ensures count { IfOk result (IsCount problem.now (entries_of types.old index.now)) }
     ensures missing { IfErr result (IsGap problem.now (entries_of types.old index.now)) }
+    ensures grows { OnOk result (Grows types.old types.new) }
 {
     let mut count: u64 = 0;
     for point in 0..problem.points.count() {
@@ -177,6 +178,7 @@ fn count_closed(
     ensures closed { OnOk result (IsClosedTable problem.now (entries_of types.old index.now)) }
     ensures count { IfOk result (IsCount problem.now (entries_of types.old index.now)) }
     ensures missing { IfErr result (IsGap problem.now (entries_of types.old index.now)) }
+    ensures grows { OnOk result (Grows types.old types.new) }
 {
     let complete = complete_terminals(alloc, problem)?;
     count_points(alloc, types, problem, complete.as_slice(), index, inert)
@@ -196,6 +198,7 @@ fn check_index(
     ensures closed { OnOk result (IsClosedTable problem.now (entries_of types.old index.now)) }
     ensures count { IfOk result (IsCount problem.now (entries_of types.old index.now)) }
     ensures flaw { IfErr result (IsFlaw problem.now (entries_of types.old index.now)) }
+    ensures grows { OnOk result (Grows types.old types.new) }
 {
     let heads = HeadPairs::of(alloc, problem)?;
     let inert = inert_points(alloc, problem, index, &heads)?;
@@ -220,6 +223,7 @@ fn check_closed(
     ensures closed { OnOk result (IsClosedTable problem.now (entries_of types.old rows.now)) }
     ensures count { IfOk result (IsCount problem.now (entries_of types.old rows.now)) }
     ensures flaw { IfErr result (IsFlaw problem.now (entries_of types.old rows.now)) }
+    ensures grows { OnOk result (Grows types.old types.new) }
 {
     know_sorted_problem(problem);
     let index = RowIndex::of(alloc, problem.points.count(), rows)?;
@@ -287,8 +291,8 @@ pub fn check(alloc: Global, problem: &Problem, table: &[Entry]) -> Result<u64, C
 }
 
 /// `check` of the entries that the rows stand for, which are in shape: nothing is told as a tree but an
-/// entry that is missing. The interner only grows, and takes no part in the answer but for what the rows
-/// stand for.
+/// entry that is missing. The interner takes no part in the answer but for what the rows stand for. Where a
+/// number is answered it has only grown; else nothing is said of it.
 ///
 /// Time and memory are as for `check`, without a look at the entries.
 pub fn check_rows(
@@ -306,6 +310,7 @@ pub fn check_rows(
     ensures accepted { OnOk result
         (Accepts problem.now.sorted.scheme.rules problem.now.sorted.automaton.transitions) }
     ensures fault { IfErr result (IsFault problem.now (map (entry_of types.old) rows.now)) }
+    ensures grows { OnOk result (Grows types.old types.new) }
 {
     know_sorted_problem(problem);
     let start = has_start_row(problem, types, rows);
