@@ -56,8 +56,8 @@ fn strongest_that_match(
     )
 }
 
-/// A compact list of the problem's entries, of those of its least table, whose rows these are. The budget
-/// is 1 to 1,000,000 entries.
+/// A compact list of the problem, or that more entries than the budget came on the way, where the rows are
+/// the entries of its least table. The budget is 1 to 1,000,000 entries.
 ///
 /// Where no type of an entry is as strong as another that some entry asks for, what weakly follows from
 /// the strongest entries of the least table is in it: then these are the list, which takes a look at each

@@ -64,15 +64,15 @@ pub(crate) type HeadTypes = SmallVec<HeadType, 2>;
 /// What is found, each row once, with the least support by which it was. The first few rows are looked
 /// through one by one.
 #[derive(Drop)]
-pub struct Found {
+pub(crate) struct Found {
     /// What is found, in the order in which the rows came.
-    pub list: Vec<Deduced>,
+    pub(crate) list: Vec<Deduced>,
     /// The rows behind the first `FEW`, in the same order.
-    pub rows: IndexSet<Row>,
+    pub(crate) rows: IndexSet<Row>,
 }
 
 /// Nothing found.
-pub fn none_found(alloc: Global) -> Found
+pub(crate) fn none_found(alloc: Global) -> Found
     ensures list { result.list.items ≡ [] }
     ensures rows { result.rows.keys ≡ [] }
 {
@@ -110,7 +110,7 @@ fn find_behind(found: &Found, row: &Row) -> Option<usize>
 }
 
 /// Where what is found has this row, counted from 0. Takes constant time on average.
-pub fn find_deduced(found: &Found, row: &Row) -> Option<usize>
+fn find_deduced(found: &Found, row: &Row) -> Option<usize>
     requires { RowsAre found.now.rows.keys found.now.list.items }
     ensures { MatchOption result
         (Contains (map (λ d. d.row) found.now.list.items) row.now → ⊥)
@@ -163,23 +163,6 @@ fn keep(rows: &mut IndexSet<Row>, place: usize, row: Row) -> Result<(), OutOfMem
     Ok(())
 }
 
-/// Keeps the lesser one of the supports of the two.
-fn keep_lesser(there: &mut Deduced, other: Deduced)
-    ensures row { there.new.row ≡ there.old.row }
-    ensures one { (there.new ≡ there.old) ⊎ (there.new.support ≡ other.support) }
-    ensures least { IsNoGreater (premises there.new.support) (premises there.old.support) }
-    ensures new_least { IsNoGreater (premises there.new.support) (premises other.support) }
-{
-    let args = other.args.as_slice();
-    let ordering = compare(other.head, args, there.head, there.args.as_slice());
-    if ordering != Ordering::Less {
-        return;
-    }
-    let Deduced { head, args, .. } = other;
-    there.head = head;
-    there.args = args;
-}
-
 /// Adds what was deduced, whose row isn't there.
 fn push_new(found: &mut Found, deduced: Deduced) -> Result<(), OutOfMemory>
     requires rows { RowsAre found.old.rows.keys found.old.list.items }
@@ -198,29 +181,10 @@ fn push_new(found: &mut Found, deduced: Deduced) -> Result<(), OutOfMemory>
     Ok(())
 }
 
-/// Adds what was deduced; where its row is there, by the lesser of the two supports. Nothing is copied.
-///
-/// Takes constant time on average, and a comparison of two supports where the row is there.
-pub fn add_deduced(found: &mut Found, deduced: Deduced) -> Result<(), OutOfMemory>
-    requires { RowsAre found.old.rows.keys found.old.list.items }
-    ensures rows { OnOk result (RowsAre found.new.rows.keys found.new.list.items) }
-    ensures lowers { OnOk result (Lowers found.old.list.items found.new.list.items) }
-    ensures only { OnOk result ((d : DeducedData) → Contains found.new.list.items d
-        → Contains found.old.list.items d ⊎ (d ≡ deduced)) }
-    ensures there { OnOk result (HasNoGreater found.new.list.items deduced.row deduced.support) }
-{
-    if let Some(place) = find_deduced(found, &deduced.row) {
-        let there = &mut found.list[place];
-        keep_lesser(there, deduced);
-        return Ok(());
-    }
-    push_new(found, deduced)
-}
-
 /// Adds the row with its support; where the row is there, with the lesser one.
 ///
 /// Takes constant time on average, and a comparison of two supports where the row is there.
-pub fn add_found(
+fn add_found(
     alloc: Global,
     found: &mut Found,
     row: Row,

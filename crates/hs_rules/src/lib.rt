@@ -19,6 +19,5 @@ mod terminals;
 
 pub use deduced::{Deduced, deduced_entries_are_in_shape};
 pub use following::{conclusions, conclusions_with, seed_conclusions};
-pub use found::{Found, add_deduced, add_found, find_deduced, none_found};
 pub use hs_replica::Replica;
 pub use order::compare as compare_supports;
