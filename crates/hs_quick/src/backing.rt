@@ -13,7 +13,7 @@
 //! again; where it is void and relies on no earlier one, so are they, for good (the strongly connected
 //! components of Tarjan, "Depth-first search and linear graph algorithms", SIAM Journal on Computing 1972).
 
-use crate::ended::{Ended, number_at, put};
+use crate::ended::{number_at, put};
 use crate::envs::{EMPTY, Status};
 use crate::look::params_of;
 use crate::search::{Demand, Search};
@@ -89,9 +89,8 @@ impl<'a> Search<'a> {
             .sites
             .allowed(self.problem, &mut self.envs, &self.table, env)
         {
-            Ok(Some(allowed)) => self.ask(env, rule, allowed, stack),
-            Ok(None) => self.envs.set_status(env, Status::Missed),
-            Err(_) => self.envs.end(Ended::OutOfMemory),
+            Some(allowed) => self.ask(env, rule, allowed, stack),
+            None => self.envs.set_status(env, Status::Missed),
         }
     }
 
@@ -121,28 +120,29 @@ impl<'a> Search<'a> {
         put(stack, question, &mut self.refused);
     }
 
-    /// The pools of what the environment asks of the site's arguments, the one with the fewest items first.
-    fn demands(&mut self, env: u32, site: Site) -> Vec<u32> {
-        let mut cells = Vec::new(self.alloc);
+    /// Finds the pools of what the environment asks of the site's arguments, that with the fewest items first.
+    fn find_cells(&mut self, env: u32, site: Site, cells: &mut Vec<u32>) {
+        cells.clear();
         for place in 0..self.envs.atoms(env).len() {
             let atom = self.envs.atom(number_at(self.envs.atoms(env), place));
             if let Some(point) = site.argument(self.problem, atom.param) {
                 let pool = self.cell(Demand { point, ty: atom.ty });
-                put(&mut cells, pool, &mut self.refused);
+                put(cells, pool, &mut self.refused);
             }
         }
         cells.sort_unstable();
         cells.dedup();
-        let mut least = 0;
+        let (mut least, mut fewest) = (0, usize::MAX);
         for place in 0..cells.len() {
-            if self.count_of(cells.as_slice(), place) < self.count_of(cells.as_slice(), least) {
+            let count = self.count_of(cells.as_slice(), place);
+            if count < fewest {
                 least = place;
+                fewest = count;
             }
         }
         if least < cells.len() {
             cells.swap(0, least);
         }
-        cells
     }
 
     /// How many items the pool at the place has.
@@ -153,16 +153,16 @@ impl<'a> Search<'a> {
     /// Tries the site: one demand or none has a witness if its pool isn't empty, and for more of them
     /// one is searched for.
     fn try_site(&mut self, question: &mut Question, site: Site) {
-        let cells = self.demands(question.env, site);
-        if cells.len() > 0 && self.count_of(cells.as_slice(), 0) == 0 {
+        self.find_cells(question.env, site, &mut question.cells);
+        let count = question.cells.len();
+        if count > 0 && self.count_of(question.cells.as_slice(), 0) == 0 {
             return;
         }
-        if cells.len() < 2 {
+        if count < 2 {
             set(&mut question.reached, site.end);
             return;
         }
         question.end = site.end;
-        question.cells = cells;
         begin(&mut question.levels, EMPTY, &mut self.refused);
     }
 

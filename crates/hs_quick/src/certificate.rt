@@ -176,7 +176,7 @@ impl Telling {
         }
     }
 
-    /// The set of the types at the places from the `next` one on, as far as these are of one parameter, from
+    /// The set of the types at the places from the `next` one on, as far as these are of the parameter from
     /// which on there are so many.
     fn set_at(&mut self, places: &[Place], next: &mut usize, params: u32) -> SetId {
         let mut types = Vec::new(self.alloc);
@@ -189,24 +189,19 @@ impl Telling {
                 _ => break,
             }
         }
+        if types.is_empty() {
+            return self.none;
+        }
         self.set(types.as_slice())
     }
 
     /// The sets of so many parameters with these types.
     fn sets(&mut self, places: &[Place], params: u32) -> Vec<SetId> {
-        let Ok(mut sets) = Vec::from_elem(self.alloc, self.none, params as usize) else {
-            self.refused = true;
-            return Vec::new(self.alloc);
-        };
+        let mut sets = Vec::new(self.alloc);
         let mut next = 0;
-        for _ in 0..places.len() {
-            let Some(place) = places.get(next) else {
-                break;
-            };
-            let set = self.set_at(places, &mut next, place.params);
-            if let Some(own) = sets.get_mut(params.saturating_sub(place.params) as usize) {
-                *own = set;
-            }
+        for param in 0..params {
+            let set = self.set_at(places, &mut next, params - param);
+            put(&mut sets, set, &mut self.refused);
         }
         sets
     }

@@ -270,8 +270,8 @@ impl Envs {
                     status,
                     question: 0,
                 };
-                if new && self.notes.push(note).is_err() {
-                    self.end(Ended::OutOfMemory);
+                if new {
+                    put(&mut self.notes, note, &mut self.types.refused);
                 }
                 numbered(place)
             }

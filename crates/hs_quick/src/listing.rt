@@ -5,6 +5,7 @@ use crate::envs::Status;
 use crate::look::params_of;
 use crate::order::Order;
 use crate::search::Search;
+use crate::sites::set;
 use std::alloc::Global;
 
 /// A type of an environment: how many parameters there are from its own on, its rank, and its number. Lists of
@@ -24,7 +25,7 @@ pub(crate) struct Listed {
 }
 
 /// An entry at a point, or a void environment of a rule, with the ranks of its environment and its type.
-#[derive(Clone, Copy, PartialEq, Eq, PartialOrd, Ord)]
+#[derive(Clone, Copy)]
 pub(crate) struct Line {
     pub(crate) at: u32,
     env_rank: u32,
@@ -50,11 +51,20 @@ pub(crate) struct Listing {
     refused: bool,
 }
 
-/// Notes that the environment occurs.
-fn mark(used: &mut Vec<bool>, env: u32) {
-    if let Some(flag) = used.get_mut(env as usize) {
-        *flag = true;
+/// Notes that the environments of the lines occur.
+fn mark(used: &mut Vec<bool>, lines: &[Line]) {
+    for line in lines {
+        set(used, line.env);
     }
+}
+
+/// Gives the lines the ranks of their environments, and brings them into their order. Environments and types
+/// have ranks of their own, so there is no more to compare.
+fn rank_lines(ranks: &[u32], lines: &mut Vec<Line>) {
+    for line in lines.iter_mut() {
+        line.env_rank = number_at(ranks, line.env as usize);
+    }
+    lines.sort_unstable_by_key(|line: &Line| (line.at, line.env_rank, line.rank));
 }
 
 impl Listing {
@@ -73,7 +83,8 @@ impl Listing {
         listing.find_entries(search);
         listing.find_void(search);
         listing.list_envs(search);
-        listing.rank_lines();
+        rank_lines(listing.ranks.as_slice(), &mut listing.entries);
+        rank_lines(listing.ranks.as_slice(), &mut listing.void);
         listing
     }
 
@@ -122,12 +133,8 @@ impl Listing {
             put(&mut used, false, &mut self.refused);
             put(&mut self.ranks, 0, &mut self.refused);
         }
-        for line in &self.entries {
-            mark(&mut used, line.env);
-        }
-        for line in &self.void {
-            mark(&mut used, line.env);
-        }
+        mark(&mut used, self.entries.as_slice());
+        mark(&mut used, self.void.as_slice());
         used
     }
 
@@ -164,18 +171,5 @@ impl Listing {
                 *own = numbered(rank);
             }
         }
-    }
-
-    /// Brings entries and void environments into their order.
-    fn rank_lines(&mut self) {
-        let ranks = self.ranks.as_slice();
-        for line in self.entries.iter_mut() {
-            line.env_rank = number_at(ranks, line.env as usize);
-        }
-        for line in self.void.iter_mut() {
-            line.env_rank = number_at(ranks, line.env as usize);
-        }
-        self.entries.sort_unstable();
-        self.void.sort_unstable();
     }
 }

@@ -1,5 +1,6 @@
 //! Lists by number.
 
+use crate::ended::put;
 use std::alloc::Global;
 
 /// Lists, numbered from 0.
@@ -24,10 +25,7 @@ impl<T: Drop> Lists<T> {
     /// Adds this many empty lists.
     pub(crate) fn grow(&mut self, count: usize) {
         for _ in 0..count {
-            if self.rows.push(Vec::new(self.alloc)).is_err() {
-                self.refused = true;
-                return;
-            }
+            put(&mut self.rows, Vec::new(self.alloc), &mut self.refused);
         }
     }
 
@@ -54,9 +52,7 @@ impl<T: Drop> Lists<T> {
     /// Adds an item at the end of the list of this number, where there is one.
     pub(crate) fn push(&mut self, number: u32, item: T) {
         if let Some(row) = self.rows.get_mut(number as usize) {
-            if row.push(item).is_err() {
-                self.refused = true;
-            }
+            put(row, item, &mut self.refused);
         }
     }
 

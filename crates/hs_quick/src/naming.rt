@@ -34,7 +34,6 @@ struct Pack {
 /// A walk along the premises.
 #[derive(Drop)]
 struct Walk {
-    alloc: Global,
     evidences: Vec<Evidence>,
     /// The packs of the parameters, those of one rule in a row.
     packs: Vec<Pack>,
@@ -42,6 +41,10 @@ struct Walk {
     stack: Vec<Pack>,
     /// The child numbers of the path so far.
     path: Vec<u32>,
+    /// The entries at the arguments by which the last entry follows.
+    premises: Vec<u32>,
+    /// What is still to be taken apart for them.
+    left: Vec<Origin>,
     /// Whether memory was refused.
     refused: bool,
 }
@@ -49,11 +52,12 @@ struct Walk {
 impl Walk {
     fn new(alloc: Global) -> Walk {
         Walk {
-            alloc,
             evidences: Vec::new(alloc),
             packs: Vec::new(alloc),
             stack: Vec::new(alloc),
             path: Vec::new(alloc),
+            premises: Vec::new(alloc),
+            left: Vec::new(alloc),
             refused: false,
         }
     }
@@ -71,9 +75,9 @@ impl Walk {
     }
 
     /// Puts the pack of the argument at the point on the stack: the premises there.
-    fn push_pack(&mut self, search: &Search, premises: &[u32], point: u32, frame: usize) {
+    fn push_pack(&mut self, search: &Search, point: u32, frame: usize) {
         let from = self.evidences.len();
-        for row in premises {
+        for row in &self.premises {
             if search.table.row(*row).point == point {
                 let evidence = Evidence { row: *row, frame };
                 put(&mut self.evidences, evidence, &mut self.refused);
@@ -96,7 +100,8 @@ impl Walk {
 
     /// Goes from a terminal to its child of this number, counted from 1, which is rejected in the state.
     fn descend(&mut self, search: &mut Search, child: u32, state: u32) -> Option<Evidence> {
-        let place = self.stack.len().checked_sub(child as usize)?;
+        // Where there are fewer packs, this is no place.
+        let place = self.stack.len().wrapping_sub(child as usize);
         let pack = self.stack.get(place).copied()?;
         let ty = search.envs.types.state(state);
         put(&mut self.path, child, &mut self.refused);
@@ -104,21 +109,37 @@ impl Walk {
         self.find(search, pack, ty)
     }
 
-    /// The entries at the arguments by which the entry follows.
-    fn premises_of(&mut self, search: &Search, row: Row) -> Vec<u32> {
-        let mut premises = Vec::new(self.alloc);
-        let mut left = Vec::new(self.alloc);
-        put(&mut left, row.origin, &mut self.refused);
-        take_apart(search, &mut left, &mut premises, &mut self.refused);
-        premises
+    /// Finds the entries at the arguments by which the entry follows: takes its origin apart.
+    fn find_premises(&mut self, search: &Search, row: Row) {
+        self.premises.clear();
+        put(&mut self.left, row.origin, &mut self.refused);
+        for _ in 0..u32::MAX {
+            let Some(origin) = self.left.pop() else {
+                return;
+            };
+            match origin {
+                Origin::Nothing => (),
+                Origin::Entry(row) => put(&mut self.premises, row, &mut self.refused),
+                Origin::One(item) => {
+                    let own = search.pools.item(item).origin;
+                    put(&mut self.left, own, &mut self.refused);
+                }
+                Origin::Both(first, second) => {
+                    let own = search.pools.item(first).origin;
+                    let other = search.pools.item(second).origin;
+                    put(&mut self.left, own, &mut self.refused);
+                    put(&mut self.left, other, &mut self.refused);
+                }
+            }
+        }
     }
 
     /// Goes from one evidence to the next, if there is one.
     fn next(&mut self, search: &mut Search, from: Evidence) -> Option<Evidence> {
         let row = search.table.row(from.row);
-        let premises = self.premises_of(search, row);
+        self.find_premises(search, row);
         for point in at_point(search.problem, row.point).args.iter().rev() {
-            self.push_pack(search, premises.as_slice(), *point, from.frame);
+            self.push_pack(search, *point, from.frame);
         }
         match search.instance(row.instance).head {
             HeadBy::Terminal(child) => {
@@ -166,30 +187,8 @@ fn state_below(search: &Search, row: Row, child: u32) -> Option<u32> {
     };
     let state = search.envs.types.last_state(row.ty);
     let to = problem.sorted.automaton.next(state, terminal)?;
-    to.get((child as usize).checked_sub(1)?).copied()
-}
-
-/// Takes the origins apart: premises are added to those that were found.
-fn take_apart(
-    search: &Search,
-    left: &mut Vec<Origin>,
-    premises: &mut Vec<u32>,
-    refused: &mut bool,
-) {
-    for _ in 0..u32::MAX {
-        let Some(origin) = left.pop() else {
-            return;
-        };
-        match origin {
-            Origin::Nothing => (),
-            Origin::Entry(row) => put(premises, row, refused),
-            Origin::One(item) => put(left, search.pools.item(item).origin, refused),
-            Origin::Both(first, second) => {
-                put(left, search.pools.item(first).origin, refused);
-                put(left, search.pools.item(second).origin, refused);
-            }
-        }
-    }
+    // Behind no child comes no place.
+    to.get((child as usize).wrapping_sub(1)).copied()
 }
 
 /// The child numbers of the path along which the start entry, which was added last, is rejected. So

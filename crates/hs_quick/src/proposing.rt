@@ -50,12 +50,13 @@ fn find(search: &mut Search, telling: &mut Telling, limits: Limits) -> Found {
     }
 }
 
-/// The proposal of what was found. There is none where too much was to be told.
-fn proposal_of(found: Found, telling: Telling) -> Proposal {
+/// The proposal of what was found, unless memory was refused. There is none where too much was to be told.
+fn proposal_of(found: Found, telling: Telling, refused: bool) -> Result<Proposal, OutOfMemory> {
     match found {
-        Found::Certificate if telling.left > 0 => Proposal::Accepted(telling.certificate),
-        Found::Path(path) => Proposal::Rejected(path),
-        _ => Proposal::None,
+        _ if refused => Err(OutOfMemory),
+        Found::Certificate if telling.left > 0 => Ok(Proposal::Accepted(telling.certificate)),
+        Found::Path(path) => Ok(Proposal::Rejected(path)),
+        _ => Ok(Proposal::None),
     }
 }
 
@@ -86,8 +87,5 @@ pub fn propose(
         _ => telling.refused,
     };
     drop(search);
-    if refused {
-        return Err(OutOfMemory);
-    }
-    Ok(proposal_of(found, telling))
+    proposal_of(found, telling, refused)
 }

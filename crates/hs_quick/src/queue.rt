@@ -1,5 +1,6 @@
 //! The work that is left, smaller environments first.
 
+use crate::ended::put;
 use crate::joins::Origin;
 use std::alloc::Global;
 use std::collections::VecDeque;
@@ -45,12 +46,12 @@ impl Queue {
 
     /// Adds a work whose environment has this size.
     pub(crate) fn push(&mut self, size: usize, work: Work) {
-        let missing = size.saturating_add(1).saturating_sub(self.by_size.len());
-        for _ in 0..missing {
-            if self.by_size.push(VecDeque::new(self.alloc)).is_err() {
-                self.refused = true;
-                return;
-            }
+        for _ in self.by_size.len()..size.saturating_add(1) {
+            put(
+                &mut self.by_size,
+                VecDeque::new(self.alloc),
+                &mut self.refused,
+            );
         }
         if let Some(works) = self.by_size.get_mut(size) {
             if works.push_back(work).is_err() {

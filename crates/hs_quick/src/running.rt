@@ -6,7 +6,6 @@ use crate::look::body_of;
 use crate::queue::{Goal, Work};
 use crate::search::Search;
 use crate::table::Row;
-use crate::types::Shape;
 
 impl<'a> Search<'a> {
     /// Whether the work's environment asks at least one that is there already.
@@ -37,9 +36,7 @@ impl<'a> Search<'a> {
             origin: work.origin,
         };
         let (place, first) = self.table.add(&mut self.envs, row);
-        if row.point == body_of(self.problem, 0)
-            && self.envs.types.shape(row.ty) == Shape::State(0)
-        {
+        if row.point == body_of(self.problem, 0) && row.ty == self.envs.types.state(0) {
             return self.envs.end(Ended::StartFound);
         }
         self.spread(place, row, first);

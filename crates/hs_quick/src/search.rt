@@ -69,6 +69,11 @@ pub(crate) struct Search<'a> {
     pub(crate) refused: bool,
 }
 
+/// Drops what is there, and puts the other in its place.
+fn renew<T: Drop>(own: &mut T, other: T) {
+    *own = other;
+}
+
 impl<'a> Search<'a> {
     /// A search that may add so many entries, form so many unions, and take so many steps. Takes no
     /// memory.
@@ -116,10 +121,10 @@ impl<'a> Search<'a> {
 
     /// Gives back what the entries and the void environments aren't read from.
     pub(crate) fn release(&mut self) {
-        self.uses = Uses::new(self.alloc);
-        self.pools = Pools::new(self.alloc);
-        self.sites = Sites::new(self.alloc);
-        self.queue = Queue::new(self.alloc);
+        renew(&mut self.uses, Uses::new(self.alloc));
+        renew(&mut self.pools, Pools::new(self.alloc));
+        renew(&mut self.sites, Sites::new(self.alloc));
+        renew(&mut self.queue, Queue::new(self.alloc));
     }
 
     /// Why the search ends, if it does.

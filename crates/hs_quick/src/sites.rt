@@ -8,7 +8,7 @@ use crate::table::Table;
 use crate::uses::Uses;
 use hs_scheme::{HeadPair, Problem};
 use indexmap::IndexSet;
-use std::alloc::{AllocError, Global};
+use std::alloc::Global;
 
 /// So many sites are found at most.
 const MOST_SITES: usize = 4_000_000;
@@ -256,26 +256,34 @@ impl Sites {
         true
     }
 
-    /// The sites that all types of the environment leave. None where no chain of them gives all.
+    /// The sites that all types of the environment leave. None where no chain of them gives all, or memory is
+    /// refused, which ends the search.
     pub(crate) fn allowed(
         &mut self,
         problem: &Problem,
         envs: &mut Envs,
         table: &Table,
         env: u32,
-    ) -> Result<Option<Allowed>, AllocError> {
+    ) -> Option<Allowed> {
         let rule = envs.rule(env);
         let params = params_of(problem, rule) as usize;
-        let mut sites = Vec::from_elem(self.alloc, u64::MAX, self.list(rule).len() / 64 + 1)?;
-        if !self.narrow(problem, envs, table, env, &mut sites) {
-            return Ok(None);
+        let words = self.list(rule).len() / 64 + 1;
+        let Ok(mut sites) = Vec::from_elem(self.alloc, u64::MAX, words) else {
+            envs.end(Ended::OutOfMemory);
+            return None;
+        };
+        let Ok(mut useful) = Vec::from_elem(self.alloc, false, params + 1) else {
+            envs.end(Ended::OutOfMemory);
+            return None;
+        };
+        if self.narrow(problem, envs, table, env, &mut sites) {
+            find_useful(self.list(rule), sites.as_slice(), &mut useful);
         }
-        let mut useful = Vec::from_elem(self.alloc, false, params + 1)?;
-        find_useful(self.list(rule), sites.as_slice(), &mut useful);
-        if !holds(useful.as_slice(), 0) {
-            return Ok(None);
+        if holds(useful.as_slice(), 0) {
+            Some(Allowed { sites, useful })
+        } else {
+            None
         }
-        Ok(Some(Allowed { sites, useful }))
     }
 }
 

@@ -12,7 +12,7 @@ pub(crate) const MOST_DEPTH: u32 = 4_000;
 const NEAR: u32 = 1_000;
 
 /// What is known of whether a type is as strong as another one.
-#[derive(Clone, Copy, PartialEq, Eq)]
+#[derive(Clone, Copy)]
 enum Strength {
     Unknown,
     AsStrong,
@@ -20,21 +20,23 @@ enum Strength {
 }
 
 /// What a type is: a state, or a set of types with a result. Sets and results are named by number.
-#[derive(Clone, Copy, PartialEq, Eq, Hash)]
+#[derive(Clone, Copy)]
 pub(crate) enum Shape {
     State(u32),
     Arrow(u32, u32),
 }
 
-/// Types and sets of types, each with one number.
+/// Types and sets of types, each with one number. The types of the first numbers are the states, of which
+/// nothing is kept, and behind them come the arrows.
 ///
 /// A set is a list of numbers, ascending. No type of a set is as strong as another one of it.
 #[derive(Drop)]
 pub(crate) struct Types {
-    shapes: IndexSet<Shape>,
-    /// How many states were added: the types of lower numbers are these.
+    /// How many states there are.
     states: u32,
-    /// The state at the end of each type.
+    /// The set and the result of each arrow.
+    arrows: IndexSet<(u32, u32)>,
+    /// The state at the end of each arrow.
     last: Vec<u32>,
     sets: IndexSet<Vec<u32>>,
     /// What is known of the strength of each type beside those of lesser numbers than its row is long.
@@ -49,8 +51,8 @@ impl Types {
     /// No types.
     pub(crate) fn new(alloc: Global) -> Types {
         Types {
-            shapes: IndexSet::new(alloc),
             states: 0,
+            arrows: IndexSet::new(alloc),
             last: Vec::new(alloc),
             sets: IndexSet::new(alloc),
             near: Lists::new(alloc),
@@ -66,7 +68,7 @@ impl Types {
 
     /// How many types there are.
     pub(crate) fn len(&self) -> usize {
-        self.shapes.len()
+        (self.states as usize).saturating_add(self.arrows.len())
     }
 
     /// How many sets there are.
@@ -76,8 +78,11 @@ impl Types {
 
     /// What the type is.
     pub(crate) fn shape(&self, ty: u32) -> Shape {
-        match self.shapes.get_index(ty as usize) {
-            Some(shape) => *shape,
+        if ty < self.states {
+            return Shape::State(ty);
+        }
+        match self.arrows.get_index((ty - self.states) as usize) {
+            Some((set, rest)) => Shape::Arrow(*set, *rest),
             None => Shape::State(0),
         }
     }
@@ -92,29 +97,14 @@ impl Types {
 
     /// The state at the end of the type.
     pub(crate) fn last_state(&self, ty: u32) -> u32 {
-        number_at(self.last.as_slice(), ty as usize)
-    }
-
-    fn add(&mut self, shape: Shape, last: u32) -> u32 {
-        match self.shapes.insert_full(shape) {
-            Ok((place, new)) => {
-                if new {
-                    put(&mut self.last, last, &mut self.refused);
-                }
-                numbered(place)
-            }
-            Err(_) => {
-                self.refused = true;
-                0
-            }
+        if ty < self.states {
+            return ty;
         }
+        number_at(self.last.as_slice(), (ty - self.states) as usize)
     }
 
-    /// Adds so many states, as the first types: the number of each is its own.
+    /// Adds so many states, before any other type: the number of each is its own.
     pub(crate) fn add_states(&mut self, count: u32) {
-        for state in 0..count {
-            self.add(Shape::State(state), state);
-        }
         self.states = count;
     }
 
@@ -125,8 +115,19 @@ impl Types {
 
     /// The type with this set and this result.
     pub(crate) fn arrow(&mut self, set: u32, rest: u32) -> u32 {
-        let last = self.last_state(rest);
-        self.add(Shape::Arrow(set, rest), last)
+        match self.arrows.insert_full((set, rest)) {
+            Ok((place, new)) => {
+                if new {
+                    let last = self.last_state(rest);
+                    put(&mut self.last, last, &mut self.refused);
+                }
+                self.states.saturating_add(numbered(place))
+            }
+            Err(_) => {
+                self.refused = true;
+                0
+            }
+        }
     }
 
     /// The set of these types, which ascend.
@@ -151,10 +152,8 @@ impl Types {
         if ty == other {
             return Some(true);
         }
-        if ty < self.states || other < self.states {
-            return Some(false);
-        }
-        if self.last_state(ty) != self.last_state(other) {
+        let is_state = ty < self.states || other < self.states;
+        if is_state || self.last_state(ty) != self.last_state(other) {
             return Some(false);
         }
         match self.near.list(ty).get(other as usize) {
