@@ -11,3 +11,6 @@ pub mod TypesLemmas
 pub mod KeptLemmas
 pub mod Firsts
 pub mod ExtendLemmas
+pub mod MaskLemmas
+pub mod UnionMasks
+pub mod MaskKeys

@@ -2,3 +2,4 @@ pub mod Places
 pub mod Replica
 pub mod Index
 pub mod Extending
+pub mod Masks

@@ -1,8 +1,9 @@
 //! Types and environments that are formed in the replica's interner.
 
-ghost use Rattle.std.specs.Prelude.{◌≡◌, ◌<◌, ◌∷◌, [], All, IfOk, Some, length, map, replicate, slice_get, slice_set};
+ghost use Rattle.std.specs.Prelude.{◌≡◌, ◌<◌, ◌∷◌, [], All, IfOk, IfSome, Some, length, map, replicate, slice_get, slice_set};
 ghost use Rattle.hs_table.specs.Types.{state, arrow};
 ghost use Rattle.hs_types.specs.Interned.{type_of_id, set_of_id, env_of_id, IsSetOf, IsUnionEnv};
+ghost use Rattle.hs_replica.specs.Masks.{IsMask, IsUnionMask};
 ghost use Rattle.hs_replica.specs.Replica.{KeepsLog};
 
 use crate::replica::Replica;
@@ -59,6 +60,30 @@ impl Replica {
         ensures kept { KeepsLog self.old self.new }
     {
         self.interner.union_envs(a, b)
+    }
+
+    /// The mask of the environment, where it has one. Constant time where it was asked for before, and else a
+    /// step for each type that it asks for.
+    pub fn mask_of(&mut self, env: EnvId) -> Result<Option<u128>, OutOfMemory>
+        requires { env < length self.old.ids.envs }
+        ensures mask { IfOk result (λ found. IfSome found
+            (IsMask self.old.ids (length (env_of_id self.old.ids env)) (env_of_id self.old.ids env))) }
+        ensures kept { self.new ≡ self.old }
+    {
+        self.interner.mask_of(env)
+    }
+
+    /// The union of the two environments, which has this mask. Constant time on average where an environment
+    /// with this mask was met in a call of this kind.
+    pub fn union_with_mask(&mut self, a: EnvId, b: EnvId, mask: u128) -> Result<EnvId, OutOfMemory>
+        requires a { a < length self.old.ids.envs }
+        requires b { b < length self.old.ids.envs }
+        requires mask { IsUnionMask self.old.ids (env_of_id self.old.ids a) (env_of_id self.old.ids b) mask }
+        ensures ok { IfOk result (λ id. (id < length self.new.ids.envs)
+            × IsUnionEnv (env_of_id self.old.ids a) (env_of_id self.old.ids b) (env_of_id self.new.ids id)) }
+        ensures kept { KeepsLog self.old self.new }
+    {
+        self.interner.union_with_mask(a, b, mask)
     }
 
     /// The environment of n empty sets.

@@ -9,6 +9,8 @@ mod indexing;
 mod key;
 mod lists;
 mod lookups;
+mod masked;
+mod masks;
 mod reaching;
 mod replica;
 mod typing;

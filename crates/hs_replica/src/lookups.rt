@@ -53,7 +53,7 @@ impl Replica {
         add_types(
             &mut self.lists,
             &mut self.by_type,
-            &self.interner,
+            self.interner.interner(),
             self.rows.as_slice(),
             self.indexed,
             point,
@@ -110,7 +110,7 @@ impl Replica {
         add_asks(
             &mut self.lists,
             &mut self.asked,
-            &self.interner,
+            self.interner.interner(),
             self.rows.as_slice(),
             self.indexed,
             point,

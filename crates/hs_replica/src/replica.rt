@@ -9,6 +9,7 @@ ghost use Rattle.hs_replica.specs.Extending.{CanExtend, extended};
 
 use crate::indexing::add_places;
 use crate::lists::Lists;
+use crate::masked::MaskedInterner;
 use hs_scheme::OutOfMemory;
 use hs_types::{ImportedNumbers, Interner, Row};
 use indexmap::IndexSet;
@@ -24,7 +25,7 @@ use std::marker::Model;
 /// take in the interner, which entries share, and what `index` adds.
 #[derive(Drop)]
 pub struct Replica {
-    pub(crate) interner: Interner,
+    pub(crate) interner: MaskedInterner,
     pub(crate) rows: IndexSet<Row>,
     pub(crate) lists: Lists,
     /// For each point, so many places of the log, from the first, are listed by their types there.
@@ -71,7 +72,7 @@ impl Replica {
         } }
     {
         Replica {
-            interner: Interner::new(alloc),
+            interner: MaskedInterner::new(alloc),
             rows: IndexSet::new(alloc),
             lists: Lists::new(alloc),
             by_type: Vec::new(alloc),
@@ -121,14 +122,14 @@ impl Replica {
     pub fn interner(&self) -> &Interner
         ensures { result.now ≡ self.now.ids }
     {
-        &self.interner
+        self.interner.interner()
     }
 
     /// The interner that reads the rows. All else is dropped.
     pub fn into_interner(self) -> Interner
         ensures { result ≡ self.ids }
     {
-        self.interner
+        self.interner.into_interner()
     }
 
     /// The place of the entry of this row of the replica's interner, or `None` where the log lacks
@@ -222,9 +223,11 @@ impl Replica {
     {
         let begin = self.rows.len();
         found.clear();
-        let rows = self
-            .interner
-            .import_rows(found, &from.interner, &from.rows.as_slice()[begin..])?;
+        let rows = self.interner.import_rows(
+            found,
+            from.interner.interner(),
+            &from.rows.as_slice()[begin..],
+        )?;
         self.make_room(rows.len() as u32)?;
         Ok(rows)
     }

@@ -5,6 +5,7 @@ pub mod FollowLemmas
 pub mod SetLemmas
 pub mod KeepLemmas
 pub mod JoinLemmas
+pub mod ExtendLemmas
 pub mod SoleLemmas
 pub mod FillLemmas
 pub mod FoundLemmas

@@ -2,18 +2,23 @@
 --     FillsBy                  a place is one of them
 --     PartialData              a joined environment by number, with the places that it comes from
 --     IsPlaced, ArePlaced      candidates' environments are for n parameters
+--     AreMasksOf, IsUnited     masks of candidates' environments; that of a union with one of them
+--     MetAre, MetForSlot       masks that were met are those of joined environments
 --     HasLesserPlaces, AreAscending   a choice of places comes before another one; each before those behind it
 --     ComeBefore               each choice comes before one with one more place
 --     AreAsLong                they are for the same number of slots
 --     IsMade, IsAmongJoined    what comes of one joined environment and a candidate for one more slot
+--     AreGathered, JoinsOne    what is joined so far; that what comes of one candidate is joined to it
 --     with_choice              a joined environment with one more place
 --     HaveSole                 joined environments ask for what a slot's only candidate asks for
 --     SoleAsks, IsWithSole     what slots' only candidates ask for; an environment with that
 --     IsJoined, AreJoined      the environments that slots lead to
-use Rattle.std.specs.Prelude.{◌≡◌, ℕ, ◌<◌, List, [], ◌∷◌, ◌++◌, length, slice_get, Some, AllPairs, Contains, ◌⊎◌, ◌↔◌}
+use Rattle.std.specs.Prelude.{◌≡◌, ℕ, ◌<◌, List, [], ◌∷◌, ◌++◌, length, slice_get, slice_index_or, Option, Some, AllPairs, Contains, ◌⊎◌, ◌↔◌}
 use Rattle.hs_table.specs.Types.{TypeTree}
 use Rattle.hs_table.specs.Entries.{Env, EntryData, Has, IsEnv}
 use Rattle.hs_types.specs.Interned.{InternerData, env_of_id, IsUnionEnv}
+use Rattle.std.specs.Int.Bits.{bit_or}
+use Rattle.hs_replica.specs.Masks.{IsMask}
 use Rattle.hs_rules.specs.Order.{chosen_places, IsLess, IsNoGreater}
 use Rattle.hs_rules.specs.Slots.{FilledData, Picked, IsJoin}
 
@@ -36,6 +41,30 @@ ArePlaced log n f = (place : ℕ) → Contains f.places place → IsPlaced log n
 -- a number that was seen is that of an environment of the list
 abbrev pub SeenAre : List ℕ → List PartialData → Type 0
 SeenAre seen list = (env : ℕ) → Contains seen env → (x : PartialData) × Contains list x × (x.env ≡ env)
+
+-- each mask is that of the environment of a candidate
+pub record IsMaskAt (ids : InternerData) (log : List EntryData) (place mask : ℕ) : Type 0 where
+  pub entry : EntryData
+  pub at : slice_get log place ≡ Some entry
+  pub is : IsMask ids (length entry.env) entry.env mask
+
+abbrev pub AreMasksOf : InternerData → List EntryData → FilledData → List ℕ → Type 0
+AreMasksOf ids log f masks = (k : ℕ) → k < length masks → IsMaskAt ids log (slice_index_or f.places k 0) (slice_index_or masks k 0)
+
+-- the mask of the union of an environment with the first mask and the candidate of this number
+pub record IsUnited (own : Option ℕ) (masks : List ℕ) (number mask : ℕ) : Type 0 where
+  pub first : ℕ
+  pub own_is : own ≡ Some first
+  pub within : number < length masks
+  pub is : mask ≡ bit_or first (slice_index_or masks number 0)
+
+-- a mask that was met is that of an environment of the list, for n parameters
+abbrev pub MetAre : InternerData → ℕ → List ℕ → List PartialData → Type 0
+MetAre ids n met list = (mask : ℕ) → Contains met mask → (x : PartialData) × Contains list x × (x.env < length ids.envs) × IsMask ids n (env_of_id ids x.env) mask
+
+-- so it is for as many parameters as the candidates for a slot have
+abbrev pub MetForSlot : InternerData → List EntryData → FilledData → List ℕ → List PartialData → Type 0
+MetForSlot ids log f met list = (place : ℕ) (e : EntryData) → FillsBy log f place e → MetAre ids (length e.env) met list
 
 abbrev pub HasLesserPlaces : PartialData → PartialData → Type 0
 HasLesserPlaces x y = IsLess (chosen_places x.args) (chosen_places y.args)
@@ -75,6 +104,21 @@ pub record IsAmongJoined (old new : InternerData) (from : PartialData) (place : 
   pub within : item.env < length new.envs
   pub union : IsUnionEnv (env_of_id old from.env) entry.env (env_of_id new item.env)
   pub least : IsNoGreater (chosen_places item.args) (chosen_places from.args ++ place ∷ [])
+
+-- environments that are joined so far, with what is known of them at a look
+pub record AreGathered (ids : InternerData) (n : ℕ) (seen met : List ℕ) (list : List PartialData) : Type 0 where
+  pub known : SeenAre seen list
+  pub masked : MetAre ids n met list
+  pub ascends : AreAscending list
+
+abbrev pub only_place : ℕ → ℕ → FilledData
+only_place arg place = record { arg = arg; places = place ∷ [] }
+
+-- what comes of the old environment and the entry at the place is joined, and nothing else
+pub record JoinsOne (old new : InternerData) (log : List EntryData) (from : PartialData) (arg place : ℕ) (before after : List PartialData) : Type 0 where
+  pub keeps : (x : PartialData) → Contains before x → Contains after x
+  pub made : (x : PartialData) → Contains after x → Contains before x ⊎ IsMade old new log from (only_place arg place) x
+  pub there : (e : EntryData) → slice_get log place ≡ Some e → IsAmongJoined old new from place e after
 
 abbrev pub with_choice : ℕ → ℕ → PartialData → PartialData
 with_choice arg place x = record { env = x.env; args = x.args ++ (arg, place) ∷ [] }

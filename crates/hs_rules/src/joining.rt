@@ -1,14 +1,15 @@
 //! Environments joined slot by slot.
 
-ghost use Rattle.std.specs.Prelude.{◌≡◌, ◌<◌, ◌++◌, ◌∷◌, ◌⊎◌, [], ℕ, length, map, Contains, IfOk, OnOk};
+ghost use Rattle.std.specs.Prelude.{◌≡◌, ◌<◌, ◌++◌, ◌∷◌, ◌⊎◌, [], ℕ, length, map, slice_get, Some, Contains, IfOk, IfSome, OnOk};
 ghost use Rattle.std.specs.List.Sorted.{IsStrictlyIncreasing};
 ghost use Rattle.hs_table.specs.Entries.{EntryData, IsEnv};
 ghost use Rattle.hs_types.specs.Interned.{env_of_id};
+ghost use Rattle.hs_replica.specs.Masks.{IsMask, IsUnionMask};
 ghost use Rattle.hs_replica.specs.Replica.{KeepsLog};
 ghost use Rattle.hs_rules.specs.Slots.{FilledData};
-ghost use Rattle.std.specs.Bool.{OnTrue};
+ghost use Rattle.std.specs.Bool.{OnFalse, OnTrue};
 ghost use Rattle.hs_rules.specs.Order.{chosen_places, IsNoGreater};
-ghost use Rattle.hs_rules.specs.Joins.{PartialData, FillsBy, ArePlaced, SeenAre, AreAscending, ComeBefore, AreAsLong, IsMade, IsMadeOf, IsAmongJoined, CanFill, HaveSole, IsWithSole, with_choice, AreJoined};
+ghost use Rattle.hs_rules.specs.Joins.{PartialData, FillsBy, IsPlaced, ArePlaced, AreMasksOf, MetForSlot, AreGathered, IsUnited, JoinsOne, SeenAre, AreAscending, ComeBefore, AreAsLong, IsMade, IsMadeOf, IsAmongJoined, CanFill, HaveSole, IsWithSole, with_choice, AreJoined};
 
 use crate::search::Filled;
 use hs_replica::Replica;
@@ -55,12 +56,18 @@ pub(crate) type PartialList = SmallVec<Partial, 2>;
 /// So many items of a list are looked through one by one. A hash set knows those behind them.
 pub(crate) const FEW: usize = 8;
 
+/// Where environments and candidates for a slot make at least so many pairs, what comes of a pair is looked for
+/// by its mask first.
+const MANY: usize = 16;
+
 /// Environments, each once.
 #[derive(Drop)]
 struct Partials {
     list: PartialList,
-    /// The numbers behind the first `FEW`.
+    /// The numbers of some behind the first `FEW`.
     seen: IndexSet<EnvId>,
+    /// The masks of some.
+    met: IndexSet<u128>,
 }
 
 /// Whether the environment is one of these.
@@ -98,6 +105,27 @@ fn keep(seen: &mut IndexSet<EnvId>, place: usize, env: EnvId) -> Result<(), OutO
     Ok(())
 }
 
+/// Adds the environment with its choice.
+fn push(
+    alloc: Global,
+    out: &mut Partials,
+    env: EnvId,
+    from: &[(u32, u32)],
+    arg: u32,
+    place: u32,
+) -> Result<(), OutOfMemory>
+    ensures list { OnOk result (out.new.list.items ≡ out.old.list.items ++
+        record { env = env; args = from.now ++ (arg, place) ∷ [] } ∷ []) }
+    ensures seen { out.new.seen.keys ≡ out.old.seen.keys }
+    ensures met { out.new.met.keys ≡ out.old.met.keys }
+{
+    out.list.reserve(1)?;
+    let mut args = SmallVec::from_slice(alloc, from)?;
+    args.push((arg, place))?;
+    out.list.push_reserved(Partial { env, args });
+    Ok(())
+}
+
 /// Adds the environment with its choice, unless it is there. What is there was chosen before, so it
 /// has lesser places.
 fn add(
@@ -119,34 +147,179 @@ fn add(
         Contains out.old.list.items x ⊎ (x ≡ record { env = env; args = from.now ++ (arg, place) ∷ [] })) }
     ensures there { OnOk result ((x : PartialData) × Contains out.new.list.items x × (x.env ≡ env)
         × IsNoGreater (chosen_places x.args) (chosen_places from.now ++ place ∷ [])) }
+    ensures met { out.new.met.keys ≡ out.old.met.keys }
 {
     if has(out, env) {
         return Ok(());
     }
     keep(&mut out.seen, out.list.len(), env)?;
-    out.list.reserve(1)?;
-    let mut args = SmallVec::from_slice(alloc, from)?;
-    args.push((arg, place))?;
-    out.list.push_reserved(Partial { env, args });
+    push(alloc, out, env, from, arg, place)
+}
+
+/// The masks of the environments of the slot's candidates; none where one of them has no mask.
+fn masks_of(alloc: Global, replica: &mut Replica, slot: &Filled) -> Result<Vec<u128>, OutOfMemory>
+    requires { (place : ℕ) → Contains slot.now.places place → place < length replica.old.log }
+    ensures masks { IfOk result (λ masks. AreMasksOf replica.old.ids replica.old.log slot.now masks.items) }
+    ensures kept { replica.new ≡ replica.old }
+{
+    let mut masks = Vec::with_capacity(alloc, slot.places.len())?;
+    for place in slot.places.as_slice() {
+        let env = replica.row(*place).env;
+        let Some(mask) = replica.mask_of(env)? else {
+            return Ok(Vec::new(alloc));
+        };
+        masks.push(mask)?;
+    }
+    Ok(masks)
+}
+
+/// The mask of the environment, where it has one and candidates have masks.
+fn own_mask(replica: &mut Replica, masks: &[u128], env: EnvId) -> Result<Option<u128>, OutOfMemory>
+    requires { env < length replica.old.ids.envs }
+    ensures mask { IfOk result (λ own. IfSome own (IsMask replica.old.ids
+        (length (env_of_id replica.old.ids env)) (env_of_id replica.old.ids env))) }
+    ensures kept { replica.new ≡ replica.old }
+{
+    if masks.is_empty() {
+        return Ok(None);
+    }
+    replica.mask_of(env)
+}
+
+/// The mask of the union of an environment with this mask and the candidate of this number, where both have
+/// masks.
+fn united(own: Option<u128>, masks: &[u128], number: usize) -> Option<u128>
+    ensures { IfSome result (IsUnited own masks.now number) }
+{
+    let mask = own?;
+    let other = masks.get(number)?;
+    Some(mask | *other)
+}
+
+/// Notes that the mask is met, and answers whether it is new.
+fn meet(met: &mut IndexSet<u128>, mask: u128) -> Result<bool, OutOfMemory>
+    ensures old { IfOk result (λ is_new. OnFalse is_new (Contains met.old.keys mask)) }
+    ensures only { OnOk result ((m : ℕ) → Contains met.new.keys m → Contains met.old.keys m ⊎ (m ≡ mask)) }
+{
+    let is_new = met.insert(mask)?;
+    Ok(is_new)
+}
+
+/// Adds what comes of one environment and a candidate for a slot, unless it is there.
+fn join_one(
+    alloc: Global,
+    replica: &mut Replica,
+    partial: &Partial,
+    arg: u32,
+    place: u32,
+    out: &mut Partials,
+) -> Result<(), OutOfMemory>
+    requires env { partial.now.env < length replica.old.ids.envs }
+    requires placed { IsPlaced replica.old.log (length (env_of_id replica.old.ids partial.now.env)) place }
+    requires before { ComeBefore out.old.list.items partial.now.args place }
+    requires gathered { AreGathered replica.old.ids (length (env_of_id replica.old.ids partial.now.env))
+        out.old.seen.keys out.old.met.keys out.old.list.items }
+    ensures gathered { OnOk result (AreGathered replica.new.ids
+        (length (env_of_id replica.old.ids partial.now.env)) out.new.seen.keys out.new.met.keys
+        out.new.list.items) }
+    ensures joins { OnOk result (JoinsOne replica.old.ids replica.new.ids replica.old.log partial.now arg place
+        out.old.list.items out.new.list.items) }
+    ensures kept { KeepsLog replica.old replica.new }
+{
+    let candidate = replica.row(place).env;
+    let joined = replica.union_envs(partial.env, candidate)?;
+    add(alloc, out, joined, partial.args.as_slice(), arg, place)?;
     Ok(())
 }
 
-/// Adds what comes of one environment and each candidate for a slot.
+/// The same, where the union has this mask: it is there where the mask was met.
+fn join_with_mask(
+    alloc: Global,
+    replica: &mut Replica,
+    partial: &Partial,
+    arg: u32,
+    place: u32,
+    mask: u128,
+    out: &mut Partials,
+) -> Result<(), OutOfMemory>
+    requires env { partial.now.env < length replica.old.ids.envs }
+    requires placed { IsPlaced replica.old.log (length (env_of_id replica.old.ids partial.now.env)) place }
+    requires mask { (e : EntryData) → slice_get replica.old.log place ≡ Some e → IsUnionMask replica.old.ids
+        (env_of_id replica.old.ids partial.now.env) e.env mask }
+    requires before { ComeBefore out.old.list.items partial.now.args place }
+    requires gathered { AreGathered replica.old.ids (length (env_of_id replica.old.ids partial.now.env))
+        out.old.seen.keys out.old.met.keys out.old.list.items }
+    ensures gathered { OnOk result (AreGathered replica.new.ids
+        (length (env_of_id replica.old.ids partial.now.env)) out.new.seen.keys out.new.met.keys
+        out.new.list.items) }
+    ensures joins { OnOk result (JoinsOne replica.old.ids replica.new.ids replica.old.log partial.now arg place
+        out.old.list.items out.new.list.items) }
+    ensures kept { KeepsLog replica.old replica.new }
+{
+    replica.interner().know_numbers();
+    let is_new = meet(&mut out.met, mask)?;
+    if !is_new {
+        return Ok(());
+    }
+    let candidate = replica.row(place).env;
+    let joined = replica.union_with_mask(partial.env, candidate, mask)?;
+    push(alloc, out, joined, partial.args.as_slice(), arg, place)?;
+    Ok(())
+}
+
+/// Adds what comes of one environment and a candidate for a slot, whose union has this mask, where one is
+/// known.
+fn join_candidate(
+    alloc: Global,
+    replica: &mut Replica,
+    partial: &Partial,
+    arg: u32,
+    place: u32,
+    mask: Option<u128>,
+    out: &mut Partials,
+) -> Result<(), OutOfMemory>
+    requires env { partial.now.env < length replica.old.ids.envs }
+    requires placed { IsPlaced replica.old.log (length (env_of_id replica.old.ids partial.now.env)) place }
+    requires mask { IfSome mask (λ m. (e : EntryData) → slice_get replica.old.log place ≡ Some e →
+        IsUnionMask replica.old.ids (env_of_id replica.old.ids partial.now.env) e.env m) }
+    requires before { ComeBefore out.old.list.items partial.now.args place }
+    requires gathered { AreGathered replica.old.ids (length (env_of_id replica.old.ids partial.now.env))
+        out.old.seen.keys out.old.met.keys out.old.list.items }
+    ensures gathered { OnOk result (AreGathered replica.new.ids
+        (length (env_of_id replica.old.ids partial.now.env)) out.new.seen.keys out.new.met.keys
+        out.new.list.items) }
+    ensures joins { OnOk result (JoinsOne replica.old.ids replica.new.ids replica.old.log partial.now arg place
+        out.old.list.items out.new.list.items) }
+    ensures kept { KeepsLog replica.old replica.new }
+{
+    match mask {
+        Some(mask) => join_with_mask(alloc, replica, partial, arg, place, mask, out),
+        None => join_one(alloc, replica, partial, arg, place, out),
+    }
+}
+
+/// Adds what comes of one environment and each candidate for a slot. Where the candidates have masks, these
+/// are given.
 fn extend(
     alloc: Global,
     replica: &mut Replica,
     partial: &Partial,
     slot: &Filled,
+    masks: &[u128],
     out: &mut Partials,
 ) -> Result<(), OutOfMemory>
     requires env { partial.now.env < length replica.old.ids.envs }
     requires placed { ArePlaced replica.old.log
         (length (env_of_id replica.old.ids partial.now.env)) slot.now }
     requires rises { IsStrictlyIncreasing slot.now.places }
+    requires masks { AreMasksOf replica.old.ids replica.old.log slot.now masks.now }
     requires seen { SeenAre out.old.seen.keys out.old.list.items }
+    requires met { MetForSlot replica.old.ids replica.old.log slot.now out.old.met.keys out.old.list.items }
     requires ascending { AreAscending out.old.list.items }
     requires before { (place : ℕ) → ComeBefore out.old.list.items partial.now.args place }
     ensures seen { OnOk result (SeenAre out.new.seen.keys out.new.list.items) }
+    ensures met { OnOk result (MetForSlot replica.new.ids replica.old.log slot.now out.new.met.keys
+        out.new.list.items) }
     ensures ascending { OnOk result (AreAscending out.new.list.items) }
     ensures keeps { OnOk result ((x : PartialData) → Contains out.old.list.items x
         → Contains out.new.list.items x) }
@@ -157,31 +330,32 @@ fn extend(
         IsAmongJoined replica.old.ids replica.new.ids partial.now place e out.new.list.items) }
     ensures kept { KeepsLog replica.old replica.new }
 {
-    let env = partial.env;
-    let arg = slot.arg;
-    let from = partial.args.as_slice();
-    for place in slot.places.as_slice() {
-        let candidate = replica.row(*place).env;
-        let joined = replica.union_envs(env, candidate)?;
-        add(alloc, out, joined, from, arg, *place)?;
+    let own = own_mask(replica, masks, partial.env)?;
+    for (number, place) in slot.places.as_slice().iter().enumerate() {
+        let mask = united(own, masks, number);
+        join_candidate(alloc, replica, partial, slot.arg, *place, mask, out)?;
     }
     Ok(())
 }
 
-/// Adds what comes of each environment and each candidate for a slot, each environment once.
+/// Adds what comes of each environment and each candidate for a slot. Where the candidates have masks, these
+/// are given.
 fn extend_all(
     alloc: Global,
     replica: &mut Replica,
     partials: &[Partial],
     slot: &Filled,
+    masks: &[u128],
     out: &mut Partials,
 ) -> Result<(), OutOfMemory>
     requires can { CanFill replica.old.ids replica.old.log partials.now slot.now }
     requires rises { IsStrictlyIncreasing slot.now.places }
+    requires masks { AreMasksOf replica.old.ids replica.old.log slot.now masks.now }
     requires ascending { AreAscending partials.now }
     requires long { AreAsLong partials.now }
     requires none { out.old.list.items ≡ [] }
     requires unseen { out.old.seen.keys ≡ [] }
+    requires unmet { out.old.met.keys ≡ [] }
     ensures ascending { OnOk result (AreAscending out.new.list.items) }
     ensures only { OnOk result ((x : PartialData) → Contains out.new.list.items x →
         IsMadeOf replica.old.ids replica.new.ids replica.old.log partials.now slot.now x) }
@@ -191,9 +365,27 @@ fn extend_all(
     ensures kept { KeepsLog replica.old replica.new }
 {
     for partial in partials {
-        extend(alloc, replica, partial, slot, out)?;
+        extend(alloc, replica, partial, slot, masks, out)?;
     }
     Ok(())
+}
+
+/// The masks of the slot's candidates where these meet many environments, and otherwise none.
+fn masks_for(
+    alloc: Global,
+    replica: &mut Replica,
+    partials: usize,
+    slot: &Filled,
+) -> Result<Vec<u128>, OutOfMemory>
+    requires { 1 < partials → (place : ℕ) → Contains slot.now.places place
+        → place < length replica.old.log }
+    ensures masks { IfOk result (λ masks. AreMasksOf replica.old.ids replica.old.log slot.now masks.items) }
+    ensures kept { replica.new ≡ replica.old }
+{
+    if partials <= 1 || partials.saturating_mul(slot.places.len()) < MANY {
+        return Ok(Vec::new(alloc));
+    }
+    masks_of(alloc, replica, slot)
 }
 
 /// Puts what comes of each environment and each candidate for a slot in the place of the environments.
@@ -215,11 +407,20 @@ fn extended(
         IsAmongJoined replica.old.ids replica.new.ids from place e partials.new.items) }
     ensures kept { KeepsLog replica.old replica.new }
 {
+    let masks = masks_for(alloc, replica, partials.len(), slot)?;
     let mut out = Partials {
         list: SmallVec::new(alloc),
         seen: IndexSet::new(alloc),
+        met: IndexSet::new(alloc),
     };
-    extend_all(alloc, replica, partials.as_slice(), slot, &mut out)?;
+    extend_all(
+        alloc,
+        replica,
+        partials.as_slice(),
+        slot,
+        masks.as_slice(),
+        &mut out,
+    )?;
     *partials = out.list;
     Ok(())
 }

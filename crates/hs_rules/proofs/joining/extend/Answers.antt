@@ -1,102 +1,119 @@
-use Rattle.std.proofs.Common.{◌≡◌, sym, ◌∙◌, ap, subst, ℕ, ◌<◌, List, ◌++◌, ◌∷◌, [], length, get_or, slice_get, Some, arith, inl, inr, Contains}
-use Rattle.std.specs.List.Sorted.{IsStrictlyIncreasing}
+use Rattle.std.proofs.Common.{◌≡◌, sym, ◌∙◌, ap, subst, ℕ, ◌<◌, List, ◌++◌, ◌∷◌, [], length, get_or, slice_get, Option, Some, IfSome, Contains, inl, arith}
 use Rattle.std.proofs.lemmas.List.Elements.{Contains-get_or}
-use borrow.Author.Count.{below_more}
 use Rattle.hs_table.specs.Entries.{EntryData}
-use Rattle.hs_types.specs.Interned.{env_of_id, IsUnionEnv}
+use Rattle.hs_types.specs.Interned.{env_of_id}
 use Rattle.hs_types.proofs.Numbers.{env_within}
+use Rattle.hs_replica.specs.Masks.{IsMask, IsUnionMask}
+use Rattle.hs_replica.specs.Replica.{ReplicaData, KeepsLog}
 use Rattle.hs_rules.specs.Order.{chosen_places, IsLess}
 use Rattle.hs_rules.specs.Slots.{FilledData}
-use Rattle.hs_rules.specs.Joins.{PartialData, IsAmongJoined}
+use Rattle.hs_rules.specs.Joins.{PartialData, IsPlaced, IsAmongJoined, JoinsOne}
 use Rattle.hs_rules.proofs.KeepLemmas.{keeps_none, keeps_then}
-use Rattle.hs_rules.proofs.JoinLemmas.{place_within, place_placed, same_length, IsThere, before_next, made_next, covered_stays, covered_next, reached}
+use Rattle.hs_rules.proofs.JoinLemmas.{reached}
+use Rattle.hs_rules.proofs.ExtendLemmas.{SoFar, placed_now, gathered_at, so_far_next, united_masks, if_united}
 use Rattle.hs_rules.proofs.joining.extend.Goals as goal
 
-pub loop-place-init : goal.loop-place-init
-loop-place-init c = record {
-  kept = keeps_none c.args.replica.now;
-  seen = c.requires.seen;
-  ascending = c.requires.ascending;
-  before = λ x there k le lt. c.requires.before (get_or c.as_slice-place-items.result.now k 0) x there;
-  keeps = λ x there. there;
-  made = λ x there. inl there;
-  all = λ k lt. absurd (omega (arith, lt));
-}
+pub loop-number-init : goal.loop-number-init
+loop-number-init c =
+    subst (λ (r : ReplicaData). record { kept : KeepsLog c.args.replica.now r; so : SoFar c.args.replica.now.ids r.ids c.args.replica.now.log c.args.partial.now c.args.slot.now 0 c.args.out.now.list.items c.args.out.now.seen.keys c.args.out.now.met.keys c.args.out.now.list.items }) (sym c.own_mask.ensures.kept)
+    (record {
+      kept = keeps_none c.args.replica.now;
+      so = record {
+        seen = c.requires.seen;
+        met = c.requires.met;
+        ascending = c.requires.ascending;
+        before = λ x there k le lt. c.requires.before (get_or c.args.slot.now.places k 0) x there;
+        keeps = λ x there. there;
+        made = λ x there. inl there;
+        all = λ k lt. absurd (omega (arith, lt));
+      };
+    })
 
-pub add-requires-clause-before : goal.add-requires-clause-before
-add-requires-clause-before c = λ x there.
-    let place = get_or c.as_slice-place-items.result.now c.loop-place.place-index 0 in
-    let from_is = c.as_slice-from.ensures ∙ ap (λ (y : PartialData). y.args) c.partial.view_is in
-    subst (λ (a : List (ℕ × ℕ)). IsLess (chosen_places x.args) (chosen_places a ++ place ∷ [])) (sym from_is)
-    (c.loop-place.invariant.before x there c.loop-place.place-index (omega arith) c.loop-place-test.true)
+pub returns-clause-all : goal.returns-clause-all
+returns-clause-all c = λ place e fills.
+    let r = reached c.args.replica.now.log c.args.slot.now c.as_slice-place-items.result.now c.loop-number.number place e
+    (c.as_slice-place-items.ensures ∙ ap (λ (f : FilledData). f.places) c.slot.view_is) c.loop-number-test.false fills in
+    let items_is : c.as_slice-place-items.result.now ≡ c.args.slot.now.places = c.as_slice-place-items.ensures ∙ ap (λ (f : FilledData). f.places) c.slot.view_is in
+    let log = c.args.replica.now.log in
+    let is : get_or c.args.slot.now.places r.k 0 ≡ place = ap (λ (xs : List ℕ). get_or xs r.k 0) (sym items_is) ∙ r.is in
+    subst (λ (i : ℕ). IsAmongJoined c.args.replica.now.ids c.loop-number.replica.ids c.args.partial.now i e c.loop-number.out.list.items) is
+    (c.loop-number.invariant.so.all r.k r.lt e (ap (λ (i : ℕ). slice_get log i) is ∙ fills.at))
 
-pub row-candidate-requires : goal.row-candidate-requires
-row-candidate-requires c =
-    place_within c.args.replica.now.log c.loop-place.replica.log c.args.slot.now (length (env_of_id c.args.replica.now.ids c.args.partial.now.env)) c.loop-place.place-index c.as_slice-place-items.result.now
-    c.loop-place.invariant.kept.log (c.as_slice-place-items.ensures ∙ ap (λ (f : FilledData). f.places) c.slot.view_is) c.loop-place-test.true c.requires.placed
+pub join_candidate-requires-clause-env : goal.join_candidate-requires-clause-env
+join_candidate-requires-clause-env c = env_within c.args.replica.now.ids c.loop-number.replica.ids c.loop-number.invariant.kept.grows c.args.partial.now.env c.requires.env
 
-pub union_envs-requires-clause-a : goal.union_envs-requires-clause-a
-union_envs-requires-clause-a c =
-    env_within c.args.replica.now.ids c.loop-place.replica.ids c.loop-place.invariant.kept.grows c.partial.inside.env
-    (subst (λ (n : ℕ). n < length c.args.replica.now.ids.envs) (sym (ap (λ (x : PartialData). x.env) c.partial.view_is)) c.requires.env)
-
-pub union_envs-requires-clause-long : goal.union_envs-requires-clause-long
-union_envs-requires-clause-long c =
-    let place = get_or c.as_slice-place-items.result.now c.loop-place.place-index 0 in
-    let env_is = ap (λ (x : PartialData). x.env) c.partial.view_is in
-    subst (λ (n : ℕ). length (env_of_id c.loop-place.replica.ids n) ≡ length (env_of_id c.loop-place.replica.ids c.row-candidate.result.env)) (sym env_is)
-    (same_length c.args.replica.now.ids c.loop-place.replica.ids c.args.replica.now.log c.args.partial.now.env place c.row-candidate.result c.loop-place.invariant.kept.grows c.requires.env
-    (place_placed c.args.replica.now.log c.args.slot.now (length (env_of_id c.args.replica.now.ids c.args.partial.now.env)) c.loop-place.place-index c.as_slice-place-items.result.now
-    (c.as_slice-place-items.ensures ∙ ap (λ (f : FilledData). f.places) c.slot.view_is) c.loop-place-test.true c.requires.placed)
-    (ap (λ l. slice_get l place) (sym c.loop-place.invariant.kept.log) ∙ c.row-candidate.ensures.entry))
-
-pub loop-place-preserved : goal.loop-place-preserved
-loop-place-preserved c =
+pub join_candidate-requires-clause-placed : goal.join_candidate-requires-clause-placed
+join_candidate-requires-clause-placed c =
     let I = c.args.replica.now.ids in
-    let J = c.loop-place.replica.ids in
-    let K = c.union_envs.new.self.ids in
+    let J = c.loop-number.replica.ids in
+    let log = c.args.replica.now.log in
+    let items = c.as_slice-place-items.result.now in
+    let items_is : items ≡ c.args.slot.now.places = c.as_slice-place-items.ensures ∙ ap (λ (f : FilledData). f.places) c.slot.view_is in
+    let k = c.loop-number.number in
+    let place = get_or items k 0 in
+    let among = subst (λ (xs : List ℕ). Contains xs place) items_is (Contains-get_or items k 0 c.loop-number-test.true) in
+    subst (λ (l : List EntryData). IsPlaced l (length (env_of_id J c.args.partial.now.env)) place) (sym c.loop-number.invariant.kept.log)
+    (placed_now I J log c.args.partial.now c.args.slot.now c.loop-number.invariant.kept.grows c.requires.env c.requires.placed place among)
+
+pub join_candidate-requires-clause-mask : goal.join_candidate-requires-clause-mask
+join_candidate-requires-clause-mask c =
+    let I = c.args.replica.now.ids in
+    let J = c.loop-number.replica.ids in
+    let log = c.args.replica.now.log in
+    let env = c.args.partial.now.env in
+    let items = c.as_slice-place-items.result.now in
+    let items_is : items ≡ c.args.slot.now.places = c.as_slice-place-items.ensures ∙ ap (λ (f : FilledData). f.places) c.slot.view_is in
+    let k = c.loop-number.number in
+    let place = get_or items k 0 in
+    let among = subst (λ (xs : List ℕ). Contains xs place) items_is (Contains-get_or items k 0 c.loop-number-test.true) in
+    let own = c.in_ok-own.own in
+    if_united own c.args.masks.now k c.united-mask.result (λ m. (e : EntryData) → slice_get c.loop-number.replica.log place ≡ Some e → IsUnionMask J (env_of_id J env) e.env m) c.united-mask.ensures
+    (λ m u e at. united_masks I J c.loop-number.invariant.kept.grows log env c.args.slot.now c.args.masks.now k m place own c.requires.env c.requires.placed c.requires.masks
+    (λ o is. subst (λ (x : Option ℕ). IfSome x (IsMask I (length (env_of_id I env)) (env_of_id I env))) is
+    (subst (λ (y : PartialData). IfSome own (IsMask I (length (env_of_id I y.env)) (env_of_id I y.env))) c.partial.view_is c.in_ok-own.ensures.mask)) u (ap (λ (xs : List ℕ). get_or xs k 0) items_is) among e
+    (ap (λ (l : List EntryData). slice_get l place) (sym c.loop-number.invariant.kept.log) ∙ at))
+
+pub join_candidate-requires-clause-gathered : goal.join_candidate-requires-clause-gathered
+join_candidate-requires-clause-gathered c =
+    let I = c.args.replica.now.ids in
+    let J = c.loop-number.replica.ids in
+    let log = c.args.replica.now.log in
+    let items = c.as_slice-place-items.result.now in
+    let items_is : items ≡ c.args.slot.now.places = c.as_slice-place-items.ensures ∙ ap (λ (f : FilledData). f.places) c.slot.view_is in
+    let k = c.loop-number.number in
+    let place = get_or items k 0 in
+    let among = subst (λ (xs : List ℕ). Contains xs place) items_is (Contains-get_or items k 0 c.loop-number-test.true) in
+    let out = c.loop-number.out in
+    gathered_at I J log c.args.partial.now c.args.slot.now c.loop-number.invariant.kept.grows c.requires.env c.requires.placed k c.args.out.now.list.items out.seen.keys out.met.keys out.list.items place among c.loop-number.invariant.so
+
+pub join_candidate-requires-clause-before : goal.join_candidate-requires-clause-before
+join_candidate-requires-clause-before c = λ x there.
+    let items = c.as_slice-place-items.result.now in
+    let items_is : items ≡ c.args.slot.now.places = c.as_slice-place-items.ensures ∙ ap (λ (f : FilledData). f.places) c.slot.view_is in
+    let k = c.loop-number.number in
+    subst (λ (xs : List ℕ). IsLess (chosen_places x.args) (chosen_places c.args.partial.now.args ++ get_or xs k 0 ∷ [])) (sym items_is)
+    (c.loop-number.invariant.so.before x there k (omega arith) (subst (λ (xs : List ℕ). k < length xs) items_is c.loop-number-test.true))
+
+pub loop-number-preserved : goal.loop-number-preserved
+loop-number-preserved c =
+    let I = c.args.replica.now.ids in
+    let J = c.loop-number.replica.ids in
+    let K = c.join_candidate.new.replica.ids in
     let log = c.args.replica.now.log in
     let from = c.args.partial.now in
     let f = c.args.slot.now in
     let items = c.as_slice-place-items.result.now in
-    let place = get_or items c.loop-place.place-index 0 in
-    let row = c.row-candidate.result in
-    let id = c.in_ok-joined.joined in
-    let g = c.loop-place.invariant.kept.grows in
-    let h = c.in_ok-joined.ensures.kept.grows in
-    let known = c.requires.env in
-    let env_is = ap (λ (x : PartialData). x.env) c.partial.view_is in
-    let from_is = c.as_slice-from.ensures ∙ ap (λ (x : PartialData). x.args) c.partial.view_is in
-    let arg_is = ap (λ (x : FilledData). x.arg) c.slot.view_is in
-    let places_is = c.as_slice-place-items.ensures ∙ ap (λ (x : FilledData). x.places) c.slot.view_is in
-    let at = ap (λ l. slice_get l place) (sym c.loop-place.invariant.kept.log) ∙ c.row-candidate.ensures.entry in
-    let there = subst (λ xs. Contains xs place) places_is (Contains-get_or items c.loop-place.place-index 0 c.loop-place-test.true) in
-    let within = c.in_ok-joined.ensures.ok.0 in
-    let there_is = subst (λ (a : List (ℕ × ℕ)). IsThere c.add.new.out.list.items id a place) from_is c.in_ok-add.ensures.there in
-    let union = subst (λ (n : ℕ). IsUnionEnv (env_of_id J n) (env_of_id J row.env) (env_of_id K id)) env_is c.in_ok-joined.ensures.ok.1 in
+    let items_is : items ≡ f.places = c.as_slice-place-items.ensures ∙ ap (λ (y : FilledData). y.places) c.slot.view_is in
+    let k = c.loop-number.number in
+    let place = get_or items k 0 in
+    let old = c.loop-number.out in
+    let new = c.join_candidate.new.out in
+    let arg_is = ap (λ (y : FilledData). y.arg) c.slot.view_is in
+    let joins = subst (λ (arg : ℕ). JoinsOne J K log from arg place old.list.items new.list.items) arg_is
+    (subst (λ (l : List EntryData). JoinsOne J K l from c.slot.inside.arg place old.list.items new.list.items) c.loop-number.invariant.kept.log c.in_ok-join_candidate.ensures.joins) in
     record {
-      kept = keeps_then c.args.replica.now c.loop-place.replica c.union_envs.new.self c.loop-place.invariant.kept c.in_ok-joined.ensures.kept;
-      seen = c.in_ok-add.ensures.seen;
-      ascending = c.in_ok-add.ensures.ascending;
-      before = before_next c.loop-place.out.list.items c.add.new.out.list.items from.args c.as_slice-from.result.now items id f.arg c.loop-place.place-index from_is
-          (subst (λ (xs : List ℕ). IsStrictlyIncreasing xs) (sym places_is) c.requires.rises) c.loop-place-test.true c.loop-place.invariant.before
-          (λ x m. elim (c.in_ok-add.ensures.only x m) [
-            | inl was ↦ inl was
-            | inr is ↦ inr (is ∙ (λ i. record { env = id; args = c.as_slice-from.result.now ++ (arg_is i, place) ∷ [] }))
-          ]);
-      keeps = λ x there_. c.in_ok-add.ensures.keeps x (c.loop-place.invariant.keeps x there_);
-      made = made_next I J K log from f g h known row place id at there within union c.args.out.now.list.items c.loop-place.out.list.items c.add.new.out.list.items c.loop-place.invariant.made
-          (λ x m. elim (c.in_ok-add.ensures.only x m) [
-            | inl was ↦ inl was
-            | inr is ↦ inr (is ∙ (λ i. record { env = id; args = from_is i ++ (arg_is i, place) ∷ [] }))
-          ]);
-      all = below_more (λ k. (e : EntryData) → slice_get log (get_or items k 0) ≡ Some e → IsAmongJoined I K from (get_or items k 0) e c.add.new.out.list.items) c.loop-place.place-index
-          (λ k lt e is. covered_stays I J K log from f g h known (get_or items k 0) e c.loop-place.out.list.items c.add.new.out.list.items c.in_ok-add.ensures.keeps (c.loop-place.invariant.all k lt e is))
-          (λ e is. covered_next I J K log from f g h known row place id at there within union c.add.new.out.list.items there_is e is);
+      kept = keeps_then c.args.replica.now c.loop-number.replica c.join_candidate.new.replica c.loop-number.invariant.kept c.join_candidate.ensures.kept;
+      so = so_far_next I J log from f c.loop-number.invariant.kept.grows c.requires.env c.requires.placed K c.join_candidate.ensures.kept.grows k place (ap (λ (xs : List ℕ). get_or xs k 0) items_is)
+          (subst (λ (xs : List ℕ). k < length xs) items_is c.loop-number-test.true) c.requires.rises c.args.out.now.list.items old.list.items new.list.items old.seen.keys old.met.keys new.seen.keys new.met.keys
+          c.loop-number.invariant.so c.in_ok-join_candidate.ensures.gathered joins;
     }
-
-pub returns-clause-all : goal.returns-clause-all
-returns-clause-all c = λ place e fills.
-    let r = reached c.args.replica.now.log c.args.slot.now c.as_slice-place-items.result.now c.loop-place.place-index place e
-    (c.as_slice-place-items.ensures ∙ ap (λ (f : FilledData). f.places) c.slot.view_is) c.loop-place-test.false fills in
-    subst (λ (i : ℕ). IsAmongJoined c.args.replica.now.ids c.loop-place.replica.ids c.args.partial.now i e c.loop-place.out.list.items) r.is (c.loop-place.invariant.all r.k r.lt e r.at)

@@ -3,16 +3,19 @@ use Rattle.std.proofs.lemmas.List.{take_all}
 use Rattle.hs_scheme.proofs.Lists.{Contains-at, none_in}
 use Rattle.hs_types.proofs.Numbers.{env_within}
 use Rattle.hs_table_laws.proofs.Places.{place_of, at_take}
-use Rattle.hs_rules.specs.Joins.{PartialData, AreAscending, IsAmongJoined}
+use Rattle.hs_table.specs.Entries.{EntryData}
+use Rattle.hs_rules.specs.Joins.{PartialData, AreMasksOf, MetForSlot, AreAscending, IsAmongJoined}
 use Rattle.hs_rules.proofs.Lists.{taken_cases}
 use Rattle.hs_rules.proofs.KeepLemmas.{keeps_none, keeps_then}
 use Rattle.hs_rules.proofs.JoinLemmas.{item_at, before_more, made_stays, covered_stays, made_earlier, covered_earlier, placed_later}
+use Rattle.hs_rules.proofs.ExtendLemmas.{masks_stay}
 use Rattle.hs_rules.proofs.joining.extend_all.Goals as goal
 
 pub loop-partial-init : goal.loop-partial-init
 loop-partial-init c = record {
   kept = keeps_none c.args.replica.now;
   seen = λ env there. absurd (none_in env (subst (λ (xs : List ℕ). Contains xs env) c.requires.unseen there));
+  met = λ place e fills mask there. absurd (none_in mask (subst (λ (xs : List ℕ). Contains xs mask) c.requires.unmet there));
   ascending = subst (λ (xs : List PartialData). AreAscending xs) (sym c.requires.none) (λ i j d lt below. absurd (omega (arith, lt, below)));
   before = λ x there. absurd (none_in x (subst (λ (xs : List PartialData). Contains xs x) c.requires.none there));
   made = λ x there. absurd (none_in x (subst (λ (xs : List PartialData). Contains xs x) c.requires.none there));
@@ -28,6 +31,15 @@ pub extend-requires-clause-placed : goal.extend-requires-clause-placed
 extend-requires-clause-placed c =
     let known = c.requires.can c.partial-item.result (c.loop-partial.partial-index, c.loop-partial-test.true, sym c.partial-item.is) in
     placed_later c.args.replica.now.ids c.loop-partial.replica.ids c.loop-partial.replica.ids c.args.replica.now.log c.loop-partial.replica.log c.partial-item.result c.args.slot.now c.loop-partial.invariant.kept.grows known.0 c.loop-partial.invariant.kept.log known.1
+
+pub extend-requires-clause-masks : goal.extend-requires-clause-masks
+extend-requires-clause-masks c =
+    subst (λ (l : List EntryData). AreMasksOf c.loop-partial.replica.ids l c.args.slot.now c.args.masks.now) (sym c.loop-partial.invariant.kept.log)
+    (masks_stay c.args.replica.now.ids c.loop-partial.replica.ids c.loop-partial.invariant.kept.grows c.args.replica.now.log c.args.slot.now c.args.masks.now c.requires.masks)
+
+pub extend-requires-clause-met : goal.extend-requires-clause-met
+extend-requires-clause-met c =
+    subst (λ (l : List EntryData). MetForSlot c.loop-partial.replica.ids l c.args.slot.now c.loop-partial.out.met.keys c.loop-partial.out.list.items) (sym c.loop-partial.invariant.kept.log) c.loop-partial.invariant.met
 
 pub extend-requires-clause-before : goal.extend-requires-clause-before
 extend-requires-clause-before c = λ place x there.
@@ -52,6 +64,7 @@ loop-partial-preserved c =
     record {
       kept = keeps_then c.args.replica.now c.loop-partial.replica c.extend.new.replica c.loop-partial.invariant.kept c.extend.ensures.kept;
       seen = c.in_ok-extend.ensures.seen;
+      met = subst (λ (l : List EntryData). MetForSlot K l f c.extend.new.out.met.keys c.extend.new.out.list.items) same c.in_ok-extend.ensures.met;
       ascending = c.in_ok-extend.ensures.ascending;
       before = before_more J K c.loop-partial.replica.log c.loop-partial.out.list.items c.extend.new.out.list.items c.args.partials.now f c.loop-partial.partial-index item
           (item_at c.args.partials.now c.loop-partial.partial-index item c.loop-partial-test.true c.partial-item.is) c.requires.ascending c.requires.long c.loop-partial.invariant.before c.in_ok-extend.ensures.only;

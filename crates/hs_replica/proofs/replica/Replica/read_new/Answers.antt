@@ -1,4 +1,4 @@
-use Rattle.std.proofs.Common.{◌≡◌, sym, ◌∙◌, ap, subst, List, length, map, drop, All, arith}
+use Rattle.std.proofs.Common.{◌≡◌, sym, ◌∙◌, ap, subst, List, length, map, take, drop, ◌-◌, All, arith}
 use mathlib.Core.List.{IsPrefix}
 use Rattle.hs_table.specs.Entries.{EntryData}
 use Rattle.std.proofs.lemmas.List.{length-map, take_rest}
@@ -69,7 +69,7 @@ module _ (c : goal.In_ok-make_room) where
 
   entries : map (entry_of new.ids) c.in_ok-rows.rows.items ≡ map (entry_of c.from.inside.interner) (drop c.len-begin.result c.as_slice.result.now)
   entries =
-      ap (λ (ids : InternerData). map (entry_of ids) c.in_ok-rows.rows.items) ids_are ∙ c.in_ok-rows.ensures.entries
+      ap (λ (ids : InternerData). map (entry_of ids) c.in_ok-rows.rows.items) ids_are ∙ (c.in_ok-rows.ensures.entries ∙ ap (λ (ids : InternerData). map (entry_of ids) (take (length c.as_slice.result.now - c.len-begin.result) (drop c.len-begin.result c.as_slice.result.now))) c.interner.ensures)
       ∙ ap (map (entry_of c.from.inside.interner)) (take_rest c.as_slice.result.now c.len-begin.result)
 
   read : extended new c.in_ok-rows.rows.items ≡ c.args.from.now.log
