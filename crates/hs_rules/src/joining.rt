@@ -4,13 +4,15 @@ ghost use Rattle.std.specs.Prelude.{◌≡◌, ◌<◌, ◌++◌, ◌∷◌, ◌
 ghost use Rattle.std.specs.List.Sorted.{IsStrictlyIncreasing};
 ghost use Rattle.hs_table.specs.Entries.{EntryData, IsEnv};
 ghost use Rattle.hs_types.specs.Interned.{env_of_id};
-ghost use Rattle.hs_replica.specs.Masks.{IsMask, IsUnionMask};
+ghost use Rattle.hs_replica.specs.Masks.{IsUnionMask};
 ghost use Rattle.hs_replica.specs.Replica.{KeepsLog};
 ghost use Rattle.hs_rules.specs.Slots.{FilledData};
-ghost use Rattle.std.specs.Bool.{OnFalse, OnTrue};
+ghost use Rattle.std.specs.Bool.{OnTrue};
 ghost use Rattle.hs_rules.specs.Order.{chosen_places, IsNoGreater};
-ghost use Rattle.hs_rules.specs.Joins.{PartialData, FillsBy, IsPlaced, ArePlaced, AreMasksOf, MetForSlot, AreGathered, IsUnited, JoinsOne, SeenAre, AreAscending, ComeBefore, AreAsLong, IsMade, IsMadeOf, IsAmongJoined, CanFill, HaveSole, IsWithSole, with_choice, AreJoined};
+ghost use Rattle.hs_rules.specs.Joins.{PartialData, FillsBy, IsPlaced, ArePlaced, AreMasksOf, MetForSlot, AreGathered, JoinsOne, SeenAre, AreAscending, ComeBefore, AreAsLong, IsMade, IsMadeOf, IsAmongJoined, CanFill, HaveSole, IsWithSole, with_choice, AreJoined};
 
+use crate::masks::{masks_for, own_mask, united};
+use crate::met::{Met, meet};
 use crate::search::Filled;
 use hs_replica::Replica;
 use hs_scheme::OutOfMemory;
@@ -56,10 +58,6 @@ pub(crate) type PartialList = SmallVec<Partial, 2>;
 /// So many items of a list are looked through one by one. A hash set knows those behind them.
 pub(crate) const FEW: usize = 8;
 
-/// Where environments and candidates for a slot make at least so many pairs, what comes of a pair is looked for
-/// by its mask first.
-const MANY: usize = 16;
-
 /// Environments, each once.
 #[derive(Drop)]
 struct Partials {
@@ -67,7 +65,7 @@ struct Partials {
     /// The numbers of some behind the first `FEW`.
     seen: IndexSet<EnvId>,
     /// The masks of some.
-    met: IndexSet<u128>,
+    met: Met,
 }
 
 /// Whether the environment is one of these.
@@ -117,7 +115,7 @@ fn push(
     ensures list { OnOk result (out.new.list.items ≡ out.old.list.items ++
         record { env = env; args = from.now ++ (arg, place) ∷ [] } ∷ []) }
     ensures seen { out.new.seen.keys ≡ out.old.seen.keys }
-    ensures met { out.new.met.keys ≡ out.old.met.keys }
+    ensures met { out.new.met.masks.keys ≡ out.old.met.masks.keys }
 {
     out.list.reserve(1)?;
     let mut args = SmallVec::from_slice(alloc, from)?;
@@ -147,62 +145,13 @@ fn add(
         Contains out.old.list.items x ⊎ (x ≡ record { env = env; args = from.now ++ (arg, place) ∷ [] })) }
     ensures there { OnOk result ((x : PartialData) × Contains out.new.list.items x × (x.env ≡ env)
         × IsNoGreater (chosen_places x.args) (chosen_places from.now ++ place ∷ [])) }
-    ensures met { out.new.met.keys ≡ out.old.met.keys }
+    ensures met { out.new.met.masks.keys ≡ out.old.met.masks.keys }
 {
     if has(out, env) {
         return Ok(());
     }
     keep(&mut out.seen, out.list.len(), env)?;
     push(alloc, out, env, from, arg, place)
-}
-
-/// The masks of the environments of the slot's candidates; none where one of them has no mask.
-fn masks_of(alloc: Global, replica: &mut Replica, slot: &Filled) -> Result<Vec<u128>, OutOfMemory>
-    requires { (place : ℕ) → Contains slot.now.places place → place < length replica.old.log }
-    ensures masks { IfOk result (λ masks. AreMasksOf replica.old.ids replica.old.log slot.now masks.items) }
-    ensures kept { replica.new ≡ replica.old }
-{
-    let mut masks = Vec::with_capacity(alloc, slot.places.len())?;
-    for place in slot.places.as_slice() {
-        let env = replica.row(*place).env;
-        let Some(mask) = replica.mask_of(env)? else {
-            return Ok(Vec::new(alloc));
-        };
-        masks.push(mask)?;
-    }
-    Ok(masks)
-}
-
-/// The mask of the environment, where it has one and candidates have masks.
-fn own_mask(replica: &mut Replica, masks: &[u128], env: EnvId) -> Result<Option<u128>, OutOfMemory>
-    requires { env < length replica.old.ids.envs }
-    ensures mask { IfOk result (λ own. IfSome own (IsMask replica.old.ids
-        (length (env_of_id replica.old.ids env)) (env_of_id replica.old.ids env))) }
-    ensures kept { replica.new ≡ replica.old }
-{
-    if masks.is_empty() {
-        return Ok(None);
-    }
-    replica.mask_of(env)
-}
-
-/// The mask of the union of an environment with this mask and the candidate of this number, where both have
-/// masks.
-fn united(own: Option<u128>, masks: &[u128], number: usize) -> Option<u128>
-    ensures { IfSome result (IsUnited own masks.now number) }
-{
-    let mask = own?;
-    let other = masks.get(number)?;
-    Some(mask | *other)
-}
-
-/// Notes that the mask is met, and answers whether it is new.
-fn meet(met: &mut IndexSet<u128>, mask: u128) -> Result<bool, OutOfMemory>
-    ensures old { IfOk result (λ is_new. OnFalse is_new (Contains met.old.keys mask)) }
-    ensures only { OnOk result ((m : ℕ) → Contains met.new.keys m → Contains met.old.keys m ⊎ (m ≡ mask)) }
-{
-    let is_new = met.insert(mask)?;
-    Ok(is_new)
 }
 
 /// Adds what comes of one environment and a candidate for a slot, unless it is there.
@@ -218,9 +167,9 @@ fn join_one(
     requires placed { IsPlaced replica.old.log (length (env_of_id replica.old.ids partial.now.env)) place }
     requires before { ComeBefore out.old.list.items partial.now.args place }
     requires gathered { AreGathered replica.old.ids (length (env_of_id replica.old.ids partial.now.env))
-        out.old.seen.keys out.old.met.keys out.old.list.items }
+        out.old.seen.keys out.old.met.masks.keys out.old.list.items }
     ensures gathered { OnOk result (AreGathered replica.new.ids
-        (length (env_of_id replica.old.ids partial.now.env)) out.new.seen.keys out.new.met.keys
+        (length (env_of_id replica.old.ids partial.now.env)) out.new.seen.keys out.new.met.masks.keys
         out.new.list.items) }
     ensures joins { OnOk result (JoinsOne replica.old.ids replica.new.ids replica.old.log partial.now arg place
         out.old.list.items out.new.list.items) }
@@ -248,9 +197,9 @@ fn join_with_mask(
         (env_of_id replica.old.ids partial.now.env) e.env mask }
     requires before { ComeBefore out.old.list.items partial.now.args place }
     requires gathered { AreGathered replica.old.ids (length (env_of_id replica.old.ids partial.now.env))
-        out.old.seen.keys out.old.met.keys out.old.list.items }
+        out.old.seen.keys out.old.met.masks.keys out.old.list.items }
     ensures gathered { OnOk result (AreGathered replica.new.ids
-        (length (env_of_id replica.old.ids partial.now.env)) out.new.seen.keys out.new.met.keys
+        (length (env_of_id replica.old.ids partial.now.env)) out.new.seen.keys out.new.met.masks.keys
         out.new.list.items) }
     ensures joins { OnOk result (JoinsOne replica.old.ids replica.new.ids replica.old.log partial.now arg place
         out.old.list.items out.new.list.items) }
@@ -284,9 +233,9 @@ fn join_candidate(
         IsUnionMask replica.old.ids (env_of_id replica.old.ids partial.now.env) e.env m) }
     requires before { ComeBefore out.old.list.items partial.now.args place }
     requires gathered { AreGathered replica.old.ids (length (env_of_id replica.old.ids partial.now.env))
-        out.old.seen.keys out.old.met.keys out.old.list.items }
+        out.old.seen.keys out.old.met.masks.keys out.old.list.items }
     ensures gathered { OnOk result (AreGathered replica.new.ids
-        (length (env_of_id replica.old.ids partial.now.env)) out.new.seen.keys out.new.met.keys
+        (length (env_of_id replica.old.ids partial.now.env)) out.new.seen.keys out.new.met.masks.keys
         out.new.list.items) }
     ensures joins { OnOk result (JoinsOne replica.old.ids replica.new.ids replica.old.log partial.now arg place
         out.old.list.items out.new.list.items) }
@@ -314,11 +263,11 @@ fn extend(
     requires rises { IsStrictlyIncreasing slot.now.places }
     requires masks { AreMasksOf replica.old.ids replica.old.log slot.now masks.now }
     requires seen { SeenAre out.old.seen.keys out.old.list.items }
-    requires met { MetForSlot replica.old.ids replica.old.log slot.now out.old.met.keys out.old.list.items }
+    requires met { MetForSlot replica.old.ids replica.old.log slot.now out.old.met.masks.keys out.old.list.items }
     requires ascending { AreAscending out.old.list.items }
     requires before { (place : ℕ) → ComeBefore out.old.list.items partial.now.args place }
     ensures seen { OnOk result (SeenAre out.new.seen.keys out.new.list.items) }
-    ensures met { OnOk result (MetForSlot replica.new.ids replica.old.log slot.now out.new.met.keys
+    ensures met { OnOk result (MetForSlot replica.new.ids replica.old.log slot.now out.new.met.masks.keys
         out.new.list.items) }
     ensures ascending { OnOk result (AreAscending out.new.list.items) }
     ensures keeps { OnOk result ((x : PartialData) → Contains out.old.list.items x
@@ -355,7 +304,7 @@ fn extend_all(
     requires long { AreAsLong partials.now }
     requires none { out.old.list.items ≡ [] }
     requires unseen { out.old.seen.keys ≡ [] }
-    requires unmet { out.old.met.keys ≡ [] }
+    requires unmet { out.old.met.masks.keys ≡ [] }
     ensures ascending { OnOk result (AreAscending out.new.list.items) }
     ensures only { OnOk result ((x : PartialData) → Contains out.new.list.items x →
         IsMadeOf replica.old.ids replica.new.ids replica.old.log partials.now slot.now x) }
@@ -368,24 +317,6 @@ fn extend_all(
         extend(alloc, replica, partial, slot, masks, out)?;
     }
     Ok(())
-}
-
-/// The masks of the slot's candidates where these meet many environments, and otherwise none.
-fn masks_for(
-    alloc: Global,
-    replica: &mut Replica,
-    partials: usize,
-    slot: &Filled,
-) -> Result<Vec<u128>, OutOfMemory>
-    requires { 1 < partials → (place : ℕ) → Contains slot.now.places place
-        → place < length replica.old.log }
-    ensures masks { IfOk result (λ masks. AreMasksOf replica.old.ids replica.old.log slot.now masks.items) }
-    ensures kept { replica.new ≡ replica.old }
-{
-    if partials <= 1 || partials.saturating_mul(slot.places.len()) < MANY {
-        return Ok(Vec::new(alloc));
-    }
-    masks_of(alloc, replica, slot)
 }
 
 /// Puts what comes of each environment and each candidate for a slot in the place of the environments.
@@ -411,7 +342,7 @@ fn extended(
     let mut out = Partials {
         list: SmallVec::new(alloc),
         seen: IndexSet::new(alloc),
-        met: IndexSet::new(alloc),
+        met: Met::new(alloc),
     };
     extend_all(
         alloc,

@@ -9,6 +9,8 @@ mod gathering;
 mod head_search;
 mod heads;
 mod joining;
+mod masks;
+mod met;
 mod nonterminals;
 mod order;
 mod parameters;

@@ -15,7 +15,7 @@ use Rattle.hs_rules.proofs.joining.extend.Goals as goal
 
 pub loop-number-init : goal.loop-number-init
 loop-number-init c =
-    subst (λ (r : ReplicaData). record { kept : KeepsLog c.args.replica.now r; so : SoFar c.args.replica.now.ids r.ids c.args.replica.now.log c.args.partial.now c.args.slot.now 0 c.args.out.now.list.items c.args.out.now.seen.keys c.args.out.now.met.keys c.args.out.now.list.items }) (sym c.own_mask.ensures.kept)
+    subst (λ (r : ReplicaData). record { kept : KeepsLog c.args.replica.now r; so : SoFar c.args.replica.now.ids r.ids c.args.replica.now.log c.args.partial.now c.args.slot.now 0 c.args.out.now.list.items c.args.out.now.seen.keys c.args.out.now.met.masks.keys c.args.out.now.list.items }) (sym c.own_mask.ensures.kept)
     (record {
       kept = keeps_none c.args.replica.now;
       so = record {
@@ -84,7 +84,7 @@ join_candidate-requires-clause-gathered c =
     let place = get_or items k 0 in
     let among = subst (λ (xs : List ℕ). Contains xs place) items_is (Contains-get_or items k 0 c.loop-number-test.true) in
     let out = c.loop-number.out in
-    gathered_at I J log c.args.partial.now c.args.slot.now c.loop-number.invariant.kept.grows c.requires.env c.requires.placed k c.args.out.now.list.items out.seen.keys out.met.keys out.list.items place among c.loop-number.invariant.so
+    gathered_at I J log c.args.partial.now c.args.slot.now c.loop-number.invariant.kept.grows c.requires.env c.requires.placed k c.args.out.now.list.items out.seen.keys out.met.masks.keys out.list.items place among c.loop-number.invariant.so
 
 pub join_candidate-requires-clause-before : goal.join_candidate-requires-clause-before
 join_candidate-requires-clause-before c = λ x there.
@@ -114,6 +114,6 @@ loop-number-preserved c =
     record {
       kept = keeps_then c.args.replica.now c.loop-number.replica c.join_candidate.new.replica c.loop-number.invariant.kept c.join_candidate.ensures.kept;
       so = so_far_next I J log from f c.loop-number.invariant.kept.grows c.requires.env c.requires.placed K c.join_candidate.ensures.kept.grows k place (ap (λ (xs : List ℕ). get_or xs k 0) items_is)
-          (subst (λ (xs : List ℕ). k < length xs) items_is c.loop-number-test.true) c.requires.rises c.args.out.now.list.items old.list.items new.list.items old.seen.keys old.met.keys new.seen.keys new.met.keys
+          (subst (λ (xs : List ℕ). k < length xs) items_is c.loop-number-test.true) c.requires.rises c.args.out.now.list.items old.list.items new.list.items old.seen.keys old.met.masks.keys new.seen.keys new.met.masks.keys
           c.loop-number.invariant.so c.in_ok-join_candidate.ensures.gathered joins;
     }

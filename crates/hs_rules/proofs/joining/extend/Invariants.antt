@@ -6,5 +6,5 @@ use Rattle.hs_rules.proofs.joining.extend.Given as goal
 abbrev pub invariant-loop-number : goal.invariant-loop-number
 invariant-loop-number l = record {
   kept : KeepsLog l.fn.replica l.replica;
-  so : SoFar l.fn.replica.ids l.replica.ids l.fn.replica.log l.fn.partial l.fn.slot l.number l.fn.out.list.items l.out.seen.keys l.out.met.keys l.out.list.items;
+  so : SoFar l.fn.replica.ids l.replica.ids l.fn.replica.log l.fn.partial l.fn.slot l.number l.fn.out.list.items l.out.seen.keys l.out.met.masks.keys l.out.list.items;
 }

@@ -39,7 +39,7 @@ extend-requires-clause-masks c =
 
 pub extend-requires-clause-met : goal.extend-requires-clause-met
 extend-requires-clause-met c =
-    subst (λ (l : List EntryData). MetForSlot c.loop-partial.replica.ids l c.args.slot.now c.loop-partial.out.met.keys c.loop-partial.out.list.items) (sym c.loop-partial.invariant.kept.log) c.loop-partial.invariant.met
+    subst (λ (l : List EntryData). MetForSlot c.loop-partial.replica.ids l c.args.slot.now c.loop-partial.out.met.masks.keys c.loop-partial.out.list.items) (sym c.loop-partial.invariant.kept.log) c.loop-partial.invariant.met
 
 pub extend-requires-clause-before : goal.extend-requires-clause-before
 extend-requires-clause-before c = λ place x there.
@@ -64,7 +64,7 @@ loop-partial-preserved c =
     record {
       kept = keeps_then c.args.replica.now c.loop-partial.replica c.extend.new.replica c.loop-partial.invariant.kept c.extend.ensures.kept;
       seen = c.in_ok-extend.ensures.seen;
-      met = subst (λ (l : List EntryData). MetForSlot K l f c.extend.new.out.met.keys c.extend.new.out.list.items) same c.in_ok-extend.ensures.met;
+      met = subst (λ (l : List EntryData). MetForSlot K l f c.extend.new.out.met.masks.keys c.extend.new.out.list.items) same c.in_ok-extend.ensures.met;
       ascending = c.in_ok-extend.ensures.ascending;
       before = before_more J K c.loop-partial.replica.log c.loop-partial.out.list.items c.extend.new.out.list.items c.args.partials.now f c.loop-partial.partial-index item
           (item_at c.args.partials.now c.loop-partial.partial-index item c.loop-partial-test.true c.partial-item.is) c.requires.ascending c.requires.long c.loop-partial.invariant.before c.in_ok-extend.ensures.only;

@@ -10,7 +10,7 @@ abbrev pub invariant-loop-partial : goal.invariant-loop-partial
 invariant-loop-partial l = record {
   kept : KeepsLog l.fn.replica l.replica;
   seen : SeenAre l.out.seen.keys l.out.list.items;
-  met : MetForSlot l.replica.ids l.fn.replica.log l.slot l.out.met.keys l.out.list.items;
+  met : MetForSlot l.replica.ids l.fn.replica.log l.slot l.out.met.masks.keys l.out.list.items;
   ascending : AreAscending l.out.list.items;
   before : ComeBeforeOf l.out.list.items l.partials l.partial-index;
   made : (x : PartialData) → Contains l.out.list.items x → IsMadeOf l.fn.replica.ids l.replica.ids l.fn.replica.log l.partials l.slot x;

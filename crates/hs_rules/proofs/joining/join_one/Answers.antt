@@ -15,7 +15,7 @@ returns-clause-gathered c =
     record {
       known = c.in_ok-add.ensures.seen;
       masked = subst (λ (met : List ℕ). MetAre K n met c.add.new.out.list.items) (sym c.in_ok-add.ensures.met)
-          (met_stays I K c.in_ok-joined.ensures.kept.grows n c.args.out.now.met.keys c.args.out.now.list.items c.add.new.out.list.items c.in_ok-add.ensures.keeps c.requires.gathered.masked);
+          (met_stays I K c.in_ok-joined.ensures.kept.grows n c.args.out.now.met.masks.keys c.args.out.now.list.items c.add.new.out.list.items c.in_ok-add.ensures.keeps c.requires.gathered.masked);
       ascends = c.in_ok-add.ensures.ascending;
     }
 

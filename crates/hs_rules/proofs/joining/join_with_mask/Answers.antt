@@ -45,7 +45,7 @@ returns-then-not-is_new-clause-gathered c =
     let r = c.requires.gathered.masked c.args.mask (OnFalse_at c.if-not-is_new.true c.in_ok-is_new.ensures.old) in
     record {
       known = c.requires.gathered.known;
-      masked = met_more I n c.args.mask c.args.out.now.met.keys c.meet.new.met.keys c.args.out.now.list.items r.0 c.requires.gathered.masked c.in_ok-is_new.ensures.only r.1 r.2 r.3;
+      masked = met_more I n c.args.mask c.args.out.now.met.masks.keys c.meet.new.met.masks.keys c.args.out.now.list.items r.0 c.requires.gathered.masked c.in_ok-is_new.ensures.only r.1 r.2 r.3;
       ascends = c.requires.gathered.ascends;
     }
 
@@ -80,7 +80,7 @@ returns-clause-gathered c =
     record {
       known = subst (λ (seen : List ℕ). SeenAre seen new) (sym c.in_ok-push.ensures.seen) (λ m at. let r = c.requires.gathered.known m at in (r.0, keeps r.0 r.1, r.2));
       masked = subst (λ (met : List ℕ). MetAre K n met new) (sym c.in_ok-push.ensures.met)
-          (met_more K n c.args.mask c.args.out.now.met.keys c.meet.new.met.keys new x (met_stays I K g n c.args.out.now.met.keys old new keeps c.requires.gathered.masked) c.in_ok-is_new.ensures.only there c.in_ok-joined.ensures.ok.0 is);
+          (met_more K n c.args.mask c.args.out.now.met.masks.keys c.meet.new.met.masks.keys new x (met_stays I K g n c.args.out.now.met.masks.keys old new keeps c.requires.gathered.masked) c.in_ok-is_new.ensures.only there c.in_ok-joined.ensures.ok.0 is);
       ascends = pushed_ascends old new id c.args.arg c.args.place from.args args (ap (λ (a : List (ℕ × ℕ)). a ++ (c.args.arg, c.args.place) ∷ []) from_is) c.in_ok-push.ensures.list c.requires.gathered.ascends c.requires.before;
     }
 

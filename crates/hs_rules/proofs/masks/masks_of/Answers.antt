@@ -7,7 +7,7 @@ use Rattle.hs_replica.specs.Replica.{ReplicaData}
 use Rattle.hs_rules.specs.Slots.{FilledData}
 use Rattle.hs_rules.specs.Joins.{IsMaskAt}
 use Rattle.hs_rules.proofs.ExtendLemmas.{one_mask_more}
-use Rattle.hs_rules.proofs.joining.masks_of.Goals as goal
+use Rattle.hs_rules.proofs.masks.masks_of.Goals as goal
 
 pub row-env-requires : goal.row-env-requires
 row-env-requires c =

@@ -1,7 +1,7 @@
 -- the masks are those of the candidates so far
 use Rattle.std.proofs.Common.{◌≡◌, ℕ, ◌<◌, length, get_or}
 use Rattle.hs_rules.specs.Joins.{IsMaskAt}
-use Rattle.hs_rules.proofs.joining.masks_of.Given as goal
+use Rattle.hs_rules.proofs.masks.masks_of.Given as goal
 
 abbrev pub invariant-loop-place : goal.invariant-loop-place
 invariant-loop-place l = record {
