@@ -11,7 +11,8 @@ use indexmap::IndexMap;
 use std::alloc::Global;
 use std::collections::BinaryHeap;
 
-/// What a work costs beside the conclusions that it forms.
+/// What a work costs beside the pairs of environments that it unites and the conclusions that it forms. Each of
+/// these counts as one.
 const WORK: u64 = 5;
 
 /// Where the works at a point have cost more than this, what they cost and yielded is halved: what was
@@ -31,7 +32,7 @@ struct PointQueue {
     keys: BinaryHeap<Key>,
     /// How many conclusions were new.
     new: u64,
-    /// How many were formed, and `WORK` for each work.
+    /// What works cost.
     cost: u64,
 }
 
@@ -50,7 +51,7 @@ impl PointQueue {
         self.new.saturating_mul(PARTS) / self.cost.max(1)
     }
 
-    /// A work has formed so many conclusions, of which so many were new.
+    /// A work has cost so much, and so many of its conclusions were new.
     fn tell(&mut self, cost: u64, new: u64) {
         self.new = self.new.saturating_add(new);
         self.cost = self.cost.saturating_add(cost);
@@ -176,9 +177,16 @@ impl Priority {
         Ok(())
     }
 
-    /// A work on an entry at the point has formed so many conclusions, of which so many were new.
-    pub(crate) fn tell(&mut self, point: u32, formed: u64, new: u64) -> Result<(), OutOfMemory> {
-        let cost = formed.saturating_add(WORK);
+    /// A work on an entry at the point has united so many pairs of environments, and formed so many
+    /// conclusions, of which so many were new.
+    pub(crate) fn tell(
+        &mut self,
+        point: u32,
+        pairs: u64,
+        formed: u64,
+        new: u64,
+    ) -> Result<(), OutOfMemory> {
+        let cost = pairs.saturating_add(formed).saturating_add(WORK);
         if self.is_by_size {
             self.cost_by_size = self.cost_by_size.saturating_add(cost);
         } else {

@@ -71,6 +71,7 @@ fn form_place(
     core.know_core();
     let point = core.replica().row(place).point;
     let before = waiting.len();
+    let pairs_before = core.replica().pairs();
     let mut formed = 0_u64;
     for dependent in dependents.list(point) {
         let found = core.at_place(alloc, *dependent, place)?;
@@ -78,7 +79,8 @@ fn form_place(
         keep_waiting(core, waiting, found)?;
     }
     let new = waiting.len().saturating_sub(before) as u64;
-    waiting.tell(point, formed, new)
+    let pairs = core.replica().pairs().saturating_sub(pairs_before);
+    waiting.tell(point, pairs, formed, new)
 }
 
 /// Lets what follows by the work wait.
@@ -110,9 +112,15 @@ fn form(
     }
 }
 
-/// Publishes one of those that wait, the first that the log lacks. The worker holds the ticket, where
-/// any wait.
-fn publish_next(core: &mut Core, worker: u32, ticket: u32, waiting: &mut Waiting) -> Progress
+/// Publishes one of those that wait, the first that the log lacks: in order, or whichever is at hand. The
+/// worker holds the ticket, where any wait.
+fn publish_next(
+    core: &mut Core,
+    worker: u32,
+    ticket: u32,
+    waiting: &mut Waiting,
+    in_order: bool,
+) -> Progress
     requires selecting { IsSelecting worker core.old (Waits waiting.old.found) ticket }
     requires spare { 1 ≤ core.old.spare }
     ensures goes { GoesAlone worker core.old core.new }
@@ -120,7 +128,7 @@ fn publish_next(core: &mut Core, worker: u32, ticket: u32, waiting: &mut Waiting
     ensures after { After (IsSpent worker core.old core.new (Waits waiting.new.found) ticket) result worker
         core.old core.new (Waits waiting.new.found) ticket }
 {
-    while let Some(deduced) = waiting.next() {
+    while let Some(deduced) = waiting.next(in_order) {
         match core.publish(worker, ticket, deduced) {
             Published::Known { place: _ } => {}
             Published::Added { place: _ } => {
@@ -134,8 +142,9 @@ fn publish_next(core: &mut Core, worker: u32, ticket: u32, waiting: &mut Waiting
     Progress::Done
 }
 
-/// Publishes one of those that wait, where they and the log are more than the budget. The worker holds
-/// the ticket, where any wait.
+/// Publishes one of those that wait, where they and the log are more than the budget. All of them will be
+/// published up to the one that is over, so in whichever order takes least time. The worker holds the
+/// ticket, where any wait.
 fn publish_surplus(core: &mut Core, worker: u32, ticket: u32, waiting: &mut Waiting) -> Progress
     requires selecting { IsSelecting worker core.old (Waits waiting.old.found) ticket }
     requires spare { 1 ≤ core.old.spare }
@@ -147,7 +156,7 @@ fn publish_surplus(core: &mut Core, worker: u32, ticket: u32, waiting: &mut Wait
     let room = core.budget().saturating_sub(core.len());
     let is_surplus = waiting.len() > room as usize;
     if is_surplus {
-        return publish_next(core, worker, ticket, waiting);
+        return publish_next(core, worker, ticket, waiting, false);
     }
     Progress::Done
 }
@@ -186,7 +195,7 @@ fn select_turn<G: Gate>(
             Ok(Progress::More)
         }
         Taken::Over | Taken::Found { place: _ } => Ok(Progress::Ended),
-        Taken::Idle | Taken::Quiet => Ok(publish_next(core, worker, *last, waiting)),
+        Taken::Idle | Taken::Quiet => Ok(publish_next(core, worker, *last, waiting, true)),
     }
 }
 

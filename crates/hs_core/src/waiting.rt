@@ -60,28 +60,46 @@ impl Waiting {
         Ok(())
     }
 
-    /// A work on an entry at the point has formed so many conclusions, of which so many were new.
-    pub(crate) fn tell(&mut self, point: u32, formed: u64, new: u64) -> Result<(), OutOfMemory>
+    /// A work on an entry at the point has united so many pairs of environments, and formed so many
+    /// conclusions, of which so many were new.
+    pub(crate) fn tell(
+        &mut self,
+        point: u32,
+        pairs: u64,
+        formed: u64,
+        new: u64,
+    ) -> Result<(), OutOfMemory>
         ensures { self.new.found ≡ self.old.found }
     {
-        self.priority.tell(point, formed, new)
+        self.priority.tell(point, pairs, formed, new)
     }
 
-    /// The row of the one that comes next.
-    fn next_row(&mut self) -> Option<Row>
+    /// The row of the one that is taken in the least time, the last of the table.
+    fn last_row(&self) -> Option<Row>
+        ensures some { IfSome result (λ row. HasRow self.now.found row) }
+        ensures none { IfNone result (length self.now.found.entries ≡ 0) }
+    {
+        let last = self.found.len().checked_sub(1)?;
+        let (row, _) = self.found.get_index(last)?;
+        Some(*row)
+    }
+
+    /// The row of the one that comes next: in order, or whichever is at hand.
+    fn next_row(&mut self, in_order: bool) -> Option<Row>
         ensures found { self.new.found ≡ self.old.found }
         ensures some { IfSome result (λ row. HasRow self.old.found row) }
         ensures none { IfNone result (length self.old.found.entries ≡ 0) }
     {
-        if let Some(row) = self.priority.next(&self.found) {
-            return Some(row);
+        if in_order {
+            if let Some(row) = self.priority.next(&self.found) {
+                return Some(row);
+            }
         }
-        let (row, _) = self.found.get_index(0)?;
-        Some(*row)
+        self.last_row()
     }
 
-    /// Takes the one that comes next.
-    pub(crate) fn next(&mut self) -> Option<Deduced>
+    /// Takes the one that comes next: in order, or whichever is at hand, which takes less time.
+    pub(crate) fn next(&mut self, in_order: bool) -> Option<Deduced>
         ensures some { IfSome result (λ d. Waits self.old.found d) }
         ensures others { IfSome result (λ d. (x : DeducedData) → Waits self.old.found x →
             (x ≡ d) ⊎ Waits self.new.found x) }
@@ -89,7 +107,7 @@ impl Waiting {
         ensures less { IfSome result (λ d. length self.new.found.entries < length self.old.found.entries) }
         ensures none { IfNone result ((x : DeducedData) → Waits self.old.found x → ⊥) }
     {
-        let row = self.next_row()?;
+        let row = self.next_row(in_order)?;
         self.found.swap_remove(&row)
     }
 }

@@ -9,7 +9,8 @@ use hs_types::{EnvId, Interner, SetId};
 /// So many bits a mask has.
 const BITS: usize = 128;
 
-/// What a mask is of: so many sets.
+/// A mask with the number of sets of the environments that have it: where there are more sets, the same bits
+/// are those of other types.
 #[derive(Clone, Copy, Debug, PartialEq, Eq, Hash)]
 pub(crate) struct MaskKey {
     pub(crate) mask: u128,

@@ -18,7 +18,8 @@ use std::marker::Model;
 
 /// A log of entries without repeats, each a row of three numbers, with the interner that reads
 /// them. It finds the place of an entry, and the places of entries by their point, by their type, by
-/// what they ask of a parameter and by what they take as an argument.
+/// what they ask of a parameter and by what they take as an argument. It also counts what joins over it
+/// cost, for those who choose what to do next.
 ///
 /// Contracts see the entries themselves, and how many can be added without memory. An entry takes a
 /// row of 12 bytes and about as much again for finding it, beside what its environment and its type
@@ -37,6 +38,8 @@ pub struct Replica {
     reserved: u32,
     /// So many places are listed.
     pub(crate) indexed: u32,
+    /// So many pairs were noted.
+    pairs: u64,
 }
 
 impl Model for Replica {
@@ -79,6 +82,7 @@ impl Replica {
             asked: Vec::new(alloc),
             reserved: 0,
             indexed: 0,
+            pairs: 0,
         }
     }
 
@@ -116,6 +120,19 @@ impl Replica {
         ensures entry { slice_get self.now.log place ≡ Some (entry_of self.now.ids result) }
     {
         self.rows[place as usize]
+    }
+
+    /// Notes that a join unites so many pairs of environments. Takes no memory.
+    pub fn note_pairs(&mut self, count: usize)
+        ensures { self.new ≡ self.old }
+    {
+        self.pairs = self.pairs.saturating_add(count as u64);
+    }
+
+    /// How many pairs were noted since the replica was made: a measure of the time that joins took. No
+    /// clause tells of it, so nothing that is proved may rest on it. Takes no memory.
+    pub fn pairs(&self) -> u64 {
+        self.pairs
     }
 
     /// The interner that reads the rows. Takes no memory.

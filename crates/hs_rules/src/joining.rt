@@ -58,7 +58,8 @@ pub(crate) type PartialList = SmallVec<Partial, 2>;
 /// So many items of a list are looked through one by one. A hash set knows those behind them.
 pub(crate) const FEW: usize = 8;
 
-/// Environments, each once.
+/// Environments, each once where either all have masks or none has. Where only some have, one that was met
+/// by its mask isn't known by its number, nor the other way round, so it may be there twice.
 #[derive(Drop)]
 struct Partials {
     list: PartialList,
@@ -338,7 +339,9 @@ fn extended(
         IsAmongJoined replica.old.ids replica.new.ids from place e partials.new.items) }
     ensures kept { KeepsLog replica.old replica.new }
 {
-    let masks = masks_for(alloc, replica, partials.len(), slot)?;
+    let count = partials.len();
+    replica.note_pairs(count.saturating_mul(slot.places.len()));
+    let masks = masks_for(alloc, replica, count, slot)?;
     let mut out = Partials {
         list: SmallVec::new(alloc),
         seen: IndexSet::new(alloc),

@@ -13,7 +13,7 @@ use std::alloc::Global;
 
 /// Where environments and candidates for a slot make at least so many pairs, what comes of a pair is looked for
 /// by its mask first.
-const MANY: usize = 16;
+const MANY: usize = 64;
 
 /// The masks of the environments of the slot's candidates; none where one of them has no mask.
 fn masks_of(alloc: Global, replica: &mut Replica, slot: &Filled) -> Result<Vec<u128>, OutOfMemory>

@@ -26,8 +26,8 @@ pub(crate) struct Met {
     latest: Vec<u32>,
 }
 
-/// Where the number of a mask stands, where it is one of the latest.
-fn place_of(mask: u128) -> usize {
+/// The place, below `LATEST`, at which the number of the mask stands while it is one of the latest.
+fn latest_place(mask: u128) -> usize {
     (mask.wrapping_mul(MULTIPLIER) >> 64) as usize % LATEST
 }
 
@@ -81,7 +81,7 @@ pub(crate) fn meet(met: &mut Met, mask: u128) -> Result<bool, OutOfMemory>
     ensures only { OnOk result ((m : ℕ) → Contains met.new.masks.keys m
         → Contains met.old.masks.keys m ⊎ (m ≡ mask)) }
 {
-    let place = place_of(mask);
+    let place = latest_place(mask);
     if is_latest(met, place, mask) {
         return Ok(false);
     }
