@@ -229,6 +229,27 @@ def several(order, count, states, ends):
     return framed(lines, ["q0 br -> q0 q0.\n", *moves, *(f"q{j} end -> .\n" for j in ends)])
 
 
+def wide(count, states=20):
+    """A call with as many arguments, each a function of two parameters applied, for which as many environments are asked as
+    there are states. All choices of one for each argument lead to different environments, and one join makes them all: with
+    seven arguments none of our runs ended."""
+    params = " ".join(f"x{i} y{i}" for i in range(count))
+    applied = " ".join(f"(x{i} y{i})" for i in range(count))
+    body = "c"
+    for i in reversed(range(count)):
+        body = f"f{i} (r {body})" if body == "c" else f"f{i} (r ({body}))"
+    rules = [
+        f"S -> K {' '.join(['X Y'] * count)}.\n",
+        f"K {params} -> H {applied}.\n",
+        f"H {' '.join(f'f{i}' for i in range(count))} -> {body}.\n",
+        "X u v -> u (u v).\n",
+        f"Y v -> t {' '.join(['v'] * states)}.\n",
+    ]
+    everywhere = " ".join(f"q{i}" for i in range(states))
+    transitions = [f"q{i} t -> {everywhere}.\nq{i} r -> {'s' if i else 'q0'}.\n" for i in range(states)]
+    return framed(rules, [*transitions, f"s t -> {' '.join(['s'] * states)}.\n", "s r -> s.\n", "s c -> .\n"])
+
+
 def booleans(rules, count=10):
     """Rules that hand on booleans as selectors: each turns one of them, or opens a file where it is set, that is closed behind it."""
     kept = [f"b{j}" for j in range(count)]
@@ -315,6 +336,7 @@ FAMILIES = {
     "large_3": (lambda steps: iterated(3, steps), [2, 11, 20], "steps", "horsat --entries 1000000"),
     "large_4": (lambda steps: iterated(4, steps), [1, 4], "steps", "horsat --entries 1000000"),
     "large_5": (lambda steps: iterated(5, steps), [1, 4], "steps", "horsat --entries 1000000"),
+    "wide": (wide, [4, 5, 6], "arguments", "horsat"),
     "several_3": (lambda count: several(3, count, 4, [0, 2]), [100, 200, 300], "functions", "horsat"),
     "several_3r": (lambda count: several(3, count, 4, [0]), [100, 200, 300], "functions", "horsat"),
     "several_4": (lambda count: several(4, count, 2, [0]), [50, 100, 200], "functions", "horsat"),
