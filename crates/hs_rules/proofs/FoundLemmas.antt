@@ -1,5 +1,6 @@
 -- What the types of a head lead to.
-use Rattle.std.proofs.Common.{◌≡◌, ◌≢◌, refl, sym, ◌∙◌, ap, subst, ℕ, zero, suc, ◌+◌, ◌<◌, List, [], ◌∷◌, ◌++◌, length, map, set, take, drop, get_or, slice_get, Option, None, Some, MatchOption, arith, All, AllPairs, Contains, ◌≤◌, ◌⊎◌, inl, inr}
+use Rattle.std.proofs.Common.{◌≡◌, ◌≢◌, refl, sym, ◌∙◌, ap, subst, ℕ, zero, suc, ◌+◌, ◌<◌, Bool, List, [], ◌∷◌, ◌++◌, length, map, set, take, drop, get_or, slice_get, Option, None, Some, MatchOption, arith, All, AllPairs, Contains, ◌≤◌, ◌⊎◌, inl, inr}
+use Rattle.std.specs.Bool.{IsTrue}
 use Rattle.std.specs.List.Sorted.{IsStrictlyIncreasing}
 use Rattle.std.proofs.lemmas.Bool.{cases_eq, cases_order}
 use Rattle.std.proofs.lemmas.List.{map-append, take-map, take-append-drop, drop_all, drop-append-le, length-map, length-append, length-set, get_or-set_same, get_or-set_other}
@@ -260,9 +261,9 @@ module _ (log : List EntryData) (limit : ℕ) (fixed : Option FixedData) where
       }
 
 -- what the slots of a head's type lead to
-module _ (I K : InternerData) (log : List EntryData) (s : SearchData) (h : HeadData) (fs : List FilledData) (partials : List PartialData)
+module _ (I K : InternerData) (log : List EntryData) (s : SearchData) (h : HeadData) (fs : List FilledData) (whole : Bool) (partials : List PartialData)
     (filled : AreFilled (take s.limit log) (fixed_of log s.fixed) (slots 0 s.args (map (set_of_id I) h.sets)) fs)
-    (joined : AreJoined K log (length (env_of_id I h.own)) (env_of_id I h.own) fs partials) where
+    (joined : AreJoined K log (length (env_of_id I h.own)) (env_of_id I h.own) fs whole partials) where
   pub rows_conclude : (d : DeducedData) → IsRowOf s.point h partials d → IsDeducedBy I K log s h d
   rows_conclude d r =
       let x = r.from in
@@ -279,10 +280,10 @@ module _ (I K : InternerData) (log : List EntryData) (s : SearchData) (h : HeadD
         };
       })
 
-  pub conclude_rows : (found : List DeducedData) → ((x : PartialData) → Contains partials x → HasRow s.point h x found) → (args : List (ℕ × ℕ)) (env : Env) → HeadLeadsTo I log s h args env → HasEnvFound K s h args env found
-  conclude_rows found all args env c =
+  pub conclude_rows : (found : List DeducedData) → IsTrue whole → ((x : PartialData) → Contains partials x → HasRow s.point h x found) → (args : List (ℕ × ℕ)) (env : Env) → HeadLeadsTo I log s h args env → HasEnvFound K s h args env found
+  conclude_rows found is_whole all args env c =
       let n = length (env_of_id I h.own) in
-      let r = joined.all args c.chosen (to_filled log s.limit (fixed_of log s.fixed) (slots 0 s.args (map (set_of_id I) h.sets)) fs filled c.picked) in
+      let r = joined.all is_whole args c.chosen (to_filled log s.limit (fixed_of log s.fixed) (slots 0 s.args (map (set_of_id I) h.sets)) fs filled c.picked) in
       let row = all r.item r.there in
       let known = (joined.sound r.item r.there).within in
       let env_is : row.item.row.env ≡ r.item.env = ap (λ (q : RowData). q.env) row.is in

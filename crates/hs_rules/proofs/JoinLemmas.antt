@@ -1,7 +1,7 @@
 -- Environments joined slot by slot.
 use Rattle.std.proofs.Common.{◌≡◌, refl, sym, ◌∙◌, ap, subst, ℕ, suc, ◌+◌, ◌<◌, ◌≤◌, Bool, true, false, List, [], ◌∷◌, ◌++◌, length, take, get_or, slice_get, slice_index_or, Some, arith, ◌⊎◌, inl, inr, Contains}
 use Rattle.std.specs.List.Sorted.{IsStrictlyIncreasing}
-use Rattle.std.specs.Bool.{OnTrue}
+use Rattle.std.specs.Bool.{IsTrue, OnTrue}
 use Rattle.std.specs.List.{list_any}
 use Rattle.std.proofs.lemmas.Map.Made.{is_member-Decides}
 use Rattle.std.proofs.lemmas.List.Elements.{Contains-append_left, Contains-push, Contains-get_or}
@@ -167,21 +167,21 @@ pub picked_long : (log : List EntryData) {fs : List FilledData} {args : List (�
 picked_long log none_left = refl
 picked_long log (pick c k) = ap suc (picked_long log k)
 
-pub joined_as_long : (I : InternerData) (log : List EntryData) (n : ℕ) (own : Env) (fs : List FilledData) (found : List PartialData) → AreJoined I log n own fs found → AreAsLong found
-joined_as_long I log n own fs found joined x y cx cy =
+pub joined_as_long : (I : InternerData) (log : List EntryData) (n : ℕ) (own : Env) (fs : List FilledData) (whole : Bool) (found : List PartialData) → AreJoined I log n own fs whole found → AreAsLong found
+joined_as_long I log n own fs whole found joined x y cx cy =
     let a = picked_long log (joined.sound x cx).picked in
     let b = picked_long log (joined.sound y cy).picked in
     omega (arith, a, b, length-map x.args (λ (z : ℕ × ℕ). z.1), length-map y.args (λ (z : ℕ × ℕ). z.1))
 
 -- one more slot
-module _ (I K : InternerData) (log : List EntryData) (n : ℕ) (own : Env) (fs : List FilledData) (f : FilledData) (old new : List PartialData) (joined : AreJoined I log n own fs old)
-    (some : (x : PartialData) → Contains new x → IsMadeOf I K log old f x)
-    (all : (from : PartialData) → Contains old from → (place : ℕ) (e : EntryData) → FillsBy log f place e → IsAmongJoined I K from place e new) (up : AreAscending new) where
+module _ (I K : InternerData) (log : List EntryData) (n : ℕ) (own : Env) (fs : List FilledData) (f : FilledData) (whole next : Bool) (old new : List PartialData) (joined : AreJoined I log n own fs whole old)
+    (some : (x : PartialData) → Contains new x → IsMadeOf I K log old f x) (was : IsTrue next → IsTrue whole)
+    (all : IsTrue next → (from : PartialData) → Contains old from → (place : ℕ) (e : EntryData) → FillsBy log f place e → IsAmongJoined I K from place e new) (up : AreAscending new) where
   next_join : (env : Env) (e : EntryData) (union : Env) (chosen : List EntryData) → IsUnionEnv env e.env union → IsJoin n own chosen env → IsJoin n own (chosen ++ e ∷ []) union
   next_join env e union chosen u j =
       join_more n own env union chosen e j (record { long = u.long ∙ j.is_env.long; sets = λ k. (u.sets k).ascends }) (λ k a. (u.sets k).exact a)
 
-  pub joined_next : AreJoined K log n own (fs ++ f ∷ []) new
+  pub joined_next : AreJoined K log n own (fs ++ f ∷ []) next new
   joined_next = record {
     sound = λ x c.
         let m = some x c in
@@ -193,10 +193,10 @@ module _ (I K : InternerData) (log : List EntryData) (n : ℕ) (own : Env) (fs :
               (picked_append (λ (y : FilledData). y.arg) (FillsBy log) before.picked (pick m.made.fills none_left));
           join = next_join (env_of_id I m.from.env) m.made.entry (env_of_id K x.env) before.chosen m.made.union before.join;
         };
-    all = λ args chosen p.
+    all = λ is_whole args chosen p.
         let l = last_of (λ (y : FilledData). y.arg) (FillsBy log) fs f args chosen p in
-        let before = joined.all l.before l.entries l.picked in
-        let c = all before.item before.there l.place l.entry l.fills in
+        let before = joined.all (was is_whole) l.before l.entries l.picked in
+        let c = all is_whole before.item before.there l.place l.entry l.fills in
         record {
           item = c.item;
           there = c.there;
@@ -223,7 +223,7 @@ single (x ∷ y ∷ xs) e = absurd (omega (arith, e))
 
 -- no slots
 pub joined_none : (I : InternerData) (log : List EntryData) (n own : ℕ) (found : List PartialData) (x : PartialData) → own < length I.envs → IsEnv n (env_of_id I own)
-    → found ≡ x ∷ [] → x.env ≡ own → x.args ≡ [] → AreJoined I log n (env_of_id I own) [] found
+    → found ≡ x ∷ [] → x.env ≡ own → x.args ≡ [] → AreJoined I log n (env_of_id I own) [] true found
 joined_none I log n own found x known is_env is env args = record {
   sound = λ y c.
       let e = only x y (subst (λ (ys : List PartialData). Contains ys y) is c) in
@@ -235,7 +235,7 @@ joined_none I log n own found x known is_env is env args = record {
         picked = subst (λ (bs : List (ℕ × ℕ)). Picked (λ (z : FilledData). z.arg) (FillsBy log) [] bs []) (sym nothing) none_left;
         join = subst (λ (k : ℕ). IsJoin n (env_of_id I own) [] (env_of_id I k)) (sym same) (join_none n (env_of_id I own) is_env);
       };
-  all = λ bs chosen p.
+  all = λ is_whole bs chosen p.
       let m = none_of (λ (z : FilledData). z.arg) (FillsBy log) bs chosen p in
       record {
         item = x;
@@ -295,8 +295,8 @@ module _ (I J K : InternerData) (log later : List EntryData) (from : PartialData
       (subst (λ (e : Env). ArePlaced log (length e) f) (sym (env_stays I J g from.env known)) h)
 
 -- what extending environments that slots lead to requires
-pub can_extend : (I : InternerData) (log later : List EntryData) (n : ℕ) (own : Env) (fs : List FilledData) (f : FilledData) (found : List PartialData) → later ≡ log → AreJoined I log n own fs found → ArePlaced log n f
+pub can_extend : (I : InternerData) (log later : List EntryData) (n : ℕ) (own : Env) (fs : List FilledData) (f : FilledData) (whole : Bool) (found : List PartialData) → later ≡ log → AreJoined I log n own fs whole found → ArePlaced log n f
     → CanFill I later found f
-can_extend I log later n own fs f found same joined placed = λ x c.
+can_extend I log later n own fs f whole found same joined placed = λ x c.
     let s = joined.sound x c in
     (s.within, subst (λ (l : List EntryData). ArePlaced l (length (env_of_id I x.env)) f) (sym same) (subst (λ (k : ℕ). ArePlaced log k f) (sym s.join.is_env.long) placed))

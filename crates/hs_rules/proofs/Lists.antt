@@ -1,5 +1,6 @@
 -- Members of lists.
-use Rattle.std.proofs.Common.{◌≡◌, sym, ◌∙◌, ap, subst, ℕ, ◌+◌, ◌<◌, List, [], ◌∷◌, ◌++◌, length, get_or, take, Result, Ok, Err, OnOk, All, Contains, ◌⊎◌, inl, inr}
+use Rattle.std.specs.Prelude.{◌&&◌, IsTrue}
+use Rattle.std.proofs.Common.{◌≡◌, refl, Bool, true, false, sym, ◌∙◌, ap, subst, ℕ, ◌+◌, ◌<◌, List, [], ◌∷◌, ◌++◌, length, get_or, take, Result, Ok, Err, OnOk, All, Contains, ◌⊎◌, inl, inr}
 use Rattle.std.proofs.lemmas.List.Elements.{Contains-append_cases, Contains-append_left, Contains-get_or}
 use Rattle.std.proofs.lemmas.List.{get_or_default}
 use Rattle.hs_scheme.proofs.Lists.{none_in, uncons}
@@ -31,6 +32,11 @@ all_from P xs f = λ k d lt. f (get_or xs k d) (Contains-get_or xs k d lt)
 -- equal types have the same values
 pub along : {A B : Type 0} → A ≡ B → A → B
 along e a = subst (λ (X : Type 0). X) e a
+
+pub both_are : (a b : Bool) → IsTrue (a && b) → IsTrue a × IsTrue b
+both_are true true h = (refl, refl)
+both_are true false h = absurd (cc)
+both_are false b h = absurd (cc)
 
 pub on_ok_both : {X E : Type 0} (r : Result X E) (P Q R : Type 0) → (P → Q → R) → OnOk r P → OnOk r Q → OnOk r R
 on_ok_both (Ok x) P Q R f h k = f h k

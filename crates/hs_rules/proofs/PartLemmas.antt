@@ -20,7 +20,7 @@ use Rattle.hs_types.proofs.Numbers.{row_stays, same_row}
 use Rattle.hs_replica.specs.Replica.{ReplicaData, KeepsLog}
 use Rattle.hs_rules.specs.declared.search.Fixed.{Fixed}
 use Rattle.hs_rules.specs.Order.{IsNoGreater}
-use Rattle.hs_rules.specs.Conclusions.{DeducedData, IsDeduced, IsLeastOf, Uses, AreConclusions}
+use Rattle.hs_rules.specs.Conclusions.{DeducedData, IsDeduced, IsLeastOf, Uses, AreSomeConclusions, AreConclusions}
 use Rattle.hs_rules.specs.declared.joining.TheConstants.{FEW}
 use Rattle.hs_rules.specs.Filling.{CanSearch, IsWithin}
 use Rattle.hs_rules.specs.Found.{HaveEnvs, RowsAre, Lowers}
@@ -51,16 +51,24 @@ one_of_row rows found h c d (i, lt, at) (j, below, other) same = elim (cases_ord
   | inr (inr more) ↦ absurd (rows_once rows found h j i d more lt (ap (λ (x : DeducedData). x.row) other ∙ (sym same ∙ sym (ap (λ (x : DeducedData). x.row) (sym (get_or_default found i c d lt) ∙ at)))))
 ]
 
-pub part_conclusions : (p : ProblemData) (ids : InternerData) (E : List EntryData) (point : ℕ) (Counts : Support → Type 0) (rows : List RowData) (found : List DeducedData) → IsInterner ids → ArePart p ids E point Counts rows found → HasAll p ids E point Counts found
-    → AreConclusions p ids E point Counts found
-part_conclusions p ids E point Counts rows found numbers part all = record {
+pub part_some : (p : ProblemData) (ids : InternerData) (E : List EntryData) (point : ℕ) (Counts : Support → Type 0) (rows : List RowData) (found : List DeducedData) → ArePart p ids E point Counts rows found → AreSomeConclusions p ids E point Counts found
+part_some p ids E point Counts rows found part = record {
   deduced = all_from (IsDeduced p ids E) found (λ d c. (part.each d c).0);
   count = all_from (λ d. Counts d.support) found (λ d c. (part.each d c).1);
   at = all_from (λ d. d.row.point ≡ point) found (λ d c. (part.each d c).2);
+  once = rows_once rows found part.once;
+}
+
+pub part_conclusions : (p : ProblemData) (ids : InternerData) (E : List EntryData) (point : ℕ) (Counts : Support → Type 0) (rows : List RowData) (found : List DeducedData) → IsInterner ids → ArePart p ids E point Counts rows found → HasAll p ids E point Counts found
+    → AreConclusions p ids E point Counts found
+part_conclusions p ids E point Counts rows found numbers part all = let some = part_some p ids E point Counts rows found part in record {
+  deduced = some.deduced;
+  count = some.count;
+  at = some.at;
   each = λ s e here_is f counts.
       let h = all s e here_is f counts in
       subst (λ (x : EntryData). Contains (map (λ (d : DeducedData). entry_of ids d.row) found) x) h.is (into_map (λ (d : DeducedData). entry_of ids d.row) found h.item h.there);
-  once = rows_once rows found part.once;
+  once = some.once;
   least = all_from (λ d. IsLeastOf p E Counts d.support (entry_of ids d.row)) found (λ d c r f counts.
       let own = part.each d c in
       let h = all r (entry_of ids d.row) own.2 f counts in

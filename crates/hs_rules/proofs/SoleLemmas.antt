@@ -1,5 +1,5 @@
 -- Only candidates of slots.
-use Rattle.std.proofs.Common.{◌≡◌, refl, sym, ◌∙◌, ap, subst, ℕ, ◌<◌, List, [], ◌∷◌, ◌++◌, length, take, drop, map, get_or, slice_get, Some, arith, ◌⊎◌, inl, inr, Contains}
+use Rattle.std.proofs.Common.{◌≡◌, refl, sym, ◌∙◌, ap, subst, ℕ, ◌<◌, Bool, List, [], ◌∷◌, ◌++◌, length, take, drop, map, get_or, slice_get, Some, arith, ◌⊎◌, inl, inr, Contains}
 use Rattle.std.specs.List.{refill}
 use Rattle.std.proofs.Math.Seq.{take-append_seam}
 use Rattle.std.proofs.lemmas.List.{get_or-map, length-map}
@@ -87,12 +87,12 @@ sole_asked log j a (pick {x = x} {xs = xs} {place = place} {e = e} h k) s = elim
 ]
 
 -- These slots lead to the environments from one that asks for what the only candidates of all slots ask for.
-pub record LeadBySole (ids : InternerData) (log : List EntryData) (n : ℕ) (own : Env) (all fs : List FilledData) (found : List PartialData) : Type 0 where
+pub record LeadBySole (ids : InternerData) (log : List EntryData) (n : ℕ) (own : Env) (all fs : List FilledData) (whole : Bool) (found : List PartialData) : Type 0 where
   pub base : Env
   pub asks : IsWithSole log n own all base
-  pub joined : AreJoined ids log n base fs found
+  pub joined : AreJoined ids log n base fs whole found
 
-module _ (ids : InternerData) (log : List EntryData) (n : ℕ) (own : Env) (all fs : List FilledData) (found : List PartialData) (lead : LeadBySole ids log n own all fs found) where
+module _ (ids : InternerData) (log : List EntryData) (n : ℕ) (own : Env) (all fs : List FilledData) (whole : Bool) (found : List PartialData) (lead : LeadBySole ids log n own all fs whole found) where
   -- an only candidate's types are there already
   pub lead_sole : (later : List EntryData) (f : FilledData) → later ≡ log → Contains all f → HaveSole ids later found f
   lead_sole later f same among = λ x there place e alone at.
@@ -109,13 +109,13 @@ module _ (ids : InternerData) (log : List EntryData) (n : ℕ) (own : Env) (all 
           (j.has k a (subst (λ (m : ℕ). k < m) lead.asks.is_env.long (has_within lead.base k a base))).1 (inl base)
 
 -- where the choices are of all slots, they ask for what the only candidates ask for
-pub lead_all : (ids : InternerData) (log : List EntryData) (n : ℕ) (own : Env) (fs : List FilledData) (found : List PartialData) → LeadBySole ids log n own fs fs found → AreJoined ids log n own fs found
-lead_all ids log n own fs found lead = record {
+pub lead_all : (ids : InternerData) (log : List EntryData) (n : ℕ) (own : Env) (fs : List FilledData) (is : Bool) (found : List PartialData) → LeadBySole ids log n own fs fs is found → AreJoined ids log n own fs is found
+lead_all ids log n own fs is found lead = record {
   sound = λ x there.
       let s = lead.joined.sound x there in
       record { within = s.within; chosen = s.chosen; picked = s.picked; join = whole x.args s.chosen (env_of_id ids x.env) s.picked s.join };
-  all = λ args chosen picked.
-      let s = lead.joined.all args chosen picked in
+  all = λ is_whole args chosen picked.
+      let s = lead.joined.all is_whole args chosen picked in
       record { item = s.item; there = s.there; join = whole args chosen (env_of_id ids s.item.env) picked s.join; least = s.least };
   ascending = lead.joined.ascending;
 }

@@ -4,6 +4,7 @@
 --     IsShaped           the row's entry is in shape, so it may be added to a log
 --     AnySupport, Uses   the supports that count: all; those with a premise at the place
 --     IsLeastOf          no support that counts, by which the entry follows, has a lesser list of places
+--     AreSomeConclusions entries at a point that follow by a support that counts, each once, with one of these
 --     AreConclusions     just the entries at a point that follow by a support that counts, each once, with the least of these
 use Rattle.std.specs.Prelude.{◌≡◌, ◌≢◌, ℕ, List, map, All, AllPairs, Contains}
 use Rattle.hs_scheme.specs.Problem.{ProblemData}
@@ -32,6 +33,12 @@ Uses place s = Contains (premises s) place
 
 abbrev pub IsLeastOf : ProblemData → List EntryData → (Support → Type 0) → Support → EntryData → Type 0
 IsLeastOf p log Counts s e = (r : Support) → FollowsBy p log r e → Counts r → IsNoGreater (premises s) (premises r)
+
+pub record AreSomeConclusions (p : ProblemData) (ids : InternerData) (log : List EntryData) (point : ℕ) (Counts : Support → Type 0) (found : List DeducedData) : Type 0 where
+  pub deduced : All (IsDeduced p ids log) found
+  pub count : All (λ d. Counts d.support) found
+  pub at : All (λ d. d.row.point ≡ point) found
+  pub once : AllPairs (λ a b. a.row ≢ b.row) found
 
 pub record AreConclusions (p : ProblemData) (ids : InternerData) (log : List EntryData) (point : ℕ) (Counts : Support → Type 0) (found : List DeducedData) : Type 0 where
   pub deduced : All (IsDeduced p ids log) found

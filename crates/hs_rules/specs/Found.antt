@@ -8,6 +8,7 @@
 --     HasNoGreater      the row is there, by no greater support
 --     Lowers            what was found is there, by no greater supports
 --     IsRowOf, HasRow   rows for joined environments
+--     slots_of_head     the slots for the sets of the head's type
 --     HeadLeadsTo       the head's type leads to the environment, by these arguments
 --     IsDeducedBy       what is found comes of the head's type
 --     HasEnvFound       the environment is found, with the point and the type, by no greater support
@@ -21,7 +22,7 @@ use Rattle.hs_rules.specs.declared.joining.TheConstants.{FEW}
 use Rattle.hs_rules.specs.declared.search.Search.{Search}
 use Rattle.hs_rules.specs.Order.{IsNoGreater}
 use Rattle.hs_rules.specs.Conclusions.{DeducedData}
-use Rattle.hs_rules.specs.Slots.{Concludes}
+use Rattle.hs_rules.specs.Slots.{SlotData, slots, Concludes}
 use Rattle.hs_rules.specs.Filling.{fixed_of}
 use Rattle.hs_rules.specs.Joins.{PartialData}
 
@@ -77,6 +78,9 @@ pub record IsRowOf (point : ℕ) (h : HeadData) (partials : List PartialData) (d
 -- a row of this environment is there, by no greater support
 abbrev pub HasRow : ℕ → HeadData → PartialData → List DeducedData → Type 0
 HasRow point h x found = HasNoGreater found (record { point = point; env = x.env; ty = h.rest }) (record { head = h.by; args = x.args })
+
+abbrev pub slots_of_head : InternerData → List ℕ → HeadData → List SlotData
+slots_of_head ids args h = slots 0 args (map (set_of_id ids) h.sets)
 
 abbrev pub HeadLeadsTo : InternerData → List EntryData → SearchData → HeadData → List (ℕ × ℕ) → Env → Type 0
 HeadLeadsTo ids log s h args env =

@@ -12,8 +12,8 @@
 --     with_choice              a joined environment with one more place
 --     HaveSole                 joined environments ask for what a slot's only candidate asks for
 --     SoleAsks, IsWithSole     what slots' only candidates ask for; an environment with that
---     IsJoined, AreJoined      the environments that slots lead to
-use Rattle.std.specs.Prelude.{◌≡◌, ℕ, ◌<◌, List, [], ◌∷◌, ◌++◌, length, slice_get, slice_index_or, Option, Some, AllPairs, Contains, ◌⊎◌, ◌↔◌}
+--     IsJoined, AreJoined      environments that slots lead to, and all of them where they are whole
+use Rattle.std.specs.Prelude.{◌≡◌, ℕ, ◌<◌, Bool, IsTrue, List, [], ◌∷◌, ◌++◌, length, slice_get, slice_index_or, Option, Some, AllPairs, Contains, ◌⊎◌, ◌↔◌}
 use Rattle.hs_table.specs.Types.{TypeTree}
 use Rattle.hs_table.specs.Entries.{Env, EntryData, Has, IsEnv}
 use Rattle.hs_types.specs.Interned.{InternerData, env_of_id, IsUnionEnv}
@@ -156,7 +156,7 @@ pub record HasJoined (ids : InternerData) (n : ℕ) (own : Env) (args : List (�
   pub join : IsJoin n own chosen (env_of_id ids item.env)
   pub least : IsNoGreater (chosen_places item.args) (chosen_places args)
 
-pub record AreJoined (ids : InternerData) (log : List EntryData) (n : ℕ) (own : Env) (fs : List FilledData) (found : List PartialData) : Type 0 where
+pub record AreJoined (ids : InternerData) (log : List EntryData) (n : ℕ) (own : Env) (fs : List FilledData) (whole : Bool) (found : List PartialData) : Type 0 where
   pub sound : (x : PartialData) → Contains found x → IsJoined ids log n own fs x
-  pub all : (args : List (ℕ × ℕ)) (chosen : List EntryData) → Picked (λ f. f.arg) (FillsBy log) fs args chosen → HasJoined ids n own args chosen found
+  pub all : IsTrue whole → (args : List (ℕ × ℕ)) (chosen : List EntryData) → Picked (λ f. f.arg) (FillsBy log) fs args chosen → HasJoined ids n own args chosen found
   pub ascending : AreAscending found

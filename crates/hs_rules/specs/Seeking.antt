@@ -5,7 +5,8 @@
 --     AreHeadsFor           just the types of this head that are wanted
 --     CanGather             what the search for conclusions relies on
 --     ArePartFor, HasAllFor what is found so far; all that follows by a support of a kind is found
-use Rattle.std.specs.Prelude.{◌≡◌, ℕ, ◌<◌, List, length, take, slice_get, None, Some, All}
+--     HasAllOrMany          so it is, or more is found than the search asks for
+use Rattle.std.specs.Prelude.{◌≡◌, ℕ, ◌<◌, ◌≤◌, List, length, take, slice_get, None, Some, All}
 use Rattle.hs_scheme.specs.declared.term.Head.{Head}
 use Rattle.hs_scheme.specs.declared.term.Head.TheVariants.{Var, Nt, Tm}
 use Rattle.hs_scheme.specs.flow.Points.{PointData}
@@ -52,3 +53,6 @@ ArePartFor at log ids Counts found = ArePart at.problem.now ids (take at.search.
 
 abbrev pub HasAllFor : HeadSearch → List EntryData → InternerData → (Support → Type 0) → Found → Type 0
 HasAllFor at log ids Kind found = HasAll at.problem.now ids (take at.search.limit log) at.search.point Kind found.list.items
+
+abbrev pub HasAllOrMany : HeadSearch → List EntryData → InternerData → (Support → Type 0) → Found → Type 0
+HasAllOrMany at log ids Kind found = length found.list.items ≤ at.search.most → HasAllFor at log ids Kind found

@@ -1,10 +1,10 @@
 //! What follows at a point.
 
-ghost use Rattle.std.specs.Prelude.{◌≡◌, ◌+◌, ◌^◌, ◌<◌, [], ℕ, length, slice_get, take, Some, All, IfOk, OnOk};
+ghost use Rattle.std.specs.Prelude.{◌≡◌, ◌+◌, ◌^◌, ◌<◌, ◌≤◌, [], ℕ, length, slice_get, take, Some, All, IfOk, OnOk};
 ghost use Rattle.hs_scheme.specs.flow.Points.{point_at};
 ghost use Rattle.hs_table.specs.Entries.{InShape};
 ghost use Rattle.hs_types.specs.Interned.{Grows};
-ghost use Rattle.hs_rules.specs.Conclusions.{AnySupport, Uses, AreConclusions};
+ghost use Rattle.hs_rules.specs.Conclusions.{AnySupport, Uses, AreSomeConclusions, AreConclusions};
 ghost use Rattle.hs_rules.specs.Listed.{TellsAsMuch};
 ghost use Rattle.hs_rules.specs.Parts.{IsInRule};
 
@@ -65,6 +65,7 @@ pub fn conclusions(
         point,
         args: arguments(problem, point),
         limit,
+        most: usize::MAX,
         fixed: None,
     };
     let at = HeadSearch {
@@ -115,6 +116,7 @@ pub fn seed_conclusions(
         point,
         args,
         limit: 0,
+        most: usize::MAX,
         fixed: None,
     };
     let at = HeadSearch {
@@ -130,13 +132,77 @@ pub fn seed_conclusions(
     Ok(found.list)
 }
 
-/// Every entry at the point that follows from the log up to and with this place with the entry at
-/// the place as a premise, each once, with the support of this kind whose list of places is the least.
-/// The point is in range, the place is in the log, and the entries of the log are in shape.
+/// Entries at the point that follow from the log up to and with this place with the entry at the place as
+/// a premise, each once, with a support of this kind: all of them, each with the support whose list of
+/// places is the least, or some of them that are more than `most`. The point is in range, the place is in
+/// the log, and the entries of the log are in shape.
 ///
 /// Only the types of the point's head that want this entry are looked at: the entry is an argument
 /// of the point, a body of the nonterminal at its head, or one that may stand for the parameter
 /// there.
+///
+/// `most` may be any number; with `usize::MAX` all are found, and more than `most` may be many more. The
+/// search ends behind the type of the head with which there are more. For each type of the head environments
+/// are joined slot by slot: with c candidates for a slot no more than `most` + c of them are kept there, and
+/// each is united with each candidate for the next slot. Where no more than `most` conclusions come of that,
+/// and environments were left out at a slot, they are joined again with eight times as many for each slot. So
+/// beyond `most` is only a join whose first slots lead to many environments that later ones bring to few.
+/// After a refusal of memory the log stays, and the look-ups tell of as much as before or of more.
+pub fn conclusions_within(
+    alloc: Global,
+    problem: &Problem,
+    replica: &mut Replica,
+    point: u32,
+    place: u32,
+    most: usize,
+) -> Result<Vec<Deduced>, OutOfMemory>
+    requires point { point < length problem.now.points.points }
+    requires place { place < length replica.old.log }
+    requires shape { All (InShape problem.now) replica.old.log }
+    ensures some { IfOk result (λ found.
+        AreSomeConclusions problem.now replica.new.ids (take (place + 1) replica.old.log) point
+        (Uses place) found.items) }
+    ensures all { IfOk result (λ found. length found.items ≤ most →
+        AreConclusions problem.now replica.new.ids (take (place + 1) replica.old.log) point
+        (Uses place) found.items) }
+    ensures log { replica.new.log ≡ replica.old.log }
+    ensures spare { replica.new.spare ≡ replica.old.spare }
+    ensures grows { Grows replica.old.ids replica.new.ids }
+    ensures whole { OnOk result (replica.new.indexed ≡ length replica.new.log) }
+    ensures listed { TellsAsMuch replica.old replica.new }
+{
+    replica.index()?;
+    let _ = replica.len();
+    let points = &problem.points;
+    let rule = points.rule_of(point);
+    let head = points.head_of(point);
+    let search = Search {
+        alloc,
+        point,
+        args: arguments(problem, point),
+        limit: place + 1,
+        most,
+        fixed: None,
+    };
+    let at = HeadSearch {
+        problem,
+        rule,
+        params: parameters(problem, rule),
+        head,
+        search,
+    };
+    let mut found = none_found(alloc);
+    add_with(&at, replica, place, &mut found)?;
+    replica.interner().know_numbers();
+    Ok(found.list)
+}
+
+/// Every entry at the point that follows from the log up to and with this place with the entry at
+/// the place as a premise, each once, with the support of this kind whose list of places is the least.
+/// The point is in range, the place is in the log, and the entries of the log are in shape.
+///
+/// That is `conclusions_within` without a bound: time and memory are in what follows, and in what is joined
+/// for it.
 pub fn conclusions_with(
     alloc: Global,
     problem: &Problem,
@@ -156,27 +222,5 @@ pub fn conclusions_with(
     ensures whole { OnOk result (replica.new.indexed ≡ length replica.new.log) }
     ensures listed { TellsAsMuch replica.old replica.new }
 {
-    replica.index()?;
-    let _ = replica.len();
-    let points = &problem.points;
-    let rule = points.rule_of(point);
-    let head = points.head_of(point);
-    let search = Search {
-        alloc,
-        point,
-        args: arguments(problem, point),
-        limit: place + 1,
-        fixed: None,
-    };
-    let at = HeadSearch {
-        problem,
-        rule,
-        params: parameters(problem, rule),
-        head,
-        search,
-    };
-    let mut found = none_found(alloc);
-    add_with(&at, replica, place, &mut found)?;
-    replica.interner().know_numbers();
-    Ok(found.list)
+    conclusions_within(alloc, problem, replica, point, place, usize::MAX)
 }

@@ -1,20 +1,21 @@
 //! What is found, and what the types of a head lead to.
 
-ghost use Rattle.std.specs.Prelude.{◌≡◌, ◌<◌, ◌≤◌, ◌++◌, ◌∷◌, ◌⊎◌, [], ℕ, List, length, map, take, Contains, MatchOption, OnOk};
+ghost use Rattle.std.specs.Prelude.{◌≡◌, ◌<◌, ◌≤◌, ◌++◌, ◌∷◌, ◌⊎◌, [], ℕ, List, length, map, take, Contains, IfOk, MatchOption, OnOk};
+ghost use Rattle.std.specs.Bool.{OnTrue};
 ghost use Rattle.hs_table.specs.Entries.{Env};
 ghost use Rattle.hs_table.specs.Follows.{premises};
-ghost use Rattle.hs_types.specs.Interned.{env_of_id};
+ghost use Rattle.hs_types.specs.Interned.{env_of_id, set_of_id};
 ghost use Rattle.hs_replica.specs.Replica.{KeepsLog};
 ghost use Rattle.hs_rules.specs.Order.{IsNoGreater};
 ghost use Rattle.hs_rules.specs.Conclusions.{DeducedData};
-ghost use Rattle.hs_rules.specs.Filling.{CanSearch};
+ghost use Rattle.hs_rules.specs.Filling.{CanSearch, fixed_of, AreFilled};
 ghost use Rattle.hs_rules.specs.Joins.{PartialData};
-ghost use Rattle.hs_rules.specs.Found.{HeadData, seek, HasKnownNumbers, HaveEnvs, RowsAre, HasRowAt, HasNoGreater, Lowers, IsRowOf, HasRow, HeadLeadsTo, IsDeducedBy, HasEnvFound};
+ghost use Rattle.hs_rules.specs.Found.{HeadData, seek, HasKnownNumbers, HaveEnvs, RowsAre, HasRowAt, HasNoGreater, Lowers, IsRowOf, HasRow, slots_of_head, HeadLeadsTo, IsDeducedBy, HasEnvFound};
 
 use crate::deduced::Deduced;
 use crate::joining::{FEW, Partial, PartialList, joined};
 use crate::order::compare;
-use crate::search::{Search, Slots, fill};
+use crate::search::{Filled, Search, Slots, fill};
 use hs_replica::Replica;
 use hs_scheme::OutOfMemory;
 use hs_table::HeadBy;
@@ -243,8 +244,94 @@ fn add_all(
     Ok(())
 }
 
-/// Adds what one type of the head leads to. Its slots and their environments are listed in the two lists,
-/// whatever was there.
+/// How often the environments of a head's type are joined, at most.
+const STEPS: usize = 22;
+
+/// By what the number of environments that are joined for a slot grows from one time to the next.
+const GROWTH: usize = 8;
+
+/// Adds what one type of the head leads to with these slots, and answers whether that is all, as it is where
+/// no slot leads to more than `most` environments. They are listed in the list, whatever was there.
+fn conclude_some(
+    replica: &mut Replica,
+    search: &Search,
+    head: &HeadType,
+    slots: &[Filled],
+    most: usize,
+    partials: &mut PartialList,
+    found: &mut Found,
+) -> Result<bool, OutOfMemory>
+    requires search { CanSearch replica.old search.now.args.now search.now.limit search.now.fixed }
+    requires head { HasKnownNumbers replica.old.ids search.now.args.now head.now }
+    requires envs { HaveEnvs (take search.now.limit replica.old.log) search.now.args.now
+        (length (env_of_id replica.old.ids head.now.own)) }
+    requires filled { AreFilled (take search.now.limit replica.old.log)
+        (fixed_of replica.old.log search.now.fixed)
+        (slots_of_head replica.old.ids search.now.args.now head.now) slots.now }
+    requires rows { RowsAre found.old.rows.keys found.old.list.items }
+    ensures rows { OnOk result (RowsAre found.new.rows.keys found.new.list.items) }
+    ensures lowers { OnOk result (Lowers found.old.list.items found.new.list.items) }
+    ensures only { OnOk result ((d : DeducedData) → Contains found.new.list.items d
+        → Contains found.old.list.items d
+        ⊎ IsDeducedBy replica.old.ids replica.new.ids replica.old.log (seek search.now) head.now d) }
+    ensures all { IfOk result (λ whole. OnTrue whole ((args : List (ℕ × ℕ)) (env : Env)
+        → HeadLeadsTo replica.old.ids replica.old.log (seek search.now) head.now args env →
+        HasEnvFound replica.new.ids (seek search.now) head.now args env found.new.list.items)) }
+    ensures kept { KeepsLog replica.old replica.new }
+{
+    partials.clear();
+    let whole = joined(search.alloc, replica, head.own, slots, most, partials)?;
+    let joins = partials.as_slice();
+    add_all(search.alloc, found, search.point, head, joins)?;
+    Ok(whole)
+}
+
+/// Adds what one type of the head leads to with these slots, or so much of it that more than the search asks
+/// for is found. The environments are listed in the list, whatever was there.
+///
+/// They are joined again, with `GROWTH` times as many for each slot, where no more conclusions come of those
+/// that were joined. The last of the `STEPS` times asks for 2^63 of them or more, which is more than a list
+/// can hold, so the answer behind the loop never comes; where none is asked for, the first time finds one.
+fn conclude_filled(
+    replica: &mut Replica,
+    search: &Search,
+    head: &HeadType,
+    slots: &[Filled],
+    partials: &mut PartialList,
+    found: &mut Found,
+) -> Result<(), OutOfMemory>
+    requires search { CanSearch replica.old search.now.args.now search.now.limit search.now.fixed }
+    requires head { HasKnownNumbers replica.old.ids search.now.args.now head.now }
+    requires envs { HaveEnvs (take search.now.limit replica.old.log) search.now.args.now
+        (length (env_of_id replica.old.ids head.now.own)) }
+    requires filled { AreFilled (take search.now.limit replica.old.log)
+        (fixed_of replica.old.log search.now.fixed)
+        (slots_of_head replica.old.ids search.now.args.now head.now) slots.now }
+    requires rows { RowsAre found.old.rows.keys found.old.list.items }
+    ensures rows { OnOk result (RowsAre found.new.rows.keys found.new.list.items) }
+    ensures lowers { OnOk result (Lowers found.old.list.items found.new.list.items) }
+    ensures only { OnOk result ((d : DeducedData) → Contains found.new.list.items d
+        → Contains found.old.list.items d
+        ⊎ IsDeducedBy replica.old.ids replica.new.ids replica.old.log (seek search.now) head.now d) }
+    ensures all { OnOk result (length found.new.list.items ≤ search.now.most
+        → (args : List (ℕ × ℕ)) (env : Env)
+        → HeadLeadsTo replica.old.ids replica.old.log (seek search.now) head.now args env →
+        HasEnvFound replica.new.ids (seek search.now) head.now args env found.new.list.items) }
+    ensures kept { KeepsLog replica.old replica.new }
+{
+    let mut most = search.most;
+    for _ in 0..STEPS {
+        let whole = conclude_some(replica, search, head, slots, most, partials, found)?;
+        if whole || found.list.len() > search.most {
+            return Ok(());
+        }
+        most = most.saturating_mul(GROWTH);
+    }
+    Err(OutOfMemory)
+}
+
+/// Adds what one type of the head leads to, or so much of it that more than the search asks for is found.
+/// Its slots and their environments are listed in the two lists, whatever was there.
 fn conclude(
     replica: &mut Replica,
     search: &Search,
@@ -263,25 +350,23 @@ fn conclude(
     ensures only { OnOk result ((d : DeducedData) → Contains found.new.list.items d
         → Contains found.old.list.items d
         ⊎ IsDeducedBy replica.old.ids replica.new.ids replica.old.log (seek search.now) head.now d) }
-    ensures all { OnOk result ((args : List (ℕ × ℕ)) (env : Env)
+    ensures all { OnOk result (length found.new.list.items ≤ search.now.most
+        → (args : List (ℕ × ℕ)) (env : Env)
         → HeadLeadsTo replica.old.ids replica.old.log (seek search.now) head.now args env →
         HasEnvFound replica.new.ids (seek search.now) head.now args env found.new.list.items) }
     ensures kept { KeepsLog replica.old replica.new }
 {
     slots.clear();
-    partials.clear();
     let sets = head.sets.as_slice();
     let complete = fill(replica, search, sets, slots)?;
     if !complete {
         return Ok(());
     }
     let filled = slots.as_slice();
-    joined(search.alloc, replica, head.own, filled, partials)?;
-    let joins = partials.as_slice();
-    add_all(search.alloc, found, search.point, head, joins)
+    conclude_filled(replica, search, head, filled, partials, found)
 }
 
-/// Adds what these types of the head lead to.
+/// Adds what these types of the head lead to, or so much of it that more than the search asks for is found.
 pub(crate) fn conclude_all(
     replica: &mut Replica,
     search: &Search,
@@ -301,7 +386,8 @@ pub(crate) fn conclude_all(
         → Contains found.old.list.items d
         ⊎ ((h : HeadData) × Contains heads.now h
         × IsDeducedBy replica.old.ids replica.new.ids replica.old.log (seek search.now) h d)) }
-    ensures all { OnOk result ((h : HeadData) → Contains heads.now h → (args : List (ℕ × ℕ)) (env : Env) →
+    ensures all { OnOk result (length found.new.list.items ≤ search.now.most
+        → (h : HeadData) → Contains heads.now h → (args : List (ℕ × ℕ)) (env : Env) →
         HeadLeadsTo replica.old.ids replica.old.log (seek search.now) h args env →
         HasEnvFound replica.new.ids (seek search.now) h args env found.new.list.items) }
     ensures kept { KeepsLog replica.old replica.new }
@@ -310,6 +396,9 @@ pub(crate) fn conclude_all(
     let mut partials = SmallVec::new(search.alloc);
     for head in heads {
         conclude(replica, search, head, &mut slots, &mut partials, found)?;
+        if found.list.len() > search.most {
+            return Ok(());
+        }
     }
     Ok(())
 }

@@ -1,4 +1,4 @@
-//! Conclusions by the kinds of their supports.
+//! Conclusions by the kinds of their supports: all of a kind, or more than the search asks for.
 
 ghost use Rattle.std.specs.Prelude.{◌≡◌, ◌<◌, ◌∷◌, [], ℕ, IfOk, MatchOption, OnOk, length, take};
 ghost use Rattle.std.specs.Bool.{OnFalse};
@@ -9,7 +9,7 @@ ghost use Rattle.hs_replica.specs.Replica.{ListsMore, KeepsLog};
 ghost use Rattle.hs_rules.specs.Conclusions.{AnySupport, Uses};
 ghost use Rattle.hs_rules.specs.Found.{Lowers};
 ghost use Rattle.hs_rules.specs.Parts.{UsesArgument, IsOnlyPlaceOf};
-ghost use Rattle.hs_rules.specs.Seeking.{CanGather, ArePartFor, HasAllFor};
+ghost use Rattle.hs_rules.specs.Seeking.{CanGather, ArePartFor, HasAllOrMany};
 
 use crate::found::{Found, conclude_all};
 use crate::head_search::{AskedType, HeadSearch};
@@ -45,7 +45,8 @@ fn add_by_argument(
     requires part { ArePartFor at.now replica.old.log replica.old.ids (Uses place) found.old }
     ensures part { OnOk result (ArePartFor at.now replica.old.log replica.new.ids (Uses place) found.new) }
     ensures lowers { OnOk result (Lowers found.old.list.items found.new.list.items) }
-    ensures all { OnOk result (HasAllFor at.now replica.old.log replica.new.ids (UsesArgument place) found.new) }
+    ensures all { OnOk result (HasAllOrMany at.now replica.old.log replica.new.ids (UsesArgument place)
+        found.new) }
     ensures kept { KeepsLog replica.old replica.new }
 {
     let problem = at.problem;
@@ -95,7 +96,7 @@ fn add_from_head(
     requires part { ArePartFor at.now replica.old.log replica.old.ids (Uses place) found.old }
     ensures part { OnOk result (ArePartFor at.now replica.old.log replica.new.ids (Uses place) found.new) }
     ensures lowers { OnOk result (Lowers found.old.list.items found.new.list.items) }
-    ensures all { OnOk result (HasAllFor at.now replica.old.log replica.new.ids
+    ensures all { OnOk result (HasAllOrMany at.now replica.old.log replica.new.ids
         (λ s. head_premise s.head ≡ place ∷ []) found.new) }
     ensures kept { KeepsLog replica.old replica.new }
 {
@@ -116,7 +117,7 @@ fn add_by_head(
     requires part { ArePartFor at.now replica.old.log replica.old.ids (Uses place) found.old }
     ensures part { OnOk result (ArePartFor at.now replica.old.log replica.new.ids (Uses place) found.new) }
     ensures lowers { OnOk result (Lowers found.old.list.items found.new.list.items) }
-    ensures all { OnOk result (HasAllFor at.now replica.old.log replica.new.ids
+    ensures all { OnOk result (HasAllOrMany at.now replica.old.log replica.new.ids
         (λ s. head_premise s.head ≡ place ∷ []) found.new) }
     ensures kept { KeepsLog replica.old replica.new }
 {
@@ -138,10 +139,13 @@ pub(crate) fn add_with(
     requires place { place < at.now.search.limit }
     requires part { ArePartFor at.now replica.old.log replica.old.ids (Uses place) found.old }
     ensures part { OnOk result (ArePartFor at.now replica.old.log replica.new.ids (Uses place) found.new) }
-    ensures all { OnOk result (HasAllFor at.now replica.old.log replica.new.ids (Uses place) found.new) }
+    ensures all { OnOk result (HasAllOrMany at.now replica.old.log replica.new.ids (Uses place) found.new) }
     ensures kept { KeepsLog replica.old replica.new }
 {
     add_by_head(at, replica, place, found)?;
+    if found.list.len() > at.search.most {
+        return Ok(());
+    }
     add_by_argument(at, replica, place, found)
 }
 
@@ -154,7 +158,7 @@ pub(crate) fn add_all(
     requires can { CanGather replica.old at.now }
     requires part { ArePartFor at.now replica.old.log replica.old.ids AnySupport found.old }
     ensures part { OnOk result (ArePartFor at.now replica.old.log replica.new.ids AnySupport found.new) }
-    ensures all { OnOk result (HasAllFor at.now replica.old.log replica.new.ids AnySupport found.new) }
+    ensures all { OnOk result (HasAllOrMany at.now replica.old.log replica.new.ids AnySupport found.new) }
     ensures kept { KeepsLog replica.old replica.new }
 {
     let mut heads = SmallVec::new(at.search.alloc);
@@ -172,7 +176,7 @@ pub(crate) fn add_seeds(
     requires none { at.now.search.limit ≡ 0 }
     requires part { ArePartFor at.now replica.old.log replica.old.ids AnySupport found.old }
     ensures part { OnOk result (ArePartFor at.now replica.old.log replica.new.ids AnySupport found.new) }
-    ensures all { OnOk result (HasAllFor at.now replica.old.log replica.new.ids AnySupport found.new) }
+    ensures all { OnOk result (HasAllOrMany at.now replica.old.log replica.new.ids AnySupport found.new) }
     ensures kept { KeepsLog replica.old replica.new }
 {
     let mut heads = SmallVec::new(at.search.alloc);

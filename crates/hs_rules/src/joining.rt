@@ -1,13 +1,13 @@
 //! Environments joined slot by slot.
 
-ghost use Rattle.std.specs.Prelude.{◌≡◌, ◌<◌, ◌++◌, ◌∷◌, ◌⊎◌, [], ℕ, length, map, slice_get, Some, Contains, IfOk, IfSome, OnOk};
+ghost use Rattle.std.specs.Prelude.{◌≡◌, ◌&&◌, ◌<◌, ◌++◌, ◌∷◌, ◌⊎◌, [], ℕ, length, map, slice_get, Some, Contains, IfOk, IfSome, IsTrue, OnOk};
 ghost use Rattle.std.specs.List.Sorted.{IsStrictlyIncreasing};
 ghost use Rattle.hs_table.specs.Entries.{EntryData, IsEnv};
 ghost use Rattle.hs_types.specs.Interned.{env_of_id};
 ghost use Rattle.hs_replica.specs.Masks.{IsUnionMask};
 ghost use Rattle.hs_replica.specs.Replica.{KeepsLog};
 ghost use Rattle.hs_rules.specs.Slots.{FilledData};
-ghost use Rattle.std.specs.Bool.{OnTrue};
+ghost use Rattle.std.specs.Bool.{OnFalse, OnTrue};
 ghost use Rattle.hs_rules.specs.Order.{chosen_places, IsNoGreater};
 ghost use Rattle.hs_rules.specs.Joins.{PartialData, FillsBy, IsPlaced, ArePlaced, AreMasksOf, MetForSlot, AreGathered, JoinsOne, SeenAre, AreAscending, ComeBefore, AreAsLong, IsMade, IsMadeOf, IsAmongJoined, CanFill, HaveSole, IsWithSole, with_choice, AreJoined};
 
@@ -288,7 +288,8 @@ fn extend(
     Ok(())
 }
 
-/// Adds what comes of each environment and each candidate for a slot. Where the candidates have masks, these
+/// Adds what comes of each environment and each candidate for a slot, and answers whether that is all: it
+/// ends behind the environment with which there are more than `most`. Where the candidates have masks, these
 /// are given.
 fn extend_all(
     alloc: Global,
@@ -296,8 +297,9 @@ fn extend_all(
     partials: &[Partial],
     slot: &Filled,
     masks: &[u128],
+    most: usize,
     out: &mut Partials,
-) -> Result<(), OutOfMemory>
+) -> Result<bool, OutOfMemory>
     requires can { CanFill replica.old.ids replica.old.log partials.now slot.now }
     requires rises { IsStrictlyIncreasing slot.now.places }
     requires masks { AreMasksOf replica.old.ids replica.old.log slot.now masks.now }
@@ -309,24 +311,31 @@ fn extend_all(
     ensures ascending { OnOk result (AreAscending out.new.list.items) }
     ensures only { OnOk result ((x : PartialData) → Contains out.new.list.items x →
         IsMadeOf replica.old.ids replica.new.ids replica.old.log partials.now slot.now x) }
-    ensures all { OnOk result ((from : PartialData) → Contains partials.now from →
+    ensures all { IfOk result (λ whole. OnTrue whole
+        ((from : PartialData) → Contains partials.now from →
         (place : ℕ) (e : EntryData) → FillsBy replica.old.log slot.now place e →
-        IsAmongJoined replica.old.ids replica.new.ids from place e out.new.list.items) }
+        IsAmongJoined replica.old.ids replica.new.ids from place e out.new.list.items)) }
+    ensures more { IfOk result (λ whole. OnFalse whole (most < length out.new.list.items)) }
     ensures kept { KeepsLog replica.old replica.new }
 {
     for partial in partials {
         extend(alloc, replica, partial, slot, masks, out)?;
+        if out.list.len() > most {
+            return Ok(false);
+        }
     }
-    Ok(())
+    Ok(true)
 }
 
-/// Puts what comes of each environment and each candidate for a slot in the place of the environments.
+/// Puts what comes of each environment and each candidate for a slot in the place of the environments, and
+/// answers whether that is all, as it is where there are no more than `most`.
 fn extended(
     alloc: Global,
     replica: &mut Replica,
     slot: &Filled,
+    most: usize,
     partials: &mut PartialList,
-) -> Result<(), OutOfMemory>
+) -> Result<bool, OutOfMemory>
     requires can { CanFill replica.old.ids replica.old.log partials.old.items slot.now }
     requires rises { IsStrictlyIncreasing slot.now.places }
     requires ascending { AreAscending partials.old.items }
@@ -334,9 +343,11 @@ fn extended(
     ensures ascending { OnOk result (AreAscending partials.new.items) }
     ensures only { OnOk result ((x : PartialData) → Contains partials.new.items x →
         IsMadeOf replica.old.ids replica.new.ids replica.old.log partials.old.items slot.now x) }
-    ensures all { OnOk result ((from : PartialData) → Contains partials.old.items from →
+    ensures all { IfOk result (λ whole. OnTrue whole
+        ((from : PartialData) → Contains partials.old.items from →
         (place : ℕ) (e : EntryData) → FillsBy replica.old.log slot.now place e →
-        IsAmongJoined replica.old.ids replica.new.ids from place e partials.new.items) }
+        IsAmongJoined replica.old.ids replica.new.ids from place e partials.new.items)) }
+    ensures more { IfOk result (λ whole. OnFalse whole (most < length partials.new.items)) }
     ensures kept { KeepsLog replica.old replica.new }
 {
     let count = partials.len();
@@ -347,16 +358,17 @@ fn extended(
         seen: IndexSet::new(alloc),
         met: Met::new(alloc),
     };
-    extend_all(
+    let whole = extend_all(
         alloc,
         replica,
         partials.as_slice(),
         slot,
         masks.as_slice(),
+        most,
         &mut out,
     )?;
     *partials = out.list;
-    Ok(())
+    Ok(whole)
 }
 
 /// Adds a slot's only candidate to the choice of each environment.
@@ -369,14 +381,16 @@ fn choose_sole(partials: &mut [Partial], arg: u32, place: u32) -> Result<(), Out
     Ok(())
 }
 
-/// Puts what comes of each environment and each candidate for a slot in the place of the environments. What
-/// a slot's only candidate asks for, they ask for before.
+/// Puts what comes of each environment and each candidate for a slot in the place of the environments, and
+/// answers whether that is all, as it is where there are no more than `most`. What a slot's only candidate
+/// asks for, they ask for before.
 fn join_slot(
     alloc: Global,
     replica: &mut Replica,
     slot: &Filled,
+    most: usize,
     partials: &mut PartialList,
-) -> Result<(), OutOfMemory>
+) -> Result<bool, OutOfMemory>
     requires can { CanFill replica.old.ids replica.old.log partials.old.items slot.now }
     requires sole { HaveSole replica.old.ids replica.old.log partials.old.items slot.now }
     requires rises { IsStrictlyIncreasing slot.now.places }
@@ -385,16 +399,19 @@ fn join_slot(
     ensures ascending { OnOk result (AreAscending partials.new.items) }
     ensures only { OnOk result ((x : PartialData) → Contains partials.new.items x →
         IsMadeOf replica.old.ids replica.new.ids replica.old.log partials.old.items slot.now x) }
-    ensures all { OnOk result ((from : PartialData) → Contains partials.old.items from →
+    ensures all { IfOk result (λ whole. OnTrue whole
+        ((from : PartialData) → Contains partials.old.items from →
         (place : ℕ) (e : EntryData) → FillsBy replica.old.log slot.now place e →
-        IsAmongJoined replica.old.ids replica.new.ids from place e partials.new.items) }
+        IsAmongJoined replica.old.ids replica.new.ids from place e partials.new.items)) }
+    ensures more { IfOk result (λ whole. OnFalse whole (most < length partials.new.items)) }
     ensures kept { KeepsLog replica.old replica.new }
 {
     let places = slot.places.as_slice();
     if places.len() == 1 {
-        return choose_sole(partials.as_mut_slice(), slot.arg, places[0]);
+        choose_sole(partials.as_mut_slice(), slot.arg, places[0])?;
+        return Ok(true);
     }
-    extended(alloc, replica, slot, partials)
+    extended(alloc, replica, slot, most, partials)
 }
 
 /// The environment that asks for what the head's own and the only candidates of slots ask for.
@@ -421,28 +438,39 @@ fn own_with_sole(replica: &mut Replica, own: EnvId, slots: &[Filled]) -> Result<
     Ok(env)
 }
 
-/// Adds the environments that the slots lead to from the head's own, each once, with the choice of
-/// candidates that has the least list of places.
+/// Whether both hold.
+fn both(first: bool, second: bool) -> bool
+    ensures { result ≡ first && second }
+{
+    first && second
+}
+
+/// Adds environments that the slots lead to from the head's own, each once, with the choice of candidates
+/// that has the least list of places, and answers whether these are all. They are but where a slot leads to
+/// more than `most`, as `join_slot` has it; then just some of these are carried on to the next slot.
 ///
-/// Slot by slot, so that time is in the number of distinct environments and the candidates, and not
-/// in the number of choices. A slot's only candidate is in each choice, so these are joined first, once
-/// for all choices. The choices are met in ascending order, so the first one that leads to an environment
-/// is its least one.
+/// Slot by slot, so that time is in the number of distinct environments and the candidates, and not in the
+/// number of choices. With c candidates for a slot no more than `most` + c environments are kept there, and
+/// each of them is united with each candidate for the next. A slot's only candidate is in each choice, so
+/// these are joined first, once for all choices. The choices are met in ascending order, so the first one
+/// that leads to an environment is its least one.
 pub(crate) fn joined(
     alloc: Global,
     replica: &mut Replica,
     own: EnvId,
     slots: &[Filled],
+    most: usize,
     out: &mut PartialList,
-) -> Result<(), OutOfMemory>
+) -> Result<bool, OutOfMemory>
     requires own { own < length replica.old.ids.envs }
     requires is_env { IsEnv (length (env_of_id replica.old.ids own)) (env_of_id replica.old.ids own) }
     requires placed { (f : FilledData) → Contains slots.now f
         → ArePlaced replica.old.log (length (env_of_id replica.old.ids own)) f }
     requires rise { (f : FilledData) → Contains slots.now f → IsStrictlyIncreasing f.places }
     requires none { out.old.items ≡ [] }
-    ensures joined { OnOk result (AreJoined replica.new.ids replica.old.log
-        (length (env_of_id replica.old.ids own)) (env_of_id replica.old.ids own) slots.now out.new.items) }
+    ensures joined { IfOk result (λ whole. AreJoined replica.new.ids replica.old.log
+        (length (env_of_id replica.old.ids own)) (env_of_id replica.old.ids own) slots.now whole
+        out.new.items) }
     ensures kept { KeepsLog replica.old replica.new }
 {
     let env = own_with_sole(replica, own, slots)?;
@@ -451,8 +479,10 @@ pub(crate) fn joined(
         env,
         args: SmallVec::new(alloc),
     });
+    let mut whole = true;
     for slot in slots {
-        join_slot(alloc, replica, slot, out)?;
+        let all = join_slot(alloc, replica, slot, most, out)?;
+        whole = both(whole, all);
     }
-    Ok(())
+    Ok(whole)
 }

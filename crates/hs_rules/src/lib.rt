@@ -20,6 +20,6 @@ mod sources;
 mod terminals;
 
 pub use deduced::{Deduced, deduced_entries_are_in_shape};
-pub use following::{conclusions, conclusions_with, seed_conclusions};
+pub use following::{conclusions, conclusions_with, conclusions_within, seed_conclusions};
 pub use hs_replica::Replica;
 pub use order::compare as compare_supports;

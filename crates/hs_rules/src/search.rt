@@ -25,14 +25,15 @@ pub(crate) struct Fixed {
     pub(crate) place: u32,
 }
 
-/// A point with the points of its arguments, and how many places of the log count, from the first. What is
-/// listed there is allocated so.
+/// A point with the points of its arguments, how many places of the log count, from the first, and how many
+/// conclusions are asked for: the search may end once more are found. What is listed there is allocated so.
 #[derive(Clone, Copy)]
 pub(crate) struct Search<'a> {
     pub(crate) alloc: Global,
     pub(crate) point: u32,
     pub(crate) args: &'a [u32],
     pub(crate) limit: u32,
+    pub(crate) most: usize,
     pub(crate) fixed: Option<Fixed>,
 }
 

@@ -25,7 +25,7 @@ returns-clause-found c =
     let le : length log ≤ c.len-limit.result = omega (arith, c.len-limit.ensures.len) in
     let whole = take_all c.len-limit.result log le ∙ ap (λ (r : ReplicaData). r.log) c.in_ok-index.ensures.kept in
     subst (λ (E : List EntryData). AreConclusions p K E c.args.point AnySupport found) whole
-    (part_conclusions p K (take c.len-limit.result log) c.args.point AnySupport c.add_all.new.found.rows.keys found (subst (λ (I : InternerData). IsInterner I) c.interner.ensures c.know_numbers.ensures) c.in_ok-add_all.ensures.part c.in_ok-add_all.ensures.all)
+    (part_conclusions p K (take c.len-limit.result log) c.args.point AnySupport c.add_all.new.found.rows.keys found (subst (λ (I : InternerData). IsInterner I) c.interner.ensures c.know_numbers.ensures) c.in_ok-add_all.ensures.part (c.in_ok-add_all.ensures.all (omega (arith, c.add_all.new.found.list.ok.0))))
 
 pub returns-in_err-index-clause-log : goal.returns-in_err-index-clause-log
 returns-in_err-index-clause-log c = ap (λ (r : ReplicaData). r.log) c.index.ensures.kept

@@ -13,7 +13,7 @@ use Rattle.hs_rules.proofs.following.seed_conclusions.Goals as goal
 
 pub returns-clause-found : goal.returns-clause-found
 returns-clause-found c =
-    part_conclusions c.args.problem.now c.add_seeds.new.replica.ids [] c.args.point AnySupport c.add_seeds.new.found.rows.keys c.add_seeds.new.found.list.items (subst (λ (I : InternerData). IsInterner I) c.interner-2.ensures c.know_numbers-2.ensures) c.in_ok-add_seeds.ensures.part c.in_ok-add_seeds.ensures.all
+    part_conclusions c.args.problem.now c.add_seeds.new.replica.ids [] c.args.point AnySupport c.add_seeds.new.found.rows.keys c.add_seeds.new.found.list.items (subst (λ (I : InternerData). IsInterner I) c.interner-2.ensures c.know_numbers-2.ensures) c.in_ok-add_seeds.ensures.part (c.in_ok-add_seeds.ensures.all (omega (arith, c.add_seeds.new.found.list.ok.0)))
 
 pub returns-then-starts_nothing-clause-found : goal.returns-then-starts_nothing-clause-found
 returns-then-starts_nothing-clause-found c =

@@ -1,16 +1,15 @@
-use Rattle.std.proofs.Common.{sym, ◌∙◌, ap, subst, ℕ, ◌<◌, List, ◌⊎◌, length, All, map, take, inl, inr, Contains}
+use Rattle.std.proofs.Common.{sym, ◌∙◌, ap, subst, ℕ, ◌<◌, ◌≤◌, List, ◌⊎◌, length, All, map, take, inl, OnOk, Contains}
 use Rattle.std.proofs.lemmas.Bool.{OnTrue_at, OnFalse_at}
-use Rattle.hs_table.specs.Entries.{Env, IsEnv}
+use Rattle.hs_table.specs.Entries.{Env}
 use Rattle.hs_types.specs.Interned.{set_of_id, env_of_id}
 use Rattle.hs_rules.specs.Conclusions.{DeducedData}
 use Rattle.hs_rules.specs.Slots.{slots, FilledData}
 use Rattle.hs_rules.specs.Filling.{fixed_of, AreFilled}
 use Rattle.hs_rules.specs.Shut.{AreShut}
-use Rattle.hs_rules.specs.Joins.{PartialData, ArePlaced, AreJoined}
-use Rattle.hs_rules.specs.Found.{HeadData, seek, IsRowOf, HasRow, HeadLeadsTo, IsDeducedBy, HasEnvFound}
+use Rattle.hs_rules.specs.Found.{HeadData, HasKnownNumbers, HaveEnvs, seek, slots_of_head, HeadLeadsTo, IsDeducedBy, HasEnvFound}
 use Rattle.hs_rules.proofs.KeepLemmas.{keeps_then, as_before, as_then, lists_keep}
-use Rattle.hs_rules.proofs.Lists.{on_ok_map}
-use Rattle.hs_rules.proofs.FoundLemmas.{lowers_none, filled_rise, filled_placed, rows_conclude, conclude_rows}
+use Rattle.hs_rules.proofs.PartLemmas.{can_search_later}
+use Rattle.hs_rules.proofs.FoundLemmas.{lowers_none}
 use Rattle.hs_rules.proofs.found.conclude.Goals as goal
 
 pub fill-requires-clause-search : goal.fill-requires-clause-search
@@ -25,9 +24,6 @@ fill-requires-clause-long c = ap (λ (xs : List ℕ). length xs) (c.as_slice-set
 pub fill-requires-clause-none : goal.fill-requires-clause-none
 fill-requires-clause-none c = c.clear.ensures.items
 
-pub joined-requires-clause-none : goal.joined-requires-clause-none
-joined-requires-clause-none c = c.clear-2.ensures.items
-
 pub returns-in_err-complete-clause-kept : goal.returns-in_err-complete-clause-kept
 returns-in_err-complete-clause-kept c = lists_keep c.args.replica.now c.fill.new.replica c.fill.ensures.kept
 
@@ -41,7 +37,7 @@ pub returns-then-not-complete-clause-only : goal.returns-then-not-complete-claus
 returns-then-not-complete-clause-only c = λ d there. inl there
 
 pub returns-then-not-complete-clause-all : goal.returns-then-not-complete-clause-all
-returns-then-not-complete-clause-all c = λ args env leads.
+returns-then-not-complete-clause-all c = λ few args env leads.
     let ids = c.args.replica.now.ids in
     let log = c.args.replica.now.log in
     let s = seek c.args.search.now in
@@ -52,91 +48,43 @@ returns-then-not-complete-clause-all c = λ args env leads.
 pub returns-then-not-complete-clause-kept : goal.returns-then-not-complete-clause-kept
 returns-then-not-complete-clause-kept c = lists_keep c.args.replica.now c.fill.new.replica c.in_ok-complete.ensures.kept
 
-pub joined-requires-clause-own : goal.joined-requires-clause-own
-joined-requires-clause-own c =
-    as_then c.args.replica.now c.fill.new.replica c.in_ok-complete.ensures.kept (λ I es. c.head.inside.own < length I.envs)
-    (subst (λ (n : ℕ). n < length c.args.replica.now.ids.envs) (sym (ap (λ (x : HeadData). x.own) c.head.view_is)) c.requires.head.own)
+pub conclude_filled-requires-clause-search : goal.conclude_filled-requires-clause-search
+conclude_filled-requires-clause-search c = can_search_later c.args.replica.now c.fill.new.replica c.args.search.now.args.now c.args.search.now.limit c.args.search.now.fixed (lists_keep c.args.replica.now c.fill.new.replica c.in_ok-complete.ensures.kept) c.requires.search
 
-pub joined-requires-clause-is_env : goal.joined-requires-clause-is_env
-joined-requires-clause-is_env c =
-    as_then c.args.replica.now c.fill.new.replica c.in_ok-complete.ensures.kept (λ I es. IsEnv (length (env_of_id I c.head.inside.own)) (env_of_id I c.head.inside.own))
-    (subst (λ (n : ℕ). IsEnv (length (env_of_id c.args.replica.now.ids n)) (env_of_id c.args.replica.now.ids n)) (sym (ap (λ (x : HeadData). x.own) c.head.view_is)) c.requires.head.is_env)
+pub conclude_filled-requires-clause-head : goal.conclude_filled-requires-clause-head
+conclude_filled-requires-clause-head c = as_then c.args.replica.now c.fill.new.replica c.in_ok-complete.ensures.kept (λ I es. HasKnownNumbers I c.args.search.now.args.now c.args.head.now) c.requires.head
 
-pub joined-requires-clause-placed : goal.joined-requires-clause-placed
-joined-requires-clause-placed c = λ f there.
+pub conclude_filled-requires-clause-envs : goal.conclude_filled-requires-clause-envs
+conclude_filled-requires-clause-envs c =
+    let s = seek c.args.search.now in
+    as_then c.args.replica.now c.fill.new.replica c.in_ok-complete.ensures.kept (λ I es. HaveEnvs (take s.limit es) s.args (length (env_of_id I c.args.head.now.own))) c.requires.envs
+
+pub conclude_filled-requires-clause-filled : goal.conclude_filled-requires-clause-filled
+conclude_filled-requires-clause-filled c =
     let ids = c.args.replica.now.ids in
     let log = c.args.replica.now.log in
     let s = seek c.args.search.now in
-    let h = c.args.head.now in
     let sets_is = c.as_slice-sets.ensures ∙ ap (λ (x : HeadData). x.sets) c.head.view_is in
     let are = OnTrue_at c.if-not-complete.false c.in_ok-complete.ensures.filled in
     let filled = subst (λ (xs : List ℕ). AreFilled (take s.limit log) (fixed_of log s.fixed) (slots 0 s.args (map (set_of_id ids) xs)) c.fill.new.out.items) sets_is are in
-    as_then c.args.replica.now c.fill.new.replica c.in_ok-complete.ensures.kept (λ I es. ArePlaced es (length (env_of_id I c.head.inside.own)) f)
-    (subst (λ (n : ℕ). ArePlaced log (length (env_of_id ids n)) f) (sym (ap (λ (x : HeadData). x.own) c.head.view_is))
-    (filled_placed log s.limit (fixed_of log s.fixed) s.args (map (set_of_id ids) h.sets) c.fill.new.out.items (length (env_of_id ids h.own)) filled c.requires.envs f
-    (subst (λ (fs : List FilledData). Contains fs f) c.as_slice-filled.ensures there)))
-
-pub joined-requires-clause-rise : goal.joined-requires-clause-rise
-joined-requires-clause-rise c = λ f there.
-    let log = c.args.replica.now.log in
-    let s = seek c.args.search.now in
-    filled_rise log s.limit (fixed_of log s.fixed) (slots 0 s.args (map (set_of_id c.args.replica.now.ids) c.as_slice-sets.result.now)) c.fill.new.out.items (OnTrue_at c.if-not-complete.false c.in_ok-complete.ensures.filled) f
-    (subst (λ (fs : List FilledData). Contains fs f) c.as_slice-filled.ensures there)
+    as_then c.args.replica.now c.fill.new.replica c.in_ok-complete.ensures.kept (λ I es. AreFilled (take s.limit es) (fixed_of es s.fixed) (slots_of_head I s.args c.args.head.now) c.as_slice-filled.result.now)
+    (subst (λ (fs : List FilledData). AreFilled (take s.limit log) (fixed_of log s.fixed) (slots_of_head ids s.args c.args.head.now) fs) (sym c.as_slice-filled.ensures) filled)
 
 pub returns-clause-only : goal.returns-clause-only
 returns-clause-only c =
-    let ids = c.args.replica.now.ids in
-    let K = c.joined.new.replica.ids in
-    let log = c.args.replica.now.log in
+    let K = c.conclude_filled.new.replica.ids in
     let s = seek c.args.search.now in
-    let h = c.args.head.now in
-    let fs = c.fill.new.out.items in
-    let partials = c.joined.new.out.items in
-    let sets_is = c.as_slice-sets.ensures ∙ ap (λ (x : HeadData). x.sets) c.head.view_is in
-    let are = OnTrue_at c.if-not-complete.false c.in_ok-complete.ensures.filled in
-    let filled = subst (λ (xs : List ℕ). AreFilled (take s.limit log) (fixed_of log s.fixed) (slots 0 s.args (map (set_of_id ids) xs)) fs) sets_is are in
-    let joined = subst (λ (n : ℕ). AreJoined K log (length (env_of_id ids n)) (env_of_id ids n) fs partials) (ap (λ (x : HeadData). x.own) c.head.view_is)
-    (as_before c.args.replica.now c.fill.new.replica c.in_ok-complete.ensures.kept (λ I es. AreJoined K es (length (env_of_id I c.head.inside.own)) (env_of_id I c.head.inside.own) fs partials)
-    (subst (λ (gs : List FilledData). AreJoined K c.fill.new.replica.log (length (env_of_id c.fill.new.replica.ids c.head.inside.own)) (env_of_id c.fill.new.replica.ids c.head.inside.own) gs partials) c.as_slice-filled.ensures
-    c.in_ok-joined.ensures.joined)) in
-    on_ok_map c.add_all.result ((d : DeducedData) → Contains c.add_all.new.found.list.items d → Contains c.args.found.now.list.items d ⊎ IsRowOf s.point h c.as_slice-joins.result.now d)
-    ((d : DeducedData) → Contains c.add_all.new.found.list.items d → Contains c.args.found.now.list.items d ⊎ IsDeducedBy ids K log s h d)
-    (λ some d there. elim (some d there) [
-      | inl was ↦ inl was
-      | inr row ↦ inr (rows_conclude ids K log s h fs partials filled joined d (subst (λ (xs : List PartialData). IsRowOf s.point h xs d) c.as_slice-joins.ensures row))
-    ]) c.add_all.ensures.only
+    let new = c.conclude_filled.new.found.list.items in
+    as_before c.args.replica.now c.fill.new.replica c.in_ok-complete.ensures.kept
+    (λ I es. OnOk c.conclude_filled.result ((d : DeducedData) → Contains new d → Contains c.args.found.now.list.items d ⊎ IsDeducedBy I K es s c.args.head.now d)) c.conclude_filled.ensures.only
 
 pub returns-clause-all : goal.returns-clause-all
 returns-clause-all c =
-    let ids = c.args.replica.now.ids in
-    let K = c.joined.new.replica.ids in
-    let log = c.args.replica.now.log in
+    let K = c.conclude_filled.new.replica.ids in
     let s = seek c.args.search.now in
-    let h = c.args.head.now in
-    let fs = c.fill.new.out.items in
-    let partials = c.joined.new.out.items in
-    let sets_is = c.as_slice-sets.ensures ∙ ap (λ (x : HeadData). x.sets) c.head.view_is in
-    let are = OnTrue_at c.if-not-complete.false c.in_ok-complete.ensures.filled in
-    let filled = subst (λ (xs : List ℕ). AreFilled (take s.limit log) (fixed_of log s.fixed) (slots 0 s.args (map (set_of_id ids) xs)) fs) sets_is are in
-    let joined = subst (λ (n : ℕ). AreJoined K log (length (env_of_id ids n)) (env_of_id ids n) fs partials) (ap (λ (x : HeadData). x.own) c.head.view_is)
-    (as_before c.args.replica.now c.fill.new.replica c.in_ok-complete.ensures.kept (λ I es. AreJoined K es (length (env_of_id I c.head.inside.own)) (env_of_id I c.head.inside.own) fs partials)
-    (subst (λ (gs : List FilledData). AreJoined K c.fill.new.replica.log (length (env_of_id c.fill.new.replica.ids c.head.inside.own)) (env_of_id c.fill.new.replica.ids c.head.inside.own) gs partials) c.as_slice-filled.ensures
-    c.in_ok-joined.ensures.joined)) in
-    on_ok_map c.add_all.result ((x : PartialData) → Contains c.as_slice-joins.result.now x → HasRow s.point h x c.add_all.new.found.list.items)
-    ((args : List (ℕ × ℕ)) (env : Env) → HeadLeadsTo ids log s h args env → HasEnvFound K s h args env c.add_all.new.found.list.items)
-    (λ all. conclude_rows ids K log s h fs partials filled joined c.add_all.new.found.list.items (λ x there. all x (subst (λ (xs : List PartialData). Contains xs x) (sym c.as_slice-joins.ensures) there))) c.add_all.ensures.all
-
-pub returns-in_err-joined-clause-kept : goal.returns-in_err-joined-clause-kept
-returns-in_err-joined-clause-kept c = keeps_then c.args.replica.now c.fill.new.replica c.joined.new.replica (lists_keep c.args.replica.now c.fill.new.replica c.in_ok-complete.ensures.kept) c.joined.ensures.kept
-
-pub add_all-requires : goal.add_all-requires
-add_all-requires c = c.requires.rows
-
-pub returns-clause-rows : goal.returns-clause-rows
-returns-clause-rows c = c.add_all.ensures.rows
-
-pub returns-clause-lowers : goal.returns-clause-lowers
-returns-clause-lowers c = c.add_all.ensures.lowers
+    let new = c.conclude_filled.new.found.list.items in
+    as_before c.args.replica.now c.fill.new.replica c.in_ok-complete.ensures.kept
+    (λ I es. OnOk c.conclude_filled.result (length new ≤ c.args.search.now.most → (args : List (ℕ × ℕ)) (env : Env) → HeadLeadsTo I es s c.args.head.now args env → HasEnvFound K s c.args.head.now args env new)) c.conclude_filled.ensures.all
 
 pub returns-clause-kept : goal.returns-clause-kept
-returns-clause-kept c = keeps_then c.args.replica.now c.fill.new.replica c.joined.new.replica (lists_keep c.args.replica.now c.fill.new.replica c.in_ok-complete.ensures.kept) c.in_ok-joined.ensures.kept
+returns-clause-kept c = keeps_then c.args.replica.now c.fill.new.replica c.conclude_filled.new.replica (lists_keep c.args.replica.now c.fill.new.replica c.in_ok-complete.ensures.kept) c.conclude_filled.ensures.kept

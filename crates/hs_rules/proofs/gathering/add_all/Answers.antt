@@ -1,4 +1,4 @@
-use Rattle.std.proofs.Common.{◌≡◌, refl, sym, ap, subst, ℕ, List, length, take, Option, None, OnOk, Contains, ◌⊎◌}
+use Rattle.std.proofs.Common.{◌≡◌, refl, sym, ap, subst, ℕ, ◌≤◌, List, length, take, Option, None, OnOk, Contains, ◌⊎◌}
 use Rattle.std.proofs.lemmas.List.Elements.{All-contains}
 use Rattle.hs_scheme.specs.flow.Points.{PointData}
 use Rattle.hs_table.specs.Entries.{Env, EntryData, InShape}
@@ -72,10 +72,10 @@ returns-clause-all c =
     let are = c.in_ok-heads_all.ensures.heads in
     let new = c.conclude_all.new.found.list.items in
     let shapes = λ (e : EntryData) (m : Contains E e). All-contains (InShape p) E e c.requires.can.heads.shapes m in
-    let all = along (λ i. OnOk c.conclude_all.result ((h : HeadData) → Contains (c.as_slice.ensures i) h → (args : List (ℕ × ℕ)) (env : Env) → HeadLeadsTo J (same i) s h args env → HasEnvFound K s h args env new)) c.conclude_all.ensures.all in
+    let all = along (λ i. OnOk c.conclude_all.result (length new ≤ c.args.at.now.search.most → (h : HeadData) → Contains (c.as_slice.ensures i) h → (args : List (ℕ × ℕ)) (env : Env) → HeadLeadsTo J (same i) s h args env → HasEnvFound K s h args env new)) c.conclude_all.ensures.all in
     let free : fixed_of log s.fixed ≡ None = ap (fixed_of log) c.requires.can.free in
-    on_ok_map c.conclude_all.result ((h : HeadData) → Contains heads h → (args : List (ℕ × ℕ)) (env : Env) → HeadLeadsTo J log s h args env → HasEnvFound K s h args env new) (HasAll p K E s.point (AnySupport) new)
-    (λ each. all_reached p log s of c.requires.can.is_point refl shapes J K c.conclude_all.ensures.kept.grows (AnyHead) (AnySupport) heads new are each
+    on_ok_map c.conclude_all.result (length new ≤ c.args.at.now.search.most → (h : HeadData) → Contains heads h → (args : List (ℕ × ℕ)) (env : Env) → HeadLeadsTo J log s h args env → HasEnvFound K s h args env new) (length new ≤ c.args.at.now.search.most → HasAll p K E s.point (AnySupport) new)
+    (λ each few. all_reached p log s of c.requires.can.is_point refl shapes J K c.conclude_all.ensures.kept.grows (AnyHead) (AnySupport) heads new are (each few)
     (λ sup e f here_is k. (tt, λ ids is picked. subst (λ (x : Option FixedData). Picked (λ (y : SlotData). y.arg) (IsCandidate E x) (slots 0 f.of.args f.sets) sup.args f.chosen) (sym free) picked))) all
 
 pub heads_all-requires-clause-can : goal.heads_all-requires-clause-can

@@ -1,4 +1,4 @@
-use Rattle.std.proofs.Common.{refl, sym, ◌∙◌, ap, subst, ℕ, ◌<◌, List, [], length, map, take, Option, Some, OnOk, Contains, ◌⊎◌}
+use Rattle.std.proofs.Common.{refl, sym, ◌∙◌, ap, subst, ℕ, ◌<◌, ◌≤◌, List, [], length, map, take, Option, Some, OnOk, Contains, ◌⊎◌}
 use Rattle.std.proofs.lemmas.List.Elements.{All-contains}
 use Rattle.std.proofs.lemmas.Option.{get_or_from_slice_get}
 use Rattle.hs_scheme.specs.flow.Points.{PointData, PointsData, IsArgument}
@@ -158,14 +158,14 @@ returns-clause-all c =
     let new = c.conclude_all.new.found.list.items in
     let wanted = Asks arg (type_of_id I row.ty) in
     let shapes = λ (e : EntryData) (m : Contains E e). All-contains (InShape p) E e c.requires.can.heads.shapes m in
-    let all = along (λ i. OnOk c.conclude_all.result ((h : HeadData) → Contains (c.as_slice.ensures i) h → (args : List (ℕ × ℕ)) (env : Env) → HeadLeadsTo J (same i) s h args env → HasEnvFound K s h args env new)) c.conclude_all.ensures.all in
+    let all = along (λ i. OnOk c.conclude_all.result (length new ≤ c.args.at.now.search.most → (h : HeadData) → Contains (c.as_slice.ensures i) h → (args : List (ℕ × ℕ)) (env : Env) → HeadLeadsTo J (same i) s h args env → HasEnvFound K s h args env new)) c.conclude_all.ensures.all in
     let numbers = subst (λ (ids : InternerData). IsInterner ids) c.interner.ensures c.know_numbers.ensures in
-    on_ok_map c.conclude_all.result ((h : HeadData) → Contains heads h → (args : List (ℕ × ℕ)) (env : Env) → HeadLeadsTo J log s h args env → HasEnvFound K s h args env new) (HasAll p K E s.point (UsesArgument place) new)
-    (λ each. all_reached p log s of c.requires.can.is_point refl shapes J K c.conclude_all.ensures.kept.grows wanted (UsesArgument place) heads new are each
+    on_ok_map c.conclude_all.result (length new ≤ c.args.at.now.search.most → (h : HeadData) → Contains heads h → (args : List (ℕ × ℕ)) (env : Env) → HeadLeadsTo J log s h args env → HasEnvFound K s h args env new) (length new ≤ c.args.at.now.search.most → HasAll p K E s.point (UsesArgument place) new)
+    (λ each few. all_reached p log s of c.requires.can.is_point refl shapes J K c.conclude_all.ensures.kept.grows wanted (UsesArgument place) heads new are (each few)
     (λ sup e f here_is used. argument_kind p log limit point arg place of c.requires.can.is_point e0 c.row-row.ensures.entry c.requires.place is_place J numbers sup e f here_is used)) all
 
 pub returns-in_default-clause-all : goal.returns-in_default-clause-all
-returns-in_default-clause-all c = λ sup e here_is f used.
+returns-in_default-clause-all c = λ few sup e here_is f used.
     let p = c.args.at.now.problem.now in
     let e0 = entry_of c.args.replica.now.ids c.row-row.result in
     let u = used_argument p c.args.replica.now.log c.args.at.now.search.limit c.args.at.now.search.point c.args.place e0 c.row-row.ensures.entry sup e f here_is used in

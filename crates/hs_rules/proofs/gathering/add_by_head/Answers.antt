@@ -1,4 +1,4 @@
-use Rattle.std.proofs.Common.{◌≡◌, take, ◌∷◌, [], OnOk}
+use Rattle.std.proofs.Common.{◌≡◌, ◌≤◌, length, take, ◌∷◌, [], OnOk}
 use Rattle.std.proofs.lemmas.Bool.{OnFalse_at}
 use Rattle.hs_table.specs.Follows.{head_premise}
 use Rattle.hs_rules.specs.Conclusions.{Uses}
@@ -9,7 +9,7 @@ use Rattle.hs_rules.proofs.FoundLemmas.{lowers_none}
 use Rattle.hs_rules.proofs.gathering.add_by_head.Goals as goal
 
 pub returns-then-not-may-clause-all : goal.returns-then-not-may-clause-all
-returns-then-not-may-clause-all c = λ s e here_is follows by. absurd (OnFalse_at c.if-not-may.true c.in_ok-may.ensures.nothing s e here_is follows by)
+returns-then-not-may-clause-all c = λ few s e here_is follows by. absurd (OnFalse_at c.if-not-may.true c.in_ok-may.ensures.nothing s e here_is follows by)
 
 pub add_from_head-requires-clause-part : goal.add_from_head-requires-clause-part
 add_from_head-requires-clause-part c =
@@ -28,7 +28,7 @@ pub returns-clause-all : goal.returns-clause-all
 returns-clause-all c =
     let s = c.args.at.now.search in
     as_before c.args.replica.now c.may_follow.new.replica c.in_ok-may.ensures.kept
-    (λ I es. OnOk c.add_from_head.result (HasAll c.args.at.now.problem.now c.add_from_head.new.replica.ids (take s.limit es) s.point (λ x. head_premise x.head ≡ c.args.place ∷ []) c.add_from_head.new.found.list.items))
+    (λ I es. OnOk c.add_from_head.result (length c.add_from_head.new.found.list.items ≤ s.most → HasAll c.args.at.now.problem.now c.add_from_head.new.replica.ids (take s.limit es) s.point (λ x. head_premise x.head ≡ c.args.place ∷ []) c.add_from_head.new.found.list.items))
     c.add_from_head.ensures.all
 
 pub returns-clause-kept : goal.returns-clause-kept

@@ -1,4 +1,4 @@
-use Rattle.std.proofs.Common.{sym, subst, List, take, OnOk}
+use Rattle.std.proofs.Common.{sym, subst, ◌≤◌, List, length, take, arith, OnOk}
 use Rattle.hs_table.specs.Entries.{EntryData}
 use Rattle.hs_rules.specs.Conclusions.{Uses}
 use Rattle.hs_rules.specs.Found.{Lowers}
@@ -42,9 +42,10 @@ returns-clause-all c =
     let place = c.args.place in
     let mid = c.add_by_head.new.found in
     let new = c.add_by_argument.new.found.list.items in
-    let by_argument = subst (λ (l : List EntryData). OnOk c.add_by_argument.result (HasAll p K (take s.limit l) s.point (UsesArgument place) new)) c.in_ok-add_by_head.ensures.kept.log c.add_by_argument.ensures.all in
-    on_ok_both c.add_by_argument.result (Lowers mid.list.items new) (HasAll p K E s.point (UsesArgument place) new) (HasAll p K E s.point (Uses place) new)
-    (λ lowers all. both_kinds p J K E s.point place mid.rows.keys mid.list.items new c.add_by_argument.ensures.kept.grows c.in_ok-add_by_head.ensures.part lowers c.in_ok-add_by_head.ensures.all all)
+    let few_before : length mid.list.items ≤ s.most = omega (arith, c.if-len-at.false, c.len.ensures) in
+    let by_argument = subst (λ (l : List EntryData). OnOk c.add_by_argument.result (length new ≤ s.most → HasAll p K (take s.limit l) s.point (UsesArgument place) new)) c.in_ok-add_by_head.ensures.kept.log c.add_by_argument.ensures.all in
+    on_ok_both c.add_by_argument.result (Lowers mid.list.items new) (length new ≤ s.most → HasAll p K E s.point (UsesArgument place) new) (length new ≤ s.most → HasAll p K E s.point (Uses place) new)
+    (λ lowers all few. both_kinds p J K E s.point place mid.rows.keys mid.list.items new c.add_by_argument.ensures.kept.grows c.in_ok-add_by_head.ensures.part lowers (c.in_ok-add_by_head.ensures.all few_before) (all few))
     c.add_by_argument.ensures.lowers by_argument
 
 pub returns-clause-kept : goal.returns-clause-kept
@@ -55,3 +56,12 @@ add_by_head-requires-clause-can c = c.requires.can
 
 pub add_by_argument-requires-clause-can : goal.add_by_argument-requires-clause-can
 add_by_argument-requires-clause-can c = can_gather_later c.args.replica.now c.add_by_head.new.replica c.args.at.now c.in_ok-add_by_head.ensures.kept c.requires.can
+
+pub returns-then-len-at-clause-part : goal.returns-then-len-at-clause-part
+returns-then-len-at-clause-part c = c.in_ok-add_by_head.ensures.part
+
+pub returns-then-len-at-clause-all : goal.returns-then-len-at-clause-all
+returns-then-len-at-clause-all c = λ few. absurd (omega (arith, few, c.if-len-at.true, c.len.ensures))
+
+pub returns-then-len-at-clause-kept : goal.returns-then-len-at-clause-kept
+returns-then-len-at-clause-kept c = c.in_ok-add_by_head.ensures.kept

@@ -91,3 +91,23 @@ loop-partial-preserved c =
 pub returns-clause-all : goal.returns-clause-all
 returns-clause-all c = λ from there.
     c.loop-partial.invariant.all from (subst (λ (xs : List PartialData). Contains xs from) (sym (take_all c.loop-partial.partial-index c.args.partials.now c.loop-partial-test.false)) there)
+
+pub returns-then-len-most-clause-only : goal.returns-then-len-most-clause-only
+returns-then-len-most-clause-only c = λ x there.
+    let I = c.args.replica.now.ids in
+    let J = c.loop-partial.replica.ids in
+    let K = c.extend.new.replica.ids in
+    let log = c.args.replica.now.log in
+    let item = c.partial-item.result in
+    let f = c.args.slot.now in
+    let g = c.loop-partial.invariant.kept.grows in
+    let among : Contains c.args.partials.now item = (c.loop-partial.partial-index, c.loop-partial-test.true, sym c.partial-item.is) in
+    elim (c.in_ok-extend.ensures.only x there) [
+      | inl was ↦
+          let m = c.loop-partial.invariant.made x was in
+          record { from = m.from; among = m.among; made = made_stays I J K log m.from f g c.in_ok-extend.ensures.kept.grows (c.requires.can m.from m.among).0 x m.made }
+      | inr made ↦ record { from = item; among = among; made = made_earlier I J K log c.loop-partial.replica.log item f g (c.requires.can item among).0 c.loop-partial.invariant.kept.log x made }
+    ]
+
+pub returns-then-len-most-clause-more : goal.returns-then-len-most-clause-more
+returns-then-len-most-clause-more c = omega (arith, c.if-len-most.true, c.len.ensures.value)

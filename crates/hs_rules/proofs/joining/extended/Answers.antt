@@ -1,4 +1,5 @@
 use Rattle.std.proofs.Common.{sym, ◌∙◌, subst, ℕ, ◌<◌, List, [], length, get_or, Contains, arith}
+use Rattle.std.specs.Bool.{OnTrue}
 use Rattle.std.proofs.lemmas.List.Elements.{Contains-get_or}
 use Rattle.hs_table.specs.Entries.{EntryData}
 use Rattle.hs_table_laws.proofs.Places.{within_from}
@@ -27,13 +28,14 @@ pub returns-clause-only : goal.returns-clause-only
 returns-clause-only c =
     let new = c.extend_all.new.out.list.items in
     subst (λ (xs : List PartialData). (x : PartialData) → Contains new x → IsMadeOf c.args.replica.now.ids c.extend_all.new.replica.ids c.args.replica.now.log xs c.args.slot.now x) c.as_slice.ensures
-    (subst (λ (r : ReplicaData). (x : PartialData) → Contains new x → IsMadeOf r.ids c.extend_all.new.replica.ids r.log c.as_slice.result.now c.args.slot.now x) (c.masks_for.ensures.kept ∙ c.note_pairs.ensures) c.in_ok-extend_all.ensures.only)
+    (subst (λ (r : ReplicaData). (x : PartialData) → Contains new x → IsMadeOf r.ids c.extend_all.new.replica.ids r.log c.as_slice.result.now c.args.slot.now x) (c.masks_for.ensures.kept ∙ c.note_pairs.ensures) c.in_ok-whole.ensures.only)
 
 pub returns-clause-all : goal.returns-clause-all
 returns-clause-all c =
     let new = c.extend_all.new.out.list.items in
-    subst (λ (xs : List PartialData). (from : PartialData) → Contains xs from → (place : ℕ) (e : EntryData) → FillsBy c.args.replica.now.log c.args.slot.now place e → IsAmongJoined c.args.replica.now.ids c.extend_all.new.replica.ids from place e new) c.as_slice.ensures
-    (subst (λ (r : ReplicaData). (from : PartialData) → Contains c.as_slice.result.now from → (place : ℕ) (e : EntryData) → FillsBy r.log c.args.slot.now place e → IsAmongJoined r.ids c.extend_all.new.replica.ids from place e new) (c.masks_for.ensures.kept ∙ c.note_pairs.ensures) c.in_ok-extend_all.ensures.all)
+    let whole = c.in_ok-whole.whole in
+    subst (λ (xs : List PartialData). OnTrue whole ((from : PartialData) → Contains xs from → (place : ℕ) (e : EntryData) → FillsBy c.args.replica.now.log c.args.slot.now place e → IsAmongJoined c.args.replica.now.ids c.extend_all.new.replica.ids from place e new)) c.as_slice.ensures
+    (subst (λ (r : ReplicaData). OnTrue whole ((from : PartialData) → Contains c.as_slice.result.now from → (place : ℕ) (e : EntryData) → FillsBy r.log c.args.slot.now place e → IsAmongJoined r.ids c.extend_all.new.replica.ids from place e new)) (c.masks_for.ensures.kept ∙ c.note_pairs.ensures) c.in_ok-whole.ensures.all)
 
 pub masks_for-requires : goal.masks_for-requires
 masks_for-requires c = λ many place there.
@@ -43,3 +45,6 @@ masks_for-requires c = λ many place there.
     let some : 0 < length old = omega (arith, many, c.len.ensures.value) in
     let p = (c.requires.can first (Contains-get_or old 0 d some)).1 place there in
     subst (λ (r : ReplicaData). place < length r.log) (sym c.note_pairs.ensures) (within_from c.args.replica.now.log place p.entry p.at)
+
+pub returns-clause-more : goal.returns-clause-more
+returns-clause-more c = c.in_ok-whole.ensures.more

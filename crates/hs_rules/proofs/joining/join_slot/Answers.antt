@@ -1,9 +1,7 @@
-use Rattle.std.proofs.Common.{◌≡◌, sym, ◌∙◌, ap, subst, ℕ, List, [], ◌∷◌, length, map, slice_index_or, Contains}
-use Rattle.std.specs.List.{refill}
+use Rattle.std.proofs.Common.{◌≡◌, sym, ◌∙◌, ap, subst, ℕ, List, [], ◌∷◌, map, slice_index_or, Contains}
 use Rattle.hs_table.specs.Entries.{EntryData}
 use Rattle.hs_rules.specs.Slots.{FilledData}
 use Rattle.hs_rules.specs.Joins.{PartialData, FillsBy, AreAscending, IsMadeOf, IsAmongJoined, with_choice}
-use Rattle.hs_rules.proofs.Lists.{on_ok_map}
 use Rattle.hs_rules.proofs.KeepLemmas.{keeps_none}
 use Rattle.hs_rules.proofs.JoinLemmas.{single}
 use Rattle.hs_rules.proofs.SoleLemmas.{choice_written, choice_ascends, choice_made, choice_among}
@@ -16,9 +14,7 @@ returns-then-places-eq1-clause-ascending c =
     let new = c.choose_sole.new.partials in
     let arg = c.slot.inside.arg in
     let place = slice_index_or c.as_slice-places.result.now 0 0 in
-    on_ok_map c.choose_sole.result (new ≡ map (with_choice arg place) given) (AreAscending (refill (length old) old new))
-    (λ is. subst (λ (xs : List PartialData). AreAscending xs) (sym (choice_written arg place old given new c.as_mut_slice.ensures.value is)) (choice_ascends arg place old c.requires.ascending c.requires.long))
-    c.choose_sole.ensures
+    subst (λ (xs : List PartialData). AreAscending xs) (sym (choice_written arg place old given new c.as_mut_slice.ensures.value c.in_ok-choose_sole.ensures)) (choice_ascends arg place old c.requires.ascending c.requires.long)
 
 pub returns-then-places-eq1-clause-only : goal.returns-then-places-eq1-clause-only
 returns-then-places-eq1-clause-only c =
@@ -33,11 +29,9 @@ returns-then-places-eq1-clause-only c =
     let place = slice_index_or items 0 0 in
     let one : f.places ≡ place ∷ [] = sym (c.as_slice-places.ensures ∙ ap (λ (x : FilledData). x.places) c.slot.view_is) ∙ single items c.if-places-eq1.true in
     let arg_is = ap (λ (x : FilledData). x.arg) c.slot.view_is in
-    on_ok_map c.choose_sole.result (new ≡ map (with_choice arg place) given) ((x : PartialData) → Contains (refill (length old) old new) x → IsMadeOf ids ids log old f x)
-    (λ is. subst (λ (xs : List PartialData). (x : PartialData) → Contains xs x → IsMadeOf ids ids log old f x)
-    (sym (choice_written f.arg place old given new c.as_mut_slice.ensures.value (subst (λ (a : ℕ). new ≡ map (with_choice a place) given) arg_is is)))
-    (choice_made ids log f old place one c.requires.can c.requires.sole))
-    c.choose_sole.ensures
+    subst (λ (xs : List PartialData). (x : PartialData) → Contains xs x → IsMadeOf ids ids log old f x)
+    (sym (choice_written f.arg place old given new c.as_mut_slice.ensures.value (subst (λ (a : ℕ). new ≡ map (with_choice a place) given) arg_is c.in_ok-choose_sole.ensures)))
+    (choice_made ids log f old place one c.requires.can c.requires.sole)
 
 pub returns-then-places-eq1-clause-all : goal.returns-then-places-eq1-clause-all
 returns-then-places-eq1-clause-all c =
@@ -53,10 +47,8 @@ returns-then-places-eq1-clause-all c =
     let one : f.places ≡ place ∷ [] = sym (c.as_slice-places.ensures ∙ ap (λ (x : FilledData). x.places) c.slot.view_is) ∙ single items c.if-places-eq1.true in
     let arg_is = ap (λ (x : FilledData). x.arg) c.slot.view_is in
     let All : List PartialData → Type 0 = λ xs. (from : PartialData) → Contains old from → (k : ℕ) (e : EntryData) → FillsBy log f k e → IsAmongJoined ids ids from k e xs in
-    on_ok_map c.choose_sole.result (new ≡ map (with_choice arg place) given) (All (refill (length old) old new))
-    (λ is. subst All (sym (choice_written f.arg place old given new c.as_mut_slice.ensures.value (subst (λ (a : ℕ). new ≡ map (with_choice a place) given) arg_is is)))
-    (choice_among ids log f old place one c.requires.can c.requires.sole))
-    c.choose_sole.ensures
+    subst All (sym (choice_written f.arg place old given new c.as_mut_slice.ensures.value (subst (λ (a : ℕ). new ≡ map (with_choice a place) given) arg_is c.in_ok-choose_sole.ensures)))
+    (choice_among ids log f old place one c.requires.can c.requires.sole)
 
 pub returns-then-places-eq1-clause-kept : goal.returns-then-places-eq1-clause-kept
 returns-then-places-eq1-clause-kept c = keeps_none c.args.replica.now

@@ -8,5 +8,5 @@ use Rattle.hs_rules.proofs.joining.joined.Given as goal
 abbrev pub invariant-loop-slot : goal.invariant-loop-slot
 invariant-loop-slot l = record {
   kept : KeepsLog l.fn.replica l.replica;
-  lead : LeadBySole l.replica.ids l.fn.replica.log (length (env_of_id l.fn.replica.ids l.fn.own)) (env_of_id l.fn.replica.ids l.fn.own) l.slots (take l.slot-index l.slots) l.out.items;
+  lead : LeadBySole l.replica.ids l.fn.replica.log (length (env_of_id l.fn.replica.ids l.fn.own)) (env_of_id l.fn.replica.ids l.fn.own) l.slots (take l.slot-index l.slots) l.whole l.out.items;
 }
