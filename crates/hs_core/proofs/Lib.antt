@@ -9,5 +9,6 @@ pub mod Turning
 pub mod Flying
 pub mod Passing
 pub mod Tables
+mod Surplus
 pub mod Waits
 pub mod Selected

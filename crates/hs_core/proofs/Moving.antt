@@ -19,7 +19,7 @@ use Rattle.hs_table_laws.proofs.Places.{place_of, within_from}
 use Rattle.hs_table_laws.proofs.Least.{supports_support}
 use Rattle.hs_table_laws.proofs.Growing.{by_append, by_take}
 use Rattle.hs_types.specs.Interned.{InternerData, IsRow, entry_of}
-use Rattle.hs_rules.specs.Conclusions.{DeducedData, IsDeduced, AnySupport, Uses, AreConclusions}
+use Rattle.hs_rules.specs.Conclusions.{DeducedData, IsDeduced, AnySupport, Uses, AreSomeConclusions, AreConclusions}
 use Rattle.hs_history.specs.declared.step.Work.{Work}
 use Rattle.hs_history.specs.declared.step.Work.TheVariants.{Place}
 use Rattle.hs_history.specs.declared.step.Flight.{Flight}
@@ -321,7 +321,7 @@ seed_ready a b point found is are = All-weaker (IsDeduced a.base.problem b.ids [
 }) found are.deduced
 
 pub place_ready : (a b : CoreData) (point place : ℕ) (found : List DeducedData) → b ≡ record { base = a.base; ids = b.ids; story = a.story; spare = a.spare } → place < length (log_of a)
-    → AreConclusions a.base.problem b.ids (take (place + 1) (log_of a)) point (Uses place) found → All (IsReady b) found
+    → AreSomeConclusions a.base.problem b.ids (take (place + 1) (log_of a)) point (Uses place) found → All (IsReady b) found
 place_ready a b point place found is within are = All-weaker (IsDeduced a.base.problem b.ids (take (place + 1) (log_of a))) (IsReady b) (λ d h. record {
   row = h.row;
   follows =

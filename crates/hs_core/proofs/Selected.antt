@@ -144,7 +144,7 @@ module _ {me : ℕ} (a b e : CoreData) (work : Work) (ticket k last : ℕ) (W V 
   flight_is : (t : ℕ) → (state_of e).flight t ≡ put ticket (Some (record { worker = me; work = work })) (state_of a).flight t
   flight_is t = ap (λ (s : State). s.flight t) (state_same b e e-base e-story) ∙ ap (λ (s : State). s.flight t) (state_stepped a b me (takes work ticket) k took)
 
-  took_holds : Holds (state_of e) me ticket
+  pub took_holds : Holds (state_of e) me ticket
   took_holds = (work, flight_is ticket ∙ put_here ticket (Some (record { worker = me; work = work })) (state_of a).flight)
 
   flying : (t : ℕ) (f : Flight) → (state_of e).flight t ≡ Some f → (f ≡ record { worker = me; work = work }) ⊎ ((state_of a).flight t ≡ Some f)

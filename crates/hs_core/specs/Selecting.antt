@@ -3,11 +3,12 @@
 --     AreOwn, AreFormedWorks     the works in flight are the worker's; what follows by them is in the log or waits
 --     IsSelecting                what holds between turns
 --     AreClosed                  what follows by the works in flight is in the log
+--     IsSurplus                  conclusions that may be published, each once, more than the budget
 --     IsEnded, IsIdleCore        no work is given out any more; nothing is pending or kept
 --     IsStill, IsSpent           nothing was published; nothing waits, either
 --     After done progress ..     what a turn leaves, by what came of it
 --     EndsAs                     works were closed, or given back
-use Rattle.std.specs.Prelude.{◌≡◌, ℕ, ◌<◌, Bool, [], Some, None, IsTrue}
+use Rattle.std.specs.Prelude.{◌≡◌, ◌≢◌, ℕ, ◌<◌, Bool, List, [], length, All, AllPairs, Some, None, IsTrue}
 use Rattle.hs_rules.specs.Conclusions.{DeducedData}
 use Rattle.hs_history.specs.declared.step.Work.{Work}
 use Rattle.hs_history.specs.declared.step.Flight.{Flight}
@@ -42,6 +43,11 @@ pub record IsSelecting (worker : ℕ) (c : CoreData) (W : DeducedData → Type 0
 
 abbrev pub AreClosed : CoreData → Type 0
 AreClosed c = (ticket : ℕ) (f : Flight) → (state_of c).flight ticket ≡ Some f → IsClosedWork c.base.problem (log_of c) f.work
+
+pub record IsSurplus (c : CoreData) (found : List DeducedData) : Type 0 where
+  pub ready : All (IsReady c) found
+  pub once : AllPairs (λ a b. a.row ≢ b.row) found
+  pub many : c.base.budget < length found
 
 abbrev pub IsEnded : CoreData → Type 0
 IsEnded c = (state_of c).kept ≡ None → GoesOn c.base (log_of c) → ⊥

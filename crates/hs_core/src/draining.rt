@@ -35,7 +35,7 @@ fn give_back_all(core: &mut Core)
 
 /// Publishes what was found under the ticket, which the worker holds. Answers whether the budget had
 /// room for all of it.
-fn publish_all(
+pub(crate) fn publish_all(
     core: &mut Core,
     worker: u32,
     ticket: u32,
@@ -60,7 +60,8 @@ fn publish_all(
 }
 
 /// Publishes what follows by the place, which the worker has taken under the ticket, and adds to the
-/// tally how many conclusions that is. Answers whether the budget had room for all of it.
+/// tally how many conclusions that is. Answers whether the budget had room for all of it. At each dependent
+/// it asks for no more conclusions than the budget: where there are more, one of them is over.
 fn conclude_place(
     alloc: Global,
     core: &mut Core,
@@ -82,12 +83,14 @@ fn conclude_place(
 {
     core.know_core();
     let point = core.replica().row(place).point;
+    let most = core.budget() as usize;
     for dependent in dependents.list(point) {
-        let found = core.at_place(alloc, *dependent, place)?;
+        let found = core.at_place_within(alloc, *dependent, place, most)?;
         tally.add(found.len());
         if !publish_all(core, worker, ticket, found)? {
             return Ok(false);
         }
+        core.know_core();
     }
     Ok(true)
 }
@@ -239,11 +242,11 @@ pub fn do_work(
 /// Does the works that are pending, as this worker, until nothing is left or `take` gives out none.
 /// What follows is published at once, the first found first, until much follows from little; from then
 /// on it waits, and the most promising is published where no work is pending. So no more is kept than
-/// what the log and those that wait hold together within the budget, and what one work more forms;
-/// conclusions that are known already are formed beside that, and no clause bounds them. The
-/// worker passes the gate before each work that it does. Nothing is in flight, and the dependents
-/// are those of the core's problem. After a refusal of memory the story has gone on, and nothing is in
-/// flight.
+/// what the log and those that wait hold together within the budget, and what one work more forms: of that
+/// it asks for no more than the budget at each dependent, and `conclusions_within` of `hs_rules` says what
+/// bounds its time and memory; no clause does. The worker passes the gate before each work that it does.
+/// Nothing is in flight, and the dependents are those of the core's problem. After a refusal of memory the
+/// story has gone on, and nothing is in flight.
 pub fn work_alone<G: Gate>(
     alloc: Global,
     core: &mut Core,

@@ -1,19 +1,21 @@
 //! The works that are left, by one worker that selects what enters the log: conclusions wait, and one
 //! enters the log where no work is pending. So each work is done over those that were selected before.
 
-ghost use Rattle.std.specs.Prelude.{◌≡◌, ◌<◌, ◌≤◌, [], ℕ, All, length, IfOk, OnOk, IsTrue, MatchBool};
+ghost use Rattle.std.specs.Prelude.{◌≡◌, ◌<◌, ◌≤◌, [], ℕ, All, length, IfOk, OnOk, IsTrue, MatchBool, MatchOption};
 ghost use Rattle.hs_flow.specs.Dependents.{HasDependents};
 ghost use Rattle.hs_types.specs.Interned.{Grows, entry_of};
 ghost use Rattle.hs_rules.specs.Conclusions.{DeducedData};
+ghost use Rattle.hs_history.specs.CoreStep.{Holds};
 ghost use Rattle.hs_history.specs.History.{IsWork};
 ghost use Rattle.hs_history.specs.Following.{HasPlace, HasWork};
 ghost use Rattle.hs_core.specs.Core.{state_of, log_of};
+ghost use Rattle.hs_core.specs.declared.selecting.Progress.TheVariants.{Ended};
 ghost use Rattle.hs_core.specs.Draining.{GoesAlone, NothingFlies, IsReady, EndsAtRest};
 ghost use Rattle.hs_core.specs.Waiting.{Waits, IsThereOrWaits};
-ghost use Rattle.hs_core.specs.Selecting.{AreReady, AreOwn, IsSelecting, AreClosed, IsEnded, IsIdleCore, IsStill, IsSpent, After, EndsAs};
+ghost use Rattle.hs_core.specs.Selecting.{AreReady, AreOwn, IsSelecting, AreClosed, IsSurplus, IsEnded, IsIdleCore, IsStill, IsSpent, After, EndsAs};
 
 use crate::answers::{Published, Taken};
-use crate::draining::close;
+use crate::draining::{close, publish_all};
 use crate::gate::Gate;
 use crate::state::Core;
 use crate::waiting::Waiting;
@@ -49,14 +51,15 @@ fn keep_waiting(core: &Core, waiting: &mut Waiting, found: Vec<Deduced>) -> Resu
     Ok(())
 }
 
-/// Lets what follows by the place wait.
+/// Lets what follows by the place wait; or, where more than the budget follow at a dependent, answers
+/// conclusions there that are more than the budget.
 fn form_place(
     alloc: Global,
     core: &mut Core,
     dependents: &Dependents,
     place: u32,
     waiting: &mut Waiting,
-) -> Result<(), OutOfMemory>
+) -> Result<Option<Vec<Deduced>>, OutOfMemory>
     requires place { place < length (log_of core.old) }
     requires dependents { HasDependents core.old.base.problem.points core.old.base.problem.flow.pairs
         dependents.now }
@@ -65,32 +68,39 @@ fn form_place(
     ensures grows { Grows core.old.ids core.new.ids }
     ensures keeps { (d : DeducedData) → Waits waiting.old.found d → Waits waiting.new.found d }
     ensures ready { AreReady core.new (Waits waiting.new.found) }
-    ensures all { OnOk result (HasPlace core.old.base.problem (log_of core.old) place
-        (IsThereOrWaits core.new.ids (log_of core.old) (Waits waiting.new.found))) }
+    ensures all { IfOk result (λ surplus. MatchOption surplus
+        (HasPlace core.old.base.problem (log_of core.old) place
+        (IsThereOrWaits core.new.ids (log_of core.old) (Waits waiting.new.found)))
+        (λ found. IsSurplus core.new found.items)) }
 {
     core.know_core();
     let point = core.replica().row(place).point;
     let before = waiting.len();
     let pairs_before = core.replica().pairs();
+    let most = core.budget() as usize;
     let mut formed = 0_u64;
     for dependent in dependents.list(point) {
-        let found = core.at_place(alloc, *dependent, place)?;
+        let found = core.at_place_within(alloc, *dependent, place, most)?;
+        if found.len() > most {
+            return Ok(Some(found));
+        }
         formed = formed.saturating_add(found.len() as u64);
         keep_waiting(core, waiting, found)?;
     }
     let new = waiting.len().saturating_sub(before) as u64;
     let pairs = core.replica().pairs().saturating_sub(pairs_before);
-    waiting.tell(point, pairs, formed, new)
+    waiting.tell(point, pairs, formed, new)?;
+    Ok(None)
 }
 
-/// Lets what follows by the work wait.
+/// Lets what follows by the work wait; or answers more conclusions by it than the budget.
 fn form(
     alloc: Global,
     core: &mut Core,
     dependents: &Dependents,
     work: Work,
     waiting: &mut Waiting,
-) -> Result<(), OutOfMemory>
+) -> Result<Option<Vec<Deduced>>, OutOfMemory>
     requires work { IsWork core.old.base.problem (log_of core.old) work }
     requires dependents { HasDependents core.old.base.problem.points core.old.base.problem.flow.pairs
         dependents.now }
@@ -99,14 +109,16 @@ fn form(
     ensures grows { Grows core.old.ids core.new.ids }
     ensures keeps { (d : DeducedData) → Waits waiting.old.found d → Waits waiting.new.found d }
     ensures ready { AreReady core.new (Waits waiting.new.found) }
-    ensures all { OnOk result (HasWork core.old.base.problem (log_of core.old) work
-        (IsThereOrWaits core.new.ids (log_of core.old) (Waits waiting.new.found))) }
+    ensures all { IfOk result (λ surplus. MatchOption surplus
+        (HasWork core.old.base.problem (log_of core.old) work
+        (IsThereOrWaits core.new.ids (log_of core.old) (Waits waiting.new.found)))
+        (λ found. IsSurplus core.new found.items)) }
 {
     match work {
         Work::Seed(point) => {
             let found = core.at_seed(alloc, point)?;
             keep_waiting(core, waiting, found)?;
-            Ok(())
+            Ok(None)
         }
         Work::Place(place) => form_place(alloc, core, dependents, place, waiting),
     }
@@ -161,9 +173,30 @@ fn publish_surplus(core: &mut Core, worker: u32, ticket: u32, waiting: &mut Wait
     Progress::Done
 }
 
+/// Publishes conclusions that are more than the budget, up to the one that is over. The worker holds the
+/// ticket.
+fn overflow(
+    core: &mut Core,
+    worker: u32,
+    ticket: u32,
+    found: Vec<Deduced>,
+) -> Result<Progress, OutOfMemory>
+    requires holds { Holds (state_of core.old) worker ticket }
+    requires own { AreOwn worker core.old }
+    requires surplus { IsSurplus core.old found.items }
+    ensures goes { GoesAlone worker core.old core.new }
+    ensures own { AreOwn worker core.new }
+    ensures ended { IfOk result (λ progress. (progress ≡ Ended) × IsEnded core.new) }
+{
+    publish_all(core, worker, ticket, found)?;
+    core.know_core();
+    Ok(Progress::Ended)
+}
+
 /// Takes a work, passes the gate and lets what follows by it wait; or publishes one of those that wait,
-/// where no work is pending, or they and the log are more than the budget. The ticket of the work that
-/// was taken last is `last`.
+/// where no work is pending, or they and the log are more than the budget. Of more conclusions by one work
+/// than the budget none waits: they are published up to the one that is over. The ticket of the work that was
+/// taken last is `last`.
 fn select_turn<G: Gate>(
     alloc: Global,
     core: &mut Core,
@@ -191,8 +224,10 @@ fn select_turn<G: Gate>(
         Taken::Item { work, ticket } => {
             *last = ticket;
             gate.before(worker, work);
-            form(alloc, core, dependents, work, waiting)?;
-            Ok(Progress::More)
+            match form(alloc, core, dependents, work, waiting)? {
+                None => Ok(Progress::More),
+                Some(found) => overflow(core, worker, ticket, found),
+            }
         }
         Taken::Over | Taken::Found { place: _ } => Ok(Progress::Ended),
         Taken::Idle | Taken::Quiet => Ok(publish_next(core, worker, *last, waiting, true)),

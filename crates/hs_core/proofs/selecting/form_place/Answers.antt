@@ -1,9 +1,9 @@
-use Rattle.std.proofs.Common.{◌≡◌, refl, sym, ◌∙◌, ap, subst, ℕ, ◌+◌, ◌<◌, List, [], length, take, get_or, unwrap_or, slice_get, All, OnOk, Result, Ok, Err, arith, Contains, inl, inr}
+use Rattle.std.proofs.Common.{◌≡◌, refl, sym, ◌∙◌, ap, subst, ℕ, ◌+◌, ◌<◌, List, [], length, take, get_or, unwrap_or, slice_get, All, ◌≤◌, arith, Contains, inl, inr}
 use Rattle.std.proofs.lemmas.Bool.{cases_lt}
 use Rattle.std.proofs.lemmas.List.Elements.{Contains-get_or}
 use Rattle.hs_types.specs.Interned.{entry_of, Grows}
 use Rattle.hs_types.proofs.Numbers.{Grows-refl, Grows-trans}
-use Rattle.hs_rules.specs.Conclusions.{DeducedData, Uses, AreConclusions}
+use Rattle.hs_rules.specs.Conclusions.{DeducedData, Uses, AreSomeConclusions, AreConclusions}
 use Rattle.hs_history.specs.Following.{HasAt, HasPlace}
 use Rattle.hs_core.specs.Core.{CoreData, log_of}
 use Rattle.hs_core.specs.Draining.{IsReady}
@@ -26,7 +26,7 @@ module _ (a b m : CoreData) (W V : DeducedData → Type 0) (place point : ℕ) (
   grown_ready : Grows b.ids m.ids → AreReady b W → AreReady m W
   grown_ready grows ready d w = ready_grown b m (ap (λ (x : CoreData). x.base) asked) (ap (λ (x : CoreData). x.story) asked) grows d (ready d w)
 
-  found_ready : place < length (log_of a) → AreConclusions b.base.problem m.ids (take (place + 1) (log_of b)) point (Uses place) found → All (IsReady m) found
+  found_ready : place < length (log_of a) → AreSomeConclusions b.base.problem m.ids (take (place + 1) (log_of b)) point (Uses place) found → All (IsReady m) found
   found_ready within are = place_ready b m point place found asked (subst (λ (x : CoreData). place < length (log_of x)) (sym before) within) are
 
   has_before : Grows b.ids m.ids → AreReady b W → ((d : DeducedData) → W d → V d) → (p : ℕ) → HasAt a.base.problem (log_of a) place p (IsThereOrWaits b.ids (log_of a) W) → HasAt a.base.problem (log_of a) place p (IsThereOrWaits m.ids (log_of a) V)
@@ -48,33 +48,33 @@ list-dependent-items-requires c =
 pub loop-dependent-init : goal.loop-dependent-init
 loop-dependent-init c = record { kept = refl; grows = Grows-refl c.args.core.now.ids; keeps = λ d w. w; ready = c.requires.ready; all = λ k lt. absurd (omega arith) }
 
-pub at_place-requires-clause-point : goal.at_place-requires-clause-point
-at_place-requires-clause-point c =
+pub at_place_within-requires-clause-point : goal.at_place_within-requires-clause-point
+at_place_within-requires-clause-point c =
     let items = c.list-dependent-items.result.now in
     let listed = subst (λ xs. Contains xs (get_or items c.loop-dependent.dependent-index 0)) (sym (ap (λ o. unwrap_or o []) c.list-dependent-items.ensures)) (Contains-get_or items c.loop-dependent.dependent-index 0 c.loop-dependent-test.true) in
     let p = c.args.core.now.base.problem in
     let within = dependent_within p.points p.flow.pairs c.args.dependents.now c.row-point.result.point (get_or items c.loop-dependent.dependent-index 0) c.requires.dependents listed in
     subst (λ (x : CoreData). get_or items c.loop-dependent.dependent-index 0 < length x.base.problem.points.points) (sym c.loop-dependent.invariant.kept) within
 
-pub at_place-requires-clause-place : goal.at_place-requires-clause-place
-at_place-requires-clause-place c = subst (λ (x : CoreData). c.args.place < length (log_of x)) (sym c.loop-dependent.invariant.kept) c.requires.place
+pub at_place_within-requires-clause-place : goal.at_place_within-requires-clause-place
+at_place_within-requires-clause-place c = subst (λ (x : CoreData). c.args.place < length (log_of x)) (sym c.loop-dependent.invariant.kept) c.requires.place
 
 pub keep_waiting-requires-clause-found : goal.keep_waiting-requires-clause-found
 keep_waiting-requires-clause-found c =
     let n = c.loop-dependent.dependent-index in
     let W = Waits c.loop-dependent.waiting.found in
-    found_ready c.args.core.now c.loop-dependent.core c.at_place.new.self W W c.args.place (get_or c.list-dependent-items.result.now n 0) c.in_ok-found.found.items c.loop-dependent.invariant.kept c.in_ok-found.ensures.kept c.requires.place c.in_ok-found.ensures.found
+    found_ready c.args.core.now c.loop-dependent.core c.at_place_within.new.self W W c.args.place (get_or c.list-dependent-items.result.now n 0) c.in_ok-found.found.items c.loop-dependent.invariant.kept c.in_ok-found.ensures.kept c.requires.place c.in_ok-found.ensures.some
 
 pub keep_waiting-requires-clause-ready : goal.keep_waiting-requires-clause-ready
 keep_waiting-requires-clause-ready c =
     let W = Waits c.loop-dependent.waiting.found in
-    grown_ready c.args.core.now c.loop-dependent.core c.at_place.new.self W W 0 0 [] c.loop-dependent.invariant.kept c.in_ok-found.ensures.kept c.in_ok-found.ensures.grows c.loop-dependent.invariant.ready
+    grown_ready c.args.core.now c.loop-dependent.core c.at_place_within.new.self W W 0 0 [] c.loop-dependent.invariant.kept c.in_ok-found.ensures.kept c.in_ok-found.ensures.grows c.loop-dependent.invariant.ready
 
 pub returns-in_err-found-clause-kept : goal.returns-in_err-found-clause-kept
-returns-in_err-found-clause-kept c = asked_again c.args.core.now c.loop-dependent.core c.at_place.new.self c.loop-dependent.invariant.kept c.in_err-found.ensures.kept
+returns-in_err-found-clause-kept c = asked_again c.args.core.now c.loop-dependent.core c.at_place_within.new.self c.loop-dependent.invariant.kept c.in_err-found.ensures.kept
 
 pub returns-in_err-found-clause-grows : goal.returns-in_err-found-clause-grows
-returns-in_err-found-clause-grows c = Grows-trans c.args.core.now.ids c.loop-dependent.core.ids c.at_place.new.self.ids c.loop-dependent.invariant.grows c.in_err-found.ensures.grows
+returns-in_err-found-clause-grows c = Grows-trans c.args.core.now.ids c.loop-dependent.core.ids c.at_place_within.new.self.ids c.loop-dependent.invariant.grows c.in_err-found.ensures.grows
 
 pub returns-in_err-found-clause-keeps : goal.returns-in_err-found-clause-keeps
 returns-in_err-found-clause-keeps c = c.loop-dependent.invariant.keeps
@@ -82,13 +82,13 @@ returns-in_err-found-clause-keeps c = c.loop-dependent.invariant.keeps
 pub returns-in_err-found-clause-ready : goal.returns-in_err-found-clause-ready
 returns-in_err-found-clause-ready c =
     let W = Waits c.loop-dependent.waiting.found in
-    grown_ready c.args.core.now c.loop-dependent.core c.at_place.new.self W W 0 0 [] c.loop-dependent.invariant.kept c.in_err-found.ensures.kept c.in_err-found.ensures.grows c.loop-dependent.invariant.ready
+    grown_ready c.args.core.now c.loop-dependent.core c.at_place_within.new.self W W 0 0 [] c.loop-dependent.invariant.kept c.in_err-found.ensures.kept c.in_err-found.ensures.grows c.loop-dependent.invariant.ready
 
 pub returns-in_err-keep_waiting-clause-kept : goal.returns-in_err-keep_waiting-clause-kept
-returns-in_err-keep_waiting-clause-kept c = asked_again c.args.core.now c.loop-dependent.core c.at_place.new.self c.loop-dependent.invariant.kept c.in_ok-found.ensures.kept
+returns-in_err-keep_waiting-clause-kept c = asked_again c.args.core.now c.loop-dependent.core c.at_place_within.new.self c.loop-dependent.invariant.kept c.in_ok-found.ensures.kept
 
 pub returns-in_err-keep_waiting-clause-grows : goal.returns-in_err-keep_waiting-clause-grows
-returns-in_err-keep_waiting-clause-grows c = Grows-trans c.args.core.now.ids c.loop-dependent.core.ids c.at_place.new.self.ids c.loop-dependent.invariant.grows c.in_ok-found.ensures.grows
+returns-in_err-keep_waiting-clause-grows c = Grows-trans c.args.core.now.ids c.loop-dependent.core.ids c.at_place_within.new.self.ids c.loop-dependent.invariant.grows c.in_ok-found.ensures.grows
 
 pub returns-in_err-keep_waiting-clause-keeps : goal.returns-in_err-keep_waiting-clause-keeps
 returns-in_err-keep_waiting-clause-keeps c = λ d w. c.in_err-keep_waiting.ensures.keeps d (c.loop-dependent.invariant.keeps d w)
@@ -100,7 +100,7 @@ pub loop-dependent-preserved : goal.loop-dependent-preserved
 loop-dependent-preserved c =
     let a = c.args.core.now in
     let b = c.loop-dependent.core in
-    let m = c.at_place.new.self in
+    let m = c.at_place_within.new.self in
     let W = Waits c.loop-dependent.waiting.found in
     let V = Waits c.keep_waiting.new.waiting.found in
     let items = c.list-dependent-items.result.now in
@@ -108,6 +108,7 @@ loop-dependent-preserved c =
     let found = c.in_ok-found.found.items in
     let inv = c.loop-dependent.invariant in
     let kept = c.in_ok-found.ensures.kept in
+    let few : length found ≤ c.budget-most.result = omega (arith, c.if-len-most.false, c.len-in-loop-dependent.ensures) in
     record {
       kept = asked_again a b m inv.kept kept;
       grows = Grows-trans a.ids b.ids m.ids inv.grows c.in_ok-found.ensures.grows;
@@ -118,7 +119,7 @@ loop-dependent-preserved c =
         | inr above ↦
             let same : n ≡ k = omega arith in
             subst (λ j. HasAt a.base.problem (log_of a) c.args.place (get_or items j 0) (IsThereOrWaits m.ids (log_of a) V)) same
-            (has_here a b m W V c.args.place (get_or items n 0) found inv.kept kept c.in_ok-found.ensures.found c.in_ok-keep_waiting.ensures.known)
+            (has_here a b m W V c.args.place (get_or items n 0) found inv.kept kept (c.in_ok-found.ensures.all few) c.in_ok-keep_waiting.ensures.known)
       ];
     }
 
@@ -134,10 +135,6 @@ returns-clause-keeps c = λ d w. subst (λ t. Waits t d) (sym c.tell.ensures) (c
 pub returns-clause-ready : goal.returns-clause-ready
 returns-clause-ready c = subst (λ t. AreReady c.loop-dependent.core (Waits t)) (sym c.tell.ensures) c.loop-dependent.invariant.ready
 
-on_ok : {X E P : Type 0} (r : Result X E) → P → OnOk r P
-on_ok (Ok x) p = p
-on_ok (Err e) p = tt
-
 pub returns-clause-all : goal.returns-clause-all
 returns-clause-all c =
     let a = c.args.core.now in
@@ -146,4 +143,28 @@ returns-clause-all c =
     let at = ap (λ xs. slice_get xs c.args.place) (sym c.replica.ensures.log) ∙ c.row-point.ensures.entry in
     let whole = place_whole p (log_of a) c.args.place (IsThereOrWaits ids (log_of a) (Waits c.loop-dependent.waiting.found)) (entry_of c.replica.result.now.ids c.row-point.result) c.args.dependents.now c.list-dependent-items.result.now at
     c.requires.dependents (sym (ap (λ o. unwrap_or o []) c.list-dependent-items.ensures)) (λ k lt. c.loop-dependent.invariant.all k (omega (arith, lt, c.loop-dependent-test.false))) in
-    on_ok c.tell.result (subst (λ t. HasPlace p (log_of a) c.args.place (IsThereOrWaits ids (log_of a) (Waits t))) (sym c.tell.ensures) whole)
+    subst (λ t. HasPlace p (log_of a) c.args.place (IsThereOrWaits ids (log_of a) (Waits t))) (sym c.tell.ensures) whole
+
+pub returns-then-len-most-clause-kept : goal.returns-then-len-most-clause-kept
+returns-then-len-most-clause-kept c = asked_again c.args.core.now c.loop-dependent.core c.at_place_within.new.self c.loop-dependent.invariant.kept c.in_ok-found.ensures.kept
+
+pub returns-then-len-most-clause-grows : goal.returns-then-len-most-clause-grows
+returns-then-len-most-clause-grows c = Grows-trans c.args.core.now.ids c.loop-dependent.core.ids c.at_place_within.new.self.ids c.loop-dependent.invariant.grows c.in_ok-found.ensures.grows
+
+pub returns-then-len-most-clause-keeps : goal.returns-then-len-most-clause-keeps
+returns-then-len-most-clause-keeps c = c.loop-dependent.invariant.keeps
+
+pub returns-then-len-most-clause-ready : goal.returns-then-len-most-clause-ready
+returns-then-len-most-clause-ready c =
+    let W = Waits c.loop-dependent.waiting.found in
+    grown_ready c.args.core.now c.loop-dependent.core c.at_place_within.new.self W W 0 0 [] c.loop-dependent.invariant.kept c.in_ok-found.ensures.kept c.in_ok-found.ensures.grows c.loop-dependent.invariant.ready
+
+pub returns-then-len-most-clause-all : goal.returns-then-len-most-clause-all
+returns-then-len-most-clause-all c =
+    let W = Waits c.loop-dependent.waiting.found in
+    let found = c.in_ok-found.found.items in
+    record {
+      ready = found_ready c.args.core.now c.loop-dependent.core c.at_place_within.new.self W W c.args.place _ found c.loop-dependent.invariant.kept c.in_ok-found.ensures.kept c.requires.place c.in_ok-found.ensures.some;
+      once = c.in_ok-found.ensures.some.once;
+      many = omega (arith, c.if-len-most.true, c.len.ensures, c.budget-most.ensures, ap (λ (x : CoreData). x.base.budget) (asked_again c.args.core.now c.loop-dependent.core c.at_place_within.new.self c.loop-dependent.invariant.kept c.in_ok-found.ensures.kept));
+    }

@@ -1,4 +1,5 @@
 use Rattle.std.proofs.Common.{◌≡◌, ◌≤◌, ℕ, sym, ◌∙◌, ap, subst, arith, inl, inr, ◌⊎◌}
+use Rattle.std.proofs.lemmas.Option.{MatchOption-at_none, MatchOption-at_some}
 use Rattle.hs_flow.specs.Dependents.{HasDependents}
 use Rattle.hs_rules.specs.Conclusions.{DeducedData}
 use Rattle.hs_history.specs.Story.{Base, takes}
@@ -12,7 +13,7 @@ use Rattle.hs_core.specs.Draining.{work_left, GoesAlone}
 use Rattle.hs_core.specs.Waiting.{Waits}
 use Rattle.hs_core.specs.Selecting.{AreOwn, AreClosed, IsSelecting, IsIdleCore, IsEnded, IsStill, After}
 use Rattle.hs_core.proofs.Moving.{alone_same, alone_step, alone_trans, moves_same, ready_still, taken_work, work_taken}
-use Rattle.hs_core.proofs.Selected.{selecting_spare, surplus_after, idle_after, took_goes, took_own, took_after, over_ended, found_ended, idle_is, quiet_is}
+use Rattle.hs_core.proofs.Selected.{selecting_spare, surplus_after, idle_after, took_goes, took_own, took_holds, took_after, over_ended, found_ended, idle_is, quiet_is}
 use Rattle.hs_core.proofs.selecting.select_turn.Goals as goal
 
 -- room was made
@@ -113,30 +114,55 @@ returns-in_err-form-in-Item-clause-own g c =
     let h = behind c.args.worker c.args.last.now _ c.args.core.now c.reserve_some.new.self s W c.publish_surplus-progress.result c.in_ok-reserve_some.ensures.same c.in_ok-reserve_some.ensures.some c.in-Done.is c.publish_surplus-progress.ensures.after in
     took_own s c.take.new.self c.form.new.core c.in-Item.work c.in-Item.ticket _ c.args.last.now W (Waits c.form.new.waiting.found) h.selecting c.in-Item.ensures.0 c.in-Item.ensures.1 c.in_err-form-in-Item.ensures.kept c.in_err-form-in-Item.ensures.grows c.in_err-form-in-Item.ensures.keeps
 
-pub returns-in_ok-form-in-Item-clause-goes : goal.returns-in_ok-form-in-Item-clause-goes
-returns-in_ok-form-in-Item-clause-goes g c =
+pub returns-in-None-clause-goes : goal.returns-in-None-clause-goes
+returns-in-None-clause-goes g c =
     let s = c.publish_surplus-progress.new.core in
     let W = Waits c.publish_surplus-progress.new.waiting.found in
     let h = behind c.args.worker c.args.last.now _ c.args.core.now c.reserve_some.new.self s W c.publish_surplus-progress.result c.in_ok-reserve_some.ensures.same c.in_ok-reserve_some.ensures.some c.in-Done.is c.publish_surplus-progress.ensures.after in
     alone_trans c.args.core.now s c.form.new.core h.goes
     (took_goes s c.take.new.self c.form.new.core c.in-Item.work c.in-Item.ticket _ c.args.last.now W (Waits c.form.new.waiting.found) h.selecting c.in-Item.ensures.0 c.in-Item.ensures.1 c.in_ok-form-in-Item.ensures.kept c.in_ok-form-in-Item.ensures.grows c.in_ok-form-in-Item.ensures.keeps)
 
-pub returns-in_ok-form-in-Item-clause-own : goal.returns-in_ok-form-in-Item-clause-own
-returns-in_ok-form-in-Item-clause-own g c =
+pub returns-in-None-clause-own : goal.returns-in-None-clause-own
+returns-in-None-clause-own g c =
     let s = c.publish_surplus-progress.new.core in
     let W = Waits c.publish_surplus-progress.new.waiting.found in
     let h = behind c.args.worker c.args.last.now _ c.args.core.now c.reserve_some.new.self s W c.publish_surplus-progress.result c.in_ok-reserve_some.ensures.same c.in_ok-reserve_some.ensures.some c.in-Done.is c.publish_surplus-progress.ensures.after in
     took_own s c.take.new.self c.form.new.core c.in-Item.work c.in-Item.ticket _ c.args.last.now W (Waits c.form.new.waiting.found) h.selecting c.in-Item.ensures.0 c.in-Item.ensures.1 c.in_ok-form-in-Item.ensures.kept c.in_ok-form-in-Item.ensures.grows c.in_ok-form-in-Item.ensures.keeps
 
-pub returns-in_ok-form-in-Item-clause-after : goal.returns-in_ok-form-in-Item-clause-after
-returns-in_ok-form-in-Item-clause-after g c =
+pub returns-in-None-clause-after : goal.returns-in-None-clause-after
+returns-in-None-clause-after g c =
     let s = c.publish_surplus-progress.new.core in
     let e = c.form.new.core in
     let W = Waits c.publish_surplus-progress.new.waiting.found in
     let h = behind c.args.worker c.args.last.now _ c.args.core.now c.reserve_some.new.self s W c.publish_surplus-progress.result c.in_ok-reserve_some.ensures.same c.in_ok-reserve_some.ensures.some c.in-Done.is c.publish_surplus-progress.ensures.after in
     let x = took_after s c.take.new.self e c.in-Item.work c.in-Item.ticket _ c.args.last.now W (Waits c.form.new.waiting.found) h.selecting c.in-Item.ensures.0 c.in-Item.ensures.1 c.in_ok-form-in-Item.ensures.kept c.in_ok-form-in-Item.ensures.grows c.in_ok-form-in-Item.ensures.keeps
-    (AreClosed e × IsIdleCore e) c.know_core.ensures.legal c.in_ok-form-in-Item.ensures.ready c.in_ok-form-in-Item.ensures.all in
+    (AreClosed e × IsIdleCore e) c.know_core.ensures.legal c.in_ok-form-in-Item.ensures.ready (MatchOption-at_none _ _ c.in-None.is c.in_ok-form-in-Item.ensures.all) in
     (omega (arith, x.0, h.lighter), x.1)
+
+pub overflow-requires-clause-holds : goal.overflow-requires-clause-holds
+overflow-requires-clause-holds g c =
+    let s = c.publish_surplus-progress.new.core in
+    let W = Waits c.publish_surplus-progress.new.waiting.found in
+    let h = behind c.args.worker c.args.last.now _ c.args.core.now c.reserve_some.new.self s W c.publish_surplus-progress.result c.in_ok-reserve_some.ensures.same c.in_ok-reserve_some.ensures.some c.in-Done.is c.publish_surplus-progress.ensures.after in
+    took_holds s c.take.new.self c.form.new.core c.in-Item.work c.in-Item.ticket _ c.args.last.now W (Waits c.form.new.waiting.found) h.selecting c.in-Item.ensures.0 c.in-Item.ensures.1 c.in_ok-form-in-Item.ensures.kept c.in_ok-form-in-Item.ensures.grows c.in_ok-form-in-Item.ensures.keeps
+
+pub overflow-requires-clause-own : goal.overflow-requires-clause-own
+overflow-requires-clause-own g c =
+    let s = c.publish_surplus-progress.new.core in
+    let W = Waits c.publish_surplus-progress.new.waiting.found in
+    let h = behind c.args.worker c.args.last.now _ c.args.core.now c.reserve_some.new.self s W c.publish_surplus-progress.result c.in_ok-reserve_some.ensures.same c.in_ok-reserve_some.ensures.some c.in-Done.is c.publish_surplus-progress.ensures.after in
+    took_own s c.take.new.self c.form.new.core c.in-Item.work c.in-Item.ticket _ c.args.last.now W (Waits c.form.new.waiting.found) h.selecting c.in-Item.ensures.0 c.in-Item.ensures.1 c.in_ok-form-in-Item.ensures.kept c.in_ok-form-in-Item.ensures.grows c.in_ok-form-in-Item.ensures.keeps
+
+pub overflow-requires-clause-surplus : goal.overflow-requires-clause-surplus
+overflow-requires-clause-surplus g c = MatchOption-at_some _ _ c.in-Some.found c.in-Some.is c.in_ok-form-in-Item.ensures.all
+
+pub returns-in-Some-clause-goes : goal.returns-in-Some-clause-goes
+returns-in-Some-clause-goes g c =
+    let s = c.publish_surplus-progress.new.core in
+    let W = Waits c.publish_surplus-progress.new.waiting.found in
+    let h = behind c.args.worker c.args.last.now _ c.args.core.now c.reserve_some.new.self s W c.publish_surplus-progress.result c.in_ok-reserve_some.ensures.same c.in_ok-reserve_some.ensures.some c.in-Done.is c.publish_surplus-progress.ensures.after in
+    alone_trans c.args.core.now c.form.new.core c.overflow.new.core (alone_trans c.args.core.now s c.form.new.core h.goes
+    (took_goes s c.take.new.self c.form.new.core c.in-Item.work c.in-Item.ticket _ c.args.last.now W (Waits c.form.new.waiting.found) h.selecting c.in-Item.ensures.0 c.in-Item.ensures.1 c.in_ok-form-in-Item.ensures.kept c.in_ok-form-in-Item.ensures.grows c.in_ok-form-in-Item.ensures.keeps)) c.overflow.ensures.goes
 
 pub returns-in-Over-clause-goes : goal.returns-in-Over-clause-goes
 returns-in-Over-clause-goes g c =
