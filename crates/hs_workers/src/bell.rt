@@ -29,12 +29,12 @@ pub(crate) struct Bell {
 }
 
 impl Bell {
-    pub(crate) fn new(workers: usize) -> Bell {
+    pub(crate) fn new(workers: usize, most: usize) -> Bell {
         Bell {
             rings: AtomicU64::new(0),
             waiting: AtomicU64::new(0),
             workers,
-            sharing: Sharing::new(),
+            sharing: Sharing::new(most),
         }
     }
 

@@ -8,7 +8,7 @@ ghost use Rattle.hs_workers.specs.Forming.{KeepsNew, AreAllAt, AreFormed};
 
 use crate::common::Common;
 use hs_core::{Tally, Work};
-use hs_rules::{Deduced, Replica, conclusions_with, seed_conclusions};
+use hs_rules::{Deduced, Replica, conclusions_within, seed_conclusions};
 use hs_scheme::{OutOfMemory, Problem};
 use hs_types::Row;
 use std::alloc::Global;
@@ -43,13 +43,15 @@ fn keep_new(
 }
 
 /// What follows at these points by the entry at the place, and isn't in the log. Adds to `tally` how
-/// many conclusions were formed, known ones too, as the others here do.
+/// many conclusions were formed, known ones too, as the others here do. Where more than `most` follow at a
+/// point, it answers as where memory is refused, and the work is given back.
 fn form_at(
     alloc: Global,
     problem: &Problem,
     points: &[u32],
     replica: &mut Replica,
     place: u32,
+    most: usize,
     tally: &mut Tally,
 ) -> Result<Vec<Deduced>, OutOfMemory>
     requires points { All (λ point. point < length problem.now.points.points) points.now }
@@ -62,8 +64,11 @@ fn form_at(
 {
     let mut found = Vec::new(alloc);
     for point in points {
-        let formed = conclusions_with(alloc, problem, replica, *point, place)?;
+        let formed = conclusions_within(alloc, problem, replica, *point, place, most)?;
         tally.add(formed.len());
+        if formed.len() > most {
+            return Err(OutOfMemory);
+        }
         keep_new(replica, formed, &mut found)?;
     }
     Ok(found)
@@ -105,7 +110,16 @@ fn form_place(
         (Work.Place place) found.items) }
 {
     let points = common.dependents.list(replica.row(place).point);
-    form_at(common.alloc, common.problem, points, replica, place, tally)
+    let most = common.bell.sharing.most;
+    form_at(
+        common.alloc,
+        common.problem,
+        points,
+        replica,
+        place,
+        most,
+        tally,
+    )
 }
 
 /// What follows by the work and isn't in the log, each once, with what it follows from.

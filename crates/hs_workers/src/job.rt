@@ -22,7 +22,8 @@ pub(crate) struct Job {
     pub found: Option<Vec<Deduced>>,
 }
 
-/// What follows by the work, or `None` where memory is refused, or much has followed from little.
+/// What follows by the work, or `None` where memory is refused, more follows at a point than the budget, or
+/// much has followed from little.
 fn formed(common: &Common<'_, '_>, replica: &mut Replica, job: Job, tally: &mut Tally) -> Job
     requires work { IsWork common.now.problem replica.old.log job.work }
     requires shape { All (InShape common.now.problem) replica.old.log }
@@ -63,8 +64,8 @@ pub(crate) fn pass_each<G: Gate>(gate: &G, worker: u32, jobs: &[Job]) {
     }
 }
 
-/// Forms what follows by each work, as far as there is memory and until much follows from little, and
-/// passes the gate before each. Adds to the tally how many conclusions were formed, known ones too.
+/// Forms what follows by each work, as far as there is memory, no more than the budget follows at a point, and
+/// until much follows from little, and passes the gate before each. Adds to the tally how many conclusions were formed, known ones too.
 pub(crate) fn form_each<G: Gate>(common: &Common<'_, '_>, gate: &G, worker: u32, stock: &mut Stock)
     requires works { All (λ j. IsWork common.now.problem stock.old.replica.log j.work) stock.old.jobs.items }
     requires formed { All (IsFormed common.now.problem stock.old.replica.ids stock.old.replica.log)

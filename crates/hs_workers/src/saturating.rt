@@ -46,13 +46,15 @@ fn seats_for<'p>(
     Ok(seats)
 }
 
-/// Each worker works in a thread of its own, until no work is left or none is given out any more.
+/// Each worker works in a thread of its own, until no work is left or none is given out any more, or it has
+/// given back one by which more than `most` conclusions follow at a point.
 fn work_each<'p, R: Threads + Wait + Sync, G: Gate + Sync>(
     rt: &R,
     alloc: Global,
     table: &SharedTable<'p>,
     problem: &Problem,
     dependents: &Dependents,
+    most: usize,
     gate: &G,
     seats: &mut [RestedSeat],
 )
@@ -62,7 +64,7 @@ fn work_each<'p, R: Threads + Wait + Sync, G: Gate + Sync>(
     ensures { All (RestsIn table.now) seats.new }
 {
     let count = seats.len();
-    let bell = Bell::new(count);
+    let bell = Bell::new(count, most);
     let bell = &bell;
     for_each_mut(
         rt,
@@ -155,13 +157,15 @@ fn share<'p>(
 }
 
 /// The core that so many workers leave: each does works until no work is left or none is given out
-/// any more. Nobody else does anything.
+/// any more, or it has given back one by which more than `most` conclusions follow at a point. Nobody else
+/// does anything.
 fn work_together<'p, R: Threads + Wait + Sync, G: Gate + Sync>(
     rt: &R,
     alloc: Global,
     problem: &Problem,
     dependents: &Dependents,
     workers: u32,
+    most: usize,
     table: SharedTable<'p>,
     first: Seat<Held<'p>>,
     gate: &G,
@@ -188,6 +192,7 @@ fn work_together<'p, R: Threads + Wait + Sync, G: Gate + Sync>(
         &table,
         problem,
         dependents,
+        most,
         gate,
         seats.as_mut_slice(),
     );
@@ -269,8 +274,11 @@ fn work<'p, R: Threads + Wait + Sync, G: Gate + Sync>(
     if workers == 1 {
         return work_by_one(alloc, core, dependents, gate);
     }
+    let most = core.budget() as usize;
     let (table, seat) = share(alloc, core)?;
-    let core = work_together(rt, alloc, problem, dependents, workers, table, seat, gate)?;
+    let core = work_together(
+        rt, alloc, problem, dependents, workers, most, table, seat, gate,
+    )?;
     end_by_one(alloc, core, dependents, gate)
 }
 
@@ -279,8 +287,10 @@ fn work<'p, R: Threads + Wait + Sync, G: Gate + Sync>(
 /// nobody else does anything. The budget is 1 to 1,000,000, and the dependents are those of the
 /// problem.
 ///
-/// A worker for which memory is refused leaves its work to the others. Where works are left when all
-/// have ended, one goes on alone, and where memory is refused to it, that is the answer.
+/// A worker for which memory is refused leaves its work to the others, and so does one that forms more
+/// conclusions at a point by an entry than the budget; then each of the others may form as many once before
+/// it ends, too. Where works are left when all have ended, one goes on alone, and where memory is refused to
+/// it, that is the answer.
 ///
 /// One worker works in the caller's thread, on the core itself. Of more workers each has a thread of
 /// its own. While they share the works, each keeps a replica of the log, which takes as much memory as

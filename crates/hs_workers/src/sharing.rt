@@ -10,7 +10,8 @@
 //! rest has handed in its works, and rings, since it may leave works pending for one that waits.
 //!
 //! Where much follows from little, what enters the log next matters more than who does it: once the
-//! workers have met two bursts (`Tally` of `hs_core`), all end, and one selects what enters the log.
+//! workers have met two bursts (`Tally` of `hs_core`), all end, and one selects what enters the log. A work by
+//! which more follows at a point than the budget is left to that one, too.
 
 use hs_core::{Tally, Work};
 use std::sync::Wait;
@@ -62,15 +63,19 @@ pub(crate) struct Sharing {
     known: AtomicU64,
     /// How many bursts all have met.
     bursts: AtomicU64,
+    /// A work by which more conclusions than this follow at a point is given back, so that it is left to the
+    /// one that goes on alone.
+    pub(crate) most: usize,
 }
 
 impl Sharing {
-    pub(crate) fn new() -> Sharing {
+    pub(crate) fn new(most: usize) -> Sharing {
         Sharing {
             lone: AtomicU64::new(0),
             formed: AtomicU64::new(0),
             known: AtomicU64::new(0),
             bursts: AtomicU64::new(0),
+            most,
         }
     }
 
