@@ -231,8 +231,8 @@ def several(order, count, states, ends):
 
 def wide(count, states=20):
     """A call with as many arguments, each a function of two parameters applied, for which as many environments are asked as
-    there are states. All choices of one for each argument lead to different environments, and one join makes them all: with
-    seven arguments none of our runs ended."""
+    there are states. All choices of one for each argument lead to different environments, of which one join would make all that an
+    entry is in."""
     params = " ".join(f"x{i} y{i}" for i in range(count))
     applied = " ".join(f"(x{i} y{i})" for i in range(count))
     body = "c"
@@ -336,7 +336,7 @@ FAMILIES = {
     "large_3": (lambda steps: iterated(3, steps), [2, 11, 20], "steps", "horsat --entries 1000000"),
     "large_4": (lambda steps: iterated(4, steps), [1, 4], "steps", "horsat --entries 1000000"),
     "large_5": (lambda steps: iterated(5, steps), [1, 4], "steps", "horsat --entries 1000000"),
-    "wide": (wide, [4, 5, 6], "arguments", "horsat"),
+    "wide": (wide, [6, 8, 10], "arguments", "horsat"),
     "several_3": (lambda count: several(3, count, 4, [0, 2]), [100, 200, 300], "functions", "horsat"),
     "several_3r": (lambda count: several(3, count, 4, [0]), [100, 200, 300], "functions", "horsat"),
     "several_4": (lambda count: several(4, count, 2, [0]), [50, 100, 200], "functions", "horsat"),
