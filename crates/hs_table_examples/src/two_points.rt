@@ -13,7 +13,7 @@ use crate::scripts::see_scripts;
 use crate::seeing::see;
 use crate::telling::terminal;
 use hs_fixtures::problem_of;
-use hs_rules::{Deduced, Replica, conclusions, conclusions_with, conclusions_within};
+use hs_rules::{Deduced, Replica, conclusions, conclusions_with};
 use hs_scheme::{OutOfMemory, Problem};
 use hs_table::HeadBy;
 use hs_types::View;
@@ -55,7 +55,7 @@ fn begins(alloc: Global, problem: &Problem, replica: &mut Replica) -> Result<boo
     Ok(none.is_empty() && is_one(replica, found.as_slice(), 1, terminal(None), &[]))
 }
 
-/// Whether from that entry one follows at point 0, also where one is asked for or none.
+/// Whether from that entry one follows at point 0.
 fn goes_on(alloc: Global, problem: &Problem, replica: &mut Replica) -> Result<bool, OutOfMemory>
     requires { All (InShape problem.now) replica.old.log }
 {
@@ -64,14 +64,10 @@ fn goes_on(alloc: Global, problem: &Problem, replica: &mut Replica) -> Result<bo
     }
     let found = conclusions(alloc, problem, replica, 0)?;
     let with = conclusions_with(alloc, problem, replica, 0, 0)?;
-    let within = conclusions_within(alloc, problem, replica, 0, 0, 1)?;
-    let more = conclusions_within(alloc, problem, replica, 0, 0, 0)?;
     let head = terminal(Some(1));
     Ok(
         is_one(replica, found.as_slice(), 0, head, &[(0, 0)])
-            && is_one(replica, with.as_slice(), 0, head, &[(0, 0)])
-            && is_one(replica, within.as_slice(), 0, head, &[(0, 0)])
-            && is_one(replica, more.as_slice(), 0, head, &[(0, 0)]),
+            && is_one(replica, with.as_slice(), 0, head, &[(0, 0)]),
     )
 }
 
