@@ -231,8 +231,8 @@ def several(order, count, states, ends):
 
 def wide(count, states=20):
     """A call with as many arguments, each a function of two parameters applied, for which as many environments are asked as
-    there are states. All choices of one for each argument lead to different environments, of which one join would make all that an
-    entry is in."""
+    there are states. All choices of one for each argument lead to different environments, of which one join would make all
+    that an entry is in."""
     params = " ".join(f"x{i} y{i}" for i in range(count))
     applied = " ".join(f"(x{i} y{i})" for i in range(count))
     body = "c"
