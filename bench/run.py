@@ -250,6 +250,44 @@ def wide(count, states=20):
     return framed(rules, [*transitions, f"s t -> {' '.join(['s'] * states)}.\n", "s r -> s.\n", "s c -> .\n"])
 
 
+def dominated(count, states=None, sooner=False):
+    """`wide` with arguments that share their parameters, and one more argument that asks for half of what all of them may ask
+    for, or for the other half. So the others lead to far more environments together than are left of them with that one, which
+    stands behind them, or where `sooner` is set, before them."""
+    states = states or 2 * count
+    args, names = ["(x y)"] * count, [f"f{i}" for i in range(count)]
+    args, names = (["(Z x y)", *args], ["g", *names]) if sooner else ([*args, "(Z x y)"], [*names, "g"])
+    body = "c"
+    for name in reversed(names):
+        body = f"{name} (r {body})" if body == "c" else f"{name} (r ({body}))"
+    rules = [
+        "S -> K X Y.\n",
+        f"K x y -> H {' '.join(args)}.\n",
+        f"H {' '.join(names)} -> {body}.\n",
+        "X u v -> u (u v).\n",
+        f"Y v -> t {' '.join(['v'] * states)}.\n",
+        "Z x y v -> br (A0 x y v) (A1 x y v).\n",
+    ]
+    for half in range(2):
+        asked = "v"
+        for j in range(half, states, 2):
+            asked = f"x T{j} (r (y (u{j} (t{j} (y (r ({asked})))))))"
+        rules.append(f"A{half} x y v -> {asked}.\n")
+    rules += [f"T{j} v -> t{j} v.\n" for j in range(states)]
+    everywhere = " ".join(f"q{i}" for i in range(states))
+    transitions = []
+    for i in range(states):
+        transitions.append(f"q{i} t -> {everywhere}.\nq{i} r -> {'s' if i else 'q0'}.\nq{i} br -> {'s s' if i else 'q0 q0'}.\n")
+        for j in range(states):
+            transitions.append(f"q{i} u{j} -> {'q0' if i == j else 's'}.\n")
+            transitions.append(f"q{i} t{j} -> {'s' if i and i != j else f'q{j}' if i == 0 else 'q0'}.\n")
+        if i:
+            transitions.append(f"q{i} c -> .\n")
+    last = [f"s t -> {' '.join(['s'] * states)}.\n", "s r -> s.\n", "s c -> .\n", "s br -> s s.\n"]
+    last += [f"s u{j} -> s.\ns t{j} -> s.\n" for j in range(states)]
+    return framed(rules, [*transitions, *last])
+
+
 def booleans(rules, count=10):
     """Rules that hand on booleans as selectors: each turns one of them, or opens a file where it is set, that is closed behind it."""
     kept = [f"b{j}" for j in range(count)]
@@ -337,6 +375,8 @@ FAMILIES = {
     "large_4": (lambda steps: iterated(4, steps), [1, 4], "steps", "horsat --entries 1000000"),
     "large_5": (lambda steps: iterated(5, steps), [1, 4], "steps", "horsat --entries 1000000"),
     "wide": (wide, [6, 8, 10], "arguments", "horsat"),
+    "dominated": (dominated, [4, 6, 8], "arguments", "horsat"),
+    "dominated_sooner": (lambda count: dominated(count, sooner=True), [4, 6, 8], "arguments", "horsat"),
     "several_3": (lambda count: several(3, count, 4, [0, 2]), [100, 200, 300], "functions", "horsat"),
     "several_3r": (lambda count: several(3, count, 4, [0]), [100, 200, 300], "functions", "horsat"),
     "several_4": (lambda count: several(4, count, 2, [0]), [50, 100, 200], "functions", "horsat"),
