@@ -250,15 +250,15 @@ def wide(count, states=20):
     return framed(rules, [*transitions, f"s t -> {' '.join(['s'] * states)}.\n", "s r -> s.\n", "s c -> .\n"])
 
 
-def dominated(count, states=None, sooner=False):
+def dominated(count, sooner=False):
     """`wide` with arguments that share their parameters, and one more argument that asks for half of what all of them may ask
     for, or for the other half. So the others lead to far more environments together than are left of them with that one, which
-    stands behind them, or where `sooner` is set, before them."""
-    states = states or 2 * count
-    args, names = ["(x y)"] * count, [f"f{i}" for i in range(count)]
-    args, names = (["(Z x y)", *args], ["g", *names]) if sooner else ([*args, "(Z x y)"], [*names, "g"])
+    stands behind them, or where `sooner` is set, before them. The table is the same."""
+    states = 2 * count
+    args, used = ["(x y)"] * count, [*(f"f{i}" for i in range(count)), "g"]
+    args, names = (["(Z x y)", *args], ["g", *used[:-1]]) if sooner else ([*args, "(Z x y)"], used)
     body = "c"
-    for name in reversed(names):
+    for name in reversed(used):
         body = f"{name} (r {body})" if body == "c" else f"{name} (r ({body}))"
     rules = [
         "S -> K X Y.\n",
