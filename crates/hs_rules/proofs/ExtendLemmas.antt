@@ -1,33 +1,32 @@
 -- What comes of one environment and the candidates for a slot, one after another.
-use Rattle.std.proofs.Common.{◌≡◌, refl, sym, ◌∙◌, ap, subst, ℕ, ◌+◌, ◌<◌, Bool, true, false, not, List, [], ◌∷◌, ◌++◌, length, get_or, slice_get, Option, Some, None, IfSome, arith, ◌⊎◌, inl, inr, Contains}
+use Rattle.std.proofs.Common.{◌≡◌, refl, sym, ◌∙◌, ap, subst, ℕ, ◌+◌, ◌<◌, Bool, true, false, not, List, [], ◌∷◌, ◌++◌, length, take, get_or, slice_get, Option, Some, None, IfSome, ◌⊎◌, inl, inr, Contains}
 use Rattle.std.specs.Bool.{OnFalse}
 use Rattle.std.specs.List.Sorted.{IsStrictlyIncreasing}
 use Rattle.std.proofs.lemmas.List.{get_or_push, get_or_append_left}
 use Rattle.std.proofs.lemmas.List.Elements.{Contains-get_or}
-use Rattle.std.proofs.lemmas.List.Kept.{AllPairs-from_increasing}
 use Rattle.std.proofs.lemmas.Option.{same_Some}
 use borrow.Author.Count.{below_more}
-use Rattle.hs_scheme.proofs.Lists.{only}
+use Rattle.hs_scheme.proofs.Lists.{Contains-at, only}
 use Rattle.hs_table.specs.Entries.{Env, EntryData}
-use Rattle.hs_types.specs.Interned.{InternerData, env_of_id, Grows, IsUnionEnv}
+use Rattle.hs_types.specs.Interned.{InternerData, env_of_id, Grows}
 use Rattle.hs_types.proofs.Numbers.{env_within, env_stays}
 use Rattle.hs_replica.specs.Masks.{IsMask, IsUnionMask}
+use Rattle.hs_replica.specs.Replica.{ReplicaData, KeepsLog}
 use Rattle.hs_replica.proofs.MaskLemmas.{mask_grows}
-use Rattle.hs_rules.specs.Order.{chosen_places, IsLess}
 use Rattle.hs_rules.specs.Slots.{FilledData}
-use Rattle.hs_rules.specs.Joins.{PartialData, FillsBy, IsPlaced, ArePlaced, SeenAre, MetAre, MetForSlot, AreAscending, AreGathered, JoinsOne, only_place, IsMade, IsAmongJoined, IsMaskAt, AreMasksOf, IsUnited}
-use Rattle.hs_rules.proofs.OrderLemmas.{less_last, places_push}
-use Rattle.hs_rules.proofs.JoinLemmas.{ComeBeforeFrom, made_stays, covered_stays}
+use Rattle.hs_rules.specs.Joins.{PartialData, FillsBy, IsPlaced, ArePlaced, SeenAre, MetAre, MetForSlot, AreAscending, AreAsLong, HaveSameBefore, AreGathered, JoinsOne, only_place, IsMade, IsMadeOf, IsAmongJoined, CanFill, IsMaskAt, AreMasksOf, IsUnited}
+use Rattle.hs_rules.proofs.Lists.{taken_cases, first_there}
+use Rattle.hs_rules.proofs.JoinLemmas.{ComeBeforeOf, ComeBeforeFrom, item_at, before_more, before_next, made_stays, covered_stays, made_earlier, covered_earlier}
 
--- what comes of the candidates so far is there
-pub record SoFar (I J : InternerData) (log : List EntryData) (from : PartialData) (f : FilledData) (index : ℕ) (start : List PartialData) (sk mk : List ℕ) (list : List PartialData) : Type 0 where
+-- what comes of the environments so far by one candidate is there
+pub record SoFar (I J : InternerData) (log : List EntryData) (run : List PartialData) (f : FilledData) (at place index : ℕ) (start : List PartialData) (sk mk : List ℕ) (list : List PartialData) : Type 0 where
   pub seen : SeenAre sk list
   pub met : MetForSlot J log f mk list
   pub ascending : AreAscending list
-  pub before : ComeBeforeFrom list from.args f.places index
+  pub before : ComeBeforeOf list run at place index
   pub keeps : (x : PartialData) → Contains start x → Contains list x
-  pub made : (x : PartialData) → Contains list x → Contains start x ⊎ IsMade I J log from f x
-  pub all : (k : ℕ) → k < index → (e : EntryData) → slice_get log (get_or f.places k 0) ≡ Some e → IsAmongJoined I J from (get_or f.places k 0) e list
+  pub made : (x : PartialData) → Contains list x → Contains start x ⊎ IsMadeOf I J log run (only_place f.arg place) at x
+  pub all : (from : PartialData) → Contains (take index run) from → (e : EntryData) → slice_get log place ≡ Some e → IsAmongJoined I J from at place e list
 
 module _ (I J : InternerData) (log : List EntryData) (from : PartialData) (f : FilledData) (g : Grows I J) (known : from.env < length I.envs) (placed : ArePlaced log (length (env_of_id I from.env)) f) where
   long_at : (place : ℕ) (e : EntryData) → FillsBy log f place e → length e.env ≡ length (env_of_id J from.env)
@@ -38,71 +37,143 @@ module _ (I J : InternerData) (log : List EntryData) (from : PartialData) (f : F
   pub placed_now : (place : ℕ) → Contains f.places place → IsPlaced log (length (env_of_id J from.env)) place
   placed_now place among = subst (λ (n : ℕ). IsPlaced log n place) (ap (λ (E : Env). length E) (sym (env_stays I J g from.env known))) (placed place among)
 
-  pub gathered_at : (index : ℕ) (start : List PartialData) (sk mk : List ℕ) (list : List PartialData) (place : ℕ) → Contains f.places place → SoFar I J log from f index start sk mk list → AreGathered J (length (env_of_id J from.env)) sk mk list
-  gathered_at index start sk mk list place among h =
+  -- the masks that were met are for as many parameters as the environment has
+  pub gathered_at : (sk mk : List ℕ) (list : List PartialData) (place : ℕ) → Contains f.places place → SeenAre sk list → MetForSlot J log f mk list → AreAscending list → AreGathered J (length (env_of_id J from.env)) sk mk list
+  gathered_at sk mk list place among seen met up =
       let p = placed place among in
       let fills : FillsBy log f place p.entry = record { among = among; at = p.at } in
-      record {
-        known = h.seen;
-        masked = subst (λ (n : ℕ). MetAre J n mk list) (long_at place p.entry fills) (h.met place p.entry fills);
-        ascends = h.ascending;
-      }
+      record { known = seen; masked = subst (λ (n : ℕ). MetAre J n mk list) (long_at place p.entry fills) (met place p.entry fills); ascends = up }
 
-  module _ (K : InternerData) (h : Grows J K) (index place : ℕ) (is : place ≡ get_or f.places index 0) (lt : index < length f.places) (rises : IsStrictlyIncreasing f.places)
-      (start old new : List PartialData) (sk mk sl ml : List ℕ) (so : SoFar I J log from f index start sk mk old) (gathered : AreGathered K (length (env_of_id J from.env)) sl ml new) (joins : JoinsOne J K log from f.arg place old new) where
-    among : Contains f.places place
-    among = subst (λ (p : ℕ). Contains f.places p) (sym is) (Contains-get_or f.places index 0 lt)
+  pub met_after : (K : InternerData) (sk mk : List ℕ) (list : List PartialData) → AreGathered K (length (env_of_id J from.env)) sk mk list → MetForSlot K log f mk list
+  met_after K sk mk list gathered p e fills = subst (λ (n : ℕ). MetAre K n mk list) (sym (long_at p e fills)) gathered.masked
 
-    -- made of the slot, as of the candidate alone
-    made_of : (x : PartialData) → IsMade J K log from (only_place f.arg place) x → IsMade I K log from f x
-    made_of x m =
-        let same = only place m.place m.fills.among in
-        record {
-          place = m.place;
-          entry = m.entry;
-          fills = record { among = subst (λ (p : ℕ). Contains f.places p) (sym same) among; at = m.fills.at };
-          args = m.args;
-          within = m.within;
-          union = subst (λ (E : Env). IsUnionEnv E m.entry.env (env_of_id K x.env)) (env_stays I J g from.env known) m.union;
-        }
-
-    made_at : (x : PartialData) → IsMade J K log from (only_place f.arg place) x → x.args ≡ from.args ++ (f.arg, place) ∷ []
-    made_at x m = m.args ∙ ap (λ (p : ℕ). from.args ++ (f.arg, p) ∷ []) (only place m.place m.fills.among)
-
-    covered_of : (e : EntryData) → IsAmongJoined J K from place e new → IsAmongJoined I K from place e new
-    covered_of e c = record {
-      item = c.item;
-      there = c.there;
-      within = c.within;
-      union = subst (λ (E : Env). IsUnionEnv E e.env (env_of_id K c.item.env)) (env_stays I J g from.env known) c.union;
-      least = c.least;
-    }
-
-    pub so_far_next : SoFar I K log from f (index + 1) start sl ml new
-    so_far_next = record {
+-- one environment more
+pub so_far_next : (I J K : InternerData) (log : List EntryData) (run : List PartialData) (f : FilledData) (at place index : ℕ) (from : PartialData) (g : Grows I J) (h : Grows J K) → CanFill I log run f → AreAscending run → AreAsLong run
+    → index < length run → from ≡ get_or run index from → (start old new : List PartialData) (sk mk sl ml : List ℕ) → SoFar I J log run f at place index start sk mk old
+    → AreGathered K (length (env_of_id J from.env)) sl ml new → JoinsOne J K log from f.arg at place old new → SoFar I K log run f at place (index + 1) start sl ml new
+so_far_next I J K log run f at place index from g h can up long lt is start old new sk mk sl ml so gathered joins =
+    let here_is = item_at run index from lt is in
+    let among = Contains-at run index from here_is in
+    let known = can from among in
+    let one = only_place f.arg place in
+    record {
       seen = gathered.known;
-      met = λ p e fills. subst (λ (n : ℕ). MetAre K n ml new) (sym (long_at p e fills)) gathered.masked;
+      met = met_after I J log from f g known.0 known.1 K sl ml new gathered;
       ascending = gathered.ascends;
-      before = λ x there k le below. elim (joins.made x there) [
-        | inl was ↦ so.before x was k (omega (arith, le)) below
-        | inr m ↦
-            let places : chosen_places x.args ≡ chosen_places from.args ++ get_or f.places index 0 ∷ [] =
-            ap chosen_places (made_at x m) ∙ (places_push from.args f.arg place ∙ ap (λ (p : ℕ). chosen_places from.args ++ p ∷ []) is) in
-            subst (λ (ps : List ℕ). IsLess ps (chosen_places from.args ++ get_or f.places k 0 ∷ [])) (sym places)
-            (less_last (chosen_places from.args) (get_or f.places index 0) (get_or f.places k 0) (AllPairs-from_increasing f.places rises index k 0 (omega (arith, le)) below))
-      ];
+      before = before_more J K log old new run f.arg at place index from here_is up long so.before joins.made;
       keeps = λ x there. joins.keeps x (so.keeps x there);
       made = λ x there. elim (joins.made x there) [
         | inl was ↦ elim (so.made x was) [
           | inl first ↦ inl first
-          | inr m ↦ inr (made_stays I J K log from f g h known x m)
+          | inr m ↦ inr (record { from = m.from; among = m.among; made = made_stays I J K log m.from one at g h (can m.from m.among).0 x m.made })
         ]
-        | inr m ↦ inr (made_of x m)
+        | inr m ↦ inr (record { from = from; among = among; made = made_earlier I J K log log from one at g known.0 refl x m })
       ];
-      all = below_more (λ k. (e : EntryData) → slice_get log (get_or f.places k 0) ≡ Some e → IsAmongJoined I K from (get_or f.places k 0) e new) index
-          (λ k below e at. covered_stays I J K log from f g h known (get_or f.places k 0) e old new joins.keeps (so.all k below e at))
-          (λ e at. subst (λ (p : ℕ). IsAmongJoined I K from p e new) is (covered_of e (joins.there e (ap (λ (p : ℕ). slice_get log p) is ∙ at))));
+      all = λ y there e at_e. elim (taken_cases run index from y lt is there) [
+        | inl was ↦ covered_stays I J K log y one at g h (can y (first_there index run y was)).0 place e old new joins.keeps (so.all y was e at_e)
+        | inr same ↦ subst (λ (z : PartialData). IsAmongJoined I K z at place e new) (sym same) (covered_earlier I J K log log from one at g known.0 refl place e new (joins.there e at_e))
+      ];
     }
+
+pub so_far_then : (first loop mid last : ReplicaData) (run : List PartialData) (f : FilledData) (at number index : ℕ) (from : PartialData) (arg : ℕ) (items : List ℕ) → KeepsLog first loop → mid ≡ loop → KeepsLog mid last → arg ≡ f.arg → items ≡ f.places
+    → CanFill first.ids first.log run f → AreAscending run → AreAsLong run → index < length run → from ≡ get_or run index from → (begin old new : List PartialData) (sk mk sl ml : List ℕ)
+    → SoFar first.ids loop.ids first.log run f at (get_or f.places number 0) index begin sk mk old → AreGathered last.ids (length (env_of_id mid.ids from.env)) sl ml new → JoinsOne mid.ids last.ids mid.log from arg at (get_or items number 0) old new
+    → SoFar first.ids last.ids first.log run f at (get_or f.places number 0) (index + 1) begin sl ml new
+so_far_then first loop mid last run f at number index from arg items kept same kept_last arg_is items_is can up long lt is begin old new sk mk sl ml so gathered joins =
+    let loop_joins = subst (λ (l : List EntryData). JoinsOne loop.ids last.ids l from arg at (get_or items number 0) old new) kept.log (subst (λ (r : ReplicaData). JoinsOne r.ids last.ids r.log from arg at (get_or items number 0) old new) same joins) in
+    so_far_next first.ids loop.ids last.ids first.log run f at (get_or f.places number 0) index from kept.grows (subst (λ (r : ReplicaData). KeepsLog r last) same kept_last).grows can up long lt is begin old new sk mk sl ml so
+    (subst (λ (r : ReplicaData). AreGathered last.ids (length (env_of_id r.ids from.env)) sl ml new) same gathered)
+    (subst (λ (xs : List ℕ). JoinsOne loop.ids last.ids first.log from f.arg at (get_or xs number 0) old new) items_is (subst (λ (a : ℕ). JoinsOne loop.ids last.ids first.log from a at (get_or items number 0) old new) arg_is loop_joins))
+
+-- what comes of the candidates so far is there
+pub record CandidatesSoFar (I J : InternerData) (log : List EntryData) (run : List PartialData) (f : FilledData) (at index : ℕ) (start : List PartialData) (sk mk : List ℕ) (list : List PartialData) : Type 0 where
+  pub seen : SeenAre sk list
+  pub met : MetForSlot J log f mk list
+  pub ascending : AreAscending list
+  pub before : ComeBeforeFrom list run at f.places index
+  pub keeps : (x : PartialData) → Contains start x → Contains list x
+  pub made : (x : PartialData) → Contains list x → Contains start x ⊎ IsMadeOf I J log run f at x
+  pub all : (k : ℕ) → k < index → (from : PartialData) → Contains run from → (e : EntryData) → slice_get log (get_or f.places k 0) ≡ Some e → IsAmongJoined I J from at (get_or f.places k 0) e list
+
+-- made by one candidate of the slot
+pub made_by : (I K : InternerData) (log : List EntryData) (from : PartialData) (f : FilledData) (at place : ℕ) (x : PartialData) → Contains f.places place → IsMade I K log from (only_place f.arg place) at x → IsMade I K log from f at x
+made_by I K log from f at place x among m = record {
+  place = m.place;
+  entry = m.entry;
+  fills = record { among = subst (λ (p : ℕ). Contains f.places p) (sym (only place m.place m.fills.among)) among; at = m.fills.at };
+  args = m.args;
+  within = m.within;
+  union = m.union;
+}
+
+-- one candidate more
+pub candidates_next : (I J K : InternerData) (log : List EntryData) (run : List PartialData) (f : FilledData) (at index : ℕ) (g : Grows I J) (h : Grows J K) → CanFill I log run f → HaveSameBefore at run → IsStrictlyIncreasing f.places → index < length f.places
+    → (start old new : List PartialData) (sk mk sl ml : List ℕ) → CandidatesSoFar I J log run f at index start sk mk old
+    → SeenAre sl new → MetForSlot K log f ml new → AreAscending new → ((x : PartialData) → Contains old x → Contains new x)
+    → ((x : PartialData) → Contains new x → Contains old x ⊎ IsMadeOf J K log run (only_place f.arg (get_or f.places index 0)) at x)
+    → ((from : PartialData) → Contains run from → (e : EntryData) → slice_get log (get_or f.places index 0) ≡ Some e → IsAmongJoined J K from at (get_or f.places index 0) e new)
+    → CandidatesSoFar I K log run f at (index + 1) start sl ml new
+candidates_next I J K log run f at index g h can same rises lt start old new sk mk sl ml so seen met up keeps only_new all_new =
+    let place = get_or f.places index 0 in
+    let among : Contains f.places place = Contains-get_or f.places index 0 lt in
+    record {
+      seen = seen;
+      met = met;
+      ascending = up;
+      before = before_next J K log old new run f.arg at f.places index same rises lt so.before only_new;
+      keeps = λ x there. keeps x (so.keeps x there);
+      made = λ x there. elim (only_new x there) [
+        | inl was ↦ elim (so.made x was) [
+          | inl first ↦ inl first
+          | inr m ↦ inr (record { from = m.from; among = m.among; made = made_stays I J K log m.from f at g h (can m.from m.among).0 x m.made })
+        ]
+        | inr m ↦ inr (record {
+          from = m.from;
+          among = m.among;
+          made = made_by I K log m.from f at place x among (made_earlier I J K log log m.from (only_place f.arg place) at g (can m.from m.among).0 refl x m.made);
+        })
+      ];
+      all = below_more (λ k. (from : PartialData) → Contains run from → (e : EntryData) → slice_get log (get_or f.places k 0) ≡ Some e → IsAmongJoined I K from at (get_or f.places k 0) e new) index
+          (λ k below from there e is. covered_stays I J K log from f at g h (can from there).0 (get_or f.places k 0) e old new keeps (so.all k below from there e is))
+          (λ from there e is. covered_earlier I J K log log from f at g (can from there).0 refl place e new (all_new from there e is));
+    }
+
+-- what comes of the candidate of this number, as of one of the slot
+pub candidate_made : (first loop last : ReplicaData) (run : List PartialData) (f : FilledData) (at number : ℕ) → KeepsLog first loop → KeepsLog loop last → CanFill first.ids first.log run f → number < length f.places → (begin old new : List PartialData) (sk mk : List ℕ)
+    → CandidatesSoFar first.ids loop.ids first.log run f at number begin sk mk old
+    → ((x : PartialData) → Contains new x → Contains old x ⊎ IsMadeOf loop.ids last.ids loop.log run (only_place f.arg (get_or f.places number 0)) at x) → (x : PartialData) → Contains new x → Contains begin x ⊎ IsMadeOf first.ids last.ids first.log run f at x
+candidate_made first loop last run f at number kept kept_last can lt begin old new sk mk so only_new x there = elim (only_new x there) [
+  | inl was ↦ elim (so.made x was) [
+    | inl early ↦ inl early
+    | inr m ↦ inr (record { from = m.from; among = m.among; made = made_stays first.ids loop.ids last.ids first.log m.from f at kept.grows kept_last.grows (can m.from m.among).0 x m.made })
+  ]
+  | inr m ↦ inr (record {
+    from = m.from;
+    among = m.among;
+    made = made_by first.ids last.ids first.log m.from f at (get_or f.places number 0) x (Contains-get_or f.places number 0 lt)
+        (made_earlier first.ids loop.ids last.ids first.log loop.log m.from (only_place f.arg (get_or f.places number 0)) at kept.grows (can m.from m.among).0 kept.log x m.made);
+  })
+]
+
+-- what comes of some of the environments, as of all
+pub run_made : (first loop last : ReplicaData) (partials items : List PartialData) (f : FilledData) (at : ℕ) → KeepsLog first loop → KeepsLog loop last → CanFill first.ids first.log partials f → ((x : PartialData) → Contains items x → Contains partials x)
+    → (old new : List PartialData) → ((x : PartialData) → Contains old x → IsMadeOf first.ids loop.ids first.log partials f at x) → ((x : PartialData) → Contains new x → Contains old x ⊎ IsMadeOf loop.ids last.ids loop.log items f at x)
+    → (x : PartialData) → Contains new x → IsMadeOf first.ids last.ids first.log partials f at x
+run_made first loop last partials items f at kept kept_last can some old new was only_new x there = elim (only_new x there) [
+  | inl before ↦
+      let m = was x before in
+      record { from = m.from; among = m.among; made = made_stays first.ids loop.ids last.ids first.log m.from f at kept.grows kept_last.grows (can m.from m.among).0 x m.made }
+  | inr m ↦
+      let among = some m.from m.among in
+      record { from = m.from; among = among; made = made_earlier first.ids loop.ids last.ids first.log loop.log m.from f at kept.grows (can m.from among).0 kept.log x m.made }
+]
+
+pub run_among : (first loop last : ReplicaData) (partials : List PartialData) (f : FilledData) (at : ℕ) → KeepsLog first loop → KeepsLog loop last → CanFill first.ids first.log partials f → (from : PartialData) → Contains partials from → (place : ℕ) (e : EntryData)
+    → (old new : List PartialData) → ((x : PartialData) → Contains old x → Contains new x) → IsAmongJoined first.ids loop.ids from at place e old ⊎ IsAmongJoined loop.ids last.ids from at place e new → IsAmongJoined first.ids last.ids from at place e new
+run_among first loop last partials f at kept kept_last can from there place e old new keeps h = elim h [
+  | inl was ↦ covered_stays first.ids loop.ids last.ids first.log from f at kept.grows kept_last.grows (can from there).0 place e old new keeps was
+  | inr now ↦ covered_earlier first.ids loop.ids last.ids first.log loop.log from f at kept.grows (can from there).0 kept.log place e new now
+]
 
 -- the mask of the union with a candidate
 pub united_masks : (I J : InternerData) (g : Grows I J) (log : List EntryData) (env : ℕ) (f : FilledData) (masks : List ℕ) (number mask place : ℕ) (own : Option ℕ) → env < length I.envs → ArePlaced log (length (env_of_id I env)) f → AreMasksOf I log f masks

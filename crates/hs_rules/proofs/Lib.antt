@@ -7,6 +7,8 @@ pub mod KeepLemmas
 pub mod JoinLemmas
 pub mod ExtendLemmas
 pub mod SoleLemmas
+pub mod RunLemmas
+pub mod TurnLemmas
 pub mod FillLemmas
 pub mod FoundLemmas
 pub mod ArrowLemmas

@@ -1,9 +1,11 @@
 -- Members of lists.
 use Rattle.std.specs.Prelude.{◌&&◌, IsTrue}
-use Rattle.std.proofs.Common.{◌≡◌, refl, Bool, true, false, sym, ◌∙◌, ap, subst, ℕ, ◌+◌, ◌<◌, List, [], ◌∷◌, ◌++◌, length, get_or, take, Result, Ok, Err, OnOk, All, Contains, ◌⊎◌, inl, inr}
+use Rattle.std.proofs.Common.{◌≡◌, refl, Bool, true, false, sym, ◌∙◌, ap, subst, ℕ, zero, suc, ◌+◌, ◌-◌, ◌<◌, List, [], ◌∷◌, ◌++◌, length, map, get_or, take, drop, Result, Ok, Err, OnOk, All, arith, Contains, ◌⊎◌, inl, inr}
+use Rattle.std.specs.List.{insert}
 use Rattle.std.proofs.lemmas.List.Elements.{Contains-append_cases, Contains-append_left, Contains-get_or}
-use Rattle.std.proofs.lemmas.List.{get_or_default}
-use Rattle.hs_scheme.proofs.Lists.{none_in, uncons}
+use Rattle.std.proofs.lemmas.List.{get_or_default, get_or-append_right, get_or-drop, length-map, length-take-le}
+use Rattle.hs_scheme.proofs.Lists.{Contains-at, none_in, uncons}
+use Rattle.hs_table_laws.proofs.Places.{place_of, at_take}
 use Rattle.hs_table_laws.proofs.Members.{taken_next}
 
 pub read_other : {X : Type 0} (xs : List X) (k : ℕ) (x d : X) → k < length xs → get_or xs k x ≡ x → get_or xs k d ≡ x
@@ -54,3 +56,20 @@ pushed_only old new x is y there = elim (Contains-append_cases old (x ∷ []) y 
   | inl was ↦ inl was
   | inr last ↦ inr (elim (uncons x y [] last) [ inl e ↦ e | inr nowhere ↦ absurd (none_in y nowhere) ])
 ]
+
+-- an item more, at its place
+pub map_insert : {X Y : Type 0} (f : X → Y) (xs : List X) (at : ℕ) (x : X) → map f (insert xs at x) ≡ insert (map f xs) at (f x)
+map_insert f xs zero x = refl
+map_insert f [] (suc at) x = refl
+map_insert f (y ∷ xs) (suc at) x = ap (λ zs. f y ∷ zs) (map_insert f xs at x)
+
+-- the item that comes next, where those before it were changed, is one of the list
+pub edited_item : {X : Type 0} (f : X → X) (xs ys : List X) (k : ℕ) (x : X) → k < length xs → ys ≡ map f (take k xs) ++ drop k xs → x ≡ get_or ys k x → Contains xs x
+edited_item f xs ys k x lt is item =
+    let many : length (map f (take k xs)) ≡ k = length-map (take k xs) f ∙ length-take-le k xs (omega (arith, lt)) in
+    let at : get_or ys k x ≡ get_or xs k x = ap (λ zs. get_or zs k x) is ∙ (get_or-append_right (map f (take k xs)) (drop k xs) k k x many (omega arith) ∙ (get_or-drop k xs (k - k) x ∙ ap (λ n. get_or xs n x) (let z : k + (k - k) ≡ k = omega arith in z))) in
+    (k, lt, sym (item ∙ at))
+
+-- one of the first of a list is one of the list
+pub first_there : {X : Type 0} (k : ℕ) (xs : List X) (x : X) → Contains (take k xs) x → Contains xs x
+first_there k xs x there = let p = place_of (take k xs) x there in Contains-at xs p.0 x (at_take k xs p.0 x p.1).1

@@ -1,5 +1,6 @@
 -- Candidates for slots.
-use Rattle.std.proofs.Common.{◌≡◌, refl, sym, ◌∙◌, ap, subst, ℕ, zero, suc, ◌+◌, List, [], ◌∷◌, ◌++◌, map, slice_get, Some, None, arith, AllPairs, Contains, ◌⊎◌, inl, inr, ◌↔◌}
+use Rattle.std.proofs.Common.{◌≡◌, refl, sym, ◌∙◌, ap, subst, ℕ, zero, suc, ◌+◌, List, [], ◌∷◌, map, slice_get, Some, None, arith, AllPairs, Contains, ◌⊎◌, inl, inr, ◌↔◌}
+use Rattle.std.specs.List.{insert}
 use Rattle.std.specs.declared.cmp.Ordering.TheVariants.{Less, Equal}
 use Rattle.std.proofs.lemmas.Cmp.{tied_itself}
 use Rattle.std.proofs.lemmas.List.Elements.{Contains-append_left, Contains-append_right, Contains-append_cases}
@@ -11,28 +12,12 @@ use Rattle.hs_table_laws.proofs.Places.{pairs_cons, pairs_head, pairs_tail}
 use Rattle.hs_table_laws.proofs.Orders.{type_cmp_total}
 use Rattle.hs_rules.specs.Slots.{SlotData, slots_of, slots, FixedData, IsCandidate, Picked, none_left, pick, IsJoin}
 
--- one more slot at the end
+-- one more slot, at its place
 module _ {X : Type 0} (arg : X → ℕ) (Fills : X → ℕ → EntryData → Type 0) where
-  pub picked_append : {xs ys : List X} {args bs : List (ℕ × ℕ)} {es fs : List EntryData} → Picked arg Fills xs args es → Picked arg Fills ys bs fs → Picked arg Fills (xs ++ ys) (args ++ bs) (es ++ fs)
-  picked_append none_left k = k
-  picked_append (pick h rest) k = pick h (picked_append rest k)
-
-  pub record Last (xs : List X) (x : X) (args : List (ℕ × ℕ)) (es : List EntryData) : Type 0 where
-    pub before : List (ℕ × ℕ)
-    pub entries : List EntryData
-    pub place : ℕ
-    pub entry : EntryData
-    pub picked : Picked arg Fills xs before entries
-    pub fills : Fills x place entry
-    pub args_are : args ≡ before ++ (arg x, place) ∷ []
-    pub entries_are : es ≡ entries ++ entry ∷ []
-
-  pub record One (x : X) (args : List (ℕ × ℕ)) (es : List EntryData) : Type 0 where
-    pub place : ℕ
-    pub entry : EntryData
-    pub fills : Fills x place entry
-    pub args_are : args ≡ (arg x, place) ∷ []
-    pub entries_are : es ≡ entry ∷ []
+  pub picked_insert : {x : X} {place : ℕ} {e : EntryData} (at : ℕ) {xs : List X} {args : List (ℕ × ℕ)} {es : List EntryData} → Fills x place e → Picked arg Fills xs args es → Picked arg Fills (insert xs at x) (insert args at (arg x, place)) (insert es at e)
+  picked_insert zero h k = pick h k
+  picked_insert (suc at) h none_left = pick h none_left
+  picked_insert (suc at) h (pick other rest) = pick other (picked_insert at h rest)
 
   pub record First (x : X) (xs : List X) (args : List (ℕ × ℕ)) (es : List EntryData) : Type 0 where
     pub place : ℕ
@@ -50,8 +35,18 @@ module _ {X : Type 0} (arg : X → ℕ) (Fills : X → ℕ → EntryData → Typ
   pub none_of : (args : List (ℕ × ℕ)) (es : List EntryData) → Picked arg Fills [] args es → (args ≡ []) × (es ≡ [])
   none_of args es none_left = (refl, refl)
 
-  pub last_of : (xs : List X) (x : X) (args : List (ℕ × ℕ)) (es : List EntryData) → Picked arg Fills (xs ++ x ∷ []) args es → Last xs x args es
-  last_of [] x args es k =
+  pub record Inserted (xs : List X) (x : X) (at : ℕ) (args : List (ℕ × ℕ)) (es : List EntryData) : Type 0 where
+    pub before : List (ℕ × ℕ)
+    pub entries : List EntryData
+    pub place : ℕ
+    pub entry : EntryData
+    pub picked : Picked arg Fills xs before entries
+    pub fills : Fills x place entry
+    pub args_are : args ≡ insert before at (arg x, place)
+    pub entries_are : es ≡ insert entries at entry
+
+  alone : (x : X) (at : ℕ) (args : List (ℕ × ℕ)) (es : List EntryData) → Picked arg Fills (x ∷ []) args es → Inserted [] x (suc at) args es
+  alone x at args es k =
       let f = first_of x [] args es k in
       let n = none_of f.rest f.others f.picked in
       record {
@@ -64,9 +59,15 @@ module _ {X : Type 0} (arg : X → ℕ) (Fills : X → ℕ → EntryData → Typ
         args_are = f.args_are ∙ ap (λ r. (arg x, f.place) ∷ r) n.0;
         entries_are = f.entries_are ∙ ap (λ r. f.entry ∷ r) n.1;
       }
-  last_of (y ∷ xs) x args es k =
-      let f = first_of y (xs ++ x ∷ []) args es k in
-      let l = last_of xs x f.rest f.others f.picked in
+
+  pub inserted_of : (xs : List X) (x : X) (at : ℕ) (args : List (ℕ × ℕ)) (es : List EntryData) → Picked arg Fills (insert xs at x) args es → Inserted xs x at args es
+  inserted_of xs x zero args es k =
+      let f = first_of x xs args es k in
+      record { before = f.rest; entries = f.others; place = f.place; entry = f.entry; picked = f.picked; fills = f.fills; args_are = f.args_are; entries_are = f.entries_are }
+  inserted_of [] x (suc at) args es k = alone x at args es k
+  inserted_of (y ∷ xs) x (suc at) args es k =
+      let f = first_of y (insert xs at x) args es k in
+      let l = inserted_of xs x at f.rest f.others f.picked in
       record {
         before = (arg y, f.place) ∷ l.before;
         entries = f.entry ∷ l.entries;
@@ -202,38 +203,36 @@ slots_differ i (u ∷ us) (set ∷ ss) h =
     (λ s t cs ct arg ty. let x = of_one i u s.ty s set cs in let y = slot_of (suc i) us ss t ct in absurd (omega (arith, arg, x.0, y.arg)))
 
 -- joined environments
-pub any_append : (xs ys : List EntryData) (j : ℕ) (a : TypeTree) → AnyHas (xs ++ ys) j a ↔ (AnyHas xs j a ⊎ AnyHas ys j a)
-any_append [] ys j a = (λ h. inr h, λ h. elim h [ inl none ↦ absurd none | inr k ↦ k ])
-any_append (x ∷ xs) ys j a = let r = any_append xs ys j a in (λ h. out r.0 h, λ h. back r.1 h)
+pub any_insert : (es : List EntryData) (at : ℕ) (e : EntryData) (j : ℕ) (a : TypeTree) → AnyHas (insert es at e) j a ↔ (Has e.env j a ⊎ AnyHas es j a)
+any_insert es zero e j a = (λ h. h, λ h. h)
+any_insert [] (suc at) e j a = (λ h. h, λ h. h)
+any_insert (x ∷ es) (suc at) e j a = let r = any_insert es at e j a in (λ h. out r.0 h, λ h. back r.1 h)
   where
-    out : (AnyHas (xs ++ ys) j a → AnyHas xs j a ⊎ AnyHas ys j a) → Has x.env j a ⊎ AnyHas (xs ++ ys) j a → (Has x.env j a ⊎ AnyHas xs j a) ⊎ AnyHas ys j a
-    out f (inl h) = inl (inl h)
-    out f (inr h) = elim (f h) [ inl k ↦ inl (inr k) | inr k ↦ inr k ]
+    out : (AnyHas (insert es at e) j a → Has e.env j a ⊎ AnyHas es j a) → Has x.env j a ⊎ AnyHas (insert es at e) j a → Has e.env j a ⊎ (Has x.env j a ⊎ AnyHas es j a)
+    out f (inl h) = inr (inl h)
+    out f (inr h) = elim (f h) [ inl k ↦ inl k | inr k ↦ inr (inr k) ]
 
-    back : (AnyHas xs j a ⊎ AnyHas ys j a → AnyHas (xs ++ ys) j a) → (Has x.env j a ⊎ AnyHas xs j a) ⊎ AnyHas ys j a → Has x.env j a ⊎ AnyHas (xs ++ ys) j a
-    back f (inl (inl h)) = inl h
-    back f (inl (inr h)) = inr (f (inl h))
-    back f (inr h) = inr (f (inr h))
+    back : (Has e.env j a ⊎ AnyHas es j a → AnyHas (insert es at e) j a) → Has e.env j a ⊎ (Has x.env j a ⊎ AnyHas es j a) → Has x.env j a ⊎ AnyHas (insert es at e) j a
+    back f (inl h) = inr (f (inl h))
+    back f (inr (inl h)) = inl h
+    back f (inr (inr h)) = inr (f (inr h))
 
 pub join_none : (n : ℕ) (own : Env) → IsEnv n own → IsJoin n own [] own
 join_none n own h = record { is_env = h; has = λ j a lt. (λ k. inl k, λ k. elim k [ inl m ↦ m | inr none ↦ absurd none ]) }
 
-pub join_more : (n : ℕ) (own env joined : Env) (es : List EntryData) (e : EntryData) → IsJoin n own es env → IsEnv n joined
-    → ((j : ℕ) (a : TypeTree) → Has joined j a ↔ (Has env j a ⊎ Has e.env j a)) → IsJoin n own (es ++ e ∷ []) joined
-join_more n own env joined es e h is union = record {
+pub join_more : (n : ℕ) (own env joined : Env) (es : List EntryData) (at : ℕ) (e : EntryData) → IsJoin n own es env → IsEnv n joined
+    → ((j : ℕ) (a : TypeTree) → Has joined j a ↔ (Has env j a ⊎ Has e.env j a)) → IsJoin n own (insert es at e) joined
+join_more n own env joined es at e h is union = record {
   is_env = is;
-  has = λ j a lt. let u = union j a in let b = h.has j a lt in let m = any_append es (e ∷ []) j a in (λ k. out j a b.0 m.1 (u.0 k), λ k. u.1 (back j a b.1 m.0 k));
+  has = λ j a lt. let u = union j a in let b = h.has j a lt in let m = any_insert es at e j a in (λ k. out j a b.0 m.1 (u.0 k), λ k. u.1 (back j a b.1 m.0 k));
 }
   where
-    out : (j : ℕ) (a : TypeTree) → (Has env j a → Has own j a ⊎ AnyHas es j a) → (AnyHas es j a ⊎ AnyHas (e ∷ []) j a → AnyHas (es ++ e ∷ []) j a)
-        → Has env j a ⊎ Has e.env j a → Has own j a ⊎ AnyHas (es ++ e ∷ []) j a
-    out j a f g (inl k) = elim (f k) [ inl m ↦ inl m | inr m ↦ inr (g (inl m)) ]
-    out j a f g (inr k) = inr (g (inr (inl k)))
+    out : (j : ℕ) (a : TypeTree) → (Has env j a → Has own j a ⊎ AnyHas es j a) → (Has e.env j a ⊎ AnyHas es j a → AnyHas (insert es at e) j a)
+        → Has env j a ⊎ Has e.env j a → Has own j a ⊎ AnyHas (insert es at e) j a
+    out j a f g (inl k) = elim (f k) [ inl m ↦ inl m | inr m ↦ inr (g (inr m)) ]
+    out j a f g (inr k) = inr (g (inl k))
 
-    back : (j : ℕ) (a : TypeTree) → (Has own j a ⊎ AnyHas es j a → Has env j a) → (AnyHas (es ++ e ∷ []) j a → AnyHas es j a ⊎ AnyHas (e ∷ []) j a)
-        → Has own j a ⊎ AnyHas (es ++ e ∷ []) j a → Has env j a ⊎ Has e.env j a
+    back : (j : ℕ) (a : TypeTree) → (Has own j a ⊎ AnyHas es j a → Has env j a) → (AnyHas (insert es at e) j a → Has e.env j a ⊎ AnyHas es j a)
+        → Has own j a ⊎ AnyHas (insert es at e) j a → Has env j a ⊎ Has e.env j a
     back j a f g (inl k) = inl (f (inl k))
-    back j a f g (inr k) = elim (g k) [
-      | inl m ↦ inl (f (inr m))
-      | inr m ↦ elim m [ inl own_ ↦ inr own_ | inr none ↦ absurd none ]
-    ]
+    back j a f g (inr k) = elim (g k) [ inl m ↦ inr m | inr m ↦ inl (f (inr m)) ]

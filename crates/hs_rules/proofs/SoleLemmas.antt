@@ -1,6 +1,6 @@
 -- Only candidates of slots.
 use Rattle.std.proofs.Common.{◌≡◌, refl, sym, ◌∙◌, ap, subst, ℕ, ◌<◌, Bool, List, [], ◌∷◌, ◌++◌, length, take, drop, map, get_or, slice_get, Some, arith, ◌⊎◌, inl, inr, Contains}
-use Rattle.std.specs.List.{refill}
+use Rattle.std.specs.List.{insert, refill}
 use Rattle.std.proofs.Math.Seq.{take-append_seam}
 use Rattle.std.proofs.lemmas.List.{get_or-map, length-map}
 use Rattle.std.proofs.lemmas.List.Elements.{Contains-append_left, Contains-append_cases, Contains-push, Contains-get_or}
@@ -15,7 +15,8 @@ use Rattle.hs_types.specs.Interned.{InternerData, env_of_id, IsUnionEnv}
 use Rattle.hs_rules.specs.Order.{chosen_places, IsLess}
 use Rattle.hs_rules.specs.Slots.{FilledData, Picked, none_left, pick, IsJoin}
 use Rattle.hs_rules.specs.Joins.{PartialData, FillsBy, HasLesserPlaces, AreAscending, AreAsLong, IsMadeOf, IsAmongJoined, CanFill, with_choice, HaveSole, SoleAsks, IsWithSole, AreJoined}
-use Rattle.hs_rules.proofs.OrderLemmas.{less_append, no_greater_same, places_push}
+use Rattle.hs_rules.proofs.OrderLemmas.{less_insert, no_greater_same, places_insert}
+use Rattle.hs_rules.proofs.JoinLemmas.{as_long}
 
 -- two places of an only candidate are one, with one entry
 same_entry : (log : List EntryData) (places : List ℕ) (p q : ℕ) (d e : EntryData) → places ≡ q ∷ [] → Contains places p → slice_get log p ≡ Some d → slice_get log q ≡ Some e → d ≡ e
@@ -132,40 +133,39 @@ lead_all ids log n own fs is found lead = record {
     whole args chosen env picked j = record { is_env = j.is_env; has = λ k a lt. (λ h. forth args chosen k a picked ((j.has k a lt).0 h), λ h. (j.has k a lt).1 (back chosen k a h)) }
 
 -- the choice of an only candidate
-module _ (arg place : ℕ) where
+module _ (arg at place : ℕ) where
   -- written over what was there
-  pub choice_written : (old given new : List PartialData) → given ≡ old → new ≡ map (with_choice arg place) given → refill (length old) old new ≡ map (with_choice arg place) old
-  choice_written old given new same is = subst (λ (ys : List PartialData). refill (length old) old ys ≡ ys) (sym (is ∙ ap (map (with_choice arg place)) same)) filled ∙ (is ∙ ap (map (with_choice arg place)) same)
+  pub choice_written : (old given new : List PartialData) → given ≡ old → new ≡ map (with_choice arg at place) given → refill (length old) old new ≡ map (with_choice arg at place) old
+  choice_written old given new same is = subst (λ (ys : List PartialData). refill (length old) old ys ≡ ys) (sym (is ∙ ap (map (with_choice arg at place)) same)) filled ∙ (is ∙ ap (map (with_choice arg at place)) same)
     where
       many : List PartialData
-      many = map (with_choice arg place) old
+      many = map (with_choice arg at place) old
 
       filled : refill (length old) old many ≡ many
-      filled = ap (λ n. take n (many ++ drop (length many) old)) (sym (length-map old (with_choice arg place))) ∙ take-append_seam many (drop (length many) old)
+      filled = ap (λ n. take n (many ++ drop (length many) old)) (sym (length-map old (with_choice arg at place))) ∙ take-append_seam many (drop (length many) old)
 
-  pub choice_ascends : (old : List PartialData) → AreAscending old → AreAsLong old → AreAscending (map (with_choice arg place) old)
+  pub choice_ascends : (old : List PartialData) → AreAscending old → AreAsLong old → AreAscending (map (with_choice arg at place) old)
   choice_ascends old up long i j d lt below =
-      let many = length-map old (with_choice arg place) in
+      let many = length-map old (with_choice arg at place) in
       let j_in : j < length old = omega (arith, many, below) in
       let i_in : i < length old = omega (arith, lt, j_in) in
       let x = get_or old i d in
       let y = get_or old j d in
       let less = up i j d lt j_in in
       let same = long x y (Contains-get_or old i d i_in) (Contains-get_or old j d j_in) in
-      let as_long : length (chosen_places x.args) ≡ length (chosen_places y.args) = length-map x.args (λ (a : ℕ × ℕ). a.1) ∙ (same ∙ sym (length-map y.args (λ (a : ℕ × ℕ). a.1))) in
-      let more : HasLesserPlaces (with_choice arg place x) (with_choice arg place y) =
-      subst (λ (ps : List ℕ). IsLess ps (chosen_places (with_choice arg place y).args)) (sym (places_push x.args arg place))
-      (subst (λ (ps : List ℕ). IsLess (chosen_places x.args ++ place ∷ []) ps) (sym (places_push y.args arg place))
-      (less_append (chosen_places x.args) (chosen_places y.args) (place ∷ []) (place ∷ []) as_long less)) in
-      subst (λ (z : PartialData). HasLesserPlaces z (get_or (map (with_choice arg place) old) j d)) (sym (get_or-map (with_choice arg place) old i d d i_in))
-      (subst (λ (z : PartialData). HasLesserPlaces (with_choice arg place x) z) (sym (get_or-map (with_choice arg place) old j d d j_in)) more)
+      let more : HasLesserPlaces (with_choice arg at place x) (with_choice arg at place y) =
+      subst (λ (ps : List ℕ). IsLess ps (chosen_places (with_choice arg at place y).args)) (sym (places_insert x.args at arg place))
+      (subst (λ (ps : List ℕ). IsLess (insert (chosen_places x.args) at place) ps) (sym (places_insert y.args at arg place))
+      (less_insert (chosen_places x.args) (chosen_places y.args) at place (as_long x y same) less)) in
+      subst (λ (z : PartialData). HasLesserPlaces z (get_or (map (with_choice arg at place) old) j d)) (sym (get_or-map (with_choice arg at place) old i d d i_in))
+      (subst (λ (z : PartialData). HasLesserPlaces (with_choice arg at place x) z) (sym (get_or-map (with_choice arg at place) old j d d j_in)) more)
 
-module _ (ids : InternerData) (log : List EntryData) (f : FilledData) (old : List PartialData) (place : ℕ) (alone : f.places ≡ place ∷ []) (can : CanFill ids log old f) (sole : HaveSole ids log old f) where
-  pub choice_made : (x : PartialData) → Contains (map (with_choice f.arg place) old) x → IsMadeOf ids ids log old f x
+module _ (ids : InternerData) (log : List EntryData) (f : FilledData) (at : ℕ) (old : List PartialData) (place : ℕ) (alone : f.places ≡ place ∷ []) (can : CanFill ids log old f) (sole : HaveSole ids log old f) where
+  pub choice_made : (x : PartialData) → Contains (map (with_choice f.arg at place) old) x → IsMadeOf ids ids log old f at x
   choice_made x there =
-      let m = from_map (with_choice f.arg place) old x there in
+      let m = from_map (with_choice f.arg at place) old x there in
       let placed = (can m.item m.there).1 place (sole_there f.places place alone) in
-      subst (λ (y : PartialData). IsMadeOf ids ids log old f y) (sym m.is) (record {
+      subst (λ (y : PartialData). IsMadeOf ids ids log old f at y) (sym m.is) (record {
         from = m.item;
         among = m.there;
         made = record {
@@ -178,14 +178,14 @@ module _ (ids : InternerData) (log : List EntryData) (f : FilledData) (old : Lis
         };
       })
 
-  pub choice_among : (from : PartialData) → Contains old from → (k : ℕ) (e : EntryData) → FillsBy log f k e → IsAmongJoined ids ids from k e (map (with_choice f.arg place) old)
+  pub choice_among : (from : PartialData) → Contains old from → (k : ℕ) (e : EntryData) → FillsBy log f k e → IsAmongJoined ids ids from at k e (map (with_choice f.arg at place) old)
   choice_among from there k e fills =
       let is = only place k (subst (λ (ps : List ℕ). Contains ps k) alone fills.among) in
       record {
-        item = with_choice f.arg place from;
-        there = into_map (with_choice f.arg place) old from there;
+        item = with_choice f.arg at place from;
+        there = into_map (with_choice f.arg at place) old from there;
         within = (can from there).0;
         union = sole from there place e alone (ap (λ (i : ℕ). slice_get log i) (sym is) ∙ fills.at);
-        least = no_greater_same (chosen_places (with_choice f.arg place from).args) (chosen_places from.args ++ k ∷ [])
-            (places_push from.args f.arg place ∙ ap (λ (i : ℕ). chosen_places from.args ++ i ∷ []) (sym is));
+        least = no_greater_same (chosen_places (with_choice f.arg at place from).args) (insert (chosen_places from.args) at k)
+            (places_insert from.args at f.arg place ∙ ap (λ (i : ℕ). insert (chosen_places from.args) at i) (sym is));
       }

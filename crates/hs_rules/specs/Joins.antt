@@ -1,23 +1,25 @@
--- Environments joined slot by slot.
+-- Environments joined slot by slot. What is chosen for slots stands in their order, whichever was joined first.
 --     FillsBy                  a place is one of them
 --     PartialData              a joined environment by number, with the places that it comes from
 --     IsPlaced, ArePlaced      candidates' environments are for n parameters
 --     AreMasksOf, IsUnited     masks of candidates' environments; that of a union with one of them
 --     MetAre, MetForSlot       masks that were met are those of joined environments
 --     HasLesserPlaces, AreAscending   a choice of places comes before another one; each before those behind it
---     ComeBefore               each choice comes before one with one more place
---     AreAsLong                they are for the same number of slots
+--     ComeBefore               each choice comes before these places
+--     AreAsLong, HaveRoom      they are for the same number of slots; for at least so many
+--     HaveSameBefore, IsRun    they have the same places before that of a slot; where those side by side end
 --     IsMade, IsAmongJoined    what comes of one joined environment and a candidate for one more slot
 --     AreGathered, JoinsOne    what is joined so far; that what comes of one candidate is joined to it
---     with_choice              a joined environment with one more place
+--     with_choice              a joined environment with one more place, behind so many others
 --     HaveSole                 joined environments ask for what a slot's only candidate asks for
 --     SoleAsks, IsWithSole     what slots' only candidates ask for; an environment with that
 --     IsJoined, AreJoined      environments that slots lead to, and all of them where they are whole
-use Rattle.std.specs.Prelude.{◌≡◌, ℕ, ◌<◌, Bool, IsTrue, List, [], ◌∷◌, ◌++◌, length, slice_get, slice_index_or, Option, Some, AllPairs, Contains, ◌⊎◌, ◌↔◌}
+use Rattle.std.specs.Prelude.{◌≡◌, ◌≢◌, ℕ, ◌<◌, ◌≤◌, Bool, IsTrue, List, [], ◌∷◌, length, take, slice_get, slice_index_or, Option, Some, AllPairs, Contains, ◌⊎◌, ◌↔◌}
 use Rattle.hs_table.specs.Types.{TypeTree}
 use Rattle.hs_table.specs.Entries.{Env, EntryData, Has, IsEnv}
 use Rattle.hs_types.specs.Interned.{InternerData, env_of_id, IsUnionEnv}
 use Rattle.std.specs.Int.Bits.{bit_or}
+use Rattle.std.specs.List.{insert}
 use Rattle.hs_replica.specs.Masks.{IsMask}
 use Rattle.hs_rules.specs.Order.{chosen_places, IsLess, IsNoGreater}
 use Rattle.hs_rules.specs.Slots.{FilledData, Picked, IsJoin}
@@ -72,38 +74,52 @@ HasLesserPlaces x y = IsLess (chosen_places x.args) (chosen_places y.args)
 abbrev pub AreAscending : List PartialData → Type 0
 AreAscending list = AllPairs HasLesserPlaces list
 
-abbrev pub ComeBefore : List PartialData → List (ℕ × ℕ) → ℕ → Type 0
-ComeBefore list from place = (x : PartialData) → Contains list x → IsLess (chosen_places x.args) (chosen_places from ++ place ∷ [])
+abbrev pub ComeBefore : List PartialData → List ℕ → Type 0
+ComeBefore list places = (x : PartialData) → Contains list x → IsLess (chosen_places x.args) places
 
 abbrev pub AreAsLong : List PartialData → Type 0
 AreAsLong list = (x y : PartialData) → Contains list x → Contains list y → length x.args ≡ length y.args
 
--- The new environment comes of an old one, whose number is read in `old`, and a candidate.
-pub record IsMade (old new : InternerData) (log : List EntryData) (from : PartialData) (f : FilledData) (x : PartialData) : Type 0 where
+abbrev pub HaveRoom : ℕ → List PartialData → Type 0
+HaveRoom at list = (x : PartialData) → Contains list x → at ≤ length x.args
+
+-- the choices have the same places before that of a slot
+abbrev pub HaveSameBefore : ℕ → List PartialData → Type 0
+HaveSameBefore at list = (x y : PartialData) → Contains list x → Contains list y → take at (chosen_places x.args) ≡ take at (chosen_places y.args)
+
+-- those from `start` on that have the same places as the first of them before that of a slot, up to the first that has others
+pub record IsRun (list : List PartialData) (start at end : ℕ) : Type 0 where
+  pub more : start < end
+  pub within : end ≤ length list
+  pub same : (j : ℕ) (x y : PartialData) → start ≤ j → j < end → slice_get list start ≡ Some x → slice_get list j ≡ Some y → take at (chosen_places y.args) ≡ take at (chosen_places x.args)
+  pub ends : (x y : PartialData) → slice_get list start ≡ Some x → slice_get list end ≡ Some y → take at (chosen_places y.args) ≢ take at (chosen_places x.args)
+
+-- The new environment comes of an old one, whose number is read in `old`, and a candidate, whose place stands behind `at` others.
+pub record IsMade (old new : InternerData) (log : List EntryData) (from : PartialData) (f : FilledData) (at : ℕ) (x : PartialData) : Type 0 where
   pub place : ℕ
   pub entry : EntryData
   pub fills : FillsBy log f place entry
-  pub args : x.args ≡ from.args ++ (f.arg, place) ∷ []
+  pub args : x.args ≡ insert from.args at (f.arg, place)
   pub within : x.env < length new.envs
   pub union : IsUnionEnv (env_of_id old from.env) entry.env (env_of_id new x.env)
 
 -- so it is for some of these
-pub record IsMadeOf (old new : InternerData) (log : List EntryData) (partials : List PartialData) (f : FilledData) (x : PartialData) : Type 0 where
+pub record IsMadeOf (old new : InternerData) (log : List EntryData) (partials : List PartialData) (f : FilledData) (at : ℕ) (x : PartialData) : Type 0 where
   pub from : PartialData
   pub among : Contains partials from
-  pub made : IsMade old new log from f x
+  pub made : IsMade old new log from f at x
 
 -- their numbers are known, and they are as long as the candidates' environments
 abbrev pub CanFill : InternerData → List EntryData → List PartialData → FilledData → Type 0
 CanFill ids log partials f = (x : PartialData) → Contains partials x → (x.env < length ids.envs) × ArePlaced log (length (env_of_id ids x.env)) f
 
 -- the environment that comes of the old one and the entry at the place is there, by no greater choice
-pub record IsAmongJoined (old new : InternerData) (from : PartialData) (place : ℕ) (entry : EntryData) (found : List PartialData) : Type 0 where
+pub record IsAmongJoined (old new : InternerData) (from : PartialData) (at place : ℕ) (entry : EntryData) (found : List PartialData) : Type 0 where
   pub item : PartialData
   pub there : Contains found item
   pub within : item.env < length new.envs
   pub union : IsUnionEnv (env_of_id old from.env) entry.env (env_of_id new item.env)
-  pub least : IsNoGreater (chosen_places item.args) (chosen_places from.args ++ place ∷ [])
+  pub least : IsNoGreater (chosen_places item.args) (insert (chosen_places from.args) at place)
 
 -- environments that are joined so far, with what is known of them at a look
 pub record AreGathered (ids : InternerData) (n : ℕ) (seen met : List ℕ) (list : List PartialData) : Type 0 where
@@ -115,13 +131,13 @@ abbrev pub only_place : ℕ → ℕ → FilledData
 only_place arg place = record { arg = arg; places = place ∷ [] }
 
 -- what comes of the old environment and the entry at the place is joined, and nothing else
-pub record JoinsOne (old new : InternerData) (log : List EntryData) (from : PartialData) (arg place : ℕ) (before after : List PartialData) : Type 0 where
+pub record JoinsOne (old new : InternerData) (log : List EntryData) (from : PartialData) (arg at place : ℕ) (before after : List PartialData) : Type 0 where
   pub keeps : (x : PartialData) → Contains before x → Contains after x
-  pub made : (x : PartialData) → Contains after x → Contains before x ⊎ IsMade old new log from (only_place arg place) x
-  pub there : (e : EntryData) → slice_get log place ≡ Some e → IsAmongJoined old new from place e after
+  pub made : (x : PartialData) → Contains after x → Contains before x ⊎ IsMade old new log from (only_place arg place) at x
+  pub there : (e : EntryData) → slice_get log place ≡ Some e → IsAmongJoined old new from at place e after
 
-abbrev pub with_choice : ℕ → ℕ → PartialData → PartialData
-with_choice arg place x = record { env = x.env; args = x.args ++ (arg, place) ∷ [] }
+abbrev pub with_choice : ℕ → ℕ → ℕ → PartialData → PartialData
+with_choice arg at place x = record { env = x.env; args = insert x.args at (arg, place) }
 
 -- where the slot has only one candidate, nothing comes to these environments by it
 abbrev pub HaveSole : InternerData → List EntryData → List PartialData → FilledData → Type 0

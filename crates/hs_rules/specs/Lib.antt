@@ -3,6 +3,7 @@ pub mod Conclusions
 pub mod Slots
 pub mod Filling
 pub mod Joins
+pub mod Turns
 pub mod Found
 pub mod Heads
 pub mod Shut

@@ -143,10 +143,12 @@ pub fn seed_conclusions(
 ///
 /// `most` may be any number; with `usize::MAX` all are found, and more than `most` may be many more. The
 /// search ends behind the type of the head with which there are more. For each type of the head environments
-/// are joined slot by slot: with c candidates for a slot no more than `most` + c of them are kept there, and
-/// each is united with each candidate for the next slot. Where no more than `most` conclusions come of that,
-/// and environments were left out at a slot, they are joined again with eight times as many for each slot. So
-/// beyond `most` is only a join whose first slots lead to many environments that later ones bring to few.
+/// are joined slot by slot: no more than `most` + 1 of them are kept for a slot, and each is united with each
+/// candidate for the next one. Where no more than `most` conclusions come of that, and environments were left
+/// out at a slot, they are joined again with eight times as many for each slot. Where the slots have
+/// 65,536 choices of candidates or more, those by which environments grow least, as a few environments and
+/// candidates tell, are joined first; else they are joined in their order. So only a join whose first slots in
+/// that order lead to many environments that later ones bring to few goes beyond `most`.
 /// After a refusal of memory the log stays, and the look-ups tell of as much as before or of more.
 pub fn conclusions_within(
     alloc: Global,

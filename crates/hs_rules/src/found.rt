@@ -250,8 +250,10 @@ const STEPS: usize = 22;
 /// By what the number of environments that are joined for a slot grows from one time to the next.
 const GROWTH: usize = 8;
 
-/// Adds what one type of the head leads to with these slots, and answers whether that is all, as it is where
-/// no slot leads to more than `most` environments. They are listed in the list, whatever was there.
+/// Adds what one type of the head leads to with these slots, and answers whether it is sure that this is all.
+/// It is sure where no slot leads to more than `most` environments. No clause says so: were it never sure, joins
+/// would be made again, up to `STEPS` times, and then answered as want of memory. The environments are listed in
+/// the list, whatever was there.
 fn conclude_some(
     replica: &mut Replica,
     search: &Search,

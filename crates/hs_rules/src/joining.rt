@@ -1,6 +1,6 @@
 //! Environments joined slot by slot.
 
-ghost use Rattle.std.specs.Prelude.{◌≡◌, ◌&&◌, ◌<◌, ◌++◌, ◌∷◌, ◌⊎◌, [], ℕ, length, map, slice_get, Some, Contains, IfOk, IfSome, IsTrue, OnOk};
+ghost use Rattle.std.specs.Prelude.{◌≡◌, ◌&&◌, ◌<◌, ◌≤◌, ◌++◌, ◌∷◌, ◌⊎◌, [], ℕ, length, map, slice_get, Some, Contains, IfOk, IfSome, OnOk};
 ghost use Rattle.std.specs.List.Sorted.{IsStrictlyIncreasing};
 ghost use Rattle.hs_table.specs.Entries.{EntryData, IsEnv};
 ghost use Rattle.hs_types.specs.Interned.{env_of_id};
@@ -8,12 +8,15 @@ ghost use Rattle.hs_replica.specs.Masks.{IsUnionMask};
 ghost use Rattle.hs_replica.specs.Replica.{KeepsLog};
 ghost use Rattle.hs_rules.specs.Slots.{FilledData};
 ghost use Rattle.std.specs.Bool.{OnFalse, OnTrue};
+ghost use Rattle.std.specs.List.{insert};
 ghost use Rattle.hs_rules.specs.Order.{chosen_places, IsNoGreater};
-ghost use Rattle.hs_rules.specs.Joins.{PartialData, FillsBy, IsPlaced, ArePlaced, AreMasksOf, MetForSlot, AreGathered, JoinsOne, SeenAre, AreAscending, ComeBefore, AreAsLong, IsMade, IsMadeOf, IsAmongJoined, CanFill, HaveSole, IsWithSole, with_choice, AreJoined};
+ghost use Rattle.hs_rules.specs.Joins.{PartialData, FillsBy, IsPlaced, ArePlaced, AreGathered, JoinsOne, SeenAre, AreAscending, ComeBefore, AreAsLong, HaveRoom, IsMadeOf, IsAmongJoined, CanFill, HaveSole, IsWithSole, with_choice, AreJoined};
 
-use crate::masks::{masks_for, own_mask, united};
+use crate::extending::{NextSlot, extend_all};
+use crate::masks::masks_for;
 use crate::met::{Met, meet};
 use crate::search::Filled;
+use crate::turns::{Numbers, are_many, next_slot, no_weights};
 use hs_replica::Replica;
 use hs_scheme::OutOfMemory;
 use hs_types::EnvId;
@@ -23,12 +26,11 @@ use std::alloc::Global;
 use std::default::MadeWith;
 use std::marker::Model;
 
-/// For some slots the number of the argument with the place of the entry that fills it. Four of them lie in
-/// the value itself.
-type Chosen = SmallVec<(u32, u32), 4>;
+/// For some slots the number of the argument with the place of the entry that fills it, in the order of the slots,
+/// whichever was joined first. Four of them lie in the value itself.
+pub(crate) type Chosen = SmallVec<(u32, u32), 4>;
 
-/// An environment that some slots lead to, and for each of these slots the number of its argument
-/// with the place of the entry that fills it.
+/// An environment that some slots lead to, and the candidates for these slots that were chosen.
 #[derive(Drop)]
 pub(crate) struct Partial {
     pub(crate) env: EnvId,
@@ -61,12 +63,12 @@ pub(crate) const FEW: usize = 8;
 /// Environments, each once where either all have masks or none has. Where only some have, one that was met
 /// by its mask isn't known by its number, nor the other way round, so it may be there twice.
 #[derive(Drop)]
-struct Partials {
-    list: PartialList,
+pub(crate) struct Partials {
+    pub(crate) list: PartialList,
     /// The numbers of some behind the first `FEW`.
-    seen: IndexSet<EnvId>,
+    pub(crate) seen: IndexSet<EnvId>,
     /// The masks of some.
-    met: Met,
+    pub(crate) met: Met,
 }
 
 /// Whether the environment is one of these.
@@ -104,55 +106,82 @@ fn keep(seen: &mut IndexSet<EnvId>, place: usize, env: EnvId) -> Result<(), OutO
     Ok(())
 }
 
-/// Adds the environment with its choice.
+/// A candidate for a slot: the number of the slot's argument, how many of the chosen places stand before its own,
+/// and that place.
+#[derive(Clone, Copy)]
+pub(crate) struct Candidate {
+    pub(crate) arg: u32,
+    pub(crate) at: usize,
+    pub(crate) place: u32,
+}
+
+/// Puts the candidate into the choice. At the end, where most go, nothing is moved.
+fn choose(args: &mut Chosen, candidate: Candidate) -> Result<(), OutOfMemory>
+    requires { candidate.at ≤ length args.old.items }
+    ensures { OnOk result (args.new.items
+        ≡ insert args.old.items candidate.at (candidate.arg, candidate.place)) }
+{
+    let choice = (candidate.arg, candidate.place);
+    if candidate.at == args.len() {
+        args.push(choice)?;
+        return Ok(());
+    }
+    args.insert(candidate.at, choice)?;
+    Ok(())
+}
+
+/// Adds the environment with the choice and this candidate.
 fn push(
     alloc: Global,
     out: &mut Partials,
     env: EnvId,
     from: &[(u32, u32)],
-    arg: u32,
-    place: u32,
+    candidate: Candidate,
 ) -> Result<(), OutOfMemory>
+    requires { candidate.at ≤ length from.now }
     ensures list { OnOk result (out.new.list.items ≡ out.old.list.items ++
-        record { env = env; args = from.now ++ (arg, place) ∷ [] } ∷ []) }
+        record { env = env; args = insert from.now candidate.at (candidate.arg, candidate.place) } ∷ []) }
     ensures seen { out.new.seen.keys ≡ out.old.seen.keys }
     ensures met { out.new.met.masks.keys ≡ out.old.met.masks.keys }
 {
     out.list.reserve(1)?;
     let mut args = SmallVec::from_slice(alloc, from)?;
-    args.push((arg, place))?;
+    choose(&mut args, candidate)?;
     out.list.push_reserved(Partial { env, args });
     Ok(())
 }
 
-/// Adds the environment with its choice, unless it is there. What is there was chosen before, so it
-/// has lesser places.
+/// Adds the environment with the choice and this candidate, unless it is there. What is there was chosen
+/// before, so it has lesser places.
 fn add(
     alloc: Global,
     out: &mut Partials,
     env: EnvId,
     from: &[(u32, u32)],
-    arg: u32,
-    place: u32,
+    candidate: Candidate,
 ) -> Result<(), OutOfMemory>
+    requires room { candidate.at ≤ length from.now }
     requires seen { SeenAre out.old.seen.keys out.old.list.items }
     requires ascending { AreAscending out.old.list.items }
-    requires before { ComeBefore out.old.list.items from.now place }
+    requires before { ComeBefore out.old.list.items
+        (insert (chosen_places from.now) candidate.at candidate.place) }
     ensures seen { OnOk result (SeenAre out.new.seen.keys out.new.list.items) }
     ensures ascending { OnOk result (AreAscending out.new.list.items) }
     ensures keeps { OnOk result ((x : PartialData) → Contains out.old.list.items x
         → Contains out.new.list.items x) }
     ensures only { OnOk result ((x : PartialData) → Contains out.new.list.items x →
-        Contains out.old.list.items x ⊎ (x ≡ record { env = env; args = from.now ++ (arg, place) ∷ [] })) }
+        Contains out.old.list.items x
+        ⊎ (x ≡ record { env = env; args = insert from.now candidate.at (candidate.arg, candidate.place) })) }
     ensures there { OnOk result ((x : PartialData) × Contains out.new.list.items x × (x.env ≡ env)
-        × IsNoGreater (chosen_places x.args) (chosen_places from.now ++ place ∷ [])) }
+        × IsNoGreater (chosen_places x.args)
+        (insert (chosen_places from.now) candidate.at candidate.place)) }
     ensures met { out.new.met.masks.keys ≡ out.old.met.masks.keys }
 {
     if has(out, env) {
         return Ok(());
     }
     keep(&mut out.seen, out.list.len(), env)?;
-    push(alloc, out, env, from, arg, place)
+    push(alloc, out, env, from, candidate)
 }
 
 /// Adds what comes of one environment and a candidate for a slot, unless it is there.
@@ -160,25 +189,27 @@ fn join_one(
     alloc: Global,
     replica: &mut Replica,
     partial: &Partial,
-    arg: u32,
-    place: u32,
+    candidate: Candidate,
     out: &mut Partials,
 ) -> Result<(), OutOfMemory>
     requires env { partial.now.env < length replica.old.ids.envs }
-    requires placed { IsPlaced replica.old.log (length (env_of_id replica.old.ids partial.now.env)) place }
-    requires before { ComeBefore out.old.list.items partial.now.args place }
+    requires placed { IsPlaced replica.old.log (length (env_of_id replica.old.ids partial.now.env))
+        candidate.place }
+    requires room { candidate.at ≤ length partial.now.args }
+    requires before { ComeBefore out.old.list.items
+        (insert (chosen_places partial.now.args) candidate.at candidate.place) }
     requires gathered { AreGathered replica.old.ids (length (env_of_id replica.old.ids partial.now.env))
         out.old.seen.keys out.old.met.masks.keys out.old.list.items }
     ensures gathered { OnOk result (AreGathered replica.new.ids
         (length (env_of_id replica.old.ids partial.now.env)) out.new.seen.keys out.new.met.masks.keys
         out.new.list.items) }
-    ensures joins { OnOk result (JoinsOne replica.old.ids replica.new.ids replica.old.log partial.now arg place
-        out.old.list.items out.new.list.items) }
+    ensures joins { OnOk result (JoinsOne replica.old.ids replica.new.ids replica.old.log partial.now
+        candidate.arg candidate.at candidate.place out.old.list.items out.new.list.items) }
     ensures kept { KeepsLog replica.old replica.new }
 {
-    let candidate = replica.row(place).env;
-    let joined = replica.union_envs(partial.env, candidate)?;
-    add(alloc, out, joined, partial.args.as_slice(), arg, place)?;
+    let other = replica.row(candidate.place).env;
+    let joined = replica.union_envs(partial.env, other)?;
+    add(alloc, out, joined, partial.args.as_slice(), candidate)?;
     Ok(())
 }
 
@@ -187,23 +218,25 @@ fn join_with_mask(
     alloc: Global,
     replica: &mut Replica,
     partial: &Partial,
-    arg: u32,
-    place: u32,
+    candidate: Candidate,
     mask: u128,
     out: &mut Partials,
 ) -> Result<(), OutOfMemory>
     requires env { partial.now.env < length replica.old.ids.envs }
-    requires placed { IsPlaced replica.old.log (length (env_of_id replica.old.ids partial.now.env)) place }
-    requires mask { (e : EntryData) → slice_get replica.old.log place ≡ Some e → IsUnionMask replica.old.ids
-        (env_of_id replica.old.ids partial.now.env) e.env mask }
-    requires before { ComeBefore out.old.list.items partial.now.args place }
+    requires placed { IsPlaced replica.old.log (length (env_of_id replica.old.ids partial.now.env))
+        candidate.place }
+    requires room { candidate.at ≤ length partial.now.args }
+    requires mask { (e : EntryData) → slice_get replica.old.log candidate.place ≡ Some e → IsUnionMask
+        replica.old.ids (env_of_id replica.old.ids partial.now.env) e.env mask }
+    requires before { ComeBefore out.old.list.items
+        (insert (chosen_places partial.now.args) candidate.at candidate.place) }
     requires gathered { AreGathered replica.old.ids (length (env_of_id replica.old.ids partial.now.env))
         out.old.seen.keys out.old.met.masks.keys out.old.list.items }
     ensures gathered { OnOk result (AreGathered replica.new.ids
         (length (env_of_id replica.old.ids partial.now.env)) out.new.seen.keys out.new.met.masks.keys
         out.new.list.items) }
-    ensures joins { OnOk result (JoinsOne replica.old.ids replica.new.ids replica.old.log partial.now arg place
-        out.old.list.items out.new.list.items) }
+    ensures joins { OnOk result (JoinsOne replica.old.ids replica.new.ids replica.old.log partial.now
+        candidate.arg candidate.at candidate.place out.old.list.items out.new.list.items) }
     ensures kept { KeepsLog replica.old replica.new }
 {
     replica.interner().know_numbers();
@@ -211,142 +244,68 @@ fn join_with_mask(
     if !is_new {
         return Ok(());
     }
-    let candidate = replica.row(place).env;
-    let joined = replica.union_with_mask(partial.env, candidate, mask)?;
-    push(alloc, out, joined, partial.args.as_slice(), arg, place)?;
+    let other = replica.row(candidate.place).env;
+    let joined = replica.union_with_mask(partial.env, other, mask)?;
+    push(alloc, out, joined, partial.args.as_slice(), candidate)?;
     Ok(())
 }
 
 /// Adds what comes of one environment and a candidate for a slot, whose union has this mask, where one is
 /// known.
-fn join_candidate(
+pub(crate) fn join_candidate(
     alloc: Global,
     replica: &mut Replica,
     partial: &Partial,
-    arg: u32,
-    place: u32,
+    candidate: Candidate,
     mask: Option<u128>,
     out: &mut Partials,
 ) -> Result<(), OutOfMemory>
     requires env { partial.now.env < length replica.old.ids.envs }
-    requires placed { IsPlaced replica.old.log (length (env_of_id replica.old.ids partial.now.env)) place }
-    requires mask { IfSome mask (λ m. (e : EntryData) → slice_get replica.old.log place ≡ Some e →
+    requires placed { IsPlaced replica.old.log (length (env_of_id replica.old.ids partial.now.env))
+        candidate.place }
+    requires room { candidate.at ≤ length partial.now.args }
+    requires mask { IfSome mask (λ m. (e : EntryData) → slice_get replica.old.log candidate.place ≡ Some e →
         IsUnionMask replica.old.ids (env_of_id replica.old.ids partial.now.env) e.env m) }
-    requires before { ComeBefore out.old.list.items partial.now.args place }
+    requires before { ComeBefore out.old.list.items
+        (insert (chosen_places partial.now.args) candidate.at candidate.place) }
     requires gathered { AreGathered replica.old.ids (length (env_of_id replica.old.ids partial.now.env))
         out.old.seen.keys out.old.met.masks.keys out.old.list.items }
     ensures gathered { OnOk result (AreGathered replica.new.ids
         (length (env_of_id replica.old.ids partial.now.env)) out.new.seen.keys out.new.met.masks.keys
         out.new.list.items) }
-    ensures joins { OnOk result (JoinsOne replica.old.ids replica.new.ids replica.old.log partial.now arg place
-        out.old.list.items out.new.list.items) }
+    ensures joins { OnOk result (JoinsOne replica.old.ids replica.new.ids replica.old.log partial.now
+        candidate.arg candidate.at candidate.place out.old.list.items out.new.list.items) }
     ensures kept { KeepsLog replica.old replica.new }
 {
     match mask {
-        Some(mask) => join_with_mask(alloc, replica, partial, arg, place, mask, out),
-        None => join_one(alloc, replica, partial, arg, place, out),
+        Some(mask) => join_with_mask(alloc, replica, partial, candidate, mask, out),
+        None => join_one(alloc, replica, partial, candidate, out),
     }
 }
 
-/// Adds what comes of one environment and each candidate for a slot. Where the candidates have masks, these
-/// are given.
-fn extend(
-    alloc: Global,
-    replica: &mut Replica,
-    partial: &Partial,
-    slot: &Filled,
-    masks: &[u128],
-    out: &mut Partials,
-) -> Result<(), OutOfMemory>
-    requires env { partial.now.env < length replica.old.ids.envs }
-    requires placed { ArePlaced replica.old.log
-        (length (env_of_id replica.old.ids partial.now.env)) slot.now }
-    requires rises { IsStrictlyIncreasing slot.now.places }
-    requires masks { AreMasksOf replica.old.ids replica.old.log slot.now masks.now }
-    requires seen { SeenAre out.old.seen.keys out.old.list.items }
-    requires met { MetForSlot replica.old.ids replica.old.log slot.now out.old.met.masks.keys out.old.list.items }
-    requires ascending { AreAscending out.old.list.items }
-    requires before { (place : ℕ) → ComeBefore out.old.list.items partial.now.args place }
-    ensures seen { OnOk result (SeenAre out.new.seen.keys out.new.list.items) }
-    ensures met { OnOk result (MetForSlot replica.new.ids replica.old.log slot.now out.new.met.masks.keys
-        out.new.list.items) }
-    ensures ascending { OnOk result (AreAscending out.new.list.items) }
-    ensures keeps { OnOk result ((x : PartialData) → Contains out.old.list.items x
-        → Contains out.new.list.items x) }
-    ensures only { OnOk result ((x : PartialData) → Contains out.new.list.items x →
-        Contains out.old.list.items x ⊎ IsMade replica.old.ids replica.new.ids replica.old.log partial.now
-        slot.now x) }
-    ensures all { OnOk result ((place : ℕ) (e : EntryData) → FillsBy replica.old.log slot.now place e →
-        IsAmongJoined replica.old.ids replica.new.ids partial.now place e out.new.list.items) }
-    ensures kept { KeepsLog replica.old replica.new }
-{
-    let own = own_mask(replica, masks, partial.env)?;
-    for (number, place) in slot.places.as_slice().iter().enumerate() {
-        let mask = united(own, masks, number);
-        join_candidate(alloc, replica, partial, slot.arg, *place, mask, out)?;
-    }
-    Ok(())
-}
-
-/// Adds what comes of each environment and each candidate for a slot, and answers whether that is all: it
-/// ends behind the environment with which there are more than `most`. Where the candidates have masks, these
-/// are given.
-fn extend_all(
-    alloc: Global,
-    replica: &mut Replica,
-    partials: &[Partial],
-    slot: &Filled,
-    masks: &[u128],
-    most: usize,
-    out: &mut Partials,
-) -> Result<bool, OutOfMemory>
-    requires can { CanFill replica.old.ids replica.old.log partials.now slot.now }
-    requires rises { IsStrictlyIncreasing slot.now.places }
-    requires masks { AreMasksOf replica.old.ids replica.old.log slot.now masks.now }
-    requires ascending { AreAscending partials.now }
-    requires long { AreAsLong partials.now }
-    requires none { out.old.list.items ≡ [] }
-    requires unseen { out.old.seen.keys ≡ [] }
-    requires unmet { out.old.met.masks.keys ≡ [] }
-    ensures ascending { OnOk result (AreAscending out.new.list.items) }
-    ensures only { OnOk result ((x : PartialData) → Contains out.new.list.items x →
-        IsMadeOf replica.old.ids replica.new.ids replica.old.log partials.now slot.now x) }
-    ensures all { IfOk result (λ whole. OnTrue whole
-        ((from : PartialData) → Contains partials.now from →
-        (place : ℕ) (e : EntryData) → FillsBy replica.old.log slot.now place e →
-        IsAmongJoined replica.old.ids replica.new.ids from place e out.new.list.items)) }
-    ensures more { IfOk result (λ whole. OnFalse whole (most < length out.new.list.items)) }
-    ensures kept { KeepsLog replica.old replica.new }
-{
-    for partial in partials {
-        extend(alloc, replica, partial, slot, masks, out)?;
-        if out.list.len() > most {
-            return Ok(false);
-        }
-    }
-    Ok(true)
-}
-
-/// Puts what comes of each environment and each candidate for a slot in the place of the environments, and
-/// answers whether that is all, as it is where there are no more than `most`.
+/// Puts what comes of each environment and each candidate for a slot, whose place goes behind the first `at` of
+/// those chosen, in the place of the environments, and answers whether that is all, as it is where there are no
+/// more than `most`.
 fn extended(
     alloc: Global,
     replica: &mut Replica,
     slot: &Filled,
+    at: usize,
     most: usize,
     partials: &mut PartialList,
 ) -> Result<bool, OutOfMemory>
     requires can { CanFill replica.old.ids replica.old.log partials.old.items slot.now }
     requires rises { IsStrictlyIncreasing slot.now.places }
+    requires room { HaveRoom at partials.old.items }
     requires ascending { AreAscending partials.old.items }
     requires long { AreAsLong partials.old.items }
     ensures ascending { OnOk result (AreAscending partials.new.items) }
     ensures only { OnOk result ((x : PartialData) → Contains partials.new.items x →
-        IsMadeOf replica.old.ids replica.new.ids replica.old.log partials.old.items slot.now x) }
+        IsMadeOf replica.old.ids replica.new.ids replica.old.log partials.old.items slot.now at x) }
     ensures all { IfOk result (λ whole. OnTrue whole
         ((from : PartialData) → Contains partials.old.items from →
         (place : ℕ) (e : EntryData) → FillsBy replica.old.log slot.now place e →
-        IsAmongJoined replica.old.ids replica.new.ids from place e partials.new.items)) }
+        IsAmongJoined replica.old.ids replica.new.ids from at place e partials.new.items)) }
     ensures more { IfOk result (λ whole. OnFalse whole (most < length partials.new.items)) }
     ensures kept { KeepsLog replica.old replica.new }
 {
@@ -358,60 +317,65 @@ fn extended(
         seen: IndexSet::new(alloc),
         met: Met::new(alloc),
     };
-    let whole = extend_all(
-        alloc,
-        replica,
-        partials.as_slice(),
+    let next = NextSlot {
         slot,
-        masks.as_slice(),
+        masks: masks.as_slice(),
+        at,
         most,
-        &mut out,
-    )?;
+    };
+    let whole = extend_all(alloc, replica, partials.as_slice(), &next, &mut out)?;
     *partials = out.list;
     Ok(whole)
 }
 
 /// Adds a slot's only candidate to the choice of each environment.
-fn choose_sole(partials: &mut [Partial], arg: u32, place: u32) -> Result<(), OutOfMemory>
-    ensures { OnOk result (partials.new ≡ map (λ x. with_choice arg place x) partials.old) }
+fn choose_sole(partials: &mut [Partial], candidate: Candidate) -> Result<(), OutOfMemory>
+    requires { HaveRoom candidate.at partials.old }
+    ensures { OnOk result (partials.new
+        ≡ map (λ x. with_choice candidate.arg candidate.at candidate.place x) partials.old) }
 {
     for partial in partials.iter_mut() {
-        partial.args.push((arg, place))?;
+        choose(&mut partial.args, candidate)?;
     }
     Ok(())
 }
 
-/// Puts what comes of each environment and each candidate for a slot in the place of the environments, and
-/// answers whether that is all, as it is where there are no more than `most`. What a slot's only candidate
-/// asks for, they ask for before.
+/// Does the same, and faster for a slot's only candidate: what that asks for, the environments ask for before.
 fn join_slot(
     alloc: Global,
     replica: &mut Replica,
     slot: &Filled,
+    at: usize,
     most: usize,
     partials: &mut PartialList,
 ) -> Result<bool, OutOfMemory>
     requires can { CanFill replica.old.ids replica.old.log partials.old.items slot.now }
     requires sole { HaveSole replica.old.ids replica.old.log partials.old.items slot.now }
     requires rises { IsStrictlyIncreasing slot.now.places }
+    requires room { HaveRoom at partials.old.items }
     requires ascending { AreAscending partials.old.items }
     requires long { AreAsLong partials.old.items }
     ensures ascending { OnOk result (AreAscending partials.new.items) }
     ensures only { OnOk result ((x : PartialData) → Contains partials.new.items x →
-        IsMadeOf replica.old.ids replica.new.ids replica.old.log partials.old.items slot.now x) }
+        IsMadeOf replica.old.ids replica.new.ids replica.old.log partials.old.items slot.now at x) }
     ensures all { IfOk result (λ whole. OnTrue whole
         ((from : PartialData) → Contains partials.old.items from →
         (place : ℕ) (e : EntryData) → FillsBy replica.old.log slot.now place e →
-        IsAmongJoined replica.old.ids replica.new.ids from place e partials.new.items)) }
+        IsAmongJoined replica.old.ids replica.new.ids from at place e partials.new.items)) }
     ensures more { IfOk result (λ whole. OnFalse whole (most < length partials.new.items)) }
     ensures kept { KeepsLog replica.old replica.new }
 {
     let places = slot.places.as_slice();
     if places.len() == 1 {
-        choose_sole(partials.as_mut_slice(), slot.arg, places[0])?;
+        let candidate = Candidate {
+            arg: slot.arg,
+            at,
+            place: places[0],
+        };
+        choose_sole(partials.as_mut_slice(), candidate)?;
         return Ok(true);
     }
-    extended(alloc, replica, slot, most, partials)
+    extended(alloc, replica, slot, at, most, partials)
 }
 
 /// The environment that asks for what the head's own and the only candidates of slots ask for.
@@ -445,15 +409,17 @@ fn both(first: bool, second: bool) -> bool
     first && second
 }
 
-/// Adds environments that the slots lead to from the head's own, each once, with the choice of candidates
-/// that has the least list of places, and answers whether these are all. They are but where a slot leads to
-/// more than `most`, as `join_slot` has it; then just some of these are carried on to the next slot.
+/// Adds environments that the slots lead to from the head's own, each once, and answers whether it is sure that
+/// these are all. Then each has the choice of candidates with the least list of places; else the least one of
+/// what was carried on. It is sure but where a slot leads to more than `most`, as `join_slot` has it; then some
+/// of these alone are carried on to the next slot.
 ///
 /// Slot by slot, so that time is in the number of distinct environments and the candidates, and not in the
-/// number of choices. With c candidates for a slot no more than `most` + c environments are kept there, and
-/// each of them is united with each candidate for the next. A slot's only candidate is in each choice, so
-/// these are joined first, once for all choices. The choices are met in ascending order, so the first one
-/// that leads to an environment is its least one.
+/// number of choices. No more than `most` environments are kept for a slot, and one more, and each of them is
+/// united with each candidate for the next. A slot's only candidate is in each choice, so these are joined
+/// first, once for all choices. Where there are many choices, `next_slot` tells which slot comes next, so that
+/// the environments grow little. The choices are met in ascending order, whichever slot comes next, so the
+/// first one that leads to an environment is its least one.
 pub(crate) fn joined(
     alloc: Global,
     replica: &mut Replica,
@@ -480,9 +446,25 @@ pub(crate) fn joined(
         args: SmallVec::new(alloc),
     });
     let mut whole = true;
-    for slot in slots {
-        let all = join_slot(alloc, replica, slot, most, out)?;
-        whole = both(whole, all);
+    if !are_many(slots) {
+        for (number, slot) in slots.iter().enumerate() {
+            let all = join_slot(alloc, replica, slot, number, most, out)?;
+            whole = both(whole, all);
+        }
+        return Ok(whole);
+    }
+    let mut done: Numbers = SmallVec::new(alloc);
+    let mut weights = no_weights(alloc);
+    while let Some(turn) = next_slot(
+        replica,
+        slots,
+        done.as_slice(),
+        out.as_slice(),
+        &mut weights,
+    )? {
+        let complete = join_slot(alloc, replica, &slots[turn.number], turn.at, most, out)?;
+        done.insert(turn.at, turn.number)?;
+        whole = both(whole, complete);
     }
     Ok(whole)
 }

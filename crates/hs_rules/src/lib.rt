@@ -3,6 +3,7 @@
 #![tactic(auto)]
 
 mod deduced;
+mod extending;
 mod following;
 mod found;
 mod gathering;
@@ -18,6 +19,7 @@ mod search;
 mod seeds;
 mod sources;
 mod terminals;
+mod turns;
 
 pub use deduced::{Deduced, deduced_entries_are_in_shape};
 pub use following::{conclusions, conclusions_with, conclusions_within, seed_conclusions};

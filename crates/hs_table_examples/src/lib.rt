@@ -1,7 +1,7 @@
 //! Tests of tables without threads: the order of types and of entries, types as numbers, the look-ups
-//! of a log, the plain program, and the indexed programs beside it with the supports that they find;
-//! saturation by one worker, the budget's edge, what a core tells of itself, and workers step by step;
-//! compact tables; and what the checker answers.
+//! of a log, the plain program, and the indexed programs beside it, with the supports that they find and
+//! where only so many conclusions are asked for; saturation by one worker, the budget's edge, what a core tells of
+//! itself, and workers step by step; compact tables; and what the checker answers.
 #![tactic(auto)]
 
 #[cfg(test)]
@@ -42,6 +42,8 @@ mod supports;
 mod telling;
 #[cfg(test)]
 mod two_points;
+#[cfg(test)]
+mod within;
 #[cfg(test)]
 mod worked;
 #[cfg(test)]

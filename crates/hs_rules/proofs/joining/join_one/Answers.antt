@@ -1,5 +1,7 @@
-use Rattle.std.proofs.Common.{sym, ◌∙◌, ap, subst, ℕ, List, ◌∷◌, [], ◌++◌, length, inl, inr}
+use Rattle.std.proofs.Common.{sym, ◌∙◌, ap, subst, ℕ, List, [], length, inl, inr}
+use Rattle.std.specs.List.{insert}
 use Rattle.hs_scheme.proofs.Lists.{here}
+use Rattle.hs_rules.specs.Order.{chosen_places}
 use Rattle.hs_types.specs.Interned.{env_of_id, IsUnionEnv}
 use Rattle.hs_types.proofs.Numbers.{Grows-refl}
 use Rattle.hs_rules.specs.Joins.{PartialData, MetAre, only_place}
@@ -25,25 +27,26 @@ returns-clause-joins c =
     let K = c.union_envs.new.self.ids in
     let log = c.args.replica.now.log in
     let from = c.args.partial.now in
-    let place = c.args.place in
-    let f = only_place c.args.arg place in
-    let row = c.row-candidate.result in
+    let at = c.args.candidate.at in
+    let place = c.args.candidate.place in
+    let f = only_place c.args.candidate.arg place in
+    let row = c.row-other.result in
     let id = c.in_ok-joined.joined in
     let old = c.args.out.now.list.items in
     let new = c.add.new.out.list.items in
     let env_is = ap (λ (x : PartialData). x.env) c.partial.view_is in
     let from_is = c.as_slice.ensures ∙ ap (λ (x : PartialData). x.args) c.partial.view_is in
-    let at = c.row-candidate.ensures.entry in
+    let is_row = c.row-other.ensures.entry in
     let union = subst (λ (n : ℕ). IsUnionEnv (env_of_id I n) (env_of_id I row.env) (env_of_id K id)) env_is c.in_ok-joined.ensures.ok.1 in
     let g = Grows-refl I in
     let h = c.in_ok-joined.ensures.kept.grows in
     record {
       keeps = c.in_ok-add.ensures.keeps;
-      made = made_next I I K log from f g h c.requires.env row place id at (here place []) c.in_ok-joined.ensures.ok.0 union old old new (λ x there. inl there)
+      made = made_next I I K log from f at g h c.requires.env row place id is_row (here place []) c.in_ok-joined.ensures.ok.0 union old old new (λ x there. inl there)
           (λ x there. elim (c.in_ok-add.ensures.only x there) [
             | inl was ↦ inl was
-            | inr is ↦ inr (is ∙ (λ i. record { env = id; args = from_is i ++ (c.args.arg, place) ∷ [] }))
+            | inr is ↦ inr (is ∙ (λ i. record { env = id; args = insert (from_is i) at (c.args.candidate.arg, place) }))
           ]);
-      there = λ e e_at. covered_next I I K log from f g h c.requires.env row place id at (here place []) c.in_ok-joined.ensures.ok.0 union new
-          (subst (λ (a : List (ℕ × ℕ)). IsThere new id a place) from_is c.in_ok-add.ensures.there) e e_at;
+      there = λ e e_at. covered_next I I K log from f at g h c.requires.env row place id is_row (here place []) c.in_ok-joined.ensures.ok.0 union new
+          (subst (λ (a : List (ℕ × ℕ)). IsThere new id (insert (chosen_places a) at place)) from_is c.in_ok-add.ensures.there) e e_at;
     }

@@ -2,7 +2,6 @@ use Rattle.std.proofs.Common.{◌≡◌, sym, ◌∙◌, ap, subst, ℕ, List, [
 use Rattle.hs_table.specs.Entries.{EntryData}
 use Rattle.hs_rules.specs.Slots.{FilledData}
 use Rattle.hs_rules.specs.Joins.{PartialData, FillsBy, AreAscending, IsMadeOf, IsAmongJoined, with_choice}
-use Rattle.hs_rules.proofs.KeepLemmas.{keeps_none}
 use Rattle.hs_rules.proofs.JoinLemmas.{single}
 use Rattle.hs_rules.proofs.SoleLemmas.{choice_written, choice_ascends, choice_made, choice_among}
 use Rattle.hs_rules.proofs.joining.join_slot.Goals as goal
@@ -14,7 +13,7 @@ returns-then-places-eq1-clause-ascending c =
     let new = c.choose_sole.new.partials in
     let arg = c.slot.inside.arg in
     let place = slice_index_or c.as_slice-places.result.now 0 0 in
-    subst (λ (xs : List PartialData). AreAscending xs) (sym (choice_written arg place old given new c.as_mut_slice.ensures.value c.in_ok-choose_sole.ensures)) (choice_ascends arg place old c.requires.ascending c.requires.long)
+    subst (λ (xs : List PartialData). AreAscending xs) (sym (choice_written arg c.args.at place old given new c.as_mut_slice.ensures.value c.in_ok-choose_sole.ensures)) (choice_ascends arg c.args.at place old c.requires.ascending c.requires.long)
 
 pub returns-then-places-eq1-clause-only : goal.returns-then-places-eq1-clause-only
 returns-then-places-eq1-clause-only c =
@@ -29,9 +28,9 @@ returns-then-places-eq1-clause-only c =
     let place = slice_index_or items 0 0 in
     let one : f.places ≡ place ∷ [] = sym (c.as_slice-places.ensures ∙ ap (λ (x : FilledData). x.places) c.slot.view_is) ∙ single items c.if-places-eq1.true in
     let arg_is = ap (λ (x : FilledData). x.arg) c.slot.view_is in
-    subst (λ (xs : List PartialData). (x : PartialData) → Contains xs x → IsMadeOf ids ids log old f x)
-    (sym (choice_written f.arg place old given new c.as_mut_slice.ensures.value (subst (λ (a : ℕ). new ≡ map (with_choice a place) given) arg_is c.in_ok-choose_sole.ensures)))
-    (choice_made ids log f old place one c.requires.can c.requires.sole)
+    subst (λ (xs : List PartialData). (x : PartialData) → Contains xs x → IsMadeOf ids ids log old f c.args.at x)
+    (sym (choice_written f.arg c.args.at place old given new c.as_mut_slice.ensures.value (subst (λ (a : ℕ). new ≡ map (with_choice a c.args.at place) given) arg_is c.in_ok-choose_sole.ensures)))
+    (choice_made ids log f c.args.at old place one c.requires.can c.requires.sole)
 
 pub returns-then-places-eq1-clause-all : goal.returns-then-places-eq1-clause-all
 returns-then-places-eq1-clause-all c =
@@ -46,9 +45,6 @@ returns-then-places-eq1-clause-all c =
     let place = slice_index_or items 0 0 in
     let one : f.places ≡ place ∷ [] = sym (c.as_slice-places.ensures ∙ ap (λ (x : FilledData). x.places) c.slot.view_is) ∙ single items c.if-places-eq1.true in
     let arg_is = ap (λ (x : FilledData). x.arg) c.slot.view_is in
-    let All : List PartialData → Type 0 = λ xs. (from : PartialData) → Contains old from → (k : ℕ) (e : EntryData) → FillsBy log f k e → IsAmongJoined ids ids from k e xs in
-    subst All (sym (choice_written f.arg place old given new c.as_mut_slice.ensures.value (subst (λ (a : ℕ). new ≡ map (with_choice a place) given) arg_is c.in_ok-choose_sole.ensures)))
-    (choice_among ids log f old place one c.requires.can c.requires.sole)
-
-pub returns-then-places-eq1-clause-kept : goal.returns-then-places-eq1-clause-kept
-returns-then-places-eq1-clause-kept c = keeps_none c.args.replica.now
+    let All : List PartialData → Type 0 = λ xs. (from : PartialData) → Contains old from → (k : ℕ) (e : EntryData) → FillsBy log f k e → IsAmongJoined ids ids from c.args.at k e xs in
+    subst All (sym (choice_written f.arg c.args.at place old given new c.as_mut_slice.ensures.value (subst (λ (a : ℕ). new ≡ map (with_choice a c.args.at place) given) arg_is c.in_ok-choose_sole.ensures)))
+    (choice_among ids log f c.args.at old place one c.requires.can c.requires.sole)

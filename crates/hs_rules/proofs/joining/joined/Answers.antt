@@ -1,32 +1,23 @@
-use Rattle.std.proofs.Common.{refl, sym, ◌∙◌, ap, subst, ℕ, List, ◌∷◌, [], ◌++◌, length, take, arith, Contains}
+use Rattle.std.proofs.Common.{true, ◌≡◌, refl, sym, ◌∙◌, ap, subst, ℕ, ◌-◌, ◌<◌, List, ◌∷◌, [], ◌++◌, length, take, get_or, arith, Contains}
 use Rattle.std.specs.Bool.{IsTrue}
+use Rattle.std.specs.List.{insert}
 use Rattle.std.proofs.lemmas.Bool.{OnTrue_at}
-use Rattle.std.proofs.lemmas.List.{take_all}
+use Rattle.std.proofs.lemmas.List.Edits.{length-insert}
+use Rattle.std.proofs.lemmas.List.{length-map, length-take-le, get_or_default, take_all}
 use Rattle.hs_table.specs.Entries.{EntryData}
-use Rattle.hs_table_laws.proofs.Members.{taken_next}
 use Rattle.hs_types.specs.Interned.{env_of_id}
 use Rattle.hs_rules.specs.Slots.{FilledData}
-use Rattle.hs_rules.specs.Joins.{PartialData, FillsBy, IsMadeOf, IsAmongJoined, AreJoined}
+use Rattle.hs_rules.specs.Joins.{PartialData, FillsBy, IsMadeOf, IsAmongJoined, CanFill, AreJoined}
+use Rattle.hs_rules.specs.Turns.{IsPlaceAmong, AreTurns, slots_at}
 use Rattle.hs_rules.proofs.Lists.{both_are}
 use Rattle.hs_rules.proofs.KeepLemmas.{keeps_then}
-use Rattle.hs_rules.proofs.JoinLemmas.{joined_none, joined_as_long, joined_next, can_extend}
+use Rattle.hs_rules.proofs.JoinLemmas.{joined_none, joined_as_long, joined_long, joined_next, can_extend}
 use Rattle.hs_rules.proofs.SoleLemmas.{LeadBySole, lead_sole, lead_all}
+use Rattle.hs_rules.proofs.TurnLemmas.{no_slot, taken_insert, no_turns, turn_next, turns_end, turns_few, turns_all, turns_more, slots_more}
 use Rattle.hs_rules.proofs.joining.joined.Goals as goal
 
-pub own_with_sole-requires-clause-own : goal.own_with_sole-requires-clause-own
-own_with_sole-requires-clause-own c = c.requires.own
-
-pub own_with_sole-requires-clause-is_env : goal.own_with_sole-requires-clause-is_env
-own_with_sole-requires-clause-is_env c = c.requires.is_env
-
-pub own_with_sole-requires-clause-placed : goal.own_with_sole-requires-clause-placed
-own_with_sole-requires-clause-placed c = c.requires.placed
-
-pub push_reserved-requires : goal.push_reserved-requires
-push_reserved-requires c = (omega arith, c.in_ok-reserve.ensures.ok)
-
-pub loop-slot-init : goal.loop-slot-init
-loop-slot-init c =
+pub loop-number-init : goal.loop-number-init
+loop-number-init c =
     let J = c.own_with_sole.new.replica.ids in
     let n = length (env_of_id c.args.replica.now.ids c.args.own) in
     let env = c.in_ok-env.env in
@@ -41,67 +32,178 @@ loop-slot-init c =
       };
     }
 
-pub join_slot-requires-clause-rises : goal.join_slot-requires-clause-rises
-join_slot-requires-clause-rises c = c.requires.rise c.slot-item.result (c.loop-slot.slot-index, c.loop-slot-test.true, sym c.slot-item.is)
-
 pub join_slot-requires-clause-ascending : goal.join_slot-requires-clause-ascending
-join_slot-requires-clause-ascending c = c.loop-slot.invariant.lead.joined.ascending
-
-pub join_slot-requires-clause-long : goal.join_slot-requires-clause-long
-join_slot-requires-clause-long c =
-    joined_as_long c.loop-slot.replica.ids c.args.replica.now.log (length (env_of_id c.args.replica.now.ids c.args.own)) c.loop-slot.invariant.lead.base (take c.loop-slot.slot-index c.args.slots.now) c.loop-slot.whole c.loop-slot.out.items c.loop-slot.invariant.lead.joined
+join_slot-requires-clause-ascending c = c.loop-number.invariant.lead.joined.ascending
 
 pub join_slot-requires-clause-can : goal.join_slot-requires-clause-can
 join_slot-requires-clause-can c =
-    can_extend c.loop-slot.replica.ids c.args.replica.now.log c.loop-slot.replica.log (length (env_of_id c.args.replica.now.ids c.args.own)) c.loop-slot.invariant.lead.base
-    (take c.loop-slot.slot-index c.args.slots.now) c.slot-item.result c.loop-slot.whole c.loop-slot.out.items c.loop-slot.invariant.kept.log c.loop-slot.invariant.lead.joined
-    (c.requires.placed c.slot-item.result (c.loop-slot.slot-index, c.loop-slot-test.true, sym c.slot-item.is))
+    let f = c.index-slots-number.result in
+    let lead = c.loop-number.invariant.lead in
+    can_extend c.loop-number.replica.ids c.args.replica.now.log c.loop-number.replica.log (length (env_of_id c.args.replica.now.ids c.args.own)) lead.base (take c.loop-number.number c.args.slots.now) f c.loop-number.whole c.loop-number.out.items
+    c.loop-number.invariant.kept.log lead.joined (c.requires.placed f (c.loop-number.number, c.loop-number-test.true, sym c.index-slots-number.is))
 
 pub join_slot-requires-clause-sole : goal.join_slot-requires-clause-sole
 join_slot-requires-clause-sole c =
-    lead_sole c.loop-slot.replica.ids c.args.replica.now.log (length (env_of_id c.args.replica.now.ids c.args.own)) (env_of_id c.args.replica.now.ids c.args.own) c.args.slots.now
-    (take c.loop-slot.slot-index c.args.slots.now) c.loop-slot.whole c.loop-slot.out.items c.loop-slot.invariant.lead c.loop-slot.replica.log c.slot-item.result c.loop-slot.invariant.kept.log
-    (c.loop-slot.slot-index, c.loop-slot-test.true, sym c.slot-item.is)
+    lead_sole c.loop-number.replica.ids c.args.replica.now.log (length (env_of_id c.args.replica.now.ids c.args.own)) (env_of_id c.args.replica.now.ids c.args.own) c.args.slots.now (take c.loop-number.number c.args.slots.now) c.loop-number.whole
+    c.loop-number.out.items c.loop-number.invariant.lead c.loop-number.replica.log c.index-slots-number.result c.loop-number.invariant.kept.log (c.loop-number.number, c.loop-number-test.true, sym c.index-slots-number.is)
 
-pub loop-slot-preserved : goal.loop-slot-preserved
-loop-slot-preserved c =
-    let J = c.loop-slot.replica.ids in
+pub join_slot-requires-clause-room : goal.join_slot-requires-clause-room
+join_slot-requires-clause-room c = λ x there.
+    let first = take c.loop-number.number c.args.slots.now in
+    let long = joined_long c.loop-number.replica.ids c.args.replica.now.log (length (env_of_id c.args.replica.now.ids c.args.own)) c.loop-number.invariant.lead.base first c.loop-number.whole c.loop-number.out.items c.loop-number.invariant.lead.joined x there in
+    let many = length-take-le c.loop-number.number c.args.slots.now (omega (arith, c.loop-number-test.true)) in
+    omega (arith, long, many)
+
+pub join_slot-requires-clause-long : goal.join_slot-requires-clause-long
+join_slot-requires-clause-long c =
+    joined_as_long c.loop-number.replica.ids c.args.replica.now.log (length (env_of_id c.args.replica.now.ids c.args.own)) c.loop-number.invariant.lead.base (take c.loop-number.number c.args.slots.now) c.loop-number.whole c.loop-number.out.items
+    c.loop-number.invariant.lead.joined
+
+pub loop-number-preserved : goal.loop-number-preserved
+loop-number-preserved c =
+    let J = c.loop-number.replica.ids in
     let K = c.join_slot.new.replica.ids in
     let log = c.args.replica.now.log in
-    let f = c.slot-item.result in
+    let slots = c.args.slots.now in
+    let k = c.loop-number.number in
+    let f = c.index-slots-number.result in
     let n = length (env_of_id c.args.replica.now.ids c.args.own) in
-    let lead = c.loop-slot.invariant.lead in
-    let old = c.loop-slot.out.items in
+    let lead = c.loop-number.invariant.lead in
+    let old = c.loop-number.out.items in
     let new = c.join_slot.new.partials.items in
-    let same = c.loop-slot.invariant.kept.log in
+    let same = c.loop-number.invariant.kept.log in
     let whole = c.both-whole.result in
-    let some = subst (λ (l : List EntryData). (x : PartialData) → Contains new x → IsMadeOf J K l old f x) same c.in_ok-all.ensures.only in
-    let all = λ (is : IsTrue c.in_ok-all.all). subst (λ (l : List EntryData). (from : PartialData) → Contains old from → (place : ℕ) (e : EntryData) → FillsBy l f place e → IsAmongJoined J K from place e new) same (OnTrue_at is c.in_ok-all.ensures.all) in
+    let some = subst (λ (l : List EntryData). (x : PartialData) → Contains new x → IsMadeOf J K l old f k x) same c.in_ok-all.ensures.only in
+    let all = λ (is : IsTrue c.in_ok-all.all). subst (λ (l : List EntryData). (from : PartialData) → Contains old from → (p : ℕ) (e : EntryData) → FillsBy l f p e → IsAmongJoined J K from k p e new) same (OnTrue_at is c.in_ok-all.ensures.all) in
+    let joined = joined_next J K log n lead.base (take k slots) f k c.loop-number.whole whole old new lead.joined some (λ is_whole. (both_are c.loop-number.whole c.in_ok-all.all (sym c.both-whole.ensures ∙ is_whole)).0)
+    (λ is_whole. all (both_are c.loop-number.whole c.in_ok-all.all (sym c.both-whole.ensures ∙ is_whole)).1) c.in_ok-all.ensures.ascending in
     record {
-      kept = keeps_then c.args.replica.now c.loop-slot.replica c.join_slot.new.replica c.loop-slot.invariant.kept c.in_ok-all.ensures.kept;
+      kept = keeps_then c.args.replica.now c.loop-number.replica c.join_slot.new.replica c.loop-number.invariant.kept c.in_ok-all.ensures.kept;
       lead = record {
         base = lead.base;
         asks = lead.asks;
-        joined = subst (λ (fs : List FilledData). AreJoined K log n lead.base fs whole new) (sym (taken_next c.args.slots.now c.loop-slot.slot-index f c.loop-slot-test.true c.slot-item.is))
-            (joined_next J K log n lead.base (take c.loop-slot.slot-index c.args.slots.now) f c.loop-slot.whole whole old new lead.joined some (λ is_whole. (both_are c.loop-slot.whole c.in_ok-all.all (sym c.both-whole.ensures ∙ is_whole)).0) (λ is_whole. all (both_are c.loop-slot.whole c.in_ok-all.all (sym c.both-whole.ensures ∙ is_whole)).1) c.in_ok-all.ensures.ascending);
+        joined = subst (λ (fs : List FilledData). AreJoined K log n lead.base fs whole new) (taken_insert slots k f c.loop-number-test.true c.index-slots-number.is) joined;
       };
     }
 
-pub returns-in_err-env-clause-kept : goal.returns-in_err-env-clause-kept
-returns-in_err-env-clause-kept c = c.own_with_sole.ensures.kept
-
-pub returns-in_err-reserve-clause-kept : goal.returns-in_err-reserve-clause-kept
-returns-in_err-reserve-clause-kept c = c.own_with_sole.ensures.kept
-
 pub returns-in_err-all-clause-kept : goal.returns-in_err-all-clause-kept
-returns-in_err-all-clause-kept c = keeps_then c.args.replica.now c.loop-slot.replica c.join_slot.new.replica c.loop-slot.invariant.kept c.join_slot.ensures.kept
+returns-in_err-all-clause-kept c = keeps_then c.args.replica.now c.loop-number.replica c.join_slot.new.replica c.loop-number.invariant.kept c.join_slot.ensures.kept
+
+pub returns-then-not-are_many-clause-joined : goal.returns-then-not-are_many-clause-joined
+returns-then-not-are_many-clause-joined c =
+    let own = env_of_id c.args.replica.now.ids c.args.own in
+    let slots = c.args.slots.now in
+    lead_all c.loop-number.replica.ids c.args.replica.now.log (length own) own slots c.loop-number.whole c.loop-number.out.items
+    (subst (λ (fs : List FilledData). LeadBySole c.loop-number.replica.ids c.args.replica.now.log (length own) own slots fs c.loop-number.whole c.loop-number.out.items) (take_all c.loop-number.number slots c.loop-number-test.false) c.loop-number.invariant.lead)
+
+pub returns-then-not-are_many-clause-kept : goal.returns-then-not-are_many-clause-kept
+returns-then-not-are_many-clause-kept c = c.loop-number.invariant.kept
+
+pub loop-weights-init : goal.loop-weights-init
+loop-weights-init c =
+    let J = c.own_with_sole.new.replica.ids in
+    let n = length (env_of_id c.args.replica.now.ids c.args.own) in
+    let env = c.in_ok-env.env in
+    let x : PartialData = record { env = env; args = c.new.result.items } in
+    record {
+      kept = c.own_with_sole.ensures.kept;
+      turns = no_turns c.args.slots.now c.new-done.result.items c.new-done.ensures.items;
+      lead = record {
+        base = env_of_id J env;
+        asks = c.in_ok-env.ensures.asks;
+        joined = subst (λ (ns : List ℕ). AreJoined J c.args.replica.now.log n (env_of_id J env) (slots_at c.args.slots.now ns) true c.push_reserved.new.self.items) (sym c.new-done.ensures.items)
+            (joined_none J c.args.replica.now.log n env c.push_reserved.new.self.items x c.in_ok-env.ensures.known c.in_ok-env.ensures.asks.is_env
+            (c.push_reserved.ensures.items ∙ ap (λ (xs : List PartialData). xs ++ x ∷ []) (c.reserve.ensures.items ∙ c.requires.none)) refl c.new.ensures.items);
+      };
+    }
+
+pub next_slot-requires-clause-can : goal.next_slot-requires-clause-can
+next_slot-requires-clause-can c = λ f there.
+    let J = c.loop-weights.replica.ids in
+    let lead = c.loop-weights.invariant.lead in
+    let later = c.loop-weights.replica.log in
+    subst (λ (xs : List PartialData). CanFill J later xs f) (sym c.as_slice-in-loop-weights.ensures)
+    (can_extend J c.args.replica.now.log later (length (env_of_id c.args.replica.now.ids c.args.own)) lead.base (slots_at c.args.slots.now c.loop-weights.done.items) f c.loop-weights.whole c.loop-weights.out.items c.loop-weights.invariant.kept.log lead.joined (c.requires.placed f there))
+
+pub join_slot-requires-in-Some-clause-can : goal.join_slot-requires-in-Some-clause-can
+join_slot-requires-in-Some-clause-can c =
+    let f = c.index-slots-turn.result in
+    let lead = c.loop-weights.invariant.lead in
+    can_extend c.loop-weights.replica.ids c.args.replica.now.log c.loop-weights.replica.log (length (env_of_id c.args.replica.now.ids c.args.own)) lead.base (slots_at c.args.slots.now c.loop-weights.done.items) f c.loop-weights.whole c.loop-weights.out.items
+    c.loop-weights.invariant.kept.log lead.joined (c.requires.placed f (c.in-Some.turn.number, (turn_next c.args.slots.now c.as_slice.result.now c.in_ok-turn.field-0 c.in-Some.turn c.in_ok-turn.ensures c.in-Some.is).within, sym c.index-slots-turn.is))
+
+pub join_slot-requires-in-Some-clause-sole : goal.join_slot-requires-in-Some-clause-sole
+join_slot-requires-in-Some-clause-sole c =
+    lead_sole c.loop-weights.replica.ids c.args.replica.now.log (length (env_of_id c.args.replica.now.ids c.args.own)) (env_of_id c.args.replica.now.ids c.args.own) c.args.slots.now (slots_at c.args.slots.now c.loop-weights.done.items) c.loop-weights.whole
+    c.loop-weights.out.items c.loop-weights.invariant.lead c.loop-weights.replica.log c.index-slots-turn.result c.loop-weights.invariant.kept.log (c.in-Some.turn.number, (turn_next c.args.slots.now c.as_slice.result.now c.in_ok-turn.field-0 c.in-Some.turn c.in_ok-turn.ensures c.in-Some.is).within, sym c.index-slots-turn.is)
+
+pub join_slot-requires-in-Some-clause-room : goal.join_slot-requires-in-Some-clause-room
+join_slot-requires-in-Some-clause-room c = λ x there.
+    let slots = c.args.slots.now in
+    let done = c.loop-weights.done.items in
+    let long = joined_long c.loop-weights.replica.ids c.args.replica.now.log (length (env_of_id c.args.replica.now.ids c.args.own)) c.loop-weights.invariant.lead.base (slots_at slots done) c.loop-weights.whole c.loop-weights.out.items c.loop-weights.invariant.lead.joined x there in
+    let many : length (slots_at slots done) ≡ length done = length-map done (λ (k : ℕ). get_or slots k no_slot) in
+    let within = (subst (λ (ns : List ℕ). IsPlaceAmong ns c.in-Some.turn.number c.in-Some.turn.at) c.as_slice.ensures (turn_next c.args.slots.now c.as_slice.result.now c.in_ok-turn.field-0 c.in-Some.turn c.in_ok-turn.ensures c.in-Some.is).place).within in
+    omega (arith, long, many, within)
+
+pub join_slot-requires-in-Some-clause-long : goal.join_slot-requires-in-Some-clause-long
+join_slot-requires-in-Some-clause-long c =
+    joined_as_long c.loop-weights.replica.ids c.args.replica.now.log (length (env_of_id c.args.replica.now.ids c.args.own)) c.loop-weights.invariant.lead.base (slots_at c.args.slots.now c.loop-weights.done.items) c.loop-weights.whole c.loop-weights.out.items
+    c.loop-weights.invariant.lead.joined
+
+pub loop-weights-smaller : goal.loop-weights-smaller
+loop-weights-smaller c =
+    let slots = c.args.slots.now in
+    let done = c.loop-weights.done.items in
+    let number = c.in-Some.turn.number in
+    let place = subst (λ (ns : List ℕ). IsPlaceAmong ns number c.in-Some.turn.at) c.as_slice.ensures (turn_next c.args.slots.now c.as_slice.result.now c.in_ok-turn.field-0 c.in-Some.turn c.in_ok-turn.ensures c.in-Some.is).place in
+    let new = λ (there : Contains done number). (turn_next c.args.slots.now c.as_slice.result.now c.in_ok-turn.field-0 c.in-Some.turn c.in_ok-turn.ensures c.in-Some.is).left (subst (λ (ns : List ℕ). Contains ns number) (sym c.as_slice.ensures) there) in
+    let few = turns_few slots (insert done c.in-Some.turn.at number) (turns_more slots done c.loop-weights.invariant.turns number c.in-Some.turn.at (turn_next c.args.slots.now c.as_slice.result.now c.in_ok-turn.field-0 c.in-Some.turn c.in_ok-turn.ensures c.in-Some.is).within new place) in
+    let many = length-insert done c.in-Some.turn.at number place.within in
+    let is = ap (λ (ns : List ℕ). length ns) c.in_ok-insert.ensures.ok in
+    let less : length slots - length c.insert.new.self.items < length slots - length done = omega (arith, few, many, is) in
+    less
+
+pub loop-weights-preserved : goal.loop-weights-preserved
+loop-weights-preserved c =
+    let J = c.loop-weights.replica.ids in
+    let K = c.join_slot-in-Some.new.replica.ids in
+    let log = c.args.replica.now.log in
+    let slots = c.args.slots.now in
+    let done = c.loop-weights.done.items in
+    let number = c.in-Some.turn.number in
+    let at = c.in-Some.turn.at in
+    let f = c.index-slots-turn.result in
+    let n = length (env_of_id c.args.replica.now.ids c.args.own) in
+    let lead = c.loop-weights.invariant.lead in
+    let old = c.loop-weights.out.items in
+    let new = c.join_slot-in-Some.new.partials.items in
+    let same = c.loop-weights.invariant.kept.log in
+    let whole = c.both-whole-in-Some.result in
+    let place = subst (λ (ns : List ℕ). IsPlaceAmong ns number at) c.as_slice.ensures (turn_next c.args.slots.now c.as_slice.result.now c.in_ok-turn.field-0 c.in-Some.turn c.in_ok-turn.ensures c.in-Some.is).place in
+    let absent = λ (there : Contains done number). (turn_next c.args.slots.now c.as_slice.result.now c.in_ok-turn.field-0 c.in-Some.turn c.in_ok-turn.ensures c.in-Some.is).left (subst (λ (ns : List ℕ). Contains ns number) (sym c.as_slice.ensures) there) in
+    let some = subst (λ (l : List EntryData). (x : PartialData) → Contains new x → IsMadeOf J K l old f at x) same c.in_ok-complete.ensures.only in
+    let all = λ (is : IsTrue c.in_ok-complete.complete). subst (λ (l : List EntryData). (from : PartialData) → Contains old from → (p : ℕ) (e : EntryData) → FillsBy l f p e → IsAmongJoined J K from at p e new) same (OnTrue_at is c.in_ok-complete.ensures.all) in
+    let joined = joined_next J K log n lead.base (slots_at slots done) f at c.loop-weights.whole whole old new lead.joined some (λ is_whole. (both_are c.loop-weights.whole c.in_ok-complete.complete (sym c.both-whole-in-Some.ensures ∙ is_whole)).0)
+    (λ is_whole. all (both_are c.loop-weights.whole c.in_ok-complete.complete (sym c.both-whole-in-Some.ensures ∙ is_whole)).1) c.in_ok-complete.ensures.ascending in
+    let slot_is : f ≡ get_or slots number no_slot = c.index-slots-turn.is ∙ get_or_default slots number f no_slot (turn_next c.args.slots.now c.as_slice.result.now c.in_ok-turn.field-0 c.in-Some.turn c.in_ok-turn.ensures c.in-Some.is).within in
+    record {
+      kept = keeps_then c.args.replica.now c.loop-weights.replica c.join_slot-in-Some.new.replica c.loop-weights.invariant.kept c.in_ok-complete.ensures.kept;
+      turns = subst (λ (ns : List ℕ). AreTurns slots ns) (sym c.in_ok-insert.ensures.ok) (turns_more slots done c.loop-weights.invariant.turns number at (turn_next c.args.slots.now c.as_slice.result.now c.in_ok-turn.field-0 c.in-Some.turn c.in_ok-turn.ensures c.in-Some.is).within absent place);
+      lead = record {
+        base = lead.base;
+        asks = lead.asks;
+        joined = subst (λ (ns : List ℕ). AreJoined K log n lead.base (slots_at slots ns) whole new) (sym c.in_ok-insert.ensures.ok)
+            (subst (λ (fs : List FilledData). AreJoined K log n lead.base fs whole new) (sym (slots_more slots done c.loop-weights.invariant.turns number at (turn_next c.args.slots.now c.as_slice.result.now c.in_ok-turn.field-0 c.in-Some.turn c.in_ok-turn.ensures c.in-Some.is).within absent place))
+            (subst (λ (g : FilledData). AreJoined K log n lead.base (insert (slots_at slots done) at g) whole new) slot_is joined));
+      };
+    }
 
 pub returns-clause-joined : goal.returns-clause-joined
 returns-clause-joined c =
     let own = env_of_id c.args.replica.now.ids c.args.own in
     let slots = c.args.slots.now in
-    lead_all c.loop-slot.replica.ids c.args.replica.now.log (length own) own slots c.loop-slot.whole c.loop-slot.out.items
-    (subst (λ (fs : List FilledData). LeadBySole c.loop-slot.replica.ids c.args.replica.now.log (length own) own slots fs c.loop-slot.whole c.loop-slot.out.items) (take_all c.loop-slot.slot-index slots c.loop-slot-test.false) c.loop-slot.invariant.lead)
-
-pub returns-clause-kept : goal.returns-clause-kept
-returns-clause-kept c = c.loop-slot.invariant.kept
+    let done = c.loop-weights.done.items in
+    let all = subst (λ (ns : List ℕ). (k : ℕ) → k < length slots → Contains ns k) c.as_slice.ensures (turns_end c.args.slots.now c.as_slice.result.now c.in_ok-turn.field-0 c.in_ok-turn.ensures c.in_default.is) in
+    lead_all c.loop-weights.replica.ids c.args.replica.now.log (length own) own slots c.loop-weights.whole c.loop-weights.out.items
+    (subst (λ (fs : List FilledData). LeadBySole c.loop-weights.replica.ids c.args.replica.now.log (length own) own slots fs c.loop-weights.whole c.loop-weights.out.items) (turns_all slots done c.loop-weights.invariant.turns all) c.loop-weights.invariant.lead)
