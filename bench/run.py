@@ -250,6 +250,39 @@ def wide(count, states=20):
     return framed(rules, [*transitions, f"s t -> {' '.join(['s'] * states)}.\n", "s r -> s.\n", "s c -> .\n"])
 
 
+def asked_of(parts):
+    """A term of x, y and v that asks x and y for these of their parts, the last first."""
+    asked = "v"
+    for j in parts:
+        asked = f"x T{j} (r (y (u{j} (t{j} (y (r ({asked})))))))"
+    return asked
+
+
+def called(names):
+    """The body that calls each of these functions, the first first."""
+    body = "c"
+    for name in reversed(names):
+        body = f"{name} (r {body})" if body == "c" else f"{name} (r ({body}))"
+    return body
+
+
+def parted(count, ways):
+    """The transitions by which a function may be asked for so many parts, and a branch has so many ways."""
+    everywhere = " ".join(f"q{i}" for i in range(count))
+    transitions = []
+    for i in range(count):
+        branches = " ".join(["s" if i else "q0"] * ways)
+        transitions.append(f"q{i} t -> {everywhere}.\nq{i} r -> {'s' if i else 'q0'}.\nq{i} br -> {branches}.\n")
+        for j in range(count):
+            transitions.append(f"q{i} u{j} -> {'q0' if i == j else 's'}.\n")
+            transitions.append(f"q{i} t{j} -> {'s' if i and i != j else f'q{j}' if i == 0 else 'q0'}.\n")
+        if i:
+            transitions.append(f"q{i} c -> .\n")
+    last = [f"s t -> {' '.join(['s'] * count)}.\n", "s r -> s.\n", "s c -> .\n", f"s br -> {' '.join(['s'] * ways)}.\n"]
+    last += [f"s u{j} -> s.\ns t{j} -> s.\n" for j in range(count)]
+    return [*transitions, *last]
+
+
 def dominated(count, sooner=False):
     """`wide` with arguments that share their parameters, and one more argument that asks for half of what all of them may ask
     for, or for the other half. So the others lead to far more environments together than are left of them with that one, which
@@ -257,35 +290,38 @@ def dominated(count, sooner=False):
     states = 2 * count
     args, used = ["(x y)"] * count, [*(f"f{i}" for i in range(count)), "g"]
     args, names = (["(Z x y)", *args], ["g", *used[:-1]]) if sooner else ([*args, "(Z x y)"], used)
-    body = "c"
-    for name in reversed(used):
-        body = f"{name} (r {body})" if body == "c" else f"{name} (r ({body}))"
     rules = [
         "S -> K X Y.\n",
         f"K x y -> H {' '.join(args)}.\n",
-        f"H {' '.join(names)} -> {body}.\n",
+        f"H {' '.join(names)} -> {called(used)}.\n",
         "X u v -> u (u v).\n",
         f"Y v -> t {' '.join(['v'] * states)}.\n",
         "Z x y v -> br (A0 x y v) (A1 x y v).\n",
     ]
-    for half in range(2):
-        asked = "v"
-        for j in range(half, states, 2):
-            asked = f"x T{j} (r (y (u{j} (t{j} (y (r ({asked})))))))"
-        rules.append(f"A{half} x y v -> {asked}.\n")
+    rules += [f"A{half} x y v -> {asked_of(range(half, states, 2))}.\n" for half in range(2)]
     rules += [f"T{j} v -> t{j} v.\n" for j in range(states)]
-    everywhere = " ".join(f"q{i}" for i in range(states))
-    transitions = []
-    for i in range(states):
-        transitions.append(f"q{i} t -> {everywhere}.\nq{i} r -> {'s' if i else 'q0'}.\nq{i} br -> {'s s' if i else 'q0 q0'}.\n")
-        for j in range(states):
-            transitions.append(f"q{i} u{j} -> {'q0' if i == j else 's'}.\n")
-            transitions.append(f"q{i} t{j} -> {'s' if i and i != j else f'q{j}' if i == 0 else 'q0'}.\n")
-        if i:
-            transitions.append(f"q{i} c -> .\n")
-    last = [f"s t -> {' '.join(['s'] * states)}.\n", "s r -> s.\n", "s c -> .\n", "s br -> s s.\n"]
-    last += [f"s u{j} -> s.\ns t{j} -> s.\n" for j in range(states)]
-    return framed(rules, [*transitions, *last])
+    return framed(rules, parted(states, 2))
+
+
+def crossed(count, ways=2):
+    """A call whose arguments cross: in whichever of its ways one is typed, it asks for all of its own share of what they may ask
+    for together, and for the part of that way in each other share. So all choices lead to one environment, and those for all
+    arguments but one to as many as there are choices, in whatever order arguments are joined."""
+    shares = [(share, by, way) for share in range(count) for by in range(count) if by != share for way in range(ways)]
+    rules = [
+        "S -> K X Y.\n",
+        f"K x y -> H {' '.join(f'(Z{i} x y)' for i in range(count))}.\n",
+        f"H {' '.join(f'f{i}' for i in range(count))} -> {called([f'f{i}' for i in range(count)])}.\n",
+        "X u v -> u (u v).\n",
+        f"Y v -> t {' '.join(['v'] * len(shares))}.\n",
+    ]
+    for i in range(count):
+        rules.append(f"Z{i} x y v -> br {' '.join(f'(A{i}_{way} x y v)' for way in range(ways))}.\n")
+        for way in range(ways):
+            parts = [j for j, (share, by, of) in enumerate(shares) if share == i or (by, of) == (i, way)]
+            rules.append(f"A{i}_{way} x y v -> {asked_of(parts)}.\n")
+    rules += [f"T{j} v -> t{j} v.\n" for j in range(len(shares))]
+    return framed(rules, parted(len(shares), ways))
 
 
 def booleans(rules, count=10):
@@ -377,6 +413,7 @@ FAMILIES = {
     "wide": (wide, [6, 8, 10], "arguments", "horsat"),
     "dominated": (dominated, [4, 6, 8], "arguments", "horsat"),
     "dominated_sooner": (lambda count: dominated(count, sooner=True), [4, 6, 8], "arguments", "horsat"),
+    "crossed": (crossed, [3, 4, 5], "arguments", "horsat"),
     "several_3": (lambda count: several(3, count, 4, [0, 2]), [100, 200, 300], "functions", "horsat"),
     "several_3r": (lambda count: several(3, count, 4, [0]), [100, 200, 300], "functions", "horsat"),
     "several_4": (lambda count: several(4, count, 2, [0]), [50, 100, 200], "functions", "horsat"),

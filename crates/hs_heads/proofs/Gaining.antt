@@ -16,7 +16,7 @@ use Rattle.hs_types.proofs.Numbers.{Grows-refl, Grows-trans, type_within, type_s
 use Rattle.hs_heads.specs.Sources.{HasNumber, GainsTypes, FromSome, FromPlace}
 
 -- a number more
-number_same : (a b : ℕ) → Decides (eq-value.it a b) (a ≡ b)
+pub number_same : (a b : ℕ) → Decides (eq-value.it a b) (a ≡ b)
 number_same a b = (eqb-true a b, λ e. eq-eqb a b e)
 
 pub number_added : (old new : List ℕ) (t : ℕ) → new ≡ insert_key eq-value.it old t → (n : ℕ) → Contains new n ↔ (Contains old n ⊎ (n ≡ t))

@@ -1,16 +1,20 @@
 -- Which types are asked for.
-use Rattle.std.proofs.Common.{◌≡◌, refl, sym, ◌∙◌, ap, subst, ℕ, zero, suc, ◌<◌, Bool, true, false, not, IsTrue, List, [], ◌∷◌, ◌++◌, Option, Some, None, length, map, Contains, ◌⊎◌, inl, inr, Result, Ok, Err, OnOk}
+use Rattle.std.proofs.Common.{◌≡◌, refl, sym, ◌∙◌, ap, subst, ℕ, zero, suc, ◌<◌, Bool, true, false, not, IsTrue, List, [], ◌∷◌, Option, Some, None, length, map, Contains, ◌⊎◌, inl, inr, Result, Ok, Err, OnOk}
+use Rattle.std.specs.List.{list_any}
+use Rattle.std.proofs.lemmas.Map.Made.{is_member-Decides}
 use Rattle.indexmap.specs.IndexSet.{insert_key}
-use Rattle.hs_scheme.specs.Tree.{Tree, Trees, node, none, more}
+use Rattle.hs_scheme.specs.Tree.{Tree, node, none, more}
 use Rattle.hs_scheme.proofs.Lists.{none_in, here, later}
 use Rattle.hs_table.specs.Types.{TypeTree, state, arrow, arrows}
-use Rattle.hs_table.specs.Entries.{Env, Has}
+use Rattle.hs_table.specs.Entries.{Env}
 use Rattle.hs_table_laws.proofs.Arrows.{arrow_same}
 use Rattle.hs_weak.specs.Strength.{AsStrongAs, same_state, stronger_arrow}
-use Rattle.hs_types.specs.Interned.{InternerData, RowData, type_of_id, env_of_id}
+use Rattle.hs_types.specs.Interned.{InternerData, RowData, type_of_id, set_of_id, env_of_id}
 use Rattle.hs_types.specs.contracts.ids.TyIdPartialEq.TheImpl.{eq-value}
-use Rattle.hs_heads.proofs.Gaining.{number_added}
-use Rattle.hs_minimal.specs.Strongest.{IsNoState, AreOfTypes, AddsTypes, HasNumberOf, HasArrows, HasAskedFor, MatchExactly}
+use Rattle.hs_types.specs.contracts.ids.SetIdPartialEq.TheImpl.{eq-value as eq-set}
+use Rattle.hs_strength.proofs.Rows.{each_mapped}
+use Rattle.hs_heads.proofs.Gaining.{number_same, number_added}
+use Rattle.hs_minimal.specs.Strongest.{IsNoState, AreOfTypes, AddsTypes, HasNumberOf, HasArrows, HaveArrows, HasAskedFor, MatchExactly}
 
 pub adds_none : (I : InternerData) (found : List ℕ) → AddsTypes I found found
 adds_none I found = record { types = λ h. h; keeps = λ t m. m }
@@ -39,10 +43,30 @@ module _ (I : InternerData) (old new : List ℕ) (adds : AddsTypes I old new) wh
   pub arrows_stay : (s : List TypeTree) → HasArrows I old s → HasArrows I new s
   arrows_stay s h a m one = let x = h a m one in (x.0, (adds.keeps x.0 x.1.0, x.1.1))
 
+  pub sets_stay : (sets : List ℕ) → HaveArrows I old sets → HaveArrows I new sets
+  sets_stay sets h s m = arrows_stay (set_of_id I s) (h s m)
+
   pub asked_stay : (ty : TypeTree) → HasAskedFor I old ty → HasAskedFor I new ty
   asked_stay ty h sets rest k a is m one = let x = h sets rest k a is m one in (x.0, (adds.keeps x.0 x.1.0, x.1.1))
 
 module _ (I : InternerData) (found : List ℕ) where
+  -- no sets, a set that was seen, and one that is seen now
+  pub none_seen : (sets : List ℕ) → sets ≡ [] → HaveArrows I found sets
+  none_seen sets is s m = absurd (none_in s (subst (λ (z : List ℕ). Contains z s) is m))
+
+  pub was_seen : (sets : List ℕ) (s : ℕ) → list_any (eq-set.it s) sets ≡ true → HaveArrows I found sets → HasArrows I found (set_of_id I s)
+  was_seen sets s there h = h s ((is_member-Decides number_same sets s).0 there)
+
+  pub one_seen : (old new : List ℕ) (s : ℕ) → new ≡ insert_key eq-set.it old s → HaveArrows I found old → HasArrows I found (set_of_id I s) → HaveArrows I found new
+  one_seen old new s keys h own r m = elim ((number_added old new s keys r).0 m) [
+    | inl was ↦ h r was
+    | inr is ↦ subst (λ k. HasArrows I found (set_of_id I k)) (sym is) own
+  ]
+
+  -- a set has its arrows there where its members that are arrows are
+  pub members_there : (ms : List ℕ) (s : List TypeTree) → map (type_of_id I) ms ≡ s → ((t : ℕ) → Contains ms t → IsNoState (type_of_id I t) → Contains found t) → HasArrows I found s
+  members_there ms s is own = each_mapped (type_of_id I) (λ (a : TypeTree). IsNoState a → HasNumberOf I found a) ms s is (λ t m one. (t, (own t m one, refl)))
+
   -- a state asks for nothing
   pub state_asks : (q : ℕ) (ty : TypeTree) → ty ≡ state q → HasAskedFor I found ty
   state_asks q ty is [] rest k a ty_is m one = absurd (none_in a m)

@@ -1,5 +1,5 @@
 -- Rows that are filed by their points and two states.
-use Rattle.std.proofs.Common.{◌≡◌, ◌≢◌, refl, sym, ◌∙◌, ap, subst, ℕ, zero, suc, ◌+◌, ◌<◌, ◌≤◌, Bool, true, false, true≢false, ◌&&◌, cond, nat_eq, List, [], ◌∷◌, ◌++◌, Option, length, map, take, get_or, set, slice_get, ltb, All, Contains, IsTrue, arith, ◌⊎◌, inl, inr, ◌↔◌}
+use Rattle.std.proofs.Common.{◌≡◌, ◌≢◌, refl, sym, ◌∙◌, ap, subst, ℕ, zero, suc, ◌+◌, ◌<◌, ◌≤◌, Bool, true, false, true≢false, ◌&&◌, cond, nat_eq, List, [], ◌∷◌, ◌++◌, Option, length, map, take, get_or, set, ltb, All, Contains, ◌⊎◌, inl, inr}
 use Rattle.std.proofs.lemmas.Bool.{eqb-true, eq-eqb, and_parts}
 use Rattle.std.proofs.lemmas.Grind.{get_or-set_at}
 use Rattle.std.proofs.lemmas.List.{take_all, get_or-set_other}
@@ -12,16 +12,16 @@ use Rattle.hs_table.specs.Types.{TypeTree}
 use Rattle.hs_table.specs.Entries.{Env, Has, set_at}
 use Rattle.hs_table_laws.proofs.Members.{taken_next, pushed_cases}
 use Rattle.hs_weak.specs.Reads.{last_state}
-use Rattle.hs_weak.specs.Strength.{AsStrongAs, AsksAtLeast, Covers}
-use Rattle.hs_types.specs.Interned.{InternerData, RowData, IsRow, type_of_id, set_of_id, env_of_id, entry_of}
+use Rattle.hs_weak.specs.Strength.{AsStrongAs, AsksAtLeast}
+use Rattle.hs_types.specs.Interned.{InternerData, RowData, IsRow, set_of_id, env_of_id}
 use Rattle.hs_types.specs.contracts.ids.RowPartialEq.TheImpl.{eq-value}
 use Rattle.hs_strength.proofs.LastStates.{strong_last}
 use Rattle.hs_strength.proofs.Rows.{each_mapped}
 use Rattle.hs_reads.specs.Lists.{list_of}
 use Rattle.hs_choices.proofs.Growing.{all_members}
 use Rattle.hs_minimal.specs.Ends.{EndData, rows_ending}
-use Rattle.hs_minimal.specs.Strongest.{AsksToEnd, AsksFirst, end_of_row, IsFilingState, IsFiled, IsFiledAmong, AreFiled, AreRowsIn, IsOtherCovering, IsCoveredByOther}
-use Rattle.hs_minimal.proofs.EndLemmas.{key_parts, same_key, gained, still, now_there}
+use Rattle.hs_minimal.specs.Strongest.{AsksToEnd, end_of_row, IsFilingState, IsFiled, IsFiledAmong, AreFiled, AreRowsIn, IsOtherCovering, IsCoveredByOther}
+use Rattle.hs_minimal.proofs.EndLemmas.{same_key, gained, still, now_there}
 
 -- whatever asks for a type of a set asks for one with the same state at its end
 pub asks_end : (E B : Env) (j : ℕ) (a : TypeTree) (q : ℕ) → Has B j a → q ≡ last_state a → AsksAtLeast AsStrongAs E B → AsksToEnd E q

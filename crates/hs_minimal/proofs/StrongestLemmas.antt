@@ -10,7 +10,6 @@ use Rattle.hs_scheme.proofs.Lists.{none_in, here, read-slice_get}
 use Rattle.hs_table.specs.Entries.{InShape}
 use Rattle.hs_table_laws.proofs.Members.{taken_next, pushed_cases}
 use Rattle.hs_table_laws.proofs.Places.{place_of, at_take}
-use Rattle.hs_weak.specs.Strength.{AsStrongAs, Covers}
 use Rattle.hs_weak.proofs.Strength.{covers_refl}
 use Rattle.hs_types.specs.Interned.{InternerData, RowData, IsRow, entry_of}
 use Rattle.hs_choices.proofs.Growing.{all_members}

@@ -1,6 +1,6 @@
 -- Where no type of an entry is as strong as another that is asked for, what weakly follows from entries of a closed table is in it. So its
 -- strongest entries are a compact list.
-use Rattle.std.proofs.Common.{◌≡◌, ◌≢◌, refl, sym, ◌∙◌, ap, subst, ℕ, zero, suc, ◌+◌, ◌<◌, ◌≤◌, List, [], ◌∷◌, ◌++◌, Option, Some, None, length, map, take, get_or, replicate, set, slice_get, Contains, arith, ◌⊎◌, inl, inr, Result, Ok, Err, IfOk}
+use Rattle.std.proofs.Common.{◌≡◌, ◌≢◌, sym, ◌∙◌, ap, subst, ℕ, zero, suc, ◌<◌, ◌≤◌, List, [], ◌∷◌, ◌++◌, Option, Some, None, length, map, take, get_or, replicate, set, slice_get, Contains, arith, inl, inr, Result, Ok, Err, IfOk}
 use Rattle.std.specs.Prelude.{AllPairs}
 use Rattle.std.specs.Option.{IfSome}
 use Rattle.std.specs.List.Sorted.{IsPermutation, IsSorted}
@@ -30,7 +30,7 @@ use Rattle.hs_weak.specs.Strength.{AsStrongAs, Covers}
 use Rattle.hs_weak.specs.Weak.{WeaklyChosen, WeaklyFollows, EachWeaklyFollows, IsCoveredIn}
 use Rattle.hs_weak.specs.Weak.{done as done', next_argument as next_argument', choose as choose'}
 use Rattle.hs_weak.proofs.Strength.{strong_refl, state_only, covers_refl}
-use Rattle.hs_types.specs.Interned.{InternerData, RowData, type_of_id, env_of_id, entry_of}
+use Rattle.hs_types.specs.Interned.{InternerData, RowData, type_of_id, entry_of}
 use Rattle.hs_choices.proofs.Growing.{all_members}
 use Rattle.hs_minimal.specs.Compact.{IsTable}
 use Rattle.hs_minimal.specs.Strongest.{MatchExactly, AreStrongest}

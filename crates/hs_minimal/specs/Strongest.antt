@@ -2,7 +2,7 @@
 --     IsNoState              the type is no state
 --     AreOfTypes             the numbers are of types
 --     AddsTypes            some were added, and none has gone
---     HasNumberOf              one of them is of the type; HasArrows: so for each arrow of a set
+--     HasNumberOf              one of them is of the type; HasArrows: so for each arrow of a set; HaveArrows: and for those of each of some sets
 --     HasAskedFor          so for each arrow that a type asks for
 --     MatchExactly         no type of a row is as strong as another that a row, or the type of one, asks for
 --     AsksToEnd               an environment asks for a type with the state at its end
@@ -21,7 +21,7 @@ use Rattle.hs_table.specs.Types.{TypeTree, arrows}
 use Rattle.hs_table.specs.Entries.{Env, Has}
 use Rattle.hs_weak.specs.Strength.{AsStrongAs, AsksAtLeast, Covers}
 use Rattle.hs_weak.specs.Reads.{last_state}
-use Rattle.hs_types.specs.Interned.{InternerData, RowData, IsRow, type_of_id, env_of_id, entry_of}
+use Rattle.hs_types.specs.Interned.{InternerData, RowData, IsRow, type_of_id, set_of_id, env_of_id, entry_of}
 use Rattle.hs_reads.specs.Lists.{list_of}
 use Rattle.hs_minimal.specs.Ends.{EndData, rows_ending}
 
@@ -40,6 +40,9 @@ HasNumberOf I found a = (t : ℕ) × (Contains found t × (type_of_id I t ≡ a)
 
 abbrev pub HasArrows : InternerData → List ℕ → List TypeTree → Type 0
 HasArrows I found s = (a : TypeTree) → Contains s a → IsNoState a → HasNumberOf I found a
+
+abbrev pub HaveArrows : InternerData → List ℕ → List ℕ → Type 0
+HaveArrows I found sets = (s : ℕ) → Contains sets s → HasArrows I found (set_of_id I s)
 
 abbrev pub HasAskedFor : InternerData → List ℕ → TypeTree → Type 0
 HasAskedFor I found ty = (sets : Env) (rest : TypeTree) (k : ℕ) (a : TypeTree) → ty ≡ arrows sets rest → Has sets k a → IsNoState a → HasNumberOf I found a

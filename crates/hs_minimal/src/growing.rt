@@ -10,7 +10,7 @@ ghost use Rattle.hs_reads.specs.Lists.{list_of};
 ghost use Rattle.hs_minimal.specs.Ends.{rows_ending};
 ghost use Rattle.hs_minimal.specs.Growing.{entries, IsGrowing, IsCoveredAt, AreAdded, IsLeftBy};
 
-use crate::covered::{covers_some, has_row, is_covered, not_covered_by};
+use crate::covered::{covers_some, has_row, not_covered_by};
 use crate::ends::EndRows;
 use crate::rows::PointRows;
 use hs_choices::Compared;
@@ -150,7 +150,7 @@ impl<'a> Growing<'a> {
         if has_row(kept, row) {
             return Ok(true);
         }
-        is_covered(types, kept, row)
+        types.is_covered(row, kept)
     }
 
     /// Lets those of the kept entries go that this one covers.

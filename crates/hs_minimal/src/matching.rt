@@ -79,7 +79,7 @@ pub(crate) fn match_exactly(
     let mut given = IndexSet::new(alloc);
     let mut asked = IndexSet::new(alloc);
     add_types(types, rows, &mut given)?;
-    add_asked(types, rows, &mut asked)?;
+    add_asked(alloc, types, rows, &mut asked)?;
     if given.len() > MOST_TYPES || asked.len() > MOST_TYPES {
         return Ok(false);
     }

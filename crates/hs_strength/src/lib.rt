@@ -4,6 +4,7 @@
 //! The definitions are those of `hs_weak`, of the trees that the numbers stand for.
 #![tactic(auto)]
 
+mod answers;
 mod entries;
 mod envs;
 mod itself;

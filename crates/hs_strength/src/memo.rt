@@ -1,24 +1,14 @@
 //! What was compared, with the answers.
 
-ghost use Rattle.std.specs.Prelude.{◌≡◌, ◌<◌, ℕ, [], OnOk, IfSome, IsTrue, Contains, true, Some, slice_get, vec_len};
-ghost use Rattle.hs_strength.specs.Remembered.{IsWithin, Learns, Sees, Notes};
+ghost use Rattle.std.specs.Prelude.{◌≡◌, ◌<◌, ℕ, [], OnOk, IfSome, IsTrue, true, Some, slice_get, vec_len};
+ghost use Rattle.hs_strength.specs.Memo.{Knows};
+ghost use Rattle.hs_strength.specs.Remembered.{Learns, Sees, Notes};
 
+use crate::answers::{Answers, Question};
 use hs_scheme::OutOfMemory;
-use hs_types::{EnvId, SetId, TyId};
-use indexmap::IndexMap;
+use hs_types::{EnvId, TyId};
 use std::alloc::Global;
 use std::marker::Model;
-
-/// So many answers are kept at most, in some 40 MiB. Past that all are forgotten.
-const MOST_KNOWN: usize = 1_048_576;
-
-/// Whether the first type is as strong as the second; whether for each type of the second set some
-/// type of the first is as strong.
-#[derive(Clone, Copy, PartialEq, Eq, Hash)]
-pub(crate) enum Question {
-    Types(TyId, TyId),
-    Sets(SetId, SetId),
-}
 
 /// Makes the place, and marks none.
 fn make_place(seen: &mut Vec<bool>, place: usize) -> Result<(), OutOfMemory>
@@ -51,11 +41,10 @@ fn make_place_for_kinds(kinds: &mut Vec<Option<u64>>, place: usize) -> Result<()
 /// a call answers want of memory. A call with numbers of another interner than before begins with a new
 /// `Strengths`.
 ///
-/// An answer takes some 40 bytes, of which 1,048,576 are kept at most, a type one byte, and an
-/// environment 16.
+/// The answers that were found last take some 20 MiB at most, a type one byte, and an environment 16.
 #[derive(Drop)]
 pub struct Strengths {
-    known: IndexMap<Question, bool>,
+    answers: Answers,
     /// By the number of a type, whether it was seen to be as strong as itself.
     seen: Vec<bool>,
     /// By the number of an environment, the kinds of its types, once they were formed.
@@ -67,7 +56,7 @@ impl Model for Strengths {
 
     ghost Value = { MemoData };
 
-    ghost view = { λ a. record { answers = a.known.entries; seen = a.seen.items; kinds = a.kinds.items } };
+    ghost view = { λ a. record { answers = a.answers.known.items; seen = a.seen.items; kinds = a.kinds.items } };
 }
 
 impl Strengths {
@@ -76,36 +65,24 @@ impl Strengths {
         ensures { result ≡ record { answers = []; seen = []; kinds = [] } }
     {
         Strengths {
-            known: IndexMap::new(alloc),
+            answers: Answers::new(alloc),
             seen: Vec::new(alloc),
             kinds: Vec::new(alloc),
         }
     }
 
-    /// The answer, where it is remembered. Constant time on average.
+    /// The answer, where it is remembered. Constant time.
     pub(crate) fn find(&self, question: Question) -> Option<bool>
-        ensures { IfSome result (λ answer. Contains self.now.answers (question, answer)) }
+        ensures { IfSome result (λ answer. Knows self.now.answers question answer) }
     {
-        let answer = self.known.get(&question)?;
-        Some(*answer)
-    }
-
-    /// Forgets all answers where they are too many.
-    fn make_room(&mut self)
-        ensures { IsWithin self.new self.old }
-    {
-        if self.known.len() >= MOST_KNOWN {
-            self.known.clear();
-        }
+        self.answers.find(question)
     }
 
     /// Remembers the answer.
     pub(crate) fn keep(&mut self, question: Question, answer: bool) -> Result<(), OutOfMemory>
         ensures { Learns self.old self.new question answer }
     {
-        self.make_room();
-        self.known.insert(question, answer)?;
-        Ok(())
+        self.answers.keep(question, answer)
     }
 
     /// Whether the type was seen to be as strong as itself.

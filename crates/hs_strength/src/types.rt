@@ -5,8 +5,9 @@ ghost use Rattle.hs_weak.specs.Strength.{AsStrongAs, AsksFor, AsksEach};
 ghost use Rattle.hs_types.specs.Interned.{type_of_id, set_of_id};
 ghost use Rattle.hs_strength.specs.Remembered.{Remembers};
 
+use crate::answers::Question;
 use crate::last_states::may_ask_each;
-use crate::memo::{Question, Strengths};
+use crate::memo::Strengths;
 use hs_scheme::OutOfMemory;
 use hs_types::{Interner, SetId, TyId, View};
 
@@ -32,10 +33,10 @@ fn end_alike(types: &Interner, ty: TyId, other: TyId) -> bool
 impl Strengths {
     /// Whether the type is as strong as the other, as `hs_weak::is_as_strong` answers for the trees.
     ///
-    /// Constant time on average for equal numbers, and in proportion to the number of arguments for
-    /// types with different last states, after each type was walked once. Of the other pairs, each is
-    /// compared once, and so is each pair of sets: later it is a look-up, as long as the answers don't
-    /// get too many. Recurses as deep as the types are nested.
+    /// Constant time for equal numbers, after each type was walked once, and for a pair that was asked for
+    /// not too long ago. Else in proportion to the number of arguments for types with different last
+    /// states; and for others the time of their pairs of sets, of which each is a look-up, too, where it was
+    /// compared not too long ago. Recurses as deep as the types are nested.
     #[cycle(strength)]
     pub fn is_as_strong(
         &mut self,
@@ -54,9 +55,6 @@ impl Strengths {
             self.see_type(types, ty)?;
             return Ok(true);
         }
-        if !end_alike(types, ty, other) {
-            return Ok(false);
-        }
         if let Some(answer) = self.find(Question::Types(ty, other)) {
             return Ok(answer);
         }
@@ -65,7 +63,7 @@ impl Strengths {
         Ok(answer)
     }
 
-    /// Whether the type is as strong as the other: compares their results, and then their sets.
+    /// Whether the type is as strong as the other: compares their ends, their results, and then their sets.
     #[cycle(strength)]
     fn compare(&mut self, types: &Interner, ty: TyId, other: TyId) -> Result<bool, OutOfMemory>
         requires ty { ty < length types.now.types }
@@ -75,6 +73,9 @@ impl Strengths {
             ↔ AsStrongAs (type_of_id types.now ty) (type_of_id types.now other)) }
         ensures memo { Remembers types.now self.new }
     {
+        if !end_alike(types, ty, other) {
+            return Ok(false);
+        }
         match types.view(ty) {
             View::State(q) => match types.view(other) {
                 View::State(p) => Ok(q == p),
@@ -92,9 +93,8 @@ impl Strengths {
         }
     }
 
-    /// Whether for each type of the other set some type of the set is as strong. Where they are equal or the
-    /// other is empty, or by the state at the end of its first type, no types are compared. Each other pair
-    /// of sets is compared once.
+    /// Whether for each type of the other set some type of the set is as strong. No types are compared where
+    /// the sets are equal or the other is empty, nor for a pair that was asked for not too long ago.
     #[cycle(strength)]
     pub(crate) fn asks_each(
         &mut self,
@@ -116,9 +116,6 @@ impl Strengths {
             self.see_set(types, set)?;
             return Ok(true);
         }
-        if !may_ask_each(types, set, other) {
-            return Ok(false);
-        }
         if let Some(answer) = self.find(Question::Sets(set, other)) {
             return Ok(answer);
         }
@@ -127,7 +124,8 @@ impl Strengths {
         Ok(answer)
     }
 
-    /// Whether for each type of the other set some type of the set is as strong: compares them.
+    /// Whether for each type of the other set some type of the set is as strong: compares them, unless the
+    /// state at the end of the other's first type tells.
     #[cycle(strength)]
     fn compare_sets(
         &mut self,
@@ -142,6 +140,9 @@ impl Strengths {
             ↔ AsksEach AsStrongAs (set_of_id types.now set) (set_of_id types.now other)) }
         ensures memo { Remembers types.now self.new }
     {
+        if !may_ask_each(types, set, other) {
+            return Ok(false);
+        }
         let members = types.members(other);
         for member in members {
             if !self.asks(types, set, *member)? {

@@ -1,4 +1,4 @@
-use Rattle.std.proofs.Common.{ℕ, ◌<◌, length}
+use Rattle.std.proofs.Common.{◌<◌, length}
 use Rattle.hs_scheme.proofs.Lists.{none_in}
 use Rattle.hs_types.specs.Interned.{set_of_id}
 use Rattle.hs_strength.proofs.Rows.{each_more, each_all}
@@ -8,10 +8,10 @@ use Rattle.hs_minimal.proofs.AskedLemmas.{adds_none, adds_then, arrows_stay}
 use Rattle.hs_minimal.proofs.asked.add_sets.Goals as goal
 
 pub loop-set-init : goal.loop-set-init
-loop-set-init c = record { adds = adds_none c.args.types.now c.args.found.now.keys; own = λ s m. absurd (none_in s m) }
+loop-set-init c = record { adds = adds_none c.args.types.now c.args.found.now.keys; own = λ s m. absurd (none_in s m); seen = c.requires.seen }
 
-pub add_set-requires : goal.add_set-requires
-add_set-requires c = at_index (λ s. s < length c.args.types.now.sets) c.args.sets.now c.loop-set.set-index c.set-item.result c.requires c.loop-set-test.true c.set-item.is
+pub add_set-requires-clause-set : goal.add_set-requires-clause-set
+add_set-requires-clause-set c = at_index (λ s. s < length c.args.types.now.sets) c.args.sets.now c.loop-set.set-index c.set-item.result c.requires.sets c.loop-set-test.true c.set-item.is
 
 pub loop-set-preserved : goal.loop-set-preserved
 loop-set-preserved c =
@@ -22,6 +22,7 @@ loop-set-preserved c =
     record {
       adds = adds_then I c.args.found.now.keys old new c.loop-set.invariant.adds adds;
       own = each_more (λ s. HasArrows I new (set_of_id I s)) c.args.sets.now c.loop-set.set-index c.set-item.result c.loop-set-test.true c.set-item.is (λ s m. arrows_stay I old new adds (set_of_id I s) (c.loop-set.invariant.own s m)) c.in_ok-add_set.ensures.own;
+      seen = c.in_ok-add_set.ensures.seen;
     }
 
 pub returns-clause-own : goal.returns-clause-own

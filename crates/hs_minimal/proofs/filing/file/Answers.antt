@@ -1,7 +1,5 @@
-use Rattle.std.proofs.Common.{sym, ◌∙◌, subst, ℕ, ◌<◌, length, inl, inr}
-use Rattle.hs_strength.proofs.Rows.{each_more}
+use Rattle.std.proofs.Common.{sym, ◌∙◌, subst, ◌<◌}
 use Rattle.hs_types.specs.Interned.{RowData, IsRow}
-use Rattle.hs_minimal.specs.Strongest.{IsFiled}
 use Rattle.hs_minimal.proofs.CoverLemmas.{at_index}
 use Rattle.hs_minimal.proofs.FilingLemmas.{filed_none, filed_all, filed_next}
 use Rattle.hs_minimal.proofs.filing.file.Goals as goal

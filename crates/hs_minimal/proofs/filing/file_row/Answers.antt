@@ -1,8 +1,5 @@
-use Rattle.std.proofs.Common.{◌≡◌, refl, sym, ap, subst, ℕ, ◌∷◌, [], ◌++◌, cond}
+use Rattle.std.proofs.Common.{refl}
 use Rattle.std.proofs.lemmas.Result.{on_ok_weaker}
-use Rattle.hs_scheme.specs.Key.{key_eq}
-use Rattle.hs_minimal.specs.Ends.{EndData, rows_ending}
-use Rattle.hs_minimal.specs.Strongest.{end_of_row}
 use Rattle.hs_minimal.proofs.FilingLemmas.{row_filed, still_filed, only_filed, by_end}
 use Rattle.hs_minimal.proofs.filing.file_row.Goals as goal
 

@@ -1,6 +1,4 @@
-use Rattle.std.proofs.Common.{◌≡◌, sym, ◌∙◌, ap, List, []}
-use Rattle.hs_types.specs.Interned.{RowData}
-use Rattle.hs_reads.specs.Lists.{list_of}
+use Rattle.std.proofs.Common.{sym, ◌∙◌, ap}
 use Rattle.hs_minimal.specs.Ends.{EndData, rows_ending}
 use Rattle.hs_minimal.proofs.FilingLemmas.{got_list, got_no_list}
 use Rattle.hs_minimal.proofs.filing.filed_at.Goals as goal

@@ -1,4 +1,4 @@
-use Rattle.std.proofs.Common.{◌≡◌, refl, sym, ◌∙◌, subst}
+use Rattle.std.proofs.Common.{refl, sym, ◌∙◌}
 use Rattle.hs_scheme.proofs.Lists.{none_in}
 use Rattle.hs_types.specs.Interned.{RowData, IsRow}
 use Rattle.hs_strength.proofs.Rows.{each_more, each_all}

@@ -1,11 +1,10 @@
-use Rattle.std.proofs.Common.{◌≡◌, sym, ◌∙◌, ap, subst, ℕ, ◌<◌, List, length, Contains}
+use Rattle.std.proofs.Common.{◌≡◌, ◌∙◌, ap, subst, ◌<◌, List, length}
 use Rattle.hs_scheme.proofs.Lists.{none_in}
 use Rattle.hs_table.specs.Types.{TypeTree}
-use Rattle.hs_types.specs.Interned.{RowData, IsRow, type_of_id, set_of_id}
+use Rattle.hs_types.specs.Interned.{RowData, type_of_id, set_of_id}
 use Rattle.hs_weak.specs.Reads.{last_state}
 use Rattle.hs_reads.specs.Lists.{list_of}
 use Rattle.hs_strength.proofs.Rows.{each_more, each_all, each_mapped}
-use Rattle.hs_choices.proofs.Growing.{all_members}
 use Rattle.hs_minimal.specs.Ends.{rows_ending}
 use Rattle.hs_minimal.specs.Strongest.{IsCoveredByOther, end_of_row}
 use Rattle.hs_minimal.proofs.CoverLemmas.{at_index, not_so}

@@ -1,5 +1,4 @@
-use Rattle.std.proofs.Common.{◌≡◌, sym, ap, subst, ℕ, List, [], length, length-append, ◌∷◌, arith}
-use Rattle.hs_reads.specs.Lists.{list_of}
+use Rattle.std.proofs.Common.{ap, List, [], length, length-append, ◌∷◌, arith}
 use Rattle.hs_minimal.specs.Ends.{EndData}
 use Rattle.hs_minimal.proofs.FilingLemmas.{none_filed, empty_pushed}
 use Rattle.hs_minimal.proofs.filing.nothing_filed.Goals as goal

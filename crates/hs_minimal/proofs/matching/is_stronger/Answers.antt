@@ -1,4 +1,4 @@
-use Rattle.std.proofs.Common.{◌≡◌, sym, ◌∙◌, ℕ, Contains}
+use Rattle.std.proofs.Common.{◌≡◌, sym, ◌∙◌}
 use Rattle.std.proofs.lemmas.Bool.{eqb-true}
 use Rattle.hs_scheme.proofs.Lists.{none_in}
 use Rattle.hs_weak.specs.Strength.{AsStrongAs}

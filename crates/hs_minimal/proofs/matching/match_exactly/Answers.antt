@@ -1,5 +1,4 @@
-use Rattle.std.proofs.Common.{◌≡◌, sym, ◌∙◌, ap, subst, ℕ, ◌<◌, Bool, true, false, List, [], length, Contains}
-use Rattle.hs_scheme.proofs.Lists.{none_in}
+use Rattle.std.proofs.Common.{sym, subst, ℕ, List, Contains}
 use Rattle.hs_table.specs.Types.{arrows}
 use Rattle.hs_types.specs.Interned.{type_of_id, env_of_id}
 use Rattle.hs_minimal.specs.Strongest.{AreOfTypes, HasAskedFor}

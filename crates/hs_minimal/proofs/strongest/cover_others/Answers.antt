@@ -1,4 +1,4 @@
-use Rattle.std.proofs.Common.{◌≡◌, sym, ◌∙◌, subst, List, All, IfOk, IsTrue, Contains}
+use Rattle.std.proofs.Common.{sym, subst, List, All, IsTrue, Contains}
 use Rattle.std.proofs.lemmas.Result.{IfOk-weaker}
 use Rattle.hs_types.specs.Interned.{RowData, IsRow}
 use Rattle.hs_minimal.specs.Ends.{EndData}

@@ -1,4 +1,4 @@
-use Rattle.std.proofs.Common.{◌≡◌, ◌∙◌, ap, Vec}
+use Rattle.std.proofs.Common.{◌∙◌, ap, Vec}
 use Rattle.std.specs.declared.alloc.Global.{Global}
 use Rattle.hs_types.specs.Interned.{RowData, IsRow}
 use Rattle.hs_minimal.proofs.CoverLemmas.{at_index}

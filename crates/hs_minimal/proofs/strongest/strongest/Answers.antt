@@ -1,8 +1,7 @@
-use Rattle.std.proofs.Common.{◌≡◌, sym, ◌∙◌, subst, ℕ, ◌<◌, List, All, Contains}
-use Rattle.hs_scheme.specs.Problem.{ProblemData}
+use Rattle.std.proofs.Common.{sym, subst, ◌<◌, List}
 use Rattle.hs_types.specs.Interned.{RowData, IsRow}
 use Rattle.hs_minimal.specs.Ends.{EndData}
-use Rattle.hs_minimal.specs.Strongest.{AreFiled, AreRowsIn, AreParted}
+use Rattle.hs_minimal.specs.Strongest.{AreFiled, AreRowsIn}
 use Rattle.hs_minimal.proofs.StrongestLemmas.{strongest_kept, filed_in_use, some_in_use}
 use Rattle.hs_minimal.proofs.strongest.strongest.Goals as goal
 

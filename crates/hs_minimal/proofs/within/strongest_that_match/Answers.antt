@@ -1,4 +1,4 @@
-use Rattle.std.proofs.Common.{◌≡◌, sym, ◌∙◌, ap, subst, ℕ, ◌<◌, length, List, All, Contains}
+use Rattle.std.proofs.Common.{sym, ◌∙◌, ap, subst, ◌<◌, length, All, Contains}
 use Rattle.hs_scheme.specs.Problem.{ProblemData}
 use Rattle.hs_table.specs.Entries.{InShape}
 use Rattle.hs_types.specs.Interned.{RowData, entry_of}

@@ -8,8 +8,8 @@ use Rattle.hs_minimal.specs.Growing.{IsCoveredAt}
 use Rattle.hs_minimal.proofs.GrowingLemmas.{ending_rows, alike_kept, alike_known, alike_covered}
 use Rattle.hs_minimal.proofs.growing.Growing.covers.Goals as goal
 
-pub is_covered-requires-clause-rows : goal.is_covered-requires-clause-rows
-is_covered-requires-clause-rows c =
+pub is_covered-requires-clause-by : goal.is_covered-requires-clause-by
+is_covered-requires-clause-by c =
     let I = c.args.types.now in
     ending_rows I c.args.self.now c.requires.growing c.args.row.now.point (last_state (type_of_id I c.args.row.now.ty)) c.alike-kept.result.now
     (c.alike-kept.ensures ∙ ap (λ (J : InternerData). rows_ending c.args.self.now.ends c.args.row.now.point (last_state (type_of_id J c.args.row.now.ty))) c.interner.ensures)

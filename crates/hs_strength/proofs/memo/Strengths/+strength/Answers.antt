@@ -5,7 +5,7 @@ use Rattle.hs_weak.specs.Strength.{AsStrongAs, AsksFor, AsksEach}
 use Rattle.hs_weak.proofs.ComparingLemmas.{states_compare, arrows_compare}
 use Rattle.hs_types.specs.Interned.{type_of_id, set_of_id}
 use Rattle.hs_types.proofs.OrderLemmas.{member_lower, member_within}
-use Rattle.hs_strength.specs.declared.memo.Question.TheVariants.{Types, Sets}
+use Rattle.hs_strength.specs.declared.answers.Question.TheVariants.{Types, Sets}
 use Rattle.hs_strength.proofs.Rows.{each_more, each_all, each_mapped}
 use Rattle.hs_strength.proofs.Memory.{learned}
 use Rattle.hs_strength.proofs.Comparing.{agreed, refused}
@@ -40,11 +40,6 @@ asks-returns-clause-ok t c =
     refused (AsksFor AsStrongAs (set_of_id I c.args.set) x)
     (λ f. each_mapped (type_of_id I) (λ a. AsStrongAs a x → ⊥) ms (set_of_id I c.args.set) c.members-members.ensures.members
     (each_all (λ m. AsStrongAs (type_of_id I m) x → ⊥) ms c.loop-member.member-index (omega (arith, c.loop-member-test.false)) c.loop-member.invariant.lacks) f.0 f.1.0 f.1.1)
-
-pub asks_each-returns-then-not-may_ask_each-clause-ok : goal.asks_each-returns-then-not-may_ask_each-clause-ok
-asks_each-returns-then-not-may_ask_each-clause-ok t c =
-    let I = c.args.types.now in
-    refused (AsksEach AsStrongAs (set_of_id I c.args.set) (set_of_id I c.args.other)) (λ h. false≢true (sym c.if-not-may_ask_each.true ∙ c.may_ask_each.ensures h))
 
 pub asks_each-returns-in-Some-clause-ok : goal.asks_each-returns-in-Some-clause-ok
 asks_each-returns-in-Some-clause-ok t c = (c.requires.memo.answers (Sets c.args.set c.args.other) c.in-Some.answer c.in-Some.ensures).2
@@ -86,6 +81,11 @@ compare_sets-asks-requires t c =
         ),
       ),
     )
+
+pub compare_sets-returns-then-not-may_ask_each-clause-ok : goal.compare_sets-returns-then-not-may_ask_each-clause-ok
+compare_sets-returns-then-not-may_ask_each-clause-ok t c =
+    let I = c.args.types.now in
+    refused (AsksEach AsStrongAs (set_of_id I c.args.set) (set_of_id I c.args.other)) (λ h. false≢true (sym c.if-not-may_ask_each.true ∙ c.may_ask_each.ensures h))
 
 pub compare_sets-returns-clause-ok : goal.compare_sets-returns-clause-ok
 compare_sets-returns-clause-ok t c =
