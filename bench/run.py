@@ -413,7 +413,7 @@ FAMILIES = {
     "wide": (wide, [6, 8, 10], "arguments", "horsat"),
     "dominated": (dominated, [4, 6, 8], "arguments", "horsat"),
     "dominated_sooner": (lambda count: dominated(count, sooner=True), [4, 6, 8], "arguments", "horsat"),
-    "crossed": (crossed, [3, 4, 5], "arguments", "horsat"),
+    "crossed": (crossed, [4, 5, 6], "arguments", "horsat"),
     "several_3": (lambda count: several(3, count, 4, [0, 2]), [100, 200, 300], "functions", "horsat"),
     "several_3r": (lambda count: several(3, count, 4, [0]), [100, 200, 300], "functions", "horsat"),
     "several_4": (lambda count: several(4, count, 2, [0]), [50, 100, 200], "functions", "horsat"),

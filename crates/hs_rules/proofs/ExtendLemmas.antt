@@ -1,12 +1,13 @@
 -- What comes of one environment and the candidates for a slot, one after another.
-use Rattle.std.proofs.Common.{◌≡◌, refl, sym, ◌∙◌, ap, subst, ℕ, ◌+◌, ◌<◌, Bool, true, false, not, List, [], ◌∷◌, ◌++◌, length, take, get_or, slice_get, Option, Some, None, IfSome, ◌⊎◌, inl, inr, Contains}
+use Rattle.std.proofs.Common.{◌≡◌, refl, sym, ◌∙◌, ap, subst, ℕ, ◌+◌, ◌<◌, Bool, true, false, not, List, [], ◌∷◌, ◌++◌, length, take, get_or, slice_get, Option, Some, None, IfSome, ◌⊎◌, inl, inr, Contains, arith}
 use Rattle.std.specs.Bool.{OnFalse}
 use Rattle.std.specs.List.Sorted.{IsStrictlyIncreasing}
 use Rattle.std.proofs.lemmas.List.{get_or_push, get_or_append_left}
 use Rattle.std.proofs.lemmas.List.Elements.{Contains-get_or}
 use Rattle.std.proofs.lemmas.Option.{same_Some}
 use borrow.Author.Count.{below_more}
-use Rattle.hs_scheme.proofs.Lists.{Contains-at, only}
+use Rattle.hs_scheme.proofs.Lists.{Contains-at, only, push_cases}
+use Rattle.hs_table_laws.proofs.Places.{within_from}
 use Rattle.hs_table.specs.Entries.{Env, EntryData}
 use Rattle.hs_types.specs.Interned.{InternerData, env_of_id, Grows}
 use Rattle.hs_types.proofs.Numbers.{env_within, env_stays}
@@ -14,7 +15,7 @@ use Rattle.hs_replica.specs.Masks.{IsMask, IsUnionMask}
 use Rattle.hs_replica.specs.Replica.{ReplicaData, KeepsLog}
 use Rattle.hs_replica.proofs.MaskLemmas.{mask_grows}
 use Rattle.hs_rules.specs.Slots.{FilledData}
-use Rattle.hs_rules.specs.Joins.{PartialData, FillsBy, IsPlaced, ArePlaced, SeenAre, MetAre, MetForSlot, AreAscending, AreAsLong, HaveSameBefore, AreGathered, JoinsOne, only_place, IsMade, IsMadeOf, IsAmongJoined, CanFill, IsMaskAt, AreMasksOf, IsUnited}
+use Rattle.hs_rules.specs.Joins.{PartialData, FillsBy, IsPlaced, ArePlaced, SeenAre, MetAre, MetForSlot, AreAscending, AreAsLong, HaveSameBefore, AreGathered, JoinsOne, only_place, IsMade, IsMadeOf, IsAmongJoined, CanFill, IsMaskAt, AreMasksOf, AreOwnMasks, IsUnited}
 use Rattle.hs_rules.proofs.Lists.{taken_cases, first_there}
 use Rattle.hs_rules.proofs.JoinLemmas.{ComeBeforeOf, ComeBeforeFrom, item_at, before_more, before_next, made_stays, covered_stays, made_earlier, covered_earlier}
 
@@ -229,3 +230,28 @@ pub masks_stay : (I J : InternerData) (g : Grows I J) (log : List EntryData) (f 
 masks_stay I J g log f masks h k lt =
     let m = h k lt in
     record { entry = m.entry; at = m.at; is = mask_grows I J g (length m.entry.env) (get_or masks k 0) m.entry.env m.is }
+
+-- the masks of environments
+pub own_stay : (I J : InternerData) (g : Grows I J) (list : List PartialData) (owns : List (Option ℕ)) → ((x : PartialData) → Contains list x → x.env < length I.envs) → AreOwnMasks I list owns → AreOwnMasks J list owns
+own_stay I J g list owns known h k x mask at is =
+    let E = env_of_id I x.env in
+    subst (λ (F : Env). IsMask J (length F) F mask) (sym (env_stays I J g x.env (known x (Contains-at list k x at)))) (mask_grows I J g (length E) mask E (h k x mask at is))
+
+pub own_none : (I : InternerData) (list : List PartialData) (owns : List (Option ℕ)) → owns ≡ [] → AreOwnMasks I list owns
+own_none I list owns none k x mask at is = absurd (let lt = within_from [] k (Some mask) (subst (λ (os : List (Option ℕ)). slice_get os k ≡ Some (Some mask)) none is) in omega (arith, lt))
+
+-- one more, where the last may have none
+pub own_more : (I : InternerData) (list : List PartialData) (owns more : List (Option ℕ)) (last : PartialData) (own : Option ℕ) → AreOwnMasks I list owns → more ≡ owns ++ own ∷ [] → slice_get list (length owns) ≡ Some last
+    → IfSome own (IsMask I (length (env_of_id I last.env)) (env_of_id I last.env)) → AreOwnMasks I list more
+own_more I list owns more last own h grown there told k x mask at is = elim (push_cases owns own (Some mask) k (subst (λ (os : List (Option ℕ)). slice_get os k ≡ Some (Some mask)) grown is)) [
+  | inl was ↦ h k x mask at was
+  | inr (here, same) ↦
+      let x_is = same_Some last x (sym there ∙ (ap (λ (i : ℕ). slice_get list i) (sym here) ∙ at)) in
+      subst (λ (y : PartialData). IsMask I (length (env_of_id I y.env)) (env_of_id I y.env) mask) x_is
+      (subst (λ (o : Option ℕ). IfSome o (IsMask I (length (env_of_id I last.env)) (env_of_id I last.env))) same told)
+]
+
+-- that of one environment
+pub own_at : (I : InternerData) (list : List PartialData) (owns : List (Option ℕ)) (k : ℕ) (x : PartialData) (own : Option ℕ) → AreOwnMasks I list owns → slice_get list k ≡ Some x → IfSome own (λ mask. slice_get owns k ≡ Some (Some mask))
+    → (mask : ℕ) → own ≡ Some mask → IsMask I (length (env_of_id I x.env)) (env_of_id I x.env) mask
+own_at I list owns k x own h at told mask is = h k x mask at (subst (λ (o : Option ℕ). IfSome o (λ m. slice_get owns k ≡ Some (Some m))) is told)

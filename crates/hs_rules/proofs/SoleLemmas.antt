@@ -14,7 +14,7 @@ use Rattle.hs_table_laws.proofs.Members.{from_map, into_map}
 use Rattle.hs_types.specs.Interned.{InternerData, env_of_id, IsUnionEnv}
 use Rattle.hs_rules.specs.Order.{chosen_places, IsLess}
 use Rattle.hs_rules.specs.Slots.{FilledData, Picked, none_left, pick, IsJoin}
-use Rattle.hs_rules.specs.Joins.{PartialData, FillsBy, HasLesserPlaces, AreAscending, AreAsLong, IsMadeOf, IsAmongJoined, CanFill, with_choice, HaveSole, SoleAsks, IsWithSole, AreJoined}
+use Rattle.hs_rules.specs.Joins.{PartialData, FillsBy, HasLesserPlaces, AreAscending, AreAsLong, IsMadeOf, IsAmongJoined, CanFill, with_choice, HaveSole, SoleAsks, IsWithSole, AreJoined, LeadBySole}
 use Rattle.hs_rules.proofs.OrderLemmas.{less_insert, no_greater_same, places_insert}
 use Rattle.hs_rules.proofs.JoinLemmas.{as_long}
 
@@ -86,12 +86,6 @@ sole_asked log j a (pick {x = x} {xs = xs} {place = place} {e = e} h k) s = elim
       inl (subst (λ (y : EntryData). Has y.env j a) (sym (same_entry log x.places place s.place e s.entry alone h.among h.at s.at)) s.has)
   | inr was ↦ inr (sole_asked log j a k (record { slot = s.slot; among = was; place = s.place; alone = s.alone; entry = s.entry; at = s.at; has = s.has }))
 ]
-
--- These slots lead to the environments from one that asks for what the only candidates of all slots ask for.
-pub record LeadBySole (ids : InternerData) (log : List EntryData) (n : ℕ) (own : Env) (all fs : List FilledData) (whole : Bool) (found : List PartialData) : Type 0 where
-  pub base : Env
-  pub asks : IsWithSole log n own all base
-  pub joined : AreJoined ids log n base fs whole found
 
 module _ (ids : InternerData) (log : List EntryData) (n : ℕ) (own : Env) (all fs : List FilledData) (whole : Bool) (found : List PartialData) (lead : LeadBySole ids log n own all fs whole found) where
   -- an only candidate's types are there already

@@ -198,9 +198,6 @@ module _ (done : List ℕ) (rises : IsStrictlyIncreasing done) (n at : ℕ) (pla
           | inr more ↦ let a = greater c.0 more c.1 in omega (arith, a, is)
         ]
 
-pub place_first : (done : List ℕ) → IsPlaceAmong done 0 0
-place_first done = record { within = omega arith; below = λ k lt. absurd (omega (arith, lt)); above = λ k le lt. omega arith }
-
 -- one slot more, in their order
 pub taken_insert : (fs : List FilledData) (k : ℕ) (f : FilledData) → k < length fs → f ≡ get_or fs k f → insert (take k fs) k f ≡ take (k + 1) fs
 taken_insert fs k f lt is =

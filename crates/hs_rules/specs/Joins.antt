@@ -2,7 +2,8 @@
 --     FillsBy                  a place is one of them
 --     PartialData              a joined environment by number, with the places that it comes from
 --     IsPlaced, ArePlaced      candidates' environments are for n parameters
---     AreMasksOf, IsUnited     masks of candidates' environments; that of a union with one of them
+--     AreMasksOf, AreOwnMasks  masks of candidates' environments; of joined ones, where they have some
+--     IsUnited                 the mask of a union of one of each
 --     MetAre, MetForSlot       masks that were met are those of joined environments
 --     HasLesserPlaces, AreAscending   a choice of places comes before another one; each before those behind it
 --     ComeBefore               each choice comes before these places
@@ -14,6 +15,7 @@
 --     HaveSole                 joined environments ask for what a slot's only candidate asks for
 --     SoleAsks, IsWithSole     what slots' only candidates ask for; an environment with that
 --     IsJoined, AreJoined      environments that slots lead to, and all of them where they are whole
+--     LeadBySole               so it is for some slots, from one that asks for what only candidates ask for
 use Rattle.std.specs.Prelude.{◌≡◌, ◌≢◌, ℕ, ◌<◌, ◌≤◌, Bool, IsTrue, List, [], ◌∷◌, length, take, slice_get, slice_index_or, Option, Some, AllPairs, Contains, ◌⊎◌, ◌↔◌}
 use Rattle.hs_table.specs.Types.{TypeTree}
 use Rattle.hs_table.specs.Entries.{Env, EntryData, Has, IsEnv}
@@ -52,6 +54,10 @@ pub record IsMaskAt (ids : InternerData) (log : List EntryData) (place mask : �
 
 abbrev pub AreMasksOf : InternerData → List EntryData → FilledData → List ℕ → Type 0
 AreMasksOf ids log f masks = (k : ℕ) → k < length masks → IsMaskAt ids log (slice_index_or f.places k 0) (slice_index_or masks k 0)
+
+-- each mask that is there is that of the environment
+abbrev pub AreOwnMasks : InternerData → List PartialData → List (Option ℕ) → Type 0
+AreOwnMasks ids list owns = (k : ℕ) (x : PartialData) (mask : ℕ) → slice_get list k ≡ Some x → slice_get owns k ≡ Some (Some mask) → IsMask ids (length (env_of_id ids x.env)) (env_of_id ids x.env) mask
 
 -- the mask of the union of an environment with the first mask and the candidate of this number
 pub record IsUnited (own : Option ℕ) (masks : List ℕ) (number mask : ℕ) : Type 0 where
@@ -176,3 +182,9 @@ pub record AreJoined (ids : InternerData) (log : List EntryData) (n : ℕ) (own 
   pub sound : (x : PartialData) → Contains found x → IsJoined ids log n own fs x
   pub all : IsTrue whole → (args : List (ℕ × ℕ)) (chosen : List EntryData) → Picked (λ f. f.arg) (FillsBy log) fs args chosen → HasJoined ids n own args chosen found
   pub ascending : AreAscending found
+
+-- these slots lead to the environments from one that asks for what the only candidates of all slots ask for
+pub record LeadBySole (ids : InternerData) (log : List EntryData) (n : ℕ) (own : Env) (all fs : List FilledData) (whole : Bool) (found : List PartialData) : Type 0 where
+  pub base : Env
+  pub asks : IsWithSole log n own all base
+  pub joined : AreJoined ids log n base fs whole found

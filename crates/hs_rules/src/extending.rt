@@ -7,10 +7,10 @@ ghost use Rattle.std.specs.List.Sorted.{IsStrictlyIncreasing};
 ghost use Rattle.hs_table.specs.Entries.{EntryData};
 ghost use Rattle.hs_replica.specs.Replica.{KeepsLog};
 ghost use Rattle.hs_rules.specs.Order.{chosen_places};
-ghost use Rattle.hs_rules.specs.Joins.{PartialData, FillsBy, AreMasksOf, MetForSlot, only_place, SeenAre, AreAscending, ComeBefore, AreAsLong, HaveRoom, HaveSameBefore, IsRun, IsMadeOf, IsAmongJoined, CanFill};
+ghost use Rattle.hs_rules.specs.Joins.{PartialData, FillsBy, AreMasksOf, AreOwnMasks, MetForSlot, only_place, SeenAre, AreAscending, ComeBefore, AreAsLong, HaveRoom, HaveSameBefore, IsRun, IsMadeOf, IsAmongJoined, CanFill};
 
 use crate::joining::{Candidate, Partial, Partials, join_candidate};
-use crate::masks::{own_mask, united};
+use crate::masks::{own_mask, own_masks, united};
 use crate::search::Filled;
 use hs_replica::Replica;
 use hs_scheme::OutOfMemory;
@@ -32,6 +32,7 @@ fn extend_by(
     alloc: Global,
     replica: &mut Replica,
     run: &[Partial],
+    owns: &[Option<u128>],
     next: &NextSlot,
     number: usize,
     out: &mut Partials,
@@ -39,6 +40,7 @@ fn extend_by(
     requires can { CanFill replica.old.ids replica.old.log run.now next.now.slot.now }
     requires number { number < length next.now.slot.now.places }
     requires masks { AreMasksOf replica.old.ids replica.old.log next.now.slot.now next.now.masks.now }
+    requires own { AreOwnMasks replica.old.ids run.now owns.now }
     requires room { HaveRoom next.now.at run.now }
     requires ascends { AreAscending run.now }
     requires long { AreAsLong run.now }
@@ -70,8 +72,8 @@ fn extend_by(
         at: next.at,
         place: slot.places.as_slice()[number],
     };
-    for partial in run {
-        let own = own_mask(replica, next.masks, partial.env)?;
+    for (place, partial) in run.iter().enumerate() {
+        let own = own_mask(owns, place);
         let mask = united(own, next.masks, number);
         join_candidate(alloc, replica, partial, candidate, mask, out)?;
         if out.list.len() > next.most {
@@ -119,8 +121,9 @@ fn extend_run(
     ensures kept { KeepsLog replica.old replica.new }
 {
     let slot = next.slot;
+    let owns = own_masks(alloc, replica, next.masks, run)?;
     for number in 0..slot.places.len() {
-        let whole = extend_by(alloc, replica, run, next, number, out)?;
+        let whole = extend_by(alloc, replica, run, owns.as_slice(), next, number, out)?;
         if !whole {
             return Ok(false);
         }

@@ -13,7 +13,8 @@ ghost use Rattle.hs_rules.specs.Joins.{PartialData};
 ghost use Rattle.hs_rules.specs.Found.{HeadData, seek, HasKnownNumbers, HaveEnvs, RowsAre, HasRowAt, HasNoGreater, Lowers, IsRowOf, HasRow, slots_of_head, HeadLeadsTo, IsDeducedBy, HasEnvFound};
 
 use crate::deduced::Deduced;
-use crate::joining::{FEW, Partial, PartialList, joined};
+use crate::joining::{FEW, Partial, PartialList};
+use crate::joins::joined;
 use crate::order::compare;
 use crate::search::{Filled, Search, Slots, fill};
 use hs_replica::Replica;
@@ -250,10 +251,9 @@ const STEPS: usize = 22;
 /// By what the number of environments that are joined for a slot grows from one time to the next.
 const GROWTH: usize = 8;
 
-/// Adds what one type of the head leads to with these slots, and answers whether it is sure that this is all.
-/// It is sure where no slot leads to more than `most` environments. No clause says so: were it never sure, joins
-/// would be made again, up to `STEPS` times, and then answered as want of memory. The environments are listed in
-/// the list, whatever was there.
+/// Adds some of what one type of the head leads to with these slots: all of it where it answers `true`. When it
+/// does so, no clause says: were that never, joins would be made again, up to `STEPS` times, and then answered as
+/// want of memory. The environments are listed in the list, whatever was there.
 fn conclude_some(
     replica: &mut Replica,
     search: &Search,

@@ -1,22 +1,20 @@
 //! Environments joined slot by slot.
 
-ghost use Rattle.std.specs.Prelude.{◌≡◌, ◌&&◌, ◌<◌, ◌≤◌, ◌++◌, ◌∷◌, ◌⊎◌, [], ℕ, length, map, slice_get, Some, Contains, IfOk, IfSome, OnOk};
+ghost use Rattle.std.specs.Prelude.{◌≡◌, ◌<◌, ◌≤◌, ◌++◌, ◌∷◌, ◌⊎◌, [], ℕ, length, map, slice_get, Some, Contains, IfOk, IfSome, OnOk};
 ghost use Rattle.std.specs.List.Sorted.{IsStrictlyIncreasing};
-ghost use Rattle.hs_table.specs.Entries.{EntryData, IsEnv};
+ghost use Rattle.hs_table.specs.Entries.{EntryData};
 ghost use Rattle.hs_types.specs.Interned.{env_of_id};
 ghost use Rattle.hs_replica.specs.Masks.{IsUnionMask};
 ghost use Rattle.hs_replica.specs.Replica.{KeepsLog};
-ghost use Rattle.hs_rules.specs.Slots.{FilledData};
 ghost use Rattle.std.specs.Bool.{OnFalse, OnTrue};
 ghost use Rattle.std.specs.List.{insert};
 ghost use Rattle.hs_rules.specs.Order.{chosen_places, IsNoGreater};
-ghost use Rattle.hs_rules.specs.Joins.{PartialData, FillsBy, IsPlaced, ArePlaced, AreGathered, JoinsOne, SeenAre, AreAscending, ComeBefore, AreAsLong, HaveRoom, IsMadeOf, IsAmongJoined, CanFill, HaveSole, IsWithSole, with_choice, AreJoined};
+ghost use Rattle.hs_rules.specs.Joins.{PartialData, FillsBy, IsPlaced, AreGathered, JoinsOne, SeenAre, AreAscending, ComeBefore, AreAsLong, HaveRoom, IsMadeOf, IsAmongJoined, CanFill, HaveSole, with_choice};
 
 use crate::extending::{NextSlot, extend_all};
 use crate::masks::masks_for;
 use crate::met::{Met, meet};
 use crate::search::Filled;
-use crate::turns::{Numbers, are_many, next_slot, no_weights};
 use hs_replica::Replica;
 use hs_scheme::OutOfMemory;
 use hs_types::EnvId;
@@ -340,8 +338,9 @@ fn choose_sole(partials: &mut [Partial], candidate: Candidate) -> Result<(), Out
     Ok(())
 }
 
-/// Does the same, and faster for a slot's only candidate: what that asks for, the environments ask for before.
-fn join_slot(
+/// Does what `extended` does, and faster for a slot's only candidate: what that asks for, the environments ask
+/// for before.
+pub(crate) fn join_slot(
     alloc: Global,
     replica: &mut Replica,
     slot: &Filled,
@@ -376,95 +375,4 @@ fn join_slot(
         return Ok(true);
     }
     extended(alloc, replica, slot, at, most, partials)
-}
-
-/// The environment that asks for what the head's own and the only candidates of slots ask for.
-fn own_with_sole(replica: &mut Replica, own: EnvId, slots: &[Filled]) -> Result<EnvId, OutOfMemory>
-    requires own { own < length replica.old.ids.envs }
-    requires is_env { IsEnv (length (env_of_id replica.old.ids own)) (env_of_id replica.old.ids own) }
-    requires placed { (f : FilledData) → Contains slots.now f
-        → ArePlaced replica.old.log (length (env_of_id replica.old.ids own)) f }
-    ensures known { IfOk result (λ env. env < length replica.new.ids.envs) }
-    ensures asks { IfOk result (λ env. IsWithSole replica.old.log
-        (length (env_of_id replica.old.ids own)) (env_of_id replica.old.ids own) slots.now
-        (env_of_id replica.new.ids env)) }
-    ensures kept { KeepsLog replica.old replica.new }
-{
-    let mut env = own;
-    for slot in slots {
-        let places = slot.places.as_slice();
-        if places.len() != 1 {
-            continue;
-        }
-        let candidate = replica.row(places[0]).env;
-        env = replica.union_envs(env, candidate)?;
-    }
-    Ok(env)
-}
-
-/// Whether both hold.
-fn both(first: bool, second: bool) -> bool
-    ensures { result ≡ first && second }
-{
-    first && second
-}
-
-/// Adds environments that the slots lead to from the head's own, each once, and answers whether it is sure that
-/// these are all. Then each has the choice of candidates with the least list of places; else the least one of
-/// what was carried on. It is sure but where a slot leads to more than `most`, as `join_slot` has it; then some
-/// of these alone are carried on to the next slot.
-///
-/// Slot by slot, so that time is in the number of distinct environments and the candidates, and not in the
-/// number of choices. No more than `most` environments are kept for a slot, and one more, and each of them is
-/// united with each candidate for the next. A slot's only candidate is in each choice, so these are joined
-/// first, once for all choices. Where there are many choices, `next_slot` tells which slot comes next, so that
-/// the environments grow little. The choices are met in ascending order, whichever slot comes next, so the
-/// first one that leads to an environment is its least one.
-pub(crate) fn joined(
-    alloc: Global,
-    replica: &mut Replica,
-    own: EnvId,
-    slots: &[Filled],
-    most: usize,
-    out: &mut PartialList,
-) -> Result<bool, OutOfMemory>
-    requires own { own < length replica.old.ids.envs }
-    requires is_env { IsEnv (length (env_of_id replica.old.ids own)) (env_of_id replica.old.ids own) }
-    requires placed { (f : FilledData) → Contains slots.now f
-        → ArePlaced replica.old.log (length (env_of_id replica.old.ids own)) f }
-    requires rise { (f : FilledData) → Contains slots.now f → IsStrictlyIncreasing f.places }
-    requires none { out.old.items ≡ [] }
-    ensures joined { IfOk result (λ whole. AreJoined replica.new.ids replica.old.log
-        (length (env_of_id replica.old.ids own)) (env_of_id replica.old.ids own) slots.now whole
-        out.new.items) }
-    ensures kept { KeepsLog replica.old replica.new }
-{
-    let env = own_with_sole(replica, own, slots)?;
-    out.reserve(1)?;
-    out.push_reserved(Partial {
-        env,
-        args: SmallVec::new(alloc),
-    });
-    let mut whole = true;
-    if !are_many(slots) {
-        for (number, slot) in slots.iter().enumerate() {
-            let all = join_slot(alloc, replica, slot, number, most, out)?;
-            whole = both(whole, all);
-        }
-        return Ok(whole);
-    }
-    let mut done: Numbers = SmallVec::new(alloc);
-    let mut weights = no_weights(alloc);
-    while let Some(turn) = next_slot(
-        replica,
-        slots,
-        done.as_slice(),
-        out.as_slice(),
-        &mut weights,
-    )? {
-        let complete = join_slot(alloc, replica, &slots[turn.number], turn.at, most, out)?;
-        done.insert(turn.at, turn.number)?;
-        whole = both(whole, complete);
-    }
-    Ok(whole)
 }

@@ -10,6 +10,7 @@ mod gathering;
 mod head_search;
 mod heads;
 mod joining;
+mod joins;
 mod masks;
 mod met;
 mod nonterminals;

@@ -1,14 +1,13 @@
-//! Masks of the candidates for a slot.
+//! Masks of the candidates for a slot, and of the environments that they are joined to.
 
-ghost use Rattle.std.specs.Prelude.{◌≡◌, ◌<◌, ℕ, length, Contains, IfOk, IfSome};
-ghost use Rattle.hs_types.specs.Interned.{env_of_id};
-ghost use Rattle.hs_replica.specs.Masks.{IsMask};
-ghost use Rattle.hs_rules.specs.Joins.{AreMasksOf, IsUnited};
+ghost use Rattle.std.specs.Prelude.{◌≡◌, ◌<◌, ℕ, length, slice_get, Some, Contains, IfOk, IfSome};
+ghost use Rattle.hs_rules.specs.Joins.{PartialData, AreMasksOf, AreOwnMasks, IsUnited};
 
+use crate::joining::Partial;
 use crate::search::Filled;
 use hs_replica::Replica;
 use hs_scheme::OutOfMemory;
-use hs_types::EnvId;
+use smallvec::SmallVec;
 use std::alloc::Global;
 
 /// Where environments and candidates for a slot make at least so many pairs, what comes of a pair is looked for
@@ -32,21 +31,37 @@ fn masks_of(alloc: Global, replica: &mut Replica, slot: &Filled) -> Result<Vec<u
     Ok(masks)
 }
 
-/// The mask of the environment, where it has one and candidates have masks.
-pub(crate) fn own_mask(
+/// Environments' masks, each where there is one. Four of them lie in the value itself.
+pub(crate) type OwnMasks = SmallVec<Option<u128>, 4>;
+
+/// The masks of the environments, in their order, each where it has one; none where candidates have no masks.
+pub(crate) fn own_masks(
+    alloc: Global,
     replica: &mut Replica,
     masks: &[u128],
-    env: EnvId,
-) -> Result<Option<u128>, OutOfMemory>
-    requires { env < length replica.old.ids.envs }
-    ensures mask { IfOk result (λ own. IfSome own (IsMask replica.old.ids
-        (length (env_of_id replica.old.ids env)) (env_of_id replica.old.ids env))) }
+    run: &[Partial],
+) -> Result<OwnMasks, OutOfMemory>
+    requires { (x : PartialData) → Contains run.now x → x.env < length replica.old.ids.envs }
+    ensures masks { IfOk result (λ owns. AreOwnMasks replica.old.ids run.now owns.items) }
     ensures kept { replica.new ≡ replica.old }
 {
+    let mut owns = SmallVec::new(alloc);
     if masks.is_empty() {
-        return Ok(None);
+        return Ok(owns);
     }
-    replica.mask_of(env)
+    for partial in run {
+        let own = replica.mask_of(partial.env)?;
+        owns.push(own)?;
+    }
+    Ok(owns)
+}
+
+/// The mask of the environment of this number, counted from 0, where there is one.
+pub(crate) fn own_mask(owns: &[Option<u128>], number: usize) -> Option<u128>
+    ensures { IfSome result (λ mask. slice_get owns.now number ≡ Some (Some mask)) }
+{
+    let own = owns.get(number)?;
+    *own
 }
 
 /// The mask of the union of an environment with this mask and the candidate of this number, where both have

@@ -1,14 +1,33 @@
-use Rattle.std.proofs.Common.{◌≡◌, sym, ◌∙◌, ap, subst, ℕ, ◌<◌, List, length, get_or, slice_get, Some, Contains, ◌⊎◌, arith}
+use Rattle.std.proofs.Common.{◌≡◌, sym, ◌∙◌, ap, subst, ℕ, ◌<◌, List, length, get_or, slice_get, Option, Some, Contains, ◌⊎◌, inl, arith}
 use Rattle.std.proofs.lemmas.Bool.{OnTrue_at}
 use Rattle.hs_table.specs.Entries.{EntryData}
 use Rattle.hs_types.proofs.Numbers.{env_within}
+use Rattle.hs_replica.specs.Replica.{ReplicaData, KeepsLog}
 use Rattle.hs_rules.specs.Slots.{FilledData}
-use Rattle.hs_rules.specs.Joins.{PartialData, AreMasksOf, MetForSlot, IsMadeOf, IsAmongJoined, only_place}
+use Rattle.hs_rules.specs.Joins.{PartialData, AreMasksOf, AreOwnMasks, MetForSlot, IsMadeOf, IsAmongJoined, only_place}
 use Rattle.hs_rules.proofs.Lists.{read_other}
-use Rattle.hs_rules.proofs.KeepLemmas.{keeps_then}
+use Rattle.hs_rules.proofs.KeepLemmas.{keeps_none, keeps_then}
 use Rattle.hs_rules.proofs.JoinLemmas.{placed_later}
-use Rattle.hs_rules.proofs.ExtendLemmas.{masks_stay, candidates_next, candidate_made}
+use Rattle.hs_rules.proofs.ExtendLemmas.{CandidatesSoFar, masks_stay, own_stay, candidates_next, candidate_made}
 use Rattle.hs_rules.proofs.extending.extend_run.Goals as goal
+
+pub loop-number-init : goal.loop-number-init
+loop-number-init c =
+    let r = c.args.replica.now in
+    let out = c.args.out.now in
+    let same = sym c.own_masks.ensures.kept in
+    record {
+      kept = subst (λ (s : ReplicaData). KeepsLog r s) same (keeps_none r);
+      so = subst (λ (s : ReplicaData). CandidatesSoFar r.ids s.ids r.log c.args.run.now c.args.next.now.slot.now c.args.next.now.at 0 out.list.items out.seen.keys out.met.masks.keys out.list.items) same (record {
+        seen = c.requires.seen;
+        met = c.requires.met;
+        ascending = c.requires.ascending;
+        before = λ x there y among k le lt. c.requires.before y among (get_or c.args.next.now.slot.now.places k 0) x there;
+        keeps = λ x there. there;
+        made = λ x there. inl there;
+        all = λ k lt. absurd (omega (arith, lt));
+      });
+    }
 
 pub extend_by-requires-clause-can : goal.extend_by-requires-clause-can
 extend_by-requires-clause-can c = λ x there.
@@ -24,6 +43,16 @@ extend_by-requires-clause-masks c =
     let masks = c.args.next.now.masks.now in
     subst (λ (l : List EntryData). AreMasksOf c.loop-number.replica.ids l f masks) (sym c.loop-number.invariant.kept.log)
     (masks_stay c.args.replica.now.ids c.loop-number.replica.ids c.loop-number.invariant.kept.grows c.args.replica.now.log f masks c.requires.masks)
+
+pub extend_by-requires-clause-own : goal.extend_by-requires-clause-own
+extend_by-requires-clause-own c =
+    let I = c.args.replica.now.ids in
+    let run = c.args.run.now in
+    let owns = c.as_slice.result.now in
+    own_stay I c.loop-number.replica.ids c.loop-number.invariant.kept.grows run owns (λ x there. (c.requires.can x there).0) (subst (λ (os : List (Option ℕ)). AreOwnMasks I run os) (sym c.as_slice.ensures) c.in_ok-owns.ensures.masks)
+
+pub own_masks-requires : goal.own_masks-requires
+own_masks-requires c = λ x there. (c.requires.can x there).0
 
 pub extend_by-requires-clause-met : goal.extend_by-requires-clause-met
 extend_by-requires-clause-met c =

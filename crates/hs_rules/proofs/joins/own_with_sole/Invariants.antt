@@ -3,7 +3,7 @@ use Rattle.std.proofs.Common.{length, take, ◌<◌}
 use Rattle.hs_types.specs.Interned.{env_of_id}
 use Rattle.hs_replica.specs.Replica.{KeepsLog}
 use Rattle.hs_rules.specs.Joins.{IsWithSole}
-use Rattle.hs_rules.proofs.joining.own_with_sole.Given as goal
+use Rattle.hs_rules.proofs.joins.own_with_sole.Given as goal
 
 abbrev pub invariant-loop-slot : goal.invariant-loop-slot
 invariant-loop-slot l = record {

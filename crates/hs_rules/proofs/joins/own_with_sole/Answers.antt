@@ -11,7 +11,7 @@ use Rattle.hs_rules.specs.Joins.{IsWithSole}
 use Rattle.hs_rules.proofs.KeepLemmas.{keeps_none, keeps_then}
 use Rattle.hs_rules.proofs.JoinLemmas.{single}
 use Rattle.hs_rules.proofs.SoleLemmas.{sole_none, sole_other, sole_more}
-use Rattle.hs_rules.proofs.joining.own_with_sole.Goals as goal
+use Rattle.hs_rules.proofs.joins.own_with_sole.Goals as goal
 
 pub loop-slot-init : goal.loop-slot-init
 loop-slot-init c =
