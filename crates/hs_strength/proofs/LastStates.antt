@@ -22,6 +22,10 @@ none_ends I members set q is k past none = each_mapped (type_of_id I) (λ (a : T
 pub asks_last : (s r : List TypeTree) (b : Bool) (a : TypeTree) → Contains r a → ((c : TypeTree) → Contains s c → last_state c ≡ last_state a → IsTrue b) → AsksEach AsStrongAs s r → IsTrue b
 asks_last s r b a m tells asks = let c = asks a m in tells c.0 c.1.0 (strong_last c.1.1)
 
+-- a member's type is in the set
+pub among : (I : InternerData) (members : List ℕ) (set : List TypeTree) (t : ℕ) → map (type_of_id I) members ≡ set → Contains members t → Contains set (type_of_id I t)
+among I members set t is there = subst (λ (z : List TypeTree). Contains z (type_of_id I t)) is (into_map (type_of_id I) members t there)
+
 -- the first type of a set
 pub first_of : (I : InternerData) (members : List ℕ) (set : List TypeTree) (t : ℕ) → map (type_of_id I) members ≡ set → slice_get members 0 ≡ Some t → Contains set (type_of_id I t)
-first_of I members set t is at = subst (λ (z : List TypeTree). Contains z (type_of_id I t)) is (into_map (type_of_id I) members t (Contains-at members 0 t at))
+first_of I members set t is at = among I members set t is (Contains-at members 0 t at)

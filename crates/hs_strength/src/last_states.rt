@@ -1,6 +1,6 @@
 //! The states at the ends of types. A type is as strong as another only where both have the same one.
 
-ghost use Rattle.std.specs.Prelude.{◌≡◌, ◌<◌, length, Contains, IsTrue};
+ghost use Rattle.std.specs.Prelude.{◌≡◌, ◌↔◌, ◌<◌, length, Contains, IsTrue};
 ghost use Rattle.hs_table.specs.Types.{TypeTree};
 ghost use Rattle.hs_weak.specs.Reads.{last_state as last_state_of};
 ghost use Rattle.hs_weak.specs.Strength.{AsStrongAs, AsksEach};
@@ -23,8 +23,8 @@ pub fn last_state(types: &Interner, ty: TyId) -> u32
 /// first such one, and takes no memory.
 pub fn has_last_state(types: &Interner, set: SetId, state: u32) -> bool
     requires { set < length types.now.sets }
-    ensures { (a : TypeTree) → Contains (set_of_id types.now set) a → last_state_of a ≡ state
-        → IsTrue result }
+    ensures { IsTrue result ↔ ((a : TypeTree) × (Contains (set_of_id types.now set) a
+        × (last_state_of a ≡ state))) }
 {
     let members = types.members(set);
     for member in members {
