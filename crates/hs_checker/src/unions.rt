@@ -50,15 +50,24 @@ fn order(env: &EnvId, other: &EnvId) -> Ordering
     env.number().cmp(&other.number())
 }
 
-/// The environments in the order of their numbers, each once.
+/// The environments, but for those that are the same as the one before.
+fn drop_repeats(found: &mut Vec<EnvId>)
+    ensures { (k : ℕ) → Contains found.new.items k ↔ Contains found.old.items k }
+{
+    found.dedup_by(|a, b| order(a, b) == Ordering::Equal);
+}
+
+/// The environments in the order of their numbers, each once. Many stand side by side already where they come of
+/// one environment and some rows, so repeats are dropped before the sorting, too.
 fn thin(found: &mut Vec<EnvId>) -> Result<(), OutOfMemory>
     ensures { OnOk result ((k : ℕ) → Contains found.new.items k ↔ Contains found.old.items k) }
 {
+    drop_repeats(found);
     if found.len() < 2 {
         return Ok(());
     }
     found.sort_by(|a, b| order(a, b))?;
-    found.dedup_by(|a, b| order(a, b) == Ordering::Equal);
+    drop_repeats(found);
     Ok(())
 }
 

@@ -1,10 +1,10 @@
 -- What the types of a head lead to.
-use Rattle.std.proofs.Common.{◌≡◌, ◌≢◌, refl, sym, ◌∙◌, ap, subst, ℕ, zero, suc, ◌+◌, ◌<◌, Bool, List, [], ◌∷◌, ◌++◌, length, map, set, take, drop, get_or, slice_get, Option, None, Some, MatchOption, arith, All, AllPairs, Contains, ◌≤◌, ◌⊎◌, inl, inr}
+use Rattle.std.proofs.Common.{◌≡◌, ◌≢◌, refl, sym, ◌∙◌, ap, subst, ℕ, zero, suc, ◌+◌, ◌-◌, ◌<◌, Bool, List, [], ◌∷◌, ◌++◌, length, map, set, take, drop, get_or, slice_get, Option, None, Some, MatchOption, arith, All, AllPairs, Contains, ◌≤◌, ◌⊎◌, inl, inr}
 use Rattle.std.specs.Bool.{IsTrue}
 use Rattle.std.specs.List.Sorted.{IsStrictlyIncreasing}
 use Rattle.std.proofs.lemmas.Bool.{cases_eq, cases_order}
-use Rattle.std.proofs.lemmas.List.{map-append, take-map, take-append-drop, drop_all, drop-append-le, length-map, length-append, length-set, get_or-set_same, get_or-set_other}
-use Rattle.std.proofs.Math.Seq.{map-set_same}
+use Rattle.std.proofs.lemmas.List.{map-append, take-map, take-append-drop, take_rest, drop_all, drop-append-le, length-map, length-append, length-set, get_or-set_same, get_or-set_other}
+use Rattle.std.proofs.Math.Seq.{map-set_same, take-add}
 use Rattle.std.proofs.lemmas.List.Elements.{Contains-push, Contains-append_left, Contains-append_right, Contains-append_cases, All-contains}
 use Rattle.std.proofs.lemmas.List.Quantifiers.{all_pairs_push}
 use Rattle.std.proofs.lemmas.Option.{get_or_from_slice_get, slice_get-get_or, slice_get_within, same_Some}
@@ -22,7 +22,7 @@ use Rattle.hs_rules.specs.Conclusions.{DeducedData}
 use Rattle.hs_rules.specs.Slots.{SlotData, slots, FixedData, FilledData, IsCandidate, Picked, none_left, pick, Concludes}
 use Rattle.hs_rules.specs.Filling.{fixed_of, IsFilled, AreFilled}
 use Rattle.hs_rules.specs.Joins.{PartialData, FillsBy, ArePlaced, AreJoined}
-use Rattle.hs_rules.specs.Found.{SearchData, HeadData, HasKnownNumbers, HaveEnvs, RowsAre, HasRowAt, HasNoGreater, Lowers, IsRowOf, HasRow, HeadLeadsTo, IsDeducedBy, HasEnvFound}
+use Rattle.hs_rules.specs.Found.{SearchData, HeadData, HasKnownNumbers, IsAlike, HaveEnvs, RowsAre, HasRowAt, HasNoGreater, Lowers, IsRowOf, HasRow, HeadLeadsTo, IsDeducedBy, HasEnvFound}
 use Rattle.hs_rules.specs.declared.joining.TheConstants.{FEW}
 use Rattle.hs_rules.proofs.Lists.{taken_cases}
 use Rattle.hs_rules.proofs.OrderLemmas.{no_greater_itself, no_greater_same, no_greater_then, no_greater_behind}
@@ -372,3 +372,47 @@ found_later J K s h args env old new g lowers f =
       is = ap (env_of_id K) env_is ∙ (env_stays J K g f.item.row.env f.within ∙ f.is);
       least = no_greater_then (premises low.item.support) (premises f.item.support) (premises (record { head = h.by; args = args })) low.least f.least;
     }
+
+-- what asks for the same has the same slots and the same environments
+pub alike_one : (h : HeadData) (gs : List HeadData) → ((g : HeadData) → Contains gs g → IsAlike h g) → (g : HeadData) → Contains (h ∷ gs) g → IsAlike h g
+alike_one h gs each g there = elim (uncons h g gs there) [
+  | inl is ↦ record { own = ap (λ (x : HeadData). x.own) (sym is); sets = ap (λ (x : HeadData). x.sets) (sym is) }
+  | inr behind ↦ each g behind
+]
+
+pub known_one : (I : InternerData) (args : List ℕ) (h : HeadData) (gs : List HeadData) → HasKnownNumbers I args h → ((g : HeadData) → Contains gs g → HasKnownNumbers I args g) → (g : HeadData) → Contains (h ∷ gs) g → HasKnownNumbers I args g
+known_one I args h gs first each g there = elim (uncons h g gs there) [
+  | inl is ↦ subst (λ (x : HeadData). HasKnownNumbers I args x) (sym is) first
+  | inr behind ↦ each g behind
+]
+
+pub filled_alike : (I : InternerData) (log : List EntryData) (s : SearchData) (h g : HeadData) (fs : List FilledData) → IsAlike h g → AreFilled (take s.limit log) (fixed_of log s.fixed) (slots 0 s.args (map (set_of_id I) h.sets)) fs
+    → AreFilled (take s.limit log) (fixed_of log s.fixed) (slots 0 s.args (map (set_of_id I) g.sets)) fs
+filled_alike I log s h g fs alike filled = subst (λ (xs : List ℕ). AreFilled (take s.limit log) (fixed_of log s.fixed) (slots 0 s.args (map (set_of_id I) xs)) fs) alike.sets filled
+
+pub joined_alike : (I K : InternerData) (log : List EntryData) (h g : HeadData) (fs : List FilledData) (whole : Bool) (partials : List PartialData) → IsAlike h g → AreJoined K log (length (env_of_id I h.own)) (env_of_id I h.own) fs whole partials
+    → AreJoined K log (length (env_of_id I g.own)) (env_of_id I g.own) fs whole partials
+joined_alike I K log h g fs whole partials alike joined = subst (λ (n : ℕ). AreJoined K log (length (env_of_id I n)) (env_of_id I n) fs whole partials) alike.own joined
+
+-- a list up to some items behind one
+pub run_cases : (hs : List HeadData) (k n : ℕ) (x h : HeadData) → k < length hs → x ≡ get_or hs k x → Contains (take (k + (1 + n)) hs) h → Contains (take k hs) h ⊎ Contains (x ∷ take n (take (length hs - (k + 1)) (drop (k + 1) hs))) h
+run_cases hs k n x h lt is there =
+    let m : k + (1 + n) ≡ (k + 1) + n = omega arith in
+    let both = subst (λ (xs : List HeadData). Contains xs h) (ap (λ j. take j hs) m ∙ take-add (k + 1) n hs) there in
+    subst (λ (ys : List HeadData). Contains (take k hs) h ⊎ Contains (x ∷ take n ys) h) (sym (take_rest hs (k + 1)))
+    (elim (Contains-append_cases (take (k + 1) hs) (take n (drop (k + 1) hs)) h both) [
+      | inl first ↦ elim (taken_cases hs k x h lt is first) [
+        | inl was ↦ inl was
+        | inr same ↦ inr (subst (λ (y : HeadData). Contains (x ∷ take n (drop (k + 1) hs)) y) (sym same) (here x (take n (drop (k + 1) hs))))
+      ]
+      | inr behind ↦ inr (later x h (take n (drop (k + 1) hs)) behind)
+    ])
+
+pub run_among : (hs : List HeadData) (k n : ℕ) (x h : HeadData) → Contains hs x → Contains (x ∷ take n (take (length hs - k) (drop k hs))) h → Contains hs h
+run_among hs k n x h at there = elim (uncons x h (take n (take (length hs - k) (drop k hs))) there) [
+  | inl is ↦ subst (λ (y : HeadData). Contains hs y) (sym is) at
+  | inr behind ↦
+      let few = subst (λ (ys : List HeadData). Contains (take n ys) h) (take_rest hs k) behind in
+      subst (λ (xs : List HeadData). Contains xs h) (take-append-drop k hs) (Contains-append_right (take k hs) (drop k hs) h
+      (subst (λ (xs : List HeadData). Contains xs h) (take-append-drop n (drop k hs)) (Contains-append_left (take n (drop k hs)) (drop n (drop k hs)) h few)))
+]

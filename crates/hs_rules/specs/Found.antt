@@ -2,6 +2,7 @@
 --     SearchData, seek  where conclusions are sought
 --     HeadData          a type of the head in numbers, with where it comes from and what it asks for
 --     HasKnownNumbers   its numbers are known, and it has a set for each argument
+--     IsAlike           they ask for the same, of the parameters and of the arguments
 --     HaveEnvs          entries at the arguments have environments for n parameters
 --     RowsAre           the rows of what is found but for the first few; each row is found once
 --     HasRowAt          the row is that of what is found at the place
@@ -47,6 +48,10 @@ pub record HasKnownNumbers (ids : InternerData) (args : List ℕ) (h : HeadData)
   pub rest : h.rest < length ids.types
   pub long : length h.sets ≡ length args
   pub is_env : IsEnv (length (env_of_id ids h.own)) (env_of_id ids h.own)
+
+pub record IsAlike (h g : HeadData) : Type 0 where
+  pub own : h.own ≡ g.own
+  pub sets : h.sets ≡ g.sets
 
 abbrev pub HaveEnvs : List EntryData → List ℕ → ℕ → Type 0
 HaveEnvs E args n = (e : EntryData) → Contains E e → Contains args e.point → IsEnv n e.env

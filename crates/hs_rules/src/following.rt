@@ -37,8 +37,9 @@ fn arguments(problem: &Problem, point: u32) -> &[u32]
 /// place by place. The point is in range, and the entries of the log are in shape.
 ///
 /// For each type of the point's head the entries for its sets are joined slot by slot, each
-/// environment that comes of it once. The log stays; the interner gains the environments. The
-/// look-ups then tell of the whole log, and after a refusal of memory of as much as before or of more.
+/// environment that comes of it once, and for types that ask for the same once for all. The log stays;
+/// the interner gains the environments. The look-ups then tell of the whole log, and after a refusal of
+/// memory of as much as before or of more.
 pub fn conclusions(
     alloc: Global,
     problem: &Problem,
@@ -142,9 +143,9 @@ pub fn seed_conclusions(
 /// there.
 ///
 /// `most` may be any number; with `usize::MAX` all are found, and more than `most` may be many more. The
-/// search ends behind the type of the head with which there are more. For each type of the head environments
-/// are joined slot by slot: no more than `most` + 1 of them are kept for a slot, and each is united with each
-/// candidate for the next one. Where no more than `most` conclusions come of that, and environments were left
+/// search ends behind the types of the head with which there are more. For each type of the head, and for those
+/// that ask for the same once for all, environments are joined slot by slot: no more than `most` + 1 of them are
+/// kept for a slot, and each is united with each candidate for the next one. Where no more than `most` conclusions come of that, and environments were left
 /// out at a slot, they are joined again with eight times as many for each slot. Where the slots have
 /// 65,536 choices of candidates or more, those by which environments grow least, as a few environments and
 /// candidates tell, are joined first; else they are joined in their order. So only a join whose first slots in

@@ -10,9 +10,10 @@ ghost use Rattle.hs_rules.specs.Order.{IsNoGreater};
 ghost use Rattle.hs_rules.specs.Conclusions.{DeducedData};
 ghost use Rattle.hs_rules.specs.Filling.{CanSearch, fixed_of, AreFilled};
 ghost use Rattle.hs_rules.specs.Joins.{PartialData};
-ghost use Rattle.hs_rules.specs.Found.{HeadData, seek, HasKnownNumbers, HaveEnvs, RowsAre, HasRowAt, HasNoGreater, Lowers, IsRowOf, HasRow, slots_of_head, HeadLeadsTo, IsDeducedBy, HasEnvFound};
+ghost use Rattle.hs_rules.specs.Found.{HeadData, seek, HasKnownNumbers, HaveEnvs, RowsAre, HasRowAt, HasNoGreater, Lowers, IsRowOf, HasRow, slots_of_head, HeadLeadsTo, IsDeducedBy, HasEnvFound, IsAlike};
 
 use crate::deduced::Deduced;
+use crate::grouping::{count_alike, group};
 use crate::joining::{FEW, Partial, PartialList};
 use crate::joins::joined;
 use crate::order::compare;
@@ -215,6 +216,17 @@ fn add_found(
     push_new(found, Deduced { row, head, args })
 }
 
+/// Makes room for so many rows more, where some of them come behind the first few.
+fn make_room(found: &mut Found, more: usize) -> Result<(), OutOfMemory>
+    ensures rows { found.new.rows.keys ≡ found.old.rows.keys }
+    ensures list { found.new.list.items ≡ found.old.list.items }
+{
+    if found.list.len().saturating_add(more) > FEW {
+        found.rows.reserve(more)?;
+    }
+    Ok(())
+}
+
 /// Adds a row for each of these environments.
 fn add_all(
     alloc: Global,
@@ -232,6 +244,7 @@ fn add_all(
     ensures all { OnOk result ((x : PartialData) → Contains partials.now x
         → HasRow point head.now x found.new.list.items) }
 {
+    make_room(found, partials.len())?;
     let by = head.by;
     let ty = head.rest;
     for partial in partials {
@@ -245,19 +258,52 @@ fn add_all(
     Ok(())
 }
 
+/// Adds a row for each of these environments by each of these types of the head, type by type, or so much of that
+/// that more than so many are found. So no more come than of one type beyond it.
+fn add_each(
+    alloc: Global,
+    found: &mut Found,
+    point: u32,
+    head: &HeadType,
+    alike: &[HeadType],
+    partials: &[Partial],
+    most: usize,
+) -> Result<(), OutOfMemory>
+    requires { RowsAre found.old.rows.keys found.old.list.items }
+    ensures rows { OnOk result (RowsAre found.new.rows.keys found.new.list.items) }
+    ensures lowers { OnOk result (Lowers found.old.list.items found.new.list.items) }
+    ensures only { OnOk result ((d : DeducedData) → Contains found.new.list.items d
+        → Contains found.old.list.items d
+        ⊎ ((h : HeadData) × Contains (head.now ∷ alike.now) h × IsRowOf point h partials.now d)) }
+    ensures all { OnOk result (length found.new.list.items ≤ most
+        → (h : HeadData) → Contains (head.now ∷ alike.now) h
+        → (x : PartialData) → Contains partials.now x → HasRow point h x found.new.list.items) }
+{
+    add_all(alloc, found, point, head, partials)?;
+    for other in alike {
+        if found.list.len() > most {
+            return Ok(());
+        }
+        add_all(alloc, found, point, other, partials)?;
+    }
+    Ok(())
+}
+
 /// How often the environments of a head's type are joined, at most.
 const STEPS: usize = 22;
 
 /// By what the number of environments that are joined for a slot grows from one time to the next.
 const GROWTH: usize = 8;
 
-/// Adds some of what one type of the head leads to with these slots: all of it where it answers `true`. When it
-/// does so, no clause says: were that never, joins would be made again, up to `STEPS` times, and then answered as
-/// want of memory. The environments are listed in the list, whatever was there.
+/// Adds some of what one type of the head, and those that ask for the same, lead to with these slots: all of it
+/// where it answers `true` and no more is found than the search asks for. When it answers so, no clause says: were
+/// that never, joins would be made again, up to `STEPS` times, and then answered as want of memory. The
+/// environments are listed in the list, whatever was there.
 fn conclude_some(
     replica: &mut Replica,
     search: &Search,
     head: &HeadType,
+    alike: &[HeadType],
     slots: &[Filled],
     most: usize,
     partials: &mut PartialList,
@@ -265,6 +311,7 @@ fn conclude_some(
 ) -> Result<bool, OutOfMemory>
     requires search { CanSearch replica.old search.now.args.now search.now.limit search.now.fixed }
     requires head { HasKnownNumbers replica.old.ids search.now.args.now head.now }
+    requires alike { (h : HeadData) → Contains alike.now h → IsAlike head.now h }
     requires envs { HaveEnvs (take search.now.limit replica.old.log) search.now.args.now
         (length (env_of_id replica.old.ids head.now.own)) }
     requires filled { AreFilled (take search.now.limit replica.old.log)
@@ -275,21 +322,31 @@ fn conclude_some(
     ensures lowers { OnOk result (Lowers found.old.list.items found.new.list.items) }
     ensures only { OnOk result ((d : DeducedData) → Contains found.new.list.items d
         → Contains found.old.list.items d
-        ⊎ IsDeducedBy replica.old.ids replica.new.ids replica.old.log (seek search.now) head.now d) }
-    ensures all { IfOk result (λ whole. OnTrue whole ((args : List (ℕ × ℕ)) (env : Env)
-        → HeadLeadsTo replica.old.ids replica.old.log (seek search.now) head.now args env →
-        HasEnvFound replica.new.ids (seek search.now) head.now args env found.new.list.items)) }
+        ⊎ ((h : HeadData) × Contains (head.now ∷ alike.now) h
+        × IsDeducedBy replica.old.ids replica.new.ids replica.old.log (seek search.now) h d)) }
+    ensures all { IfOk result (λ whole. OnTrue whole (length found.new.list.items ≤ search.now.most
+        → (h : HeadData) → Contains (head.now ∷ alike.now) h → (args : List (ℕ × ℕ)) (env : Env) →
+        HeadLeadsTo replica.old.ids replica.old.log (seek search.now) h args env →
+        HasEnvFound replica.new.ids (seek search.now) h args env found.new.list.items)) }
     ensures kept { KeepsLog replica.old replica.new }
 {
     partials.clear();
     let whole = joined(search.alloc, replica, head.own, slots, most, partials)?;
     let joins = partials.as_slice();
-    add_all(search.alloc, found, search.point, head, joins)?;
+    add_each(
+        search.alloc,
+        found,
+        search.point,
+        head,
+        alike,
+        joins,
+        search.most,
+    )?;
     Ok(whole)
 }
 
-/// Adds what one type of the head leads to with these slots, or so much of it that more than the search asks
-/// for is found. The environments are listed in the list, whatever was there.
+/// Adds what one type of the head, and those that ask for the same, lead to with these slots, or so much of it
+/// that more than the search asks for is found. The environments are listed in the list, whatever was there.
 ///
 /// They are joined again, with `GROWTH` times as many for each slot, where no more conclusions come of those
 /// that were joined. The last of the `STEPS` times asks for 2^63 of them or more, which is more than a list
@@ -298,12 +355,16 @@ fn conclude_filled(
     replica: &mut Replica,
     search: &Search,
     head: &HeadType,
+    alike: &[HeadType],
     slots: &[Filled],
     partials: &mut PartialList,
     found: &mut Found,
 ) -> Result<(), OutOfMemory>
     requires search { CanSearch replica.old search.now.args.now search.now.limit search.now.fixed }
     requires head { HasKnownNumbers replica.old.ids search.now.args.now head.now }
+    requires known { (h : HeadData) → Contains alike.now h
+        → HasKnownNumbers replica.old.ids search.now.args.now h }
+    requires alike { (h : HeadData) → Contains alike.now h → IsAlike head.now h }
     requires envs { HaveEnvs (take search.now.limit replica.old.log) search.now.args.now
         (length (env_of_id replica.old.ids head.now.own)) }
     requires filled { AreFilled (take search.now.limit replica.old.log)
@@ -314,16 +375,17 @@ fn conclude_filled(
     ensures lowers { OnOk result (Lowers found.old.list.items found.new.list.items) }
     ensures only { OnOk result ((d : DeducedData) → Contains found.new.list.items d
         → Contains found.old.list.items d
-        ⊎ IsDeducedBy replica.old.ids replica.new.ids replica.old.log (seek search.now) head.now d) }
+        ⊎ ((h : HeadData) × Contains (head.now ∷ alike.now) h
+        × IsDeducedBy replica.old.ids replica.new.ids replica.old.log (seek search.now) h d)) }
     ensures all { OnOk result (length found.new.list.items ≤ search.now.most
-        → (args : List (ℕ × ℕ)) (env : Env)
-        → HeadLeadsTo replica.old.ids replica.old.log (seek search.now) head.now args env →
-        HasEnvFound replica.new.ids (seek search.now) head.now args env found.new.list.items) }
+        → (h : HeadData) → Contains (head.now ∷ alike.now) h → (args : List (ℕ × ℕ)) (env : Env) →
+        HeadLeadsTo replica.old.ids replica.old.log (seek search.now) h args env →
+        HasEnvFound replica.new.ids (seek search.now) h args env found.new.list.items) }
     ensures kept { KeepsLog replica.old replica.new }
 {
     let mut most = search.most;
     for _ in 0..STEPS {
-        let whole = conclude_some(replica, search, head, slots, most, partials, found)?;
+        let whole = conclude_some(replica, search, head, alike, slots, most, partials, found)?;
         if whole || found.list.len() > search.most {
             return Ok(());
         }
@@ -332,18 +394,23 @@ fn conclude_filled(
     Err(OutOfMemory)
 }
 
-/// Adds what one type of the head leads to, or so much of it that more than the search asks for is found.
-/// Its slots and their environments are listed in the two lists, whatever was there.
+/// Adds what one type of the head, and those that ask for the same, lead to, or so much of it that more than the
+/// search asks for is found. That is joined once for all of them. The slots and their environments are listed in
+/// the two lists, whatever was there.
 fn conclude(
     replica: &mut Replica,
     search: &Search,
     head: &HeadType,
+    alike: &[HeadType],
     slots: &mut Slots,
     partials: &mut PartialList,
     found: &mut Found,
 ) -> Result<(), OutOfMemory>
     requires search { CanSearch replica.old search.now.args.now search.now.limit search.now.fixed }
     requires head { HasKnownNumbers replica.old.ids search.now.args.now head.now }
+    requires known { (h : HeadData) → Contains alike.now h
+        → HasKnownNumbers replica.old.ids search.now.args.now h }
+    requires alike { (h : HeadData) → Contains alike.now h → IsAlike head.now h }
     requires envs { HaveEnvs (take search.now.limit replica.old.log) search.now.args.now
         (length (env_of_id replica.old.ids head.now.own)) }
     requires rows { RowsAre found.old.rows.keys found.old.list.items }
@@ -351,11 +418,12 @@ fn conclude(
     ensures lowers { OnOk result (Lowers found.old.list.items found.new.list.items) }
     ensures only { OnOk result ((d : DeducedData) → Contains found.new.list.items d
         → Contains found.old.list.items d
-        ⊎ IsDeducedBy replica.old.ids replica.new.ids replica.old.log (seek search.now) head.now d) }
+        ⊎ ((h : HeadData) × Contains (head.now ∷ alike.now) h
+        × IsDeducedBy replica.old.ids replica.new.ids replica.old.log (seek search.now) h d)) }
     ensures all { OnOk result (length found.new.list.items ≤ search.now.most
-        → (args : List (ℕ × ℕ)) (env : Env)
-        → HeadLeadsTo replica.old.ids replica.old.log (seek search.now) head.now args env →
-        HasEnvFound replica.new.ids (seek search.now) head.now args env found.new.list.items) }
+        → (h : HeadData) → Contains (head.now ∷ alike.now) h → (args : List (ℕ × ℕ)) (env : Env) →
+        HeadLeadsTo replica.old.ids replica.old.log (seek search.now) h args env →
+        HasEnvFound replica.new.ids (seek search.now) h args env found.new.list.items) }
     ensures kept { KeepsLog replica.old replica.new }
 {
     slots.clear();
@@ -365,11 +433,12 @@ fn conclude(
         return Ok(());
     }
     let filled = slots.as_slice();
-    conclude_filled(replica, search, head, filled, partials, found)
+    conclude_filled(replica, search, head, alike, filled, partials, found)
 }
 
-/// Adds what these types of the head lead to, or so much of it that more than the search asks for is found.
-pub(crate) fn conclude_all(
+/// Adds what these types of the head lead to, or so much of it that more than the search asks for is found. Those
+/// in a row that ask for the same are joined once.
+fn conclude_grouped(
     replica: &mut Replica,
     search: &Search,
     heads: &[HeadType],
@@ -396,11 +465,59 @@ pub(crate) fn conclude_all(
 {
     let mut slots = SmallVec::new(search.alloc);
     let mut partials = SmallVec::new(search.alloc);
-    for head in heads {
-        conclude(replica, search, head, &mut slots, &mut partials, found)?;
+    let mut done = 0;
+    while done < heads.len() {
+        let head = &heads[done];
+        let others = &heads[done + 1..];
+        let count = count_alike(head, others);
+        let alike = &others[..count];
+        conclude(
+            replica,
+            search,
+            head,
+            alike,
+            &mut slots,
+            &mut partials,
+            found,
+        )?;
         if found.list.len() > search.most {
             return Ok(());
         }
+        done += 1 + count;
     }
     Ok(())
+}
+
+/// Adds what these types of the head lead to, or so much of it that more than the search asks for is found. They
+/// come into another order, in which those that ask for the same stand side by side.
+pub(crate) fn conclude_all(
+    replica: &mut Replica,
+    search: &Search,
+    heads: &mut [HeadType],
+    found: &mut Found,
+) -> Result<(), OutOfMemory>
+    requires search { CanSearch replica.old search.now.args.now search.now.limit search.now.fixed }
+    requires heads { (h : HeadData) → Contains heads.old h
+        → HasKnownNumbers replica.old.ids search.now.args.now h }
+    requires envs { (h : HeadData) → Contains heads.old h →
+        HaveEnvs (take search.now.limit replica.old.log) search.now.args.now
+        (length (env_of_id replica.old.ids h.own)) }
+    requires rows { RowsAre found.old.rows.keys found.old.list.items }
+    ensures rows { OnOk result (RowsAre found.new.rows.keys found.new.list.items) }
+    ensures lowers { OnOk result (Lowers found.old.list.items found.new.list.items) }
+    ensures only { OnOk result ((d : DeducedData) → Contains found.new.list.items d
+        → Contains found.old.list.items d
+        ⊎ ((h : HeadData) × Contains heads.old h
+        × IsDeducedBy replica.old.ids replica.new.ids replica.old.log (seek search.now) h d)) }
+    ensures all { OnOk result (length found.new.list.items ≤ search.now.most
+        → (h : HeadData) → Contains heads.old h → (args : List (ℕ × ℕ)) (env : Env) →
+        HeadLeadsTo replica.old.ids replica.old.log (seek search.now) h args env →
+        HasEnvFound replica.new.ids (seek search.now) h args env found.new.list.items) }
+    ensures kept { KeepsLog replica.old replica.new }
+{
+    if heads.is_empty() {
+        return Ok(());
+    }
+    group(heads);
+    conclude_grouped(replica, search, heads, found)
 }

@@ -63,7 +63,7 @@ fn add_by_argument(
     let mut heads = SmallVec::new(search.alloc);
     heads_asking(&with, replica, &asked, &mut heads)?;
     replica.interner().know_numbers();
-    conclude_all(replica, &search, heads.as_slice(), found)
+    conclude_all(replica, &search, heads.as_mut_slice(), found)
 }
 
 /// Whether something may follow with the entry at the place as the head's. Of a nonterminal's type
@@ -102,7 +102,7 @@ fn add_from_head(
 {
     let mut heads = SmallVec::new(at.search.alloc);
     heads_at(at, replica, place, &mut heads)?;
-    conclude_all(replica, &at.search, heads.as_slice(), found)
+    conclude_all(replica, &at.search, heads.as_mut_slice(), found)
 }
 
 /// Adds what follows with the entry at the place as the head's.
@@ -163,7 +163,7 @@ pub(crate) fn add_all(
 {
     let mut heads = SmallVec::new(at.search.alloc);
     heads_all(at, replica, &mut heads)?;
-    conclude_all(replica, &at.search, heads.as_slice(), found)
+    conclude_all(replica, &at.search, heads.as_mut_slice(), found)
 }
 
 /// Adds what follows from no entries, where no place of the log counts.
@@ -181,5 +181,5 @@ pub(crate) fn add_seeds(
 {
     let mut heads = SmallVec::new(at.search.alloc);
     heads_nothing(at, replica, &mut heads)?;
-    conclude_all(replica, &at.search, heads.as_slice(), found)
+    conclude_all(replica, &at.search, heads.as_mut_slice(), found)
 }

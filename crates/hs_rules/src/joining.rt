@@ -315,6 +315,9 @@ fn extended(
         seen: IndexSet::new(alloc),
         met: Met::new(alloc),
     };
+    if !masks.is_empty() {
+        out.met.make_room(count.saturating_mul(masks.len()))?;
+    }
     let next = NextSlot {
         slot,
         masks: masks.as_slice(),

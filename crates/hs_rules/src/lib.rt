@@ -7,6 +7,7 @@ mod extending;
 mod following;
 mod found;
 mod gathering;
+mod grouping;
 mod head_search;
 mod heads;
 mod joining;

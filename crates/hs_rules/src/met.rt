@@ -13,6 +13,9 @@ const LATEST: usize = 2_048;
 /// Where so many masks were met, the latest are kept at a place of their own.
 const SOME: usize = 64;
 
+/// Room is made for so many masks at once, where as many may be met.
+const ROOM: usize = 256;
+
 /// An odd number whose multiples differ in their upper bits: 2^128 by the golden ratio (Knuth, "The Art of
 /// Computer Programming", volume 3, 1973).
 const MULTIPLIER: u128 = 0x9e37_79b9_7f4a_7c15_f39c_c060_5ced_c835;
@@ -40,6 +43,14 @@ impl Met {
             masks: IndexSet::new(alloc),
             latest: Vec::new(alloc),
         }
+    }
+
+    /// Makes room for so many masks more, and for no more than the first few hundred of them.
+    pub(crate) fn make_room(&mut self, count: usize) -> Result<(), OutOfMemory>
+        ensures { self.new.masks.keys ≡ self.old.masks.keys }
+    {
+        self.masks.reserve(count.min(ROOM))?;
+        Ok(())
     }
 }
 

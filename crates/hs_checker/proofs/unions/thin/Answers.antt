@@ -1,13 +1,11 @@
-use Rattle.std.proofs.Common.{rules, ◌≡◌}
-use Rattle.std.specs.List.{dedup}
-use Rattle.std.specs.Ordering.{nat_cmp, is_eq}
-use Rattle.std.proofs.lemmas.Fn.{dedup_same}
-use Rattle.std.proofs.lemmas.Cmp.{nat_cmp_total}
-use Rattle.hs_scheme.proofs.Orderings.{nat_equal}
-use Rattle.hs_checker.proofs.Once.{once_has}
+use Rattle.std.proofs.lemmas.List.Sorted.{IsPermutation-sym, Contains-permutation}
 use Rattle.hs_checker.proofs.unions.thin.Goals as goal
 
 pub returns : goal.returns
-returns c =
-    let made : c.dedup_by.new.self.items ≡ dedup (λ a b. is_eq (nat_cmp a b)) c.sort_by.new.self.items = dedup_same _ (λ a b. is_eq (nat_cmp a b)) _ (λ x y b f x2 y2 k. search rules) c.sort_by.new.self.items c.dedup_by.new.self.items c.dedup_by.ensures.filtered in
-    once_has nat_cmp nat_cmp_total nat_equal c.args.found.now.items c.sort_by.new.self.items c.dedup_by.new.self.items c.sort_by.ensures.permutation made
+returns c = λ k.
+    let once = c.drop_repeats.new.found.items in
+    let sorted = c.sort_by.new.self.items in
+    let moved = c.sort_by.ensures.permutation in
+    let first = c.drop_repeats.ensures k in
+    let last = c.drop_repeats-2.ensures k in
+    (λ there. first.0 (Contains-permutation sorted once k (IsPermutation-sym once sorted moved) (last.0 there)), λ there. last.1 (Contains-permutation once sorted k moved (first.1 there)))

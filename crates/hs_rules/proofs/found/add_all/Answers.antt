@@ -3,13 +3,24 @@ use Rattle.std.proofs.lemmas.List.{take_all}
 use Rattle.hs_scheme.proofs.Lists.{none_in}
 use Rattle.hs_table.specs.Follows.{Support}
 use Rattle.hs_rules.specs.Joins.{PartialData}
-use Rattle.hs_rules.specs.Found.{HeadData, HasNoGreater, HasRow}
+use Rattle.hs_types.specs.Interned.{RowData}
+use Rattle.hs_rules.specs.Conclusions.{DeducedData}
+use Rattle.hs_rules.specs.Found.{HeadData, RowsAre, Lowers, HasNoGreater, HasRow}
 use Rattle.hs_rules.proofs.Lists.{taken_cases}
 use Rattle.hs_rules.proofs.FoundLemmas.{lowers_none, lower_then, lowers_then}
 use Rattle.hs_rules.proofs.found.add_all.Goals as goal
 
 pub loop-partial-init : goal.loop-partial-init
-loop-partial-init c = record { rows = c.requires; lowers = lowers_none c.args.found.now.list.items; rows_of = λ d there. inl there; all = λ x there. absurd (none_in x there) }
+loop-partial-init c =
+    let old = c.args.found.now.list.items in
+    let rows_are = c.make_room.ensures.rows in
+    let list_is = c.make_room.ensures.list in
+    record {
+      rows = subst (λ (ks : List RowData). RowsAre ks c.make_room.new.found.list.items) (sym rows_are) (subst (λ (ds : List DeducedData). RowsAre c.args.found.now.rows.keys ds) (sym list_is) c.requires);
+      lowers = subst (λ (ds : List DeducedData). Lowers old ds) (sym list_is) (lowers_none old);
+      rows_of = λ d there. inl (subst (λ (ds : List DeducedData). Contains ds d) list_is there);
+      all = λ x there. absurd (none_in x there);
+    }
 
 pub loop-partial-preserved : goal.loop-partial-preserved
 loop-partial-preserved c =

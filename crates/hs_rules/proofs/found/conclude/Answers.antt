@@ -1,4 +1,4 @@
-use Rattle.std.proofs.Common.{sym, ◌∙◌, ap, subst, ℕ, ◌<◌, ◌≤◌, List, ◌⊎◌, length, All, map, take, inl, OnOk, Contains}
+use Rattle.std.proofs.Common.{sym, ◌∙◌, ap, subst, ℕ, ◌<◌, ◌≤◌, List, ◌∷◌, ◌⊎◌, length, All, map, take, inl, OnOk, Contains}
 use Rattle.std.proofs.lemmas.Bool.{OnTrue_at, OnFalse_at}
 use Rattle.hs_table.specs.Entries.{Env}
 use Rattle.hs_types.specs.Interned.{set_of_id, env_of_id}
@@ -9,7 +9,7 @@ use Rattle.hs_rules.specs.Shut.{AreShut}
 use Rattle.hs_rules.specs.Found.{HeadData, HasKnownNumbers, HaveEnvs, seek, slots_of_head, HeadLeadsTo, IsDeducedBy, HasEnvFound}
 use Rattle.hs_rules.proofs.KeepLemmas.{keeps_then, as_before, as_then, lists_keep}
 use Rattle.hs_rules.proofs.PartLemmas.{can_search_later}
-use Rattle.hs_rules.proofs.FoundLemmas.{lowers_none}
+use Rattle.hs_rules.proofs.FoundLemmas.{lowers_none, alike_one}
 use Rattle.hs_rules.proofs.found.conclude.Goals as goal
 
 pub fill-requires-clause-search : goal.fill-requires-clause-search
@@ -37,12 +37,13 @@ pub returns-then-not-complete-clause-only : goal.returns-then-not-complete-claus
 returns-then-not-complete-clause-only c = λ d there. inl there
 
 pub returns-then-not-complete-clause-all : goal.returns-then-not-complete-clause-all
-returns-then-not-complete-clause-all c = λ few args env leads.
+returns-then-not-complete-clause-all c = λ few g there args env leads.
     let ids = c.args.replica.now.ids in
     let log = c.args.replica.now.log in
     let s = seek c.args.search.now in
+    let alike = alike_one c.args.head.now c.args.alike.now c.requires.alike g there in
     let none = OnFalse_at c.if-not-complete.true c.in_ok-complete.ensures.shut in
-    let shut = subst (λ (xs : List ℕ). AreShut (take s.limit log) (fixed_of log s.fixed) (slots 0 s.args (map (set_of_id ids) xs))) (c.as_slice-sets.ensures ∙ ap (λ (x : HeadData). x.sets) c.head.view_is) none in
+    let shut = subst (λ (xs : List ℕ). AreShut (take s.limit log) (fixed_of log s.fixed) (slots 0 s.args (map (set_of_id ids) xs))) (c.as_slice-sets.ensures ∙ (ap (λ (x : HeadData). x.sets) c.head.view_is ∙ alike.sets)) none in
     absurd (shut args leads.chosen leads.picked)
 
 pub returns-then-not-complete-clause-kept : goal.returns-then-not-complete-clause-kept
@@ -53,6 +54,10 @@ conclude_filled-requires-clause-search c = can_search_later c.args.replica.now c
 
 pub conclude_filled-requires-clause-head : goal.conclude_filled-requires-clause-head
 conclude_filled-requires-clause-head c = as_then c.args.replica.now c.fill.new.replica c.in_ok-complete.ensures.kept (λ I es. HasKnownNumbers I c.args.search.now.args.now c.args.head.now) c.requires.head
+
+pub conclude_filled-requires-clause-known : goal.conclude_filled-requires-clause-known
+conclude_filled-requires-clause-known c =
+    as_then c.args.replica.now c.fill.new.replica c.in_ok-complete.ensures.kept (λ I es. (h : HeadData) → Contains c.args.alike.now h → HasKnownNumbers I c.args.search.now.args.now h) c.requires.known
 
 pub conclude_filled-requires-clause-envs : goal.conclude_filled-requires-clause-envs
 conclude_filled-requires-clause-envs c =
@@ -76,7 +81,7 @@ returns-clause-only c =
     let s = seek c.args.search.now in
     let new = c.conclude_filled.new.found.list.items in
     as_before c.args.replica.now c.fill.new.replica c.in_ok-complete.ensures.kept
-    (λ I es. OnOk c.conclude_filled.result ((d : DeducedData) → Contains new d → Contains c.args.found.now.list.items d ⊎ IsDeducedBy I K es s c.args.head.now d)) c.conclude_filled.ensures.only
+    (λ I es. OnOk c.conclude_filled.result ((d : DeducedData) → Contains new d → Contains c.args.found.now.list.items d ⊎ ((h : HeadData) × Contains (c.args.head.now ∷ c.args.alike.now) h × IsDeducedBy I K es s h d))) c.conclude_filled.ensures.only
 
 pub returns-clause-all : goal.returns-clause-all
 returns-clause-all c =
@@ -84,7 +89,7 @@ returns-clause-all c =
     let s = seek c.args.search.now in
     let new = c.conclude_filled.new.found.list.items in
     as_before c.args.replica.now c.fill.new.replica c.in_ok-complete.ensures.kept
-    (λ I es. OnOk c.conclude_filled.result (length new ≤ c.args.search.now.most → (args : List (ℕ × ℕ)) (env : Env) → HeadLeadsTo I es s c.args.head.now args env → HasEnvFound K s c.args.head.now args env new)) c.conclude_filled.ensures.all
+    (λ I es. OnOk c.conclude_filled.result (length new ≤ c.args.search.now.most → (h : HeadData) → Contains (c.args.head.now ∷ c.args.alike.now) h → (args : List (ℕ × ℕ)) (env : Env) → HeadLeadsTo I es s h args env → HasEnvFound K s h args env new)) c.conclude_filled.ensures.all
 
 pub returns-clause-kept : goal.returns-clause-kept
 returns-clause-kept c = keeps_then c.args.replica.now c.fill.new.replica c.conclude_filled.new.replica (lists_keep c.args.replica.now c.fill.new.replica c.in_ok-complete.ensures.kept) c.conclude_filled.ensures.kept

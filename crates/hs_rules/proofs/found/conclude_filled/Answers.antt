@@ -6,7 +6,7 @@ use Rattle.hs_rules.specs.Slots.{slots}
 use Rattle.hs_rules.specs.Filling.{fixed_of, AreFilled}
 use Rattle.hs_rules.specs.Found.{seek}
 use Rattle.hs_rules.proofs.KeepLemmas.{keeps_none, keeps_then}
-use Rattle.hs_rules.proofs.FoundLemmas.{lowers_none, lowers_then, sets_stay, known_later, envs_later, leads_later, conclusion_earlier, conclusion_later}
+use Rattle.hs_rules.proofs.FoundLemmas.{lowers_none, lowers_then, sets_stay, known_later, envs_later, leads_later, conclusion_earlier, conclusion_later, known_one}
 use Rattle.hs_rules.proofs.found.conclude_filled.Goals.{then-whole-via-then-whole, then-whole-via-else-whole+then-len-search}
 use Rattle.hs_rules.proofs.found.conclude_filled.Goals as goal
 
@@ -50,21 +50,21 @@ returns-then-whole-clause-only c = λ d there.
     elim (c.in_ok-whole.ensures.only d there) [
       | inl was ↦ elim (c.loop.invariant.concluded d was) [
         | inl first ↦ inl first
-        | inr k ↦ inr (conclusion_later I J K log s h c.in_ok-whole.ensures.kept.grows d k)
+        | inr (x, m, k) ↦ inr (x, m, conclusion_later I J K log s x c.in_ok-whole.ensures.kept.grows d k)
       ]
-      | inr k ↦ inr (conclusion_earlier I J K log c.loop.replica.log s h c.loop.invariant.kept.grows c.loop.invariant.kept.log c.requires.head d k)
+      | inr (x, m, k) ↦ inr (x, m, conclusion_earlier I J K log c.loop.replica.log s x c.loop.invariant.kept.grows c.loop.invariant.kept.log (known_one I s.args h c.args.alike.now c.requires.head c.requires.known x m) d k)
     ]
 
 pub returns-then-whole-clause-all : goal.returns-then-whole-clause-all
-returns-then-whole-clause-all c = λ few args env leads.
+returns-then-whole-clause-all c = λ few x m args env leads.
     let I = c.args.replica.now.ids in
     let J = c.loop.replica.ids in
     let s = seek c.args.search.now in
     let h = c.args.head.now in
     elim c.then-whole.branch [
       | then-whole-via-then-whole w ↦
-          OnTrue_at w.if-whole.true c.in_ok-whole.ensures.all args env
-          (leads_later I J c.args.replica.now.log c.loop.replica.log s h c.loop.invariant.kept.grows c.loop.invariant.kept.log c.requires.head args env leads)
+          OnTrue_at w.if-whole.true c.in_ok-whole.ensures.all few x m args env
+          (leads_later I J c.args.replica.now.log c.loop.replica.log s x c.loop.invariant.kept.grows c.loop.invariant.kept.log (known_one I s.args h c.args.alike.now c.requires.head c.requires.known x m) args env leads)
       | then-whole-via-else-whole+then-len-search w ↦ absurd (omega (arith, few, w.if-len-search.true, w.len.ensures))
     ]
 
@@ -83,9 +83,9 @@ loop-preserved c =
       concluded = λ d there. elim (c.in_ok-whole.ensures.only d there) [
         | inl was ↦ elim (c.loop.invariant.concluded d was) [
           | inl first ↦ inl first
-          | inr k ↦ inr (conclusion_later I J K log s h c.in_ok-whole.ensures.kept.grows d k)
+          | inr (x, m, k) ↦ inr (x, m, conclusion_later I J K log s x c.in_ok-whole.ensures.kept.grows d k)
         ]
-        | inr k ↦ inr (conclusion_earlier I J K log c.loop.replica.log s h c.loop.invariant.kept.grows c.loop.invariant.kept.log c.requires.head d k)
+        | inr (x, m, k) ↦ inr (x, m, conclusion_earlier I J K log c.loop.replica.log s x c.loop.invariant.kept.grows c.loop.invariant.kept.log (known_one I s.args h c.args.alike.now c.requires.head c.requires.known x m) d k)
       ];
     }
 

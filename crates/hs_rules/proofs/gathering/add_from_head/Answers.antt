@@ -19,7 +19,7 @@ pub conclude_all-requires-clause-search : goal.conclude_all-requires-clause-sear
 conclude_all-requires-clause-search c = can_search_later c.args.replica.now c.heads_at.new.replica c.args.at.now.search.args.now c.args.at.now.search.limit c.args.at.now.search.fixed c.in_ok-heads_at.ensures.kept c.requires.can.heads.search
 
 pub conclude_all-requires-clause-heads : goal.conclude_all-requires-clause-heads
-conclude_all-requires-clause-heads c = λ h there. (c.in_ok-heads_at.ensures.heads.sound h (subst (λ (hs : List HeadData). Contains hs h) c.as_slice.ensures there)).0.known
+conclude_all-requires-clause-heads c = λ h there. (c.in_ok-heads_at.ensures.heads.sound h (subst (λ (hs : List HeadData). Contains hs h) c.as_mut_slice.ensures.value there)).0.known
 
 pub conclude_all-requires-clause-envs : goal.conclude_all-requires-clause-envs
 conclude_all-requires-clause-envs c = λ h there.
@@ -35,7 +35,7 @@ conclude_all-requires-clause-envs c = λ h there.
     let are = c.in_ok-heads_at.ensures.heads in
     let shapes = λ (e : EntryData) (m : Contains E e). All-contains (InShape p) E e c.requires.can.heads.shapes m in
     subst (λ (l : List EntryData). HaveEnvs (take s.limit l) s.args (length (env_of_id J h.own))) (sym same)
-    (heads_envs p E of J (ComesFrom c.args.place) heads s.args c.args.at.now.params c.requires.can.heads.params_are are c.requires.can.envs h (subst (λ (hs : List HeadData). Contains hs h) c.as_slice.ensures there))
+    (heads_envs p E of J (ComesFrom c.args.place) heads s.args c.args.at.now.params c.requires.can.heads.params_are are c.requires.can.envs h (subst (λ (hs : List HeadData). Contains hs h) c.as_mut_slice.ensures.value there))
 
 pub returns-clause-part : goal.returns-clause-part
 returns-clause-part c =
@@ -52,7 +52,7 @@ returns-clause-part c =
     let are = c.in_ok-heads_at.ensures.heads in
     let new = c.conclude_all.new.found.list.items in
     let shapes = λ (e : EntryData) (m : Contains E e). All-contains (InShape p) E e c.requires.can.heads.shapes m in
-    let some = along (λ i. OnOk c.conclude_all.result ((d : DeducedData) → Contains new d → Contains c.args.found.now.list.items d ⊎ ((h : HeadData) × Contains (c.as_slice.ensures i) h × IsDeducedBy J K (same i) s h d))) c.conclude_all.ensures.only in
+    let some = along (λ i. OnOk c.conclude_all.result ((d : DeducedData) → Contains new d → Contains c.args.found.now.list.items d ⊎ ((h : HeadData) × Contains (c.as_mut_slice.ensures.value i) h × IsDeducedBy J K (same i) s h d))) c.conclude_all.ensures.only in
     on_ok_both c.conclude_all.result (RowsAre c.conclude_all.new.found.rows.keys new) ((d : DeducedData) → Contains new d → Contains c.args.found.now.list.items d ⊎ ((h : HeadData) × Contains heads h × IsDeducedBy J K log s h d))
     (ArePart p K E s.point (Uses c.args.place) c.conclude_all.new.found.rows.keys new)
     (λ rows only_these. part_more p log s of c.requires.can.is_point refl shapes J K c.conclude_all.ensures.kept.grows I c.in_ok-heads_at.ensures.kept.grows (Uses c.args.place) (ComesFrom c.args.place) heads c.args.found.now.rows.keys c.conclude_all.new.found.rows.keys c.args.found.now.list.items new are
@@ -73,7 +73,7 @@ returns-clause-all c =
     let are = c.in_ok-heads_at.ensures.heads in
     let new = c.conclude_all.new.found.list.items in
     let shapes = λ (e : EntryData) (m : Contains E e). All-contains (InShape p) E e c.requires.can.heads.shapes m in
-    let all = along (λ i. OnOk c.conclude_all.result (length new ≤ c.args.at.now.search.most → (h : HeadData) → Contains (c.as_slice.ensures i) h → (args : List (ℕ × ℕ)) (env : Env) → HeadLeadsTo J (same i) s h args env → HasEnvFound K s h args env new)) c.conclude_all.ensures.all in
+    let all = along (λ i. OnOk c.conclude_all.result (length new ≤ c.args.at.now.search.most → (h : HeadData) → Contains (c.as_mut_slice.ensures.value i) h → (args : List (ℕ × ℕ)) (env : Env) → HeadLeadsTo J (same i) s h args env → HasEnvFound K s h args env new)) c.conclude_all.ensures.all in
     let free : fixed_of log s.fixed ≡ None = ap (fixed_of log) c.requires.can.free in
     on_ok_map c.conclude_all.result (length new ≤ c.args.at.now.search.most → (h : HeadData) → Contains heads h → (args : List (ℕ × ℕ)) (env : Env) → HeadLeadsTo J log s h args env → HasEnvFound K s h args env new) (length new ≤ c.args.at.now.search.most → HasAll p K E s.point (λ x. head_premise x.head ≡ c.args.place ∷ []) new)
     (λ each few. all_reached p log s of c.requires.can.is_point refl shapes J K c.conclude_all.ensures.kept.grows (ComesFrom c.args.place) (λ x. head_premise x.head ≡ c.args.place ∷ []) heads new are (each few)
