@@ -2,7 +2,7 @@
 """limits.py PROGRAM: a file at each limit, one below it and one above, through PROGRAM: answers, seconds of the processor, and memory.
 
 The file one below and the one at the limit must not be refused for it, and the one above must, with the limit's line. Prints a table
-in the form of docs/BENCHMARKS.md; ends with 1 where an answer is another one, or where a run takes more than ten seconds or 1 GiB.
+in the form of docs/MEASUREMENTS.md; ends with 1 where an answer is another one, or where a run takes more than ten seconds or 1 GiB.
 The seconds and the memory are those of the run at the limit, with the default of four workers.
 """
 import os
