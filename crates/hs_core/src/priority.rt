@@ -24,7 +24,18 @@ const PARTS: u64 = 1 << 20;
 
 /// A conclusion: how much its environment is smaller than the largest, and its number. The greatest key
 /// comes first: that of the smallest environment, and of equal ones the newest.
-type Key = (usize, usize);
+type Key = (u32, u32);
+
+/// The key of the conclusion of this number, whose environment asks for so many types. Where either is past
+/// 2^32, which needs more memory than there is, the order is another.
+fn key_of(size: usize, number: usize) -> Key {
+    (u32::MAX - narrowed(size), narrowed(number))
+}
+
+/// The number, or the largest of 32 bits where that is smaller.
+fn narrowed(number: usize) -> u32 {
+    number.min(u32::MAX as usize) as u32
+}
 
 /// The conclusions at one point, and what works at it have yielded lately.
 #[derive(Drop)]
@@ -165,7 +176,7 @@ impl Priority {
         requires { IsRow replica.now.ids row }
     {
         let size = size_of(replica.interner(), row.env);
-        let key = (usize::MAX - size, self.rows.len());
+        let key = key_of(size, self.rows.len());
         let point = row.point;
         self.rows.push(row)?;
         self.smallest.push(key)?;
@@ -220,7 +231,7 @@ impl Priority {
             self.richest_key()
         };
         let (_, number) = key?;
-        self.rows.get(number).copied()
+        self.rows.get(number as usize).copied()
     }
 
     /// Takes keys up to one under whose row a conclusion waits, and answers the row.

@@ -14,7 +14,7 @@ use std::alloc::Global;
 
 /// Conclusions that wait, each entry once, and which of them comes next.
 ///
-/// One takes some 120 bytes while it waits, and some 60 from then on.
+/// One takes some 100 bytes while it waits, and some 40 from then on.
 #[derive(Drop)]
 pub(crate) struct Waiting {
     pub(crate) found: IndexMap<Row, Deduced>,

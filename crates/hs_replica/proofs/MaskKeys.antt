@@ -1,5 +1,5 @@
 -- Environments by their masks.
-use Rattle.std.proofs.Common.{◌≡◌, refl, sym, ◌∙◌, ap, subst, ℕ, Bool, true, false, cond, nat_eq, List, [], ◌∷◌, Option, Some, slice_get, Contains, ◌⊎◌, inl, inr, ◌<◌, length}
+use Rattle.std.proofs.Common.{◌≡◌, refl, sym, ◌∙◌, ap, subst, ℕ, Bool, true, false, cond, nat_eq, List, [], ◌∷◌, Some, Contains, ◌⊎◌, inl, inr, ◌<◌, length}
 use Rattle.std.specs.Map.{lookup}
 use Rattle.std.proofs.lemmas.Bool.{eqb-true, and_parts}
 use Rattle.hs_scheme.proofs.Lists.{none_in, here, later, uncons}
@@ -51,20 +51,9 @@ inserted_env p v ((q, w) ∷ es) x h = by (eq-value.it p q) refl (inserted_env p
         ]
 
 -- one more mask is remembered
-module _ (I : InternerData) (masks : List (Option ℕ)) (envs : Envs) (are : AreMasks I masks envs) (env count mask : ℕ) (known : env < length I.envs) (m : IsMask I count (env_of_id I env) mask) where
-  pub noted_mask : (more : List (Option ℕ)) → ((e k : ℕ) → slice_get more e ≡ Some (Some k) → (slice_get masks e ≡ Some (Some k)) ⊎ ((e ≡ env) × (k ≡ mask))) → AreMasks I more envs
-  noted_mask more cases = record {
-    masked = λ e k at. elim (cases e k at) [
-      | inl was ↦ are.masked e k was
-      | inr (is, same) ↦ subst (λ (f : ℕ). (f < length I.envs) × IsMask I (length (env_of_id I f)) (env_of_id I f) k) (sym is)
-          (known, subst (λ (l : ℕ). IsMask I (length (env_of_id I env)) (env_of_id I env) l) (sym same) (subst (λ (n : ℕ). IsMask I n (env_of_id I env) mask) (sym m.long) m))
-    ];
-    found = are.found;
-  }
-
-  pub noted_env : (more : Envs) → (let key : MaskKey = record { mask = mask; count = count } in more ≡ insert_entry eq-value.it envs key env) → AreMasks I masks more
+module _ (I : InternerData) (envs : Envs) (are : AreMasks I envs) (env count mask : ℕ) (known : env < length I.envs) (m : IsMask I count (env_of_id I env) mask) where
+  pub noted_env : (more : Envs) → (let key : MaskKey = record { mask = mask; count = count } in more ≡ insert_entry eq-value.it envs key env) → AreMasks I more
   noted_env more is = record {
-    masked = are.masked;
     found = λ k e there. elim (inserted_env (record { mask = mask; count = count }) env envs (k, e) (subst (λ (l : Envs). Contains l (k, e)) is there)) [
       | inl was ↦ are.found k e was
       | inr same ↦ subst (λ (x : MaskKey × ℕ). (x.1 < length I.envs) × IsMask I x.0.count (env_of_id I x.1) x.0.mask) (sym same) (known, m)

@@ -1,12 +1,11 @@
 -- Masks of environments.
-use Rattle.std.proofs.Common.{◌≡◌, sym, ◌∙◌, ap, subst, ℕ, zero, suc, ◌+◌, ◌*◌, ◌^◌, ◌%◌, ◌/◌, ◌<◌, ◌≤◌, List, [], ◌∷◌, ◌++◌, length, map, get_or, slice_get, Option, Some, Contains, inl, inr, arith}
+use Rattle.std.proofs.Common.{◌≡◌, sym, ◌∙◌, ap, subst, ℕ, zero, suc, ◌+◌, ◌*◌, ◌^◌, ◌%◌, ◌/◌, ◌<◌, ◌≤◌, List, [], ◌∷◌, ◌++◌, length, map, get_or, slice_get, Some, Contains, inl, inr, arith}
 use Rattle.std.specs.Int.{bit_at, w128}
 use Rattle.std.specs.Int.RustNames.{bit_or}
 use Rattle.std.proofs.lemmas.Bool.{cases_lt, cases_eq}
 use Rattle.std.proofs.lemmas.Nat.{div-mul-add, mod-mul-add}
 use Rattle.std.proofs.lemmas.Nat.Bits.{bit_at-zero, bit_at_set_same, bit_at_set_other}
 use Rattle.std.proofs.lemmas.List.{length-map}
-use Rattle.std.proofs.lemmas.Option.{none-some}
 use Rattle.std.proofs.lemmas.List.Elements.{Contains-append_left, Contains-append_right}
 use Rattle.hs_scheme.proofs.Lists.{none_in, here}
 use Rattle.hs_table.specs.Types.{TypeTree}
@@ -120,11 +119,8 @@ module _ (f : ℕ → List TypeTree) where
 
 -- ---- what is remembered
 
-pub no_masks : (I : InternerData) (masks : List (Option ℕ)) (envs : List (MaskKey × ℕ)) → masks ≡ [] → envs ≡ [] → AreMasks I masks envs
-no_masks I masks envs e f = record {
-  masked = λ k m at. absurd (none-some (Some m) (subst (λ (xs : List (Option ℕ)). slice_get xs k ≡ Some (Some m)) e at));
-  found = λ k env there. absurd (none_in (k, env) (subst (λ (xs : List (MaskKey × ℕ)). Contains xs (k, env)) f there));
-}
+pub no_masks : (I : InternerData) (envs : List (MaskKey × ℕ)) → envs ≡ [] → AreMasks I envs
+no_masks I envs f = record { found = λ k env there. absurd (none_in (k, env) (subst (λ (xs : List (MaskKey × ℕ)). Contains xs (k, env)) f there)) }
 
 -- while the interner grows
 module _ (I J : InternerData) (g : Grows I J) where
@@ -140,12 +136,9 @@ module _ (I J : InternerData) (g : Grows I J) where
   mask_stays : (n e mask : ℕ) → e < length I.envs → IsMask I n (env_of_id I e) mask → IsMask J n (env_of_id J e) mask
   mask_stays n e mask known m = subst (λ (E : Env). IsMask J n E mask) (sym (env_stays I J g e known)) (mask_grows n mask (env_of_id I e) m)
 
-  pub masks_grow : (masks : List (Option ℕ)) (envs : List (MaskKey × ℕ)) → AreMasks I masks envs → AreMasks J masks envs
-  masks_grow masks envs h = record {
-    masked = λ e m at.
-        let r = h.masked e m at in
-        (env_within I J g e r.0, subst (λ (E : Env). IsMask J (length E) (env_of_id J e) m) (sym (env_stays I J g e r.0)) (mask_stays (length (env_of_id I e)) e m r.0 r.1));
+  pub masks_grow : (envs : List (MaskKey × ℕ)) → AreMasks I envs → AreMasks J envs
+  masks_grow envs are = record {
     found = λ k e there.
-        let r = h.found k e there in
+        let r = are.found k e there in
         (env_within I J g e r.0, mask_stays k.count e k.mask r.0 r.1);
   }

@@ -4,7 +4,7 @@
 --     AddsBitsOf            the bits of a set's types at a parameter are added
 --     IsUnionMask           the mask of what two environments ask for together
 --     AreMasks              what is remembered are masks of the interner's environments
-use Rattle.std.specs.Prelude.{◌≡◌, ℕ, ◌<◌, ◌+◌, ◌*◌, List, length, slice_get, Option, Some, Contains, ◌⊎◌}
+use Rattle.std.specs.Prelude.{◌≡◌, ℕ, ◌<◌, ◌+◌, ◌*◌, List, length, slice_get, Some, Contains, ◌⊎◌}
 use Rattle.std.specs.Int.{bit_at}
 use Rattle.std.specs.Int.Bits.{bit_or}
 use Rattle.hs_table.specs.Types.{TypeTree}
@@ -36,7 +36,6 @@ pub record IsUnionMask (I : InternerData) (E F : Env) (mask : ℕ) : Type 0 wher
   pub of_other : IsMask I (length E) F other
   pub united : mask ≡ bit_or own other
 
--- the masks by the numbers of environments, and environments by their masks
-pub record AreMasks (I : InternerData) (masks : List (Option ℕ)) (envs : List (MaskKey × ℕ)) : Type 0 where
-  pub masked : (e mask : ℕ) → slice_get masks e ≡ Some (Some mask) → (e < length I.envs) × IsMask I (length (env_of_id I e)) (env_of_id I e) mask
+-- environments by their masks
+pub record AreMasks (I : InternerData) (envs : List (MaskKey × ℕ)) : Type 0 where
   pub found : (k : MaskKey) (e : ℕ) → Contains envs (k, e) → (e < length I.envs) × IsMask I k.count (env_of_id I e) k.mask

@@ -1,6 +1,6 @@
 //! An interner that knows environments as masks, too.
 
-ghost use Rattle.std.specs.Prelude.{◌≡◌, ◌<◌, ◌∷◌, [], ℕ, ◌⊎◌, All, IfOk, IfSome, OnOk, Some, length, map, replicate, slice_get, slice_set};
+ghost use Rattle.std.specs.Prelude.{◌≡◌, ◌<◌, ◌∷◌, [], ℕ, All, IfOk, IfSome, OnOk, Some, length, map, replicate, slice_get, slice_set};
 ghost use Rattle.hs_table.specs.Types.{state, arrow};
 ghost use Rattle.hs_types.specs.Interned.{type_of_id, set_of_id, env_of_id, IsRow, entry_of, IsInterner, Grows, IsSetOf, IsUnionEnv};
 ghost use Rattle.hs_types.specs.Translations.{AreFound};
@@ -13,16 +13,21 @@ use indexmap::IndexMap;
 use std::alloc::Global;
 use std::marker::Model;
 
-/// Keeps the mask of the environment.
-fn keep_mask(masks: &mut Vec<Option<u128>>, env: EnvId, mask: u128) -> Result<(), OutOfMemory>
-    ensures { (e m : ℕ) → slice_get masks.new.items e ≡ Some (Some m)
-        → (slice_get masks.old.items e ≡ Some (Some m)) ⊎ ((e ≡ env) × (m ≡ mask)) }
-{
-    let place = env.number();
-    if masks.len() <= place {
-        masks.resize(place + 1, None)?;
+/// Where no mask stands.
+const NOWHERE: u32 = u32::MAX;
+
+/// Keeps where the environment stands among those with masks. Nothing rests on it: what stands there is
+/// looked at before it is taken to be that one.
+fn keep_place(places: &mut Vec<u32>, env: EnvId, place: usize) -> Result<(), OutOfMemory> {
+    let number = env.number();
+    if places.len() <= number {
+        places.resize(number + 1, NOWHERE)?;
     }
-    masks[place] = Some(mask);
+    places[number] = if place < NOWHERE as usize {
+        place as u32
+    } else {
+        NOWHERE
+    };
     Ok(())
 }
 
@@ -30,13 +35,13 @@ fn keep_mask(masks: &mut Vec<Option<u128>>, env: EnvId, mask: u128) -> Result<()
 /// a mask where its types have small numbers: below 128 by the number of parameters. So two such
 /// environments are united by a look-up.
 ///
-/// Contracts see the interner. An environment whose mask was asked for takes some 100 bytes.
+/// Contracts see the interner. An environment whose mask was asked for takes some 60 bytes.
 #[derive(Drop)]
 pub(crate) struct MaskedInterner {
     interner: Interner,
-    /// By the number of an environment, its mask, once it was formed.
-    masks: Vec<Option<u128>>,
     envs: IndexMap<MaskKey, EnvId>,
+    /// By the number of an environment, where it stands in `envs`, once its mask was formed.
+    places: Vec<u32>,
 }
 
 impl Model for MaskedInterner {
@@ -49,7 +54,7 @@ impl Model for MaskedInterner {
 
     ghost view = { λ a. a.interner };
 
-    ghost invariant = { λ a. AreMasks a.interner a.masks.items a.envs.entries };
+    ghost invariant = { λ a. AreMasks a.interner a.envs.entries };
 }
 
 impl MaskedInterner {
@@ -59,8 +64,8 @@ impl MaskedInterner {
     {
         MaskedInterner {
             interner: Interner::new(alloc),
-            masks: Vec::new(alloc),
             envs: IndexMap::new(alloc),
+            places: Vec::new(alloc),
         }
     }
 
@@ -193,8 +198,9 @@ impl MaskedInterner {
         ensures { IfSome result (λ mask. (env < length self.now.envs)
             × IsMask self.now (length (env_of_id self.now env)) (env_of_id self.now env) mask) }
     {
-        let mask = self.masks.get(env.number())?;
-        *mask
+        let place = self.places.get(env.number())?;
+        let (key, owner) = self.envs.get_index(*place as usize)?;
+        if *owner == env { Some(key.mask) } else { None }
     }
 
     /// The environment of so many sets with this mask, where it is remembered.
@@ -212,9 +218,8 @@ impl MaskedInterner {
         requires mask { IsMask self.old count (env_of_id self.old env) mask }
         ensures { self.new ≡ self.old }
     {
-        keep_mask(&mut self.masks, env, mask)?;
-        self.envs.insert(MaskKey { mask, count }, env)?;
-        Ok(())
+        let (place, _) = self.envs.insert_full(MaskKey { mask, count }, env)?;
+        keep_place(&mut self.places, env, place)
     }
 
     /// Forms the mask of the environment, where it has one, and remembers it.

@@ -26,8 +26,8 @@ use std::marker::Model;
 /// lists only grow at their ends, also where it answers want of memory.
 ///
 /// A type takes some 40 bytes, a set or an environment some 80, and 4 for each of its items. Beside
-/// these the latest unions are kept, at most 1,048,576 of sets and as many of environments, in
-/// 16 MiB each, 4 bytes for each number of an interner that was imported from, and 64 KiB at most for
+/// these the latest unions are kept, at most 65,536 of sets and as many of environments, in
+/// 1 MiB each, 4 bytes for each number of an interner that was imported from, and 64 KiB at most for
 /// each of four kinds of guesses. There are at most 2^32 numbers of each kind; past that a call
 /// answers want of memory.
 #[derive(Drop)]

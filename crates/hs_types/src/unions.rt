@@ -10,8 +10,8 @@ use std::alloc::Global;
 /// So many places the table has when the first union is kept.
 const FEWEST_PLACES: usize = 256;
 
-/// So many places the table has at most, in 16 MiB.
-const MOST_PLACES: usize = 1_048_576;
+/// So many places the table has at most, in 1 MiB.
+const MOST_PLACES: usize = 65_536;
 
 /// An odd number whose multiples differ in their upper bits: 2^64 by the golden ratio (Knuth, "The Art of
 /// Computer Programming", volume 3, 1973).

@@ -4,7 +4,7 @@ use Rattle.hs_replica.proofs.MaskLemmas.{masks_grow}
 use Rattle.hs_replica.proofs.masked.MaskedInterner.empty_env.Goals as goal
 
 pub invariant_of-self : goal.invariant_of-self
-invariant_of-self c = masks_grow c.self.inside.interner c.empty_env.new.self c.empty_env.ensures.grows c.self.inside.masks.items c.self.inside.envs.entries c.self.invariant
+invariant_of-self c = masks_grow c.self.inside.interner c.empty_env.new.self c.empty_env.ensures.grows c.self.inside.envs.entries c.self.invariant
 
 pub returns-clause-grows : goal.returns-clause-grows
 returns-clause-grows c = subst (λ (I : InternerData). Grows I c.empty_env.new.self) c.self.view_is c.empty_env.ensures.grows

@@ -6,10 +6,10 @@ use Rattle.hs_replica.proofs.UnionMasks.{mask_of_union}
 use Rattle.hs_replica.proofs.masked.MaskedInterner.make_union.Goals as goal
 
 pub invariant_of-self : goal.invariant_of-self
-invariant_of-self c = masks_grow c.self.inside.interner c.union_envs.new.self c.union_envs.ensures.grows c.self.inside.masks.items c.self.inside.envs.entries c.self.invariant
+invariant_of-self c = masks_grow c.self.inside.interner c.union_envs.new.self c.union_envs.ensures.grows c.self.inside.envs.entries c.self.invariant
 
 pub invariant_of-self-2 : goal.invariant_of-self-2
-invariant_of-self-2 c = masks_grow c.self.inside.interner c.union_envs.new.self c.union_envs.ensures.grows c.self.inside.masks.items c.self.inside.envs.entries c.self.invariant
+invariant_of-self-2 c = masks_grow c.self.inside.interner c.union_envs.new.self c.union_envs.ensures.grows c.self.inside.envs.entries c.self.invariant
 
 pub remember-requires-clause-mask : goal.remember-requires-clause-mask
 remember-requires-clause-mask c =
